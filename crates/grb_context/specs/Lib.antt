@@ -1,0 +1,4 @@
+pub mod Explains
+pub mod Known
+pub mod Pass
+pub mod State

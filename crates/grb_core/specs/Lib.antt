@@ -1,0 +1,4 @@
+pub mod Contents
+pub mod Entries
+pub mod Refusal
+pub mod Value

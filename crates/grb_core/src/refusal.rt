@@ -1,0 +1,85 @@
+ghost use Rattle.std.specs.Prelude.{◌≡◌};
+ghost use Rattle.grb_core.specs.Refusal.{refusal_name};
+
+/// Why a call is refused. Where several of the first seven apply, the first of them in this order is answered (own).
+///
+/// Source: GraphBLAS C API 2.0, "Error model". `OrderFull` is our own.
+#[derive(Clone, Copy, Debug, PartialEq, Eq)]
+pub enum Refusal {
+    /// An object of the call was never made, or was freed.
+    UninitializedObject,
+    /// A dimension is not from 1 to 4,294,967,295.
+    InvalidValue,
+    /// The index of a set, a remove or a get is not below the dimension.
+    InvalidIndex,
+    /// The values, objects and operators of the call are not all of one domain.
+    DomainMismatch,
+    /// The dimensions of the call's objects do not fit together.
+    DimensionMismatch,
+    /// The object of a build stores an entry.
+    OutputNotEmpty,
+    /// An index in the list of a build is not below the dimension.
+    IndexOutOfBounds,
+    /// The order has no room for a further call.
+    OrderFull,
+    /// Memory was refused. The call changed nothing.
+    OutOfMemory,
+    /// The record of a call was not taken or not shown.
+    Panic,
+}
+
+impl Refusal {
+    /// The name that is printed: that of the standard's status, or our own.
+    pub fn name(self) -> &'static str
+        ensures { result.now ≡ refusal_name self }
+    {
+        match self {
+            Refusal::UninitializedObject => "GrB_UNINITIALIZED_OBJECT",
+            Refusal::InvalidValue => "GrB_INVALID_VALUE",
+            Refusal::InvalidIndex => "GrB_INVALID_INDEX",
+            Refusal::DomainMismatch => "GrB_DOMAIN_MISMATCH",
+            Refusal::DimensionMismatch => "GrB_DIMENSION_MISMATCH",
+            Refusal::OutputNotEmpty => "GrB_OUTPUT_NOT_EMPTY",
+            Refusal::IndexOutOfBounds => "GrB_INDEX_OUT_OF_BOUNDS",
+            Refusal::OrderFull => "OrderFull",
+            Refusal::OutOfMemory => "GrB_OUT_OF_MEMORY",
+            Refusal::Panic => "GrB_PANIC",
+        }
+    }
+}
+
+/// The status of a call on an object.
+///
+/// Source: GraphBLAS C API 2.0, "Error model", where `GrB_SUCCESS` and `GrB_NO_VALUE` are the statuses that are no errors.
+#[derive(Clone, Copy, Debug, PartialEq, Eq)]
+pub enum Info {
+    /// The call was answered, with a value where it asked for one.
+    Success,
+    /// The call asked for an entry that is not stored.
+    NoValue,
+    /// The call was refused.
+    Refused(Refusal),
+}
+
+#[cfg(test)]
+mod tests {
+    use super::*;
+
+    #[test]
+    fn a_refusal_has_the_name_of_the_standards_status(rt: HostRuntime) {
+        for (refusal, name) in [
+            (Refusal::UninitializedObject, "GrB_UNINITIALIZED_OBJECT"),
+            (Refusal::InvalidValue, "GrB_INVALID_VALUE"),
+            (Refusal::InvalidIndex, "GrB_INVALID_INDEX"),
+            (Refusal::DomainMismatch, "GrB_DOMAIN_MISMATCH"),
+            (Refusal::DimensionMismatch, "GrB_DIMENSION_MISMATCH"),
+            (Refusal::OutputNotEmpty, "GrB_OUTPUT_NOT_EMPTY"),
+            (Refusal::IndexOutOfBounds, "GrB_INDEX_OUT_OF_BOUNDS"),
+            (Refusal::OrderFull, "OrderFull"),
+            (Refusal::OutOfMemory, "GrB_OUT_OF_MEMORY"),
+            (Refusal::Panic, "GrB_PANIC"),
+        ] {
+            assert_eq!(rt; refusal.name(), name, "of {refusal:?}");
+        }
+    }
+}

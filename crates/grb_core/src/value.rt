@@ -1,0 +1,44 @@
+ghost use Rattle.std.specs.Prelude.{◌≡◌};
+ghost use Rattle.grb_core.specs.Value.{value_domain};
+
+use crate::domain::Domain;
+
+/// One stored value. A stored `false` or 0 is a value like any other.
+///
+/// Source: GraphBLAS C API 2.0, "Types (domains)".
+#[derive(Clone, Copy, Debug, PartialEq, Eq)]
+pub enum Value {
+    /// A truth value, of the domain `Bool`.
+    Bool(bool),
+    /// A whole number from 0 to 2^64 - 1, of the domain `Uint64`.
+    Uint64(u64),
+}
+
+impl Value {
+    /// The domain that the value is of.
+    pub fn domain(self) -> Domain
+        ensures { result ≡ value_domain self }
+    {
+        match self {
+            Value::Bool(_) => Domain::Bool,
+            Value::Uint64(_) => Domain::Uint64,
+        }
+    }
+}
+
+#[cfg(test)]
+mod tests {
+    use super::*;
+
+    #[test]
+    fn a_stored_false_or_zero_has_a_domain_like_any_value(rt: HostRuntime) {
+        for (value, domain) in [
+            (Value::Bool(false), Domain::Bool),
+            (Value::Bool(true), Domain::Bool),
+            (Value::Uint64(0), Domain::Uint64),
+            (Value::Uint64(18_446_744_073_709_551_615), Domain::Uint64),
+        ] {
+            assert_eq!(rt; value.domain(), domain, "of {value:?}");
+        }
+    }
+}

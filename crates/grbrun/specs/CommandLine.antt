@@ -1,0 +1,55 @@
+-- The command line '[--room N] SCRIPT' (own), as the words of the crate clap say it.
+use Rattle.std.specs.Prelude.{◌≡◌, ℕ, List, [], ◌∷◌, Some, true, pos, codes}
+use Rattle.std.specs.Option.{option_map}
+use Rattle.std.specs.declared.io.ErrorKind.{ErrorKind as IoErrorKind}
+use Rattle.std.specs.declared.io.ErrorKind.TheVariants as io_kind
+use Rattle.std.specs.Str.Parse.{digits_value, without_leading_plus}
+use Rattle.clap.specs.Words.{App, Kinds, Rule, Text, fault_of, first_of, matches_of, new_app, new_rule, one_of, with_rule}
+use Rattle.clap.specs.Simple.{on_top}
+use Rattle.clap.specs.declared.builder.action.ArgAction.TheVariants.{Set}
+use Rattle.clap.specs.declared.builder.value_parser.ValueParser.TheVariants as parser
+use Rattle.clap.specs.declared.error.kind.ErrorKind.{ErrorKind}
+use Rattle.clap.specs.declared.error.kind.ErrorKind.TheVariants.{DisplayHelp}
+use Rattle.grbrun.specs.declared.arguments.Options.{Options}
+
+-- '--room N', with N from 1 to 4096, and 4096 where it is not given
+abbrev pub room_option : Rule
+room_option = record (new_rule (codes "room")) {
+  long = Some (codes "room");
+  action = Some Set;
+  value_names = 1;
+  defaults = codes "4096" ∷ [];
+  parser = Some (parser.Signed (pos 1) (pos 4096));
+}
+
+-- SCRIPT, which has to be given
+abbrev pub script_argument : Rule
+script_argument = record (new_rule (codes "script")) { action = Some Set; value_names = 1; required = true }
+
+-- the whole command line, which does not begin with the program's name
+unfoldable pub command_line : App
+command_line =
+    with_rule (with_rule (on_top (λ s. record s { no_binary_name = true }) (new_app (codes "grbrun"))) room_option) script_argument
+
+-- the number that a text of digits spells, where a plus may stand before them
+abbrev pub number_spelled : Text → ℕ
+number_spelled text = digits_value 10 (without_leading_plus text)
+
+-- the words give this room and this path
+abbrev pub GivesOptions : List Text → Options → Type 0
+GivesOptions words o = (option_map number_spelled (one_of (codes "room") (matches_of command_line words)) ≡ Some o.room)
+    × (first_of (codes "script") (matches_of command_line words) ≡ Some o.path.now)
+
+-- what is wrong with the words, or that they ask for help: one kind of error, or none
+abbrev pub faults_of : List Text → Kinds
+faults_of words = fault_of command_line words
+
+-- the exit status where the words give no options
+abbrev pub status_of_kind : ErrorKind → ℕ
+status_of_kind DisplayHelp = 0
+status_of_kind _ = 2
+
+-- the exit status where the words could not be read
+abbrev pub status_of_unread : IoErrorKind → ℕ
+status_of_unread io_kind.OutOfMemory = 1
+status_of_unread _ = 2

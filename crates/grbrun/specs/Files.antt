@@ -1,0 +1,16 @@
+-- What the source of the program counts, and the fault that an error of a file is (own).
+use Rattle.std.specs.declared.io.ErrorKind.{ErrorKind}
+use Rattle.std.specs.declared.io.ErrorKind.TheVariants as kind
+use Rattle.grbrun.specs.declared.files.FileSource.{FileSource}
+use Rattle.grbrun.specs.declared.source.SourceFault.{SourceFault}
+use Rattle.grbrun.specs.declared.source.SourceFault.TheVariants.{CannotRead, OutOfMemory}
+use Rattle.grbrun.specs.Source.{FaultCounts}
+
+-- how often each fault came
+abbrev pub counts_of : {R : Type 0} → FileSource R → FaultCounts
+counts_of s = record { cannot_read = s.cannot_read; too_long = s.too_long; out_of_memory = s.out_of_memory }
+
+-- want of memory is told apart, and nothing else
+abbrev pub fault_of_kind : ErrorKind → SourceFault
+fault_of_kind kind.OutOfMemory = OutOfMemory
+fault_of_kind _ = CannotRead

@@ -1,0 +1,108 @@
+-- What a script prints (own): a line for each statement, in their order. The n-th name that a script makes stands for the vector that
+-- its statement made.
+use Rattle.std.specs.Prelude.{◌≡◌, ◌≢◌, ℕ, Bool, true, false, ◌==◌, ◌&&◌, if◌then◌else◌, List, [], ◌∷◌, ◌++◌, length, slice_get, unwrap_or, is_none, All, Option, Ok, Err, codes}
+use Rattle.std.specs.List.{flat_map}
+use Rattle.std.specs.Fmt.{decimal}
+use Rattle.std.specs.Io.KnownBytes.{Appends}
+use Rattle.grb_core.specs.declared.value.Value.TheVariants as value
+use Rattle.grb_core.specs.declared.refusal.Refusal.TheVariants.{OrderFull, OutOfMemory}
+use Rattle.grb_core.specs.Refusal.{refusal_name}
+use Rattle.grb_call.specs.declared.call.Call.{Call}
+use Rattle.grb_call.specs.declared.call.Call.TheVariants as call
+use Rattle.grb_call.specs.declared.ids.VectorId.{VectorId}
+use Rattle.grb_call.specs.declared.reply.Reply.{Reply}
+use Rattle.grb_call.specs.declared.reply.Reply.TheVariants as reply
+use Rattle.grb_call.specs.Kinds.{enters}
+use Rattle.grb_call.specs.After.{refused, answer}
+use Rattle.grb_call.specs.History.{History, store_of}
+use Rattle.grb_context.specs.Explains.{Answer, history_after, IsOutOfMemory}
+use Rattle.grbrun.specs.declared.statement.Statement.{Statement}
+use Rattle.grbrun.specs.declared.statement.Statement.TheVariants as statement
+use Rattle.grbrun.specs.Script.{statements_of}
+
+-- what a name stands for whose vector was not made: this number is never given, so a call of it is refused
+abbrev pub no_vector : VectorId
+no_vector = record { 0 = 4294967295 }
+
+-- the vector that a name stands for, where the names so far stand for these
+abbrev pub named : List VectorId → ℕ → VectorId
+named ids name = unwrap_or (slice_get ids name) no_vector
+
+-- the call that a statement makes
+abbrev pub call_of : List VectorId → Statement → Call
+call_of ids (statement.Vector domain size) = call.NewVector domain size
+call_of ids (statement.Set name index value) = call.SetVector (named ids name) index value
+call_of ids (statement.Get name index) = call.GetVector (named ids name) index
+call_of ids (statement.Nvals name) = call.NvalsVector (named ids name)
+
+-- what a new name stands for, where its statement was answered this
+abbrev pub new_id : Answer → VectorId
+new_id (Ok (reply.MadeVector v)) = v
+new_id _ = no_vector
+
+-- what the names stand for behind a statement that was answered this
+abbrev pub ids_after : List VectorId → Statement → Answer → List VectorId
+ids_after ids (statement.Vector domain size) a = ids ++ new_id a ∷ []
+ids_after ids _ a = ids
+
+-- the call would be entered, and the history has all the calls that there is room for
+abbrev pub is_full : ℕ → History → Call → Bool
+is_full room h c = is_none (refused (store_of h) c) && enters c && (length h == room)
+
+-- the answer to a call behind these calls, where memory is not refused
+abbrev pub answer_in : ℕ → History → Call → Answer
+answer_in room h c = if is_full room h c then Err OrderFull else answer (store_of h) c
+
+-- the answers to these statements, one behind another, where memory is not refused
+abbrev pub answers_in : ℕ → List VectorId → History → List Statement → List Answer
+answers_in room ids h [] = []
+answers_in room ids h (s ∷ more) =
+    let c = call_of ids s in
+    let a = answer_in room h c in
+    a ∷ answers_in room (ids_after ids s a) (history_after 0 c a h) more
+
+-- the answer to a call behind these calls; memory may be refused in place of it
+abbrev pub IsAnswer : ℕ → History → Call → Answer → Type 0
+IsAnswer room h c (Err OutOfMemory) = IsOutOfMemory room c h
+IsAnswer room h c a = a ≡ answer_in room h c
+
+-- the answers to these statements, one behind another
+abbrev pub IsRun : ℕ → List VectorId → History → List Statement → List Answer → Type 0
+IsRun room ids h [] [] = Unit {0}
+IsRun room ids h (s ∷ more) (a ∷ answers) =
+    IsAnswer room h (call_of ids s) a × IsRun room (ids_after ids s a) (history_after 0 (call_of ids s) a h) more answers
+IsRun room ids h _ _ = ⊥
+
+-- memory was not refused
+abbrev pub HadMemory : Answer → Type 0
+HadMemory a = a ≢ Err OutOfMemory
+
+-- the words of a reply
+abbrev pub printed_reply : Reply → List ℕ
+printed_reply reply.Done = codes "ok"
+printed_reply (reply.MadeVector v) = codes "ok"
+printed_reply (reply.Value (value.Bool true)) = codes "value true"
+printed_reply (reply.Value (value.Bool false)) = codes "value false"
+printed_reply (reply.Value (value.Uint64 n)) = codes "value " ++ decimal n
+printed_reply reply.NoValue = codes "none"
+printed_reply (reply.Count n) = codes "count " ++ decimal n
+
+-- the words of an answer: of a refusal its name
+abbrev pub printed_answer : Answer → List ℕ
+printed_answer (Ok r) = printed_reply r
+printed_answer (Err refusal) = refusal_name refusal
+
+-- the line of an answer, with its end
+abbrev pub reply_line : Answer → List ℕ
+reply_line a = printed_answer a ++ 10 ∷ []
+
+-- what a script prints in a store with room for so many calls, where memory is not refused
+abbrev pub printed : ℕ → List ℕ → List ℕ
+printed room text = flat_map reply_line (answers_in room [] [] (statements_of text))
+
+-- the lines of the script's answers were written, and no byte more
+pub record Wrote (room : ℕ) (text : List ℕ) (before after : Option (List ℕ)) : Type 0 where
+  pub answers : List Answer
+  pub run : IsRun room [] [] (statements_of text) answers
+  pub written : Appends before after (flat_map reply_line answers)
+  pub exact : All HadMemory answers → Appends before after (printed room text)

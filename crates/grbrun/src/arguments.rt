@@ -1,0 +1,8 @@
+/// What a run of the program is given.
+#[derive(Clone, Copy, Debug, PartialEq, Eq)]
+pub struct Options<'a> {
+    /// How many calls of the script may change the store, from 1 to 4096.
+    pub room: u32,
+    /// The path of the script.
+    pub path: &'a str,
+}

@@ -1,0 +1,184 @@
+ghost use Rattle.std.specs.Prelude.{◌≡◌, ℕ, ◌-◌, ◌^◌, ◌<◌, ◌≤◌, [], List, length, OnOk, IfOk, IfErr};
+ghost use Rattle.grb_context.specs.Known.{IsPassOf};
+ghost use Rattle.grb_context.specs.Explains.{history_after};
+ghost use Rattle.grbrun.specs.Source.{AreCountable};
+ghost use Rattle.grbrun.specs.Printed.{named, call_of, new_id, ids_after, IsAnswer, IsRun};
+ghost use Rattle.grbrun.specs.Run.{WroteAll, EndsWith, sink_failures_after, MetFaults};
+
+use crate::fault::RunFault;
+use crate::gate::Gate;
+use crate::reply_line::{Answer, text_of};
+use crate::script::read_script;
+use crate::sink::{Sink, put_all};
+use crate::source::Source;
+use crate::statement::Statement;
+use grb_call::{Call, Reply, VectorId};
+use grb_context::{Context, Pass};
+use std::alloc::{AllocError, Global};
+use std::sync::Wait;
+use std::thread::Threads;
+
+/// The number of the main section.
+const MAIN: u32 = 0;
+
+/// What a name stands for whose vector was not made: no vector has this number, so a call of it is refused.
+const NO_VECTOR: VectorId = VectorId(0xffff_ffff);
+
+/// The vector that a name stands for, where the names so far stand for these.
+fn named(ids: &[VectorId], name: usize) -> VectorId
+    ensures { result ≡ named ids.now name }
+{
+    ids.get(name).copied().unwrap_or(NO_VECTOR)
+}
+
+/// The call that a statement makes, where the names so far stand for these vectors.
+fn call_of(ids: &[VectorId], statement: &Statement) -> Call
+    ensures { result ≡ call_of ids.now statement.now }
+{
+    match statement {
+        Statement::Vector { domain, size } => Call::NewVector {
+            domain: *domain,
+            size: *size,
+        },
+        Statement::Set { name, index, value } => Call::SetVector {
+            v: named(ids, *name),
+            i: *index,
+            value: *value,
+        },
+        Statement::Get { name, index } => Call::GetVector {
+            v: named(ids, *name),
+            i: *index,
+        },
+        Statement::Nvals { name } => Call::NvalsVector {
+            v: named(ids, *name),
+        },
+    }
+}
+
+/// What a new name stands for, where its statement was answered this.
+fn new_id(answer: &Answer) -> VectorId
+    ensures { result ≡ new_id answer.now }
+{
+    match answer {
+        Ok(Reply::MadeVector(v)) => *v,
+        _ => NO_VECTOR,
+    }
+}
+
+/// Keeps what the name stands for that the statement makes, if it makes one.
+fn keep_id(
+    ids: &mut Vec<VectorId>,
+    statement: &Statement,
+    answer: &Answer,
+) -> Result<(), AllocError>
+    ensures { OnOk result (ids.new.items ≡ ids_after ids.old.items statement.now answer.now) }
+{
+    if let Statement::Vector { .. } = statement {
+        ids.push(new_id(answer))?;
+    }
+    Ok(())
+}
+
+/// Makes the call of a statement, and keeps what its name stands for.
+fn answer_to(
+    context: &Context,
+    pass: &mut Pass,
+    ids: &mut Vec<VectorId>,
+    statement: &Statement,
+) -> Result<Answer, AllocError>
+    requires alone { context.now.passes ≡ 1 }
+    requires pass { IsPassOf context.now pass.old }
+    ensures pass { IsPassOf context.now pass.new }
+    ensures answer { IfOk result (IsAnswer context.now.room pass.old.known (call_of ids.old.items statement.now)) }
+    ensures known { IfOk result (λ answer. pass.new.known ≡ history_after 0 (call_of ids.old.items statement.now) answer pass.old.known) }
+    ensures ids { IfOk result (λ answer. ids.new.items ≡ ids_after ids.old.items statement.now answer) }
+{
+    let answer = context.call(pass, call_of(ids, statement));
+    keep_id(ids, statement, &answer)?;
+    Ok(answer)
+}
+
+/// A new store with room for so many calls, and its one pass.
+fn open_store(alloc: Global, room: u32) -> Result<(Context, Pass), AllocError>
+    requires room { (0 < room) × (room ≤ 4096) }
+    ensures context { IfOk result (λ opened. opened.0 ≡ record { room = room; passes = 1 }) }
+    ensures pass { IfOk result (λ opened. IsPassOf opened.0 opened.1) }
+    ensures known { IfOk result (λ opened. opened.1.known ≡ []) }
+{
+    let (context, mut passes) = Context::open(alloc, room, 1)?;
+    Ok((context, passes.pop().unwrap()))
+}
+
+/// The answers to these statements, one behind another, in a new store with room for so many calls.
+fn answers_to<G: Gate>(
+    alloc: Global,
+    room: u32,
+    statements: &[Statement],
+    gate: &G,
+) -> Result<Vec<Answer>, AllocError>
+    requires room { (0 < room) × (room ≤ 4096) }
+    requires few { length statements.now < 2 ^ 32 }
+    ensures { IfOk result (λ answers. IsRun room [] [] statements.now answers.items) }
+{
+    let (context, mut pass) = open_store(alloc, room)?;
+    let mut ids = Vec::with_capacity(alloc, statements.len())?;
+    let mut answers = Vec::with_capacity(alloc, statements.len())?;
+    for (i, statement) in statements.iter().enumerate() {
+        let number = i as u32 + 1;
+        gate.before(MAIN, number);
+        answers.push(answer_to(&context, &mut pass, &mut ids, statement)?)?;
+        gate.after(MAIN, number);
+    }
+    Ok(answers)
+}
+
+/// Runs the main section, which is the whole script.
+fn run_main<S: Source, W: Sink, G: Gate>(
+    alloc: Global,
+    room: u32,
+    source: &mut S,
+    sink: &mut W,
+    gate: &G,
+) -> Result<(), RunFault>
+    requires room { (0 < room) × (room ≤ 4096) }
+    requires source { AreCountable (S.faults source.old) }
+    requires sink { W.failures sink.old < 2 ^ 64 - 1 }
+    ensures ok { OnOk result (WroteAll room (S.script_bytes source.old) (W.taken sink.old) (W.taken sink.new)) }
+    ensures err { IfErr result (λ fault. EndsWith room (S.script_bytes source.old) fault (W.taken sink.old) (W.taken sink.new)) }
+    ensures sink_failures { W.failures sink.new ≡ sink_failures_after (W.failures sink.old) result }
+    ensures source_faults { MetFaults (S.faults source.old) result (S.faults source.new) }
+    ensures script_stays { S.script_bytes source.new ≡ S.script_bytes source.old }
+    ensures files_stay { (path : List ℕ) → S.file_bytes source.new path ≡ S.file_bytes source.old path }
+{
+    let text = source.script()?;
+    let statements = read_script(alloc, &text)?;
+    let answers = answers_to(alloc, room, &statements, gate)?;
+    let lines = text_of(alloc, &answers)?;
+    put_all(sink, lines.as_bytes())?;
+    Ok(())
+}
+
+/// Runs the script of a source in a new store with room for `room` calls, and puts a line for each statement into the sink.
+///
+/// All memory is taken before the first byte is put: where it is refused outside of the calls nothing is written. A call for which it
+/// is refused is answered so, in its line. The gate is called round each statement, as section 0.
+pub fn run_script<R: Threads + Wait + Sync, S: Source, W: Sink, G: Gate + Sync>(
+    _rt: &R,
+    alloc: Global,
+    room: u32,
+    source: &mut S,
+    sink: &mut W,
+    gate: &G,
+) -> Result<(), RunFault>
+    requires room { (0 < room) × (room ≤ 4096) }
+    requires source { AreCountable (S.faults source.old) }
+    requires sink { W.failures sink.old < 2 ^ 64 - 1 }
+    ensures ok { OnOk result (WroteAll room (S.script_bytes source.old) (W.taken sink.old) (W.taken sink.new)) }
+    ensures err { IfErr result (λ fault. EndsWith room (S.script_bytes source.old) fault (W.taken sink.old) (W.taken sink.new)) }
+    ensures sink_failures { W.failures sink.new ≡ sink_failures_after (W.failures sink.old) result }
+    ensures source_faults { MetFaults (S.faults source.old) result (S.faults source.new) }
+    ensures script_stays { S.script_bytes source.new ≡ S.script_bytes source.old }
+    ensures files_stay { (path : List ℕ) → S.file_bytes source.new path ≡ S.file_bytes source.old path }
+{
+    run_main(alloc, room, source, sink, gate)
+}

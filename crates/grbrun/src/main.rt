@@ -1,0 +1,93 @@
+//! The program `grbrun [--room N] SCRIPT`: it runs the script in a file on a store, and prints a line for each statement.
+//!
+//! A script is a text of statements. It is read whole, or its first fault is answered and nothing runs; then each statement is one
+//! call, and the lines of the answers are written when all are known. Where the bytes come from and go to, a `Source` and a `Sink`
+//! decide: here a file and standard output, in tests tables. The exit status is 0 where all lines were written, or help was; 1 where
+//! the run ended early, which standard error explains; and 2 where the command line is faulty.
+#![tactic(auto)]
+
+ghost use Rattle.std.specs.Prelude.{◌<◌, ◌≤◌};
+
+mod arguments;
+mod command_line;
+mod driver;
+mod fault;
+mod files;
+mod gate;
+mod line;
+mod names;
+mod output;
+mod reply_line;
+mod report;
+mod script;
+mod sink;
+mod source;
+mod statement;
+#[cfg(test)]
+mod tests;
+mod word;
+
+use crate::arguments::Options;
+use crate::command_line::options;
+use crate::driver::run_script;
+use crate::fault::RunFault;
+use crate::files::FileSource;
+use crate::gate::OpenGate;
+use crate::output::OutputSink;
+use crate::report::{report_run, report_unread_words, report_words};
+use std::process::ExitCode;
+use std::rt::{Env, Files};
+use std::sync::Wait;
+use std::thread::Threads;
+use std::{env, io};
+
+/// Runs the script that the options name, and writes its lines to standard output.
+fn run<R: Files + Print + AllocGlobal + Threads + Wait + Sync>(
+    rt: &R,
+    options: Options<'_>,
+) -> Result<(), RunFault>
+    requires room { (0 < options.room) × (options.room ≤ 4096) }
+{
+    let mut source = FileSource::new(rt, options.path);
+    let mut sink = OutputSink::new(io::writer(rt));
+    run_script(
+        rt,
+        rt.alloc(),
+        options.room,
+        &mut source,
+        &mut sink,
+        &OpenGate,
+    )
+}
+
+/// Does what the words after the program's name ask for, and answers the exit status.
+fn run_words<R>(rt: &R, words: &[&str]) -> u8
+where
+    R: Files + Print + Eprint + AllocGlobal + Threads + Wait + Sync,
+{
+    match options(rt.alloc(), words) {
+        Ok(options) => report_run(rt, &run(rt, options)),
+        Err(error) => report_words(rt, &error),
+    }
+}
+
+/// Runs the program on its arguments, of which the first is its name.
+fn run_arguments<R>(rt: &R) -> io::Result<u8>
+where
+    R: Env + Files + Print + Eprint + AllocGlobal + Threads + Wait + Sync,
+{
+    let arguments: Vec<String> = env::args(rt)?.skip(1).collect(rt.alloc())?;
+    let words: Vec<&str> = arguments
+        .iter()
+        .map(|word| word.as_str())
+        .collect(rt.alloc())?;
+    Ok(run_words(rt, &words))
+}
+
+fn main(rt: HostRuntime) -> ExitCode {
+    let status = match run_arguments(&rt) {
+        Ok(status) => status,
+        Err(error) => report_unread_words(&rt, &error),
+    };
+    ExitCode::from(status)
+}

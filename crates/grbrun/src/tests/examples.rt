@@ -1,0 +1,232 @@
+ghost use Rattle.std.specs.Prelude.{◌≡◌};
+
+use crate::driver::run_script;
+use crate::fault::{FaultKind, RunFault};
+use crate::gate::OpenGate;
+use crate::source::SourceFault;
+use crate::tests::gates::CountingGate;
+use crate::tests::sinks::{Full, SmallSink};
+use crate::tests::sources::TextSource;
+use std::alloc::Global;
+use std::sync::atomic::Ordering;
+use std::test::Fail;
+
+const FIRST: &str = "vector v uint64 5\nset v 2 7\nget v 2\nget v 3\nnvals v\n";
+
+const FIRST_LINES: &str = "ok\nok\nvalue 7\nnone\ncount 1\n";
+
+/// A script of one vector that fills a history with room for two calls.
+const FULL: &str = "vector v uint64 3\nset v 0 7\nset v 1 8\nget v 0\nset v 3 1\n";
+
+fn source_of(alloc: Global, text: &str) -> TextSource<'_>
+    ensures counts { (result.cannot_read ≡ 0) × (result.too_long ≡ 0) × (result.out_of_memory ≡ 0) }
+{
+    TextSource {
+        alloc,
+        text: text.as_bytes(),
+        fault: None,
+        cannot_read: 0,
+        too_long: 0,
+        out_of_memory: 0,
+    }
+}
+
+fn sink_of(alloc: Global, step: usize, room: usize) -> SmallSink
+    ensures { result.failures ≡ 0 }
+{
+    SmallSink {
+        taken: Vec::new(alloc),
+        step,
+        room,
+        full: Full::Fails,
+        failures: 0,
+    }
+}
+
+#[test]
+fn a_script_prints_its_lines(rt: HostRuntime) -> Result<(), Fail> {
+    let rows = [
+        (4096, "", ""),
+        (4096, "# nothing\n\n", ""),
+        (4096, FIRST, FIRST_LINES),
+        (
+            4096,
+            "vector v uint64 5\nset v 5 1\nset v 4 1\nnvals v\n",
+            "ok\nGrB_INVALID_INDEX\nok\ncount 1\n",
+        ),
+        (
+            4096,
+            "vector v bool 4294967295\nset v 4294967294 true\nvector z bool 0\nvector y bool 4294967296\nnvals y\n",
+            "ok\nok\nGrB_INVALID_VALUE\nGrB_INVALID_VALUE\nGrB_UNINITIALIZED_OBJECT\n",
+        ),
+        (2, FULL, "ok\nok\nOrderFull\nvalue 7\nGrB_INVALID_INDEX\n"),
+        (
+            1,
+            FULL,
+            "ok\nOrderFull\nOrderFull\nnone\nGrB_INVALID_INDEX\n",
+        ),
+        (
+            4096,
+            "vector v bool 0\nset v 0 true\nnvals v\nvector w bool 2\nset w 1 false\nget w 1\nget v 1\n",
+            "GrB_INVALID_VALUE\nGrB_UNINITIALIZED_OBJECT\nGrB_UNINITIALIZED_OBJECT\nok\nok\nvalue false\nGrB_UNINITIALIZED_OBJECT\n",
+        ),
+        (
+            1,
+            "vector v bool 1\nvector w bool 2\nget w 0\nget v 0\n",
+            "ok\nOrderFull\nGrB_UNINITIALIZED_OBJECT\nnone\n",
+        ),
+        (
+            4096,
+            "vector a uint64 4294967295\nset a 4294967294 18446744073709551615\nget a 4294967294\nset a 0 true\n# end\nnvals a\n",
+            "ok\nok\nvalue 18446744073709551615\nGrB_DOMAIN_MISMATCH\ncount 1\n",
+        ),
+        (
+            4096,
+            "vector a bool 2\nvector b uint64 3\nset a 0 true\nset b 0 0\nset a 0 false\nget a 0\nget b 0\nnvals b\n",
+            "ok\nok\nok\nok\nok\nvalue false\nvalue 0\ncount 1\n",
+        ),
+    ];
+    for (room, script, lines) in rows {
+        let mut source = source_of(rt.alloc(), script);
+        let mut sink = sink_of(rt.alloc(), 1000, 1000);
+        run_script(&rt, rt.alloc(), room, &mut source, &mut sink, &OpenGate)?;
+        assert_eq!(rt;
+            sink.taken.as_slice(),
+            lines.as_bytes(),
+            "room {room}: {script}"
+        );
+        assert_eq!(rt; sink.failures, 0, "room {room}: {script}");
+    }
+    Ok(())
+}
+
+#[test]
+fn a_script_with_a_fault_writes_nothing(rt: HostRuntime) -> Result<(), Fail> {
+    let rows = [
+        ("get x 1\n", 1, FaultKind::UnknownName),
+        ("vector v uint64 5", 1, FaultKind::UnendedLine),
+        ("vector v uint64 5\nset v 2 7", 2, FaultKind::UnendedLine),
+        ("vector v uint64 5\nset w 2 7\n", 2, FaultKind::UnknownName),
+        (
+            "vector v uint64 5\n\nvector v bool 1\n",
+            3,
+            FaultKind::NameTaken,
+        ),
+        ("vector v uint64\n", 1, FaultKind::Statement),
+        ("vector v uint64 5\nthread\n", 2, FaultKind::Section),
+        ("vector\tv uint64 5\n", 1, FaultKind::BadByte),
+    ];
+    for (script, line, kind) in rows {
+        let mut source = source_of(rt.alloc(), script);
+        let mut sink = sink_of(rt.alloc(), 1000, 1000);
+        let result = run_script(&rt, rt.alloc(), 4096, &mut source, &mut sink, &OpenGate);
+        assert_eq!(rt; result, Err(RunFault::Script { line, kind }), "{script}");
+        assert_eq!(rt; sink.taken.len(), 0, "{script}");
+        assert_eq!(rt; sink.failures, 0, "{script}");
+    }
+    Ok(())
+}
+
+#[test]
+fn a_source_that_fails_writes_nothing(rt: HostRuntime) -> Result<(), Fail> {
+    let rows = [
+        (
+            SourceFault::CannotRead,
+            RunFault::CannotReadScript,
+            (1, 0, 0),
+        ),
+        (SourceFault::TooLong, RunFault::ScriptTooLong, (0, 1, 0)),
+        (SourceFault::OutOfMemory, RunFault::OutOfMemory, (0, 0, 1)),
+    ];
+    for (fault, run_fault, counts) in rows {
+        let mut source = source_of(rt.alloc(), FIRST);
+        source.fault = Some(fault);
+        let mut sink = sink_of(rt.alloc(), 1000, 1000);
+        let result = run_script(&rt, rt.alloc(), 4096, &mut source, &mut sink, &OpenGate);
+        assert_eq!(rt; result, Err(run_fault), "{fault:?}");
+        assert_eq!(rt;
+            (source.cannot_read, source.too_long, source.out_of_memory),
+            counts,
+            "{fault:?}"
+        );
+        assert_eq!(rt; sink.taken.len(), 0, "{fault:?}");
+    }
+    Ok(())
+}
+
+#[test]
+fn a_script_is_at_most_a_mebibyte(rt: HostRuntime) -> Result<(), Fail> {
+    let rows = [
+        (1_048_576, Ok(())),
+        (1_048_577, Err(RunFault::ScriptTooLong)),
+    ];
+    for (length, expected) in rows {
+        let text = vec![in rt.alloc(); b'\n'; length]?;
+        let mut source = TextSource {
+            alloc: rt.alloc(),
+            text: &text,
+            fault: None,
+            cannot_read: 0,
+            too_long: 0,
+            out_of_memory: 0,
+        };
+        let mut sink = sink_of(rt.alloc(), 1000, 1000);
+        let result = run_script(&rt, rt.alloc(), 4096, &mut source, &mut sink, &OpenGate);
+        assert_eq!(rt; result, expected, "{length} bytes");
+    }
+    Ok(())
+}
+
+#[test]
+fn a_sink_that_fails_has_a_beginning(rt: HostRuntime) -> Result<(), Fail> {
+    let lines = FIRST_LINES.as_bytes();
+    for room in 0..lines.len() + 1 {
+        for (step, full) in [(1000, Full::Fails), (1, Full::Fails), (7, Full::TakesNone)] {
+            let mut source = source_of(rt.alloc(), FIRST);
+            let mut sink = sink_of(rt.alloc(), step, room);
+            sink.full = full;
+            let result = run_script(&rt, rt.alloc(), 4096, &mut source, &mut sink, &OpenGate);
+            let is_cut = room < lines.len();
+            assert_eq!(rt;
+                result,
+                if is_cut {
+                    Err(RunFault::CannotWrite)
+                } else {
+                    Ok(())
+                },
+                "step {step}, room {room}"
+            );
+            assert_eq!(rt;
+                sink.taken.as_slice(),
+                &lines[..room],
+                "step {step}, room {room}"
+            );
+            assert_eq!(rt;
+                sink.failures,
+                if is_cut { 1 } else { 0 },
+                "step {step}, room {room}"
+            );
+        }
+    }
+    Ok(())
+}
+
+#[test]
+fn the_gate_stands_round_each_statement(rt: HostRuntime) -> Result<(), Fail> {
+    let rows = [
+        ("", 0),
+        (FIRST, 5),
+        ("# one\nvector v bool 1\n\nset v 5 true\n", 2),
+        ("vector v bool 1\nget w 0\n", 0),
+    ];
+    for (script, count) in rows {
+        let mut source = source_of(rt.alloc(), script);
+        let mut sink = sink_of(rt.alloc(), 1000, 1000);
+        let gate = CountingGate::new();
+        let _ = run_script(&rt, rt.alloc(), 4096, &mut source, &mut sink, &gate);
+        assert_eq!(rt; gate.before.load(Ordering::SeqCst), count, "{script}");
+        assert_eq!(rt; gate.after.load(Ordering::SeqCst), count, "{script}");
+        assert_eq!(rt; gate.wrong.load(Ordering::SeqCst), 0, "{script}");
+    }
+    Ok(())
+}
