@@ -9,7 +9,7 @@ use Rattle.grb_call.specs.Refused.{refused_by_shapes, kind_of, check_of}
 use Rattle.grb_call.specs.Store.{Store, shapes_of}
 use Rattle.grb_call.specs.After.{refused, changed, after, reply_of, answer}
 
-is_err : (o : Option Refusal) (k : Kind) (r : Refusal) → option_map_or Err o (Ok k) ≡ Err r → o ≡ Some r
+pub is_err : (o : Option Refusal) (k : Kind) (r : Refusal) → option_map_or Err o (Ok k) ≡ Err r → o ≡ Some r
 is_err None k r e = cc
 is_err (Some q) k r e = cc
 

@@ -1,3 +1,4 @@
+pub mod ByShapes
 mod Rows
 pub mod Absorbed
 pub mod Checked

@@ -1,108 +1,242 @@
--- Why an answer is explained, where the pass learnt nothing of others.
-use Rattle.std.proofs.Common.{◌≡◌, ◌≢◌, ℕ, ◌<◌, ◌≤◌, Bool, true, false, cond, [], ◌∷◌, ◌++◌, length, refl, sym, ap, ◌∙◌, subst, arith}
-use Rattle.std.specs.Prelude.{Option, Some, None, Result, Ok, Err, IfOk, IsTrue, not}
-use Rattle.std.specs.declared.alloc.AllocError.{AllocError}
+-- Why an answer is explained.
+use Rattle.std.proofs.Common.{◌≡◌, ℕ, ◌+◌, ◌^◌, ◌<◌, ◌≤◌, Bool, true, false, cond, List, [], ◌∷◌, ◌++◌, length, get_or, refl, sym, ap, ◌∙◌, subst, arith, append_assoc, inl, inr}
+use Rattle.std.specs.Prelude.{Option, None, Result, Ok, Err, IfOk, IsTrue}
 use Rattle.std.specs.Result.{result_or}
-use Rattle.std.proofs.lemmas.List.{append-nil}
-use Rattle.std.proofs.lemmas.List.Elements.{All-nil}
+use Rattle.std.specs.declared.alloc.AllocError.{AllocError}
+use Rattle.std.specs.Option.{option_map_or}
+use Rattle.std.proofs.lemmas.List.{append-nil, length_push, get_or_at}
 use Rattle.grb_core.specs.declared.refusal.Refusal.{Refusal}
-use Rattle.grb_core.specs.declared.refusal.Refusal.TheVariants.{UninitializedObject, InvalidValue, InvalidIndex, DomainMismatch, OutOfMemory}
+use Rattle.grb_core.specs.declared.refusal.Refusal.TheVariants.{OrderFull, OutOfMemory, Panic}
+use Rattle.grb_order.specs.Word.{order_word, number_of, StartsWith}
+use Rattle.grb_order.specs.View.{enters as enters_word, learns, LookedLast}
+use Rattle.grb_order.specs.declared.view.View.{View}
+use Rattle.grb_records.specs.Token.{Shown}
 use Rattle.grb_call.specs.declared.call.Call.{Call}
 use Rattle.grb_call.specs.declared.call.Call.TheVariants as call
+use Rattle.grb_call.specs.declared.checking.Kind.{Kind}
 use Rattle.grb_call.specs.declared.reply.Reply.{Reply}
 use Rattle.grb_call.specs.Kinds.{enters}
-use Rattle.grb_call.specs.Shapes.{ObjectShapes}
-use Rattle.grb_call.specs.Refused.{refused_by_shapes, check_of, is_initialized, has_valid_values, has_valid_index, has_one_domain}
-use Rattle.grb_call.specs.Store.{Store, empty_store, shapes_of}
-use Rattle.grb_call.specs.After.{refused, reply_of}
-use Rattle.grb_call.specs.History.{Entry, History, store_of}
-use Rattle.grb_call.proofs.Checked.{refused-err, answer-err}
-use Rattle.grb_call.proofs.KindsChecked.{answer-none}
-use Rattle.grb_context.specs.Known.{Sharing, Knowing, IsPassOf}
-use Rattle.grb_context.specs.Explains.{Answer, Ground, ground_of, is_entry_read, history_after, IsGrounded, ExplainsCall}
-use Rattle.grb_context.specs.Explains.Ground.{ByStore}
+use Rattle.grb_call.specs.Refused.{check_of}
+use Rattle.grb_call.specs.Store.{Store, shapes_of}
+use Rattle.grb_call.specs.After.{refused, answer, reply_of}
+use Rattle.grb_call.specs.History.{History, store_of}
+use Rattle.grb_call.proofs.ByShapes.{by_check}
+use Rattle.grb_call.proofs.Checked.{answer-err, answer-ok, refused-ok}
+use Rattle.grb_context.specs.declared.learn.End.{End}
+use Rattle.grb_context.specs.declared.learn.End.TheVariants.{Vacant, Full}
+use Rattle.grb_context.specs.Known.{Knowing, known, spelled}
+use Rattle.grb_context.specs.Point.{GrewTo, IsAtPoint}
+use Rattle.grb_context.specs.Explains.{Answer, Ground, ByStore, ByRoom, ByMemory, ByRecords, ground_of, history_after, is_entry_read, IsGrounded, ExplainsCall, IsCaughtUp}
+use Rattle.grb_context.specs.Learning.{Learns, Finds, IsReady, IsRefused}
+use Rattle.grb_context.proofs.Spelling.{spelled_push, spelled_more, length_spelled}
+use Rattle.grb_context.proofs.Kept.{number_of-order_word}
+use Rattle.grb_context.proofs.Learnt.{grows_then, grows_enters, learns_then, learns_word}
 
--- a call that is answered from what the pass knows
-explained : (old new : Knowing) (c : Call) (r : Answer) → IsGrounded old.context.room c r old.known (ground_of r) → new ≡ record old { known = history_after old.number c r old.known } → ExplainsCall old new c r
-explained old new c r grounds is =
-    let none : old.known ≡ old.known ++ [] = sym (append-nil old.known) in
+pub length_known : (p : Knowing) → length p.shown ≡ length p.view.words → length (known p) ≡ length p.view.words
+length_known p all = length_spelled p.view.words p.shown (omega arith) ∙ all
+
+-- a refusal by a check rests on the store
+checked_ground : (p : Knowing) (c : Call) (r : Refusal) → check_of (shapes_of (store_of (known p))) c ≡ Err r → ground_of (Err r) ≡ ByStore
+checked_ground p c r e = by_check (λ (q : Refusal). ground_of (Err q) ≡ ByStore) r (shapes_of (store_of (known p))) c refl refl refl refl e
+
+-- a look that found the order's end is a point
+point_looked : (room : ℕ) (old new : Knowing) → length new.shown ≡ length new.view.words → GrewTo old.view.looks new.view.looks (length new.view.words) → IsAtPoint room old.view new.view (known new)
+point_looked room old new all looked =
+    let n : length new.view.words ≡ length (known new) = sym (length_known new all) in
+    inl (subst (λ (m : ℕ). GrewTo old.view.looks new.view.looks m) n looked, n)
+
+looked_once : (old new : List ℕ) (n : ℕ) → new ≡ old ++ n ∷ [] → GrewTo old new n
+looked_once old new n is = ([], is ∙ ap (λ (l : List ℕ). l ++ n ∷ []) (sym (append-nil old)))
+
+-- what was found at the order's end is a point, and all words are known there
+pub point_found : (room : ℕ) (old new : Knowing) (end : End) → Finds room old (Ok end) new → IsAtPoint room old.view new.view (known new)
+point_found room old new Vacant f = point_looked room old new f.0 (looked_once old.view.looks new.view.looks (length new.view.words) f.1)
+point_found room old new Full f = inr (inr (length_known new f.0 ∙ f.1))
+
+known_found : (room : ℕ) (old new : Knowing) (end : End) → Finds room old (Ok end) new → length (known new) ≡ length new.view.words
+known_found room old new Vacant f = length_known new f.0
+known_found room old new Full f = length_known new f.0
+
+-- a check refuses the call at the order's end
+pub refused_by_check : (room : ℕ) (old new : Knowing) (end : End) (c : Call) (r : Refusal) → Finds room old (Ok end) new → check_of (shapes_of (store_of (known new))) c ≡ Err r → IsRefused room old new c r
+refused_by_check room old new end c r f e =
+    let by : ByStore ≡ ground_of (Err r) = sym (checked_ground new c r e) in
     record {
-      learnt = [];
-      others = All-nil (λ (e : Entry). e.0 ≢ old.number);
-      passes = All-nil (λ (e : Entry). e.0 < old.context.passes);
-      grounds = subst (λ (g : History). IsGrounded old.context.room c r g (ground_of r)) none grounds;
-      known_is = ap (λ (p : Knowing). p.known) is ∙ ap (history_after old.number c r) none;
-      number_is = ap (λ (p : Knowing). p.number) is;
-      context_is = ap (λ (p : Knowing). p.context) is;
+      grounds = subst (IsGrounded room old new c (Err r) (known new)) by (record { answered = sym (answer-err (store_of (known new)) c r e); point = point_found room old new end f });
+      caught_up = subst (λ (g : Ground). IsCaughtUp g new) by (known_found room old new end f);
+      memory = λ writes is. let no : ByStore ≡ ByMemory = by ∙ ap (λ (q : Refusal). ground_of (Err q)) is in cc;
     }
 
--- shapes refuse for none but reasons of the store
-IsByStore : Option Refusal → Type 0
-IsByStore None = Unit {0}
-IsByStore (Some r) = ground_of (Err r) ≡ ByStore
+-- the order is full
+pub refused_by_room : (room : ℕ) (old new : Knowing) (c : Call) (kind : Kind) → Finds room old (Ok Full) new → enters c ≡ true → check_of (shapes_of (store_of (known new))) c ≡ Ok kind → IsRefused room old new c OrderFull
+refused_by_room room old new c kind f writes e =
+    let n : length (known new) ≡ length new.view.words = length_known new f.0 in
+    record { grounds = record { unrefused = refused-ok (store_of (known new)) c kind e; enters = writes; full = n ∙ f.1 }; caught_up = n; memory = λ _ is. cc }
 
-by_test : (b : Bool) (r : Refusal) (o : Option Refusal) → ground_of (Err r) ≡ ByStore → IsByStore o → IsByStore (cond b (Some r) o)
-unfolding IsByStore
-by_test true r o is other = is
-by_test false r o is other = other
+-- a record was not shown
+pub refused_unshown : (room : ℕ) (old new : Knowing) (c : Call) (r : Refusal) → Finds room old (Err r) new → IsRefused room old new c r
+refused_unshown room old new c r f = subst (IsRefused room old new c) (sym f.0) (record { grounds = inl f.1; caught_up = tt; memory = λ _ is. cc })
 
-refused_by_shapes-IsByStore : (s : ObjectShapes) (c : Call) → IsByStore (refused_by_shapes s c)
-unfolding IsByStore
-refused_by_shapes-IsByStore s c =
-    by_test (not (is_initialized s c)) UninitializedObject _ refl
-    (by_test (not (has_valid_values c)) InvalidValue _ refl
-    (by_test (not (has_valid_index s c)) InvalidIndex _ refl
-    (by_test (not (has_one_domain s c)) DomainMismatch None refl tt)))
+pub is_ready : (room : ℕ) (old new : Knowing) (c : Call) (kind : Kind) → Finds room old (Ok Vacant) new → check_of (shapes_of (store_of (known new))) c ≡ Ok kind → IsReady room old new c
+is_ready room old new c kind f e = record {
+  all = f.0;
+  looked = looked_once old.view.looks new.view.looks (length new.view.words) f.1;
+  room_left = f.2;
+  unrefused = refused-ok (store_of (known new)) c kind e;
+}
 
-refusal-ByStore : (s : Store) (c : Call) (r : Refusal) → refused s c ≡ Some r → ground_of (Err r) ≡ ByStore
-unfolding IsByStore
-refusal-ByStore s c r is = subst IsByStore is (refused_by_shapes-IsByStore (shapes_of s) c)
+-- the call's own record was not taken
+pub refused_untaken : (room : ℕ) (old new : Knowing) (c : Call) (r : Refusal) → r ≡ Panic → enters c ≡ true → IsReady room old new c → IsRefused room old new c r
+refused_untaken room old new c r is writes ready =
+    let n : length (known new) ≡ length new.view.words = length_known new ready.all in
+    let near : length (known new) < room = omega (arith, ready.room_left) in
+    subst (IsRefused room old new c) (sym is)
+    (record { grounds = inr (record { point = point_looked room old new ready.all ready.looked; unrefused = ready.unrefused; enters = writes; room_left = near }); caught_up = tt; memory = λ _ is. cc })
 
--- a refusal of the store
-pub explained-refused : (old : Knowing) (c : Call) (r : Refusal) → check_of (shapes_of (store_of old.known)) c ≡ Err r → ExplainsCall old old c (Err r)
-explained-refused old c r is =
-    let s : Store = store_of old.known in
-    explained old old c (Err r)
-    (subst (λ (ground : Ground). IsGrounded old.context.room c (Err r) old.known ground) (sym (refusal-ByStore s c r (refused-err s c r is))) (sym (answer-err s c r is)))
-    refl
+-- what a later part of a call explains, the whole call explains
+grew_before : (a b c : List ℕ) (n : ℕ) → StartsWith b a → GrewTo b c n → GrewTo a c n
+grew_before a b c n start grew = (start.0 ++ grew.0, grew.1 ∙ ap (λ (l : List ℕ). l ++ n ∷ []) (ap (λ (l : List ℕ). l ++ grew.0) start.1 ∙ append_assoc a start.0 grew.0))
 
--- the reply of the store to a call that only reads
-explained-read : (old new : Knowing) (c : Call) (reply : Reply) → refused (store_of old.known) c ≡ None → enters c ≡ false → reply ≡ reply_of (store_of old.known) c → new ≡ old → ExplainsCall old new c (Ok reply)
-explained-read old new c reply unrefused reads is same =
-    let ok : Reply → Answer = Ok in
-    let s : Store = store_of old.known in
-    explained old new c (Ok reply)
-    (ap ok is ∙ sym (answer-none s c unrefused))
-    (same ∙ ap (λ (b : Bool). record old { known = cond b (old.known ++ (old.number, c) ∷ []) old.known }) (sym reads))
+module _ (room : ℕ) (a b c : Knowing) (call : Call) (first : Learns a b) where
+  moved : (g : History) → IsAtPoint room b.view c.view g → IsAtPoint room a.view c.view g
+  moved g (inl p) = inl (grew_before a.view.looks b.view.looks c.view.looks (length g) first.grown.looks p.0, p.1)
+  moved g (inr (inl p)) = inr (inl (p.0 ∙ ap (λ (l : List ℕ). l ++ length g ∷ []) first.own, p.1))
+  moved g (inr (inr p)) = inr (inr p)
 
--- a store with no objects refuses each read of entries
-refused_empty : (c : Call) → IsTrue (is_entry_read c) → refused empty_store c ≡ Some UninitializedObject
-refused_empty (call.NewVector domain size) reads = cc
-refused_empty (call.SetVector v i value) reads = cc
-refused_empty (call.GetVector v i) reads = refl
-refused_empty (call.NvalsVector v) reads = refl
+  grounded_before : (r : Answer) (g : History) (by : Ground) → IsGrounded room b c call r g by → IsGrounded room a c call r g by
+  grounded_before r g ByStore is = record { answered = is.answered; point = moved g is.point }
+  grounded_before r g ByRoom is = is
+  grounded_before r g ByMemory is = record { point = moved g is.point; by_shapes = is.by_shapes; room_left = is.room_left; unsettled = is.unsettled }
+  grounded_before r g ByRecords (inl is) = inl is
+  grounded_before r g ByRecords (inr is) = inr (record { point = moved g is.point; unrefused = is.unrefused; enters = is.enters; room_left = is.room_left })
 
-is_known : (g : History) (c : Call) → refused (store_of g) c ≡ None → IsTrue (is_entry_read c) → 0 < length g
-is_known [] c unrefused reads = let empty = refused_empty c reads in cc
-is_known (e ∷ g) c unrefused reads = omega arith
+  pub refused_before : (r : Refusal) → IsRefused room b c call r → IsRefused room a c call r
+  refused_before r is = record { grounds = grounded_before (Err r) (known c) (ground_of (Err r)) is.grounds; caught_up = is.caught_up; memory = is.memory }
 
--- memory that was refused to a call that only reads
-explained-memory : (old new : Knowing) (c : Call) → refused (store_of old.known) c ≡ None → enters c ≡ false → new ≡ old → ExplainsCall old new c (Err OutOfMemory)
-explained-memory old new c unrefused reads same =
-    explained old new c (Err OutOfMemory)
-    (record { by_shapes = unrefused; room_left = λ enters. cc; unsettled = is_known old.known c unrefused })
-    same
+  pub ready_before : IsReady room b c call → IsReady room a c call
+  ready_before is = record {
+    all = is.all;
+    looked = grew_before a.view.looks b.view.looks c.view.looks (length c.view.words) first.grown.looks is.looked;
+    room_left = is.room_left;
+    unrefused = is.unrefused;
+  }
+
+-- a lost try: the word of another pass is learnt
+pub learns_lost : (room : ℕ) (old mid lost : Knowing) (c : Call) (word : ℕ) → Learns old mid → IsReady room old mid c → lost.shown ≡ mid.shown → lost.view ≡ learns mid.view word → Learns old lost
+learns_lost room old mid lost c word l ready shown is =
+    let all : length mid.shown ≡ length mid.view.words = ready.all in let few : length mid.shown ≤ length mid.view.words = omega arith in
+    learns_then old mid lost l (learns_word mid lost few shown word is)
+
+pub looked_last : (old new : Knowing) → GrewTo old.view.looks new.view.looks (length new.view.words) → LookedLast new.view
+looked_last old new grew = (old.view.looks ++ grew.0, grew.1)
+
+-- a call that is refused where the pass learnt what it knows now
+pub explains_refused : (room : ℕ) (old new : Knowing) (c : Call) (r : Refusal) → Learns old new → IsRefused room old new c r → ExplainsCall room old new c (Err r)
+explains_refused room old new c r l is = record {
+  grown = l.grown;
+  learnt = l.learnt;
+  others = l.others;
+  passes = l.passes;
+  grounds = subst (λ (g : History). IsGrounded room old new c (Err r) g (ground_of (Err r))) l.known_is is.grounds;
+  known_is = l.known_is;
+}
+
+answer_unrefused : (s : Store) (c : Call) → refused s c ≡ None → answer s c ≡ Ok (reply_of s c)
+answer_unrefused s c none = ap (λ (o : Option Refusal). option_map_or Err o (Ok (reply_of s c))) none
+
+-- a call that was entered
+known_won : (mid new : Knowing) (token : Shown) → length mid.shown ≡ length mid.view.words → token.index < 2 ^ 48 → new.view ≡ enters_word mid.view (order_word mid.view.number token.index) → new.shown ≡ mid.shown ++ token ∷ []
+    → known new ≡ known mid ++ (mid.view.number, token.call) ∷ []
+known_won mid new token all small is shown =
+    let word : ℕ = order_word mid.view.number token.index in
+    let words : List ℕ = mid.view.words ++ word ∷ [] in
+    let m : length words ≡ length mid.view.words + 1 = length_push mid.view.words word in
+    let lt : length mid.shown < length words = omega arith in
+    let few : length mid.shown ≤ length mid.view.words = omega arith in
+    let at : get_or words (length mid.shown) 0 ≡ word = get_or_at mid.view.words word [] 0 (length mid.shown) (sym all) in
+    let number : number_of (get_or words (length mid.shown) 0) ≡ mid.view.number = ap number_of at ∙ number_of-order_word mid.view.number token.index small in
+    (λ i. spelled (is i).words (shown i)) ∙ spelled_push words mid.shown token lt
+    ∙ (λ i. spelled_more mid.view.words (word ∷ []) mid.shown few i ++ (number i, token.call) ∷ [])
+
+pub explains_won : (room : ℕ) (old mid new : Knowing) (c : Call) (token : Shown) (reply : Reply) → Learns old mid → IsReady room old mid c → enters c ≡ true → token.call ≡ c → token.index < 2 ^ 48
+    → new.view ≡ enters_word mid.view (order_word mid.view.number token.index) → new.shown ≡ mid.shown ++ token ∷ [] → reply ≡ reply_of (store_of (known mid)) c → ExplainsCall room old new c (Ok reply)
+explains_won room old mid new c token reply l ready writes same small view shown is =
+    let g : History = known mid in
+    let word : ℕ = order_word mid.view.number token.index in
+    let n : length mid.view.words ≡ length g = sym (length_known mid ready.all) in
+    let more : length new.view.words ≡ length mid.view.words + 1 = ap (λ (v : View). length v.words) view ∙ length_push mid.view.words word in
+    let own : new.view.own ≡ old.view.own ++ length g ∷ [] = ap (λ (v : View). v.own) view ∙ (λ i. l.own i ++ n i ∷ []) in
+    let point : IsAtPoint room old.view new.view g = inr (inl (own, omega arith)) in
+    let answered : Ok reply ≡ answer (store_of g) c = ap (λ (r : Reply). Ok r) is ∙ sym (answer_unrefused (store_of g) c ready.unrefused) in
+    let entry : known new ≡ g ++ (old.view.number, c) ∷ [] = known_won mid new token ready.all small view shown ∙ (λ i. g ++ (l.grown.number i, same i) ∷ []) in
+    let behind : known new ≡ history_after old.view.number c (Ok reply) g = entry ∙ sym (ap (λ (b : Bool). cond b (g ++ (old.view.number, c) ∷ []) g) writes) in
+    let grounds : IsGrounded room old new c (Ok reply) g ByStore = record { answered = answered; point = point } in
+    record {
+      grown = grows_then old.view mid.view new.view l.grown (grows_enters mid.view new.view word view);
+      learnt = l.learnt;
+      others = l.others;
+      passes = l.passes;
+      grounds = subst (λ (h : History). IsGrounded room old new c (Ok reply) h ByStore) l.known_is grounds;
+      known_is = behind ∙ ap (history_after old.view.number c (Ok reply)) l.known_is;
+    }
+
+pub known_entered : (mid new : Knowing) (token : Shown) (room : ℕ) (old : Knowing) (c : Call) → IsReady room old mid c → token.index < 2 ^ 48 → new.view ≡ enters_word mid.view (order_word mid.view.number token.index) → new.shown ≡ mid.shown ++ token ∷ []
+    → length (known new) ≡ length new.view.words
+known_entered mid new token room old c ready small view shown =
+    let all : length mid.shown ≡ length mid.view.words = ready.all in
+    let more : length new.view.words ≡ length mid.view.words + 1 = ap (λ (v : View). length v.words) view ∙ length_push mid.view.words (order_word mid.view.number token.index) in
+    let records : length new.shown ≡ length mid.shown + 1 = ap length shown ∙ length_push mid.shown token in
+    length_known new (omega arith)
+
+-- a call that only reads
+explains_read : (room : ℕ) (old new : Knowing) (end : End) (c : Call) (kind : Kind) (reply : Reply) → Learns old new → Finds room old (Ok end) new → enters c ≡ false → check_of (shapes_of (store_of (known new))) c ≡ Ok kind
+    → reply ≡ reply_of (store_of (known new)) c → ExplainsCall room old new c (Ok reply)
+explains_read room old new end c kind reply l f reads e is =
+    let g : History = known new in
+    let answered : Ok reply ≡ answer (store_of g) c = ap (λ (r : Reply). Ok r) is ∙ sym (answer-ok (store_of g) c kind e) in
+    let grounds : IsGrounded room old new c (Ok reply) g ByStore = record { answered = answered; point = point_found room old new end f } in
+    let behind : g ≡ history_after old.view.number c (Ok reply) g = sym (ap (λ (b : Bool). cond b (g ++ (old.view.number, c) ∷ []) g) reads) in
+    record {
+      grown = l.grown;
+      learnt = l.learnt;
+      others = l.others;
+      passes = l.passes;
+      grounds = subst (λ (h : History). IsGrounded room old new c (Ok reply) h ByStore) l.known_is grounds;
+      known_is = behind ∙ ap (history_after old.view.number c (Ok reply)) l.known_is;
+    }
+
+-- memory is refused to a call that only reads, where something is known: with nothing known such a call is refused
+reads_nothing : (c : Call) → IsTrue (is_entry_read c) → refused (store_of []) c ≡ None → ⊥
+reads_nothing (call.GetVector v i) is none = cc
+reads_nothing (call.NvalsVector v) is none = cc
+reads_nothing _ is none = cc
+
+some_known : (h : History) (c : Call) → refused (store_of h) c ≡ None → IsTrue (is_entry_read c) → 0 < length h
+some_known [] c none is = absurd (reads_nothing c is none)
+some_known (e ∷ h) c none is = omega arith
+
+refused_by_memory : (room : ℕ) (old new : Knowing) (end : End) (c : Call) (kind : Kind) → Finds room old (Ok end) new → enters c ≡ false → check_of (shapes_of (store_of (known new))) c ≡ Ok kind → IsRefused room old new c OutOfMemory
+refused_by_memory room old new end c kind f reads e =
+    let none : refused (store_of (known new)) c ≡ None = refused-ok (store_of (known new)) c kind e in
+    record {
+      grounds = record {
+        point = point_found room old new end f;
+        by_shapes = none;
+        room_left = λ writes. let no : false ≡ true = sym reads ∙ writes in cc;
+        unsettled = some_known (known new) c none;
+      };
+      caught_up = known_found room old new end f;
+      memory = λ writes is. let no : false ≡ true = sym reads ∙ writes in cc;
+    }
 
 -- what a call that only reads answers, where its evaluation may be refused memory
-pub explained-evaluated : (old new : Knowing) (c : Call) (r : Result Reply AllocError) → refused (store_of old.known) c ≡ None → enters c ≡ false → IfOk r (λ reply. reply ≡ reply_of (store_of old.known) c) → new ≡ old → ExplainsCall old new c (result_or r (Err OutOfMemory))
-explained-evaluated old new c (Ok reply) unrefused reads is same = explained-read old new c reply unrefused reads is same
-explained-evaluated old new c (Err error) unrefused reads is same = explained-memory old new c unrefused reads same
+module _ (room : ℕ) (old now new : Knowing) (end : End) (c : Call) (kind : Kind) (found : Finds room old (Ok end) now) (same : new ≡ now) where
+  pub explains_evaluated : (r : Result Reply AllocError) → Learns old now → enters c ≡ false → check_of (shapes_of (store_of (known now))) c ≡ Ok kind
+      → IfOk r (λ reply. reply ≡ reply_of (store_of (known now)) c) → ExplainsCall room old new c (result_or r (Err OutOfMemory))
+  explains_evaluated (Ok reply) l reads e is = subst (λ (p : Knowing). ExplainsCall room old p c (Ok reply)) (sym same) (explains_read room old now end c kind reply l found reads e is)
+  explains_evaluated (Err error) l reads e is =
+      subst (λ (p : Knowing). ExplainsCall room old p c (Err OutOfMemory)) (sym same) (explains_refused room old now c OutOfMemory l (refused_by_memory room old now end c kind found reads e))
 
-pub IsPassOf-explained : (context : Sharing) (old new : Knowing) (c : Call) (r : Answer) → IsPassOf context old → ExplainsCall old new c r → length new.known ≤ new.context.room → IsPassOf context new
-IsPassOf-explained context old new c r before is within =
-    let same : new.context ≡ context = is.context_is ∙ before.context_is in
-    record {
-      context_is = same;
-      number = subst (λ (n : ℕ). n < context.passes) (sym is.number_is) before.number;
-      within = subst (λ (of : Sharing). length new.known ≤ of.room) same within;
-    }
+  pub known_evaluated : (r : Result Reply AllocError) → IsCaughtUp (ground_of (result_or r (Err OutOfMemory))) new
+  known_evaluated (Ok reply) = subst (λ (p : Knowing). length (known p) ≡ length p.view.words) (sym same) (known_found room old now end found)
+  known_evaluated (Err error) = subst (λ (p : Knowing). length (known p) ≡ length p.view.words) (sym same) (known_found room old now end found)

@@ -1,71 +1,163 @@
--- What ties the parts of a pass stays so at each step.
-use Rattle.std.proofs.Common.{◌≡◌, ℕ, ◌+◌, ◌<◌, List, [], ◌∷◌, ◌++◌, length, get_or, take, refl, sym, ap, ◌∙◌, arith, length-append}
-use Rattle.std.proofs.lemmas.List.{take-append-le, take_more, take_all}
+-- What ties the parts of a reader stays so at each step.
+use Rattle.std.proofs.Common.{◌≡◌, ℕ, ◌+◌, ◌^◌, ◌<◌, ◌≤◌, List, [], ◌∷◌, ◌++◌, length, get_or, drop, refl, sym, ap, ◌∙◌, subst, arith, length-append}
+use Rattle.std.specs.List.{All}
+use Rattle.std.proofs.lemmas.List.{drop_more, drop-append-le, drop_all, length_push, get_or_at}
+use Rattle.std.proofs.lemmas.Nat.{mod-mul-add}
+use Rattle.std.proofs.lemmas.List.Elements.{All-push, All-head, All-tail, All-nil, All-same}
+use Rattle.grb_order.specs.Word.{number_of, index_of, order_word, IsWord}
+use Rattle.grb_order.specs.View.{fresh, learns, finds_vacant, enters, IsOthers, IsSound}
+use Rattle.grb_order.specs.Holding.{Holding, TableId}
+use Rattle.grb_order.specs.Steps.{Looks}
+use Rattle.grb_order.specs.declared.view.View.{View}
+use Rattle.grb_order.specs.declared.step.Look.{Look}
+use Rattle.grb_order.specs.declared.step.Look.TheVariants.{Next, Vacant, Full}
+use Rattle.grb_records.specs.Token.{Shown}
 use Rattle.grb_call.specs.declared.call.Call.{Call}
-use Rattle.grb_call.specs.Shapes.{RoomyShapes, ObjectShapes}
+use Rattle.grb_call.specs.Shapes.{ObjectShapes, RoomyShapes}
 use Rattle.grb_call.specs.Refused.{shapes_after}
-use Rattle.grb_call.specs.Store.{Store, empty_store, shapes_of}
-use Rattle.grb_call.specs.After.{after}
-use Rattle.grb_call.specs.History.{History, calls_of, after_all, store_of}
-use Rattle.grb_call.proofs.Runs.{after_all-append}
-use Rattle.grb_call.proofs.ShapesAfter.{shapes_of-after}
-use Rattle.grb_context.specs.Pass.{history_of, IsEvaluated, IsKept}
-use Rattle.grb_context.specs.State.{RoomyStore}
+use Rattle.grb_call.specs.Store.{shapes_of}
+use Rattle.grb_call.specs.History.{History, store_of}
+use Rattle.grb_context.specs.Known.{Knowing, spelled}
+use Rattle.grb_context.specs.Learning.{IsNextUnshown, IsSteady}
+use Rattle.grb_context.specs.Reading.{IsKept}
+use Rattle.grb_context.proofs.Spelling.{records_more, records_push, spelled_push, spelled_more, shapes_of-push}
 
-pub length-history_of : (number : ℕ) (calls : List Call) → length (history_of number calls) ≡ length calls
-length-history_of number [] = refl
-length-history_of number (c ∷ cs) = omega (arith, length-history_of number cs)
+abbrev pub placed : TableId → View → Holding
+placed t v = record { table_id = t; view = v }
 
-pub history_of-push : (number : ℕ) (calls : List Call) (c : Call) → history_of number (calls ++ c ∷ []) ≡ history_of number calls ++ (number, c) ∷ []
-history_of-push number [] c = refl
-history_of-push number (d ∷ ds) c = ap (λ (h : History). (number, d) ∷ h) (history_of-push number ds c)
+pub number_of-order_word : (number index : ℕ) → index < 2 ^ 48 → number_of (order_word number index) ≡ number
+number_of-order_word number index small = omega arith
 
-pub calls_of-history_of : (number : ℕ) (calls : List Call) → calls_of (history_of number calls) ≡ calls
-calls_of-history_of number [] = refl
-calls_of-history_of number (c ∷ cs) = ap (λ (l : List Call). c ∷ l) (calls_of-history_of number cs)
+module _ (number size : ℕ) (t : TableId) (v : View) (shown : List Shown) (capacity : ℕ) (shapes : RoomyShapes) (k : IsKept number size (placed t v) shown capacity shapes) where
+  kept_learns : (x : ℕ) → IsOthers v x → IsSound t.words (learns v x) → IsKept number size (placed t (learns v x)) shown capacity shapes
+  kept_learns x other sound = record {
+    number_is = k.number_is;
+    sound = sound;
+    few = omega (arith, length-append v.words (x ∷ []), k.few);
+    records = records_more v.words (x ∷ []) shown k.records;
+    others = All-same (IsOthers v) (drop (length shown) (v.words ++ x ∷ [])) (drop (length shown) v.words ++ x ∷ []) (drop-append-le (length shown) v.words (x ∷ []) k.few) (All-push (IsOthers v) (drop (length shown) v.words) x k.others other);
+    shapes_are = k.shapes_are ∙ ap (λ (h : History). shapes_of (store_of h)) (sym (spelled_more v.words (x ∷ []) shown k.few));
+    room = k.room;
+    roomy = k.roomy;
+    room_is = k.room_is;
+    small = k.small;
+  }
 
-pub store_of-history_of : (number : ℕ) (calls : List Call) → store_of (history_of number calls) ≡ after_all empty_store calls
-store_of-history_of number calls = ap (after_all empty_store) (calls_of-history_of number calls)
+  kept_vacant : IsSound t.words (finds_vacant v) → IsKept number size (placed t (finds_vacant v)) shown capacity shapes
+  kept_vacant sound = record {
+    number_is = k.number_is;
+    sound = sound;
+    few = k.few;
+    records = k.records;
+    others = k.others;
+    shapes_are = k.shapes_are;
+    room = k.room;
+    roomy = k.roomy;
+    room_is = k.room_is;
+    small = k.small;
+  }
 
-pub after_all-push : (s : Store) (calls : List Call) (c : Call) → after_all s (calls ++ c ∷ []) ≡ after (after_all s calls) c
-after_all-push s calls c = after_all-append s calls (c ∷ [])
+  -- after a look
+  pub kept_look : (room : ℕ) (found : Look) (w : View) → Looks room v found w → IsSound t.words w → IsKept number size (placed t w) shown capacity shapes
+  kept_look room (Next word) w looked sound =
+      subst (λ (y : View). IsKept number size (placed t y) shown capacity shapes) (sym looked.0) (kept_learns word looked.1 (subst (λ (y : View). IsSound t.words y) looked.0 sound))
+  kept_look room Vacant w looked sound =
+      subst (λ (y : View). IsKept number size (placed t y) shown capacity shapes) (sym looked.0) (kept_vacant (subst (λ (y : View). IsSound t.words y) looked.0 sound))
+  kept_look room Full w looked sound = subst (λ (y : View). IsKept number size (placed t y) shown capacity shapes) (sym looked.0) k
 
--- one more call, which is not evaluated
-pub IsEvaluated-push : (calls : List Call) (evaluated : ℕ) (s : Store) (c : Call) → IsEvaluated calls evaluated s → IsEvaluated (calls ++ c ∷ []) evaluated s
-IsEvaluated-push calls evaluated s c is = record {
-  within = omega (arith, length-append calls (c ∷ []), is.within);
-  store_is = is.store_is ∙ ap (after_all empty_store) (sym (take-append-le evaluated calls (c ∷ []) is.within));
-}
+  -- after a try that another pass was before
+  pub kept_lost : (x : ℕ) (w : View) → w ≡ learns v x → IsOthers v x → IsSound t.words w → IsKept number size (placed t w) shown capacity shapes
+  kept_lost x w is other sound =
+      subst (λ (y : View). IsKept number size (placed t y) shown capacity shapes) (sym is) (kept_learns x other (subst (λ (y : View). IsSound t.words y) is sound))
 
-pub IsKept-push : (number room : ℕ) (calls : List Call) (capacity : ℕ) (shapes new : RoomyShapes) (state : RoomyStore) (evaluated : ℕ) (c : Call)
-    → IsKept number room calls capacity shapes state evaluated → new.objects ≡ shapes_after shapes.objects c → new.room + 1 ≡ shapes.room
-    → IsKept number room (calls ++ c ∷ []) capacity new state evaluated
-IsKept-push number room calls capacity shapes new state evaluated c kept objects less = record {
-  first = kept.first;
-  positive = kept.positive;
-  small = kept.small;
-  reserved = kept.reserved;
-  shapes_are = objects ∙ ap (λ (s : ObjectShapes). shapes_after s c) kept.shapes_are ∙ sym (shapes_of-after (after_all empty_store calls) c) ∙ ap shapes_of (sym (after_all-push empty_store calls c));
-  shapes_room = omega (arith, length-append calls (c ∷ []), kept.shapes_room);
-  state_is = IsEvaluated-push calls evaluated state.store c kept.state_is;
-  state_room = kept.state_room;
-}
+  -- the shapes after one more record
+  shapes_more : (words : List ℕ) (token : Shown) (call : Call) (after : RoomyShapes) → spelled words shown ≡ spelled v.words shown → length shown < length words → call ≡ token.call
+      → after.objects ≡ shapes_after shapes.objects call → after.objects ≡ shapes_of (store_of (spelled words (shown ++ token ∷ [])))
+  shapes_more words token call after same lt is grown =
+      let h : History = spelled v.words shown in let number_of_word : ℕ = number_of (get_or words (length shown) 0) in
+      grown ∙ ap (λ (s : ObjectShapes). shapes_after s call) k.shapes_are ∙ ap (λ (c : Call). shapes_after (shapes_of (store_of h)) c) is
+      ∙ sym (shapes_of-push h (number_of_word, token.call))
+      ∙ ap (λ (x : History). shapes_of (store_of (x ++ (number_of_word, token.call) ∷ []))) (sym same)
+      ∙ ap (λ (x : History). shapes_of (store_of x)) (sym (spelled_push words shown token lt))
 
--- one more call evaluated
-pub IsEvaluated-more : (calls : List Call) (evaluated : ℕ) (s : Store) (d : Call) → IsEvaluated calls evaluated s → evaluated < length calls → IsEvaluated calls (evaluated + 1) (after s (get_or calls evaluated d))
-IsEvaluated-more calls evaluated s d is within =
-    let c : Call = get_or calls evaluated d in
-    record {
-      within = omega arith;
-      store_is =
-          ap (λ (t : Store). after t c) is.store_is ∙ sym (after_all-push empty_store (take evaluated calls) c)
-          ∙ ap (after_all empty_store) (sym (take_more calls evaluated d within));
-    }
+  -- after the record of the next word was shown
+  pub kept_admit : (token : Shown) (call : Call) (tokens : List Shown) (capacity' : ℕ) (after : RoomyShapes)
+      → length shown < length v.words → token.pass ≡ number_of (get_or v.words (length shown) 0) → token.index ≡ index_of (get_or v.words (length shown) 0) → call ≡ token.call
+      → tokens ≡ shown ++ token ∷ [] → capacity' ≡ capacity → after.objects ≡ shapes_after shapes.objects call → after.room + 1 ≡ shapes.room
+      → IsKept number size (placed t v) tokens capacity' after
+  kept_admit token call tokens capacity' after lt pass index is pushed same grown less =
+      let n : length (shown ++ token ∷ []) ≡ length shown + 1 = length_push shown token in
+      let room : after.room + length (shown ++ token ∷ []) ≡ t.words = omega (arith, k.room) in
+      let rest : drop (length shown) v.words ≡ get_or v.words (length shown) 0 ∷ drop (length shown + 1) v.words = drop_more v.words (length shown) 0 lt in
+      let others : All (IsOthers v) (drop (length shown + 1) v.words) = All-tail (IsOthers v) (get_or v.words (length shown) 0) (drop (length shown + 1) v.words) (subst (λ (l : List ℕ). All (IsOthers v) l) rest k.others) in
+      let new : IsKept number size (placed t v) (shown ++ token ∷ []) capacity after = record {
+        number_is = k.number_is;
+        sound = k.sound;
+        few = omega arith;
+        records = records_push v.words shown token k.records lt pass index;
+        others = subst (λ (m : ℕ). All (IsOthers v) (drop m v.words)) (sym n) others;
+        shapes_are = shapes_more v.words token call after refl lt is grown;
+        room = room;
+        roomy = k.roomy;
+        room_is = k.room_is;
+        small = k.small;
+      } in
+      subst (λ (y : List Shown × ℕ). IsKept number size (placed t v) y.0 y.1 after) (λ i. (sym pushed i, sym same i)) new
 
--- all calls evaluated
-pub store_evaluated : (number : ℕ) (calls : List Call) (evaluated : ℕ) (s : Store) → IsEvaluated calls evaluated s → evaluated ≡ length calls → s ≡ store_of (history_of number calls)
-store_evaluated number calls evaluated s is all =
-    is.store_is ∙ ap (after_all empty_store) (take_all evaluated calls (omega arith)) ∙ sym (store_of-history_of number calls)
+  -- after the record of a call was entered
+  pub kept_won : (token : Shown) (call : Call) (tokens : List Shown) (capacity' : ℕ) (after : RoomyShapes) (w : View)
+      → length shown ≡ length v.words → token.pass ≡ v.number → token.index < 2 ^ 48 → w ≡ enters v (order_word v.number token.index) → IsSound t.words w → call ≡ token.call
+      → tokens ≡ shown ++ token ∷ [] → capacity' ≡ capacity → after.objects ≡ shapes_after shapes.objects call → after.room + 1 ≡ shapes.room
+      → IsKept number size (placed t w) tokens capacity' after
+  kept_won token call tokens capacity' after w all own small won sound is pushed same grown less =
+      let word : ℕ = order_word v.number token.index in
+      let words : List ℕ = v.words ++ word ∷ [] in
+      let n : length (shown ++ token ∷ []) ≡ length shown + 1 = length_push shown token in
+      let m : length words ≡ length v.words + 1 = length_push v.words word in
+      let lt : length shown < length words = omega arith in
+      let room : after.room + length (shown ++ token ∷ []) ≡ t.words = omega (arith, k.room) in
+      let at : get_or words (length shown) 0 ≡ word = get_or_at v.words word [] 0 (length shown) (sym all) in
+      let pass : token.pass ≡ number_of (get_or words (length shown) 0) = own ∙ sym (ap number_of at ∙ number_of-order_word v.number token.index small) in
+      let index : token.index ≡ index_of (get_or words (length shown) 0) = sym (ap index_of at ∙ mod-mul-add (v.number + 1) (2 ^ 48) token.index small) in
+      let over : length words ≤ length (shown ++ token ∷ []) = omega arith in
+      let new : IsKept number size (placed t (enters v word)) (shown ++ token ∷ []) capacity after = record {
+        number_is = k.number_is;
+        sound = subst (λ (y : View). IsSound t.words y) won sound;
+        few = omega arith;
+        records = records_push words shown token (records_more v.words (word ∷ []) shown k.records) lt pass index;
+        others = All-same (IsOthers v) (drop (length (shown ++ token ∷ [])) words) [] (drop_all (length (shown ++ token ∷ [])) words over) (All-nil (IsOthers v));
+        shapes_are = shapes_more words token call after (spelled_more v.words (word ∷ []) shown k.few) lt is grown;
+        room = room;
+        roomy = k.roomy;
+        room_is = k.room_is;
+        small = k.small;
+      } in
+      subst (λ (y : View × List Shown × ℕ). IsKept number size (placed t y.0) y.1 y.2 after) (λ i. (sym won i, sym pushed i, sym same i)) new
 
-pub shapes_known : (number : ℕ) (calls : List Call) (s : ObjectShapes) → s ≡ shapes_of (after_all empty_store calls) → s ≡ shapes_of (store_of (history_of number calls))
-shapes_known number calls s is = is ∙ ap shapes_of (sym (store_of-history_of number calls))
+-- a place that has learnt no word
+pub sound_fresh : (room : ℕ) (v : View) → v ≡ fresh v.number v.passes → v.number < v.passes → IsSound room v
+sound_fresh room v is number =
+    subst (IsSound room) (sym is) (record { number = number; few = omega arith; words = All-nil (IsWord v.passes); own = refl; looks = All-nil (λ (at : ℕ). at < room) })
+
+-- a place of the same order
+pub kept_order : (number size : ℕ) (t t' : TableId) (v : View) (shown : List Shown) (capacity : ℕ) (shapes : RoomyShapes) → t' ≡ t → IsKept number size (placed t v) shown capacity shapes → IsKept number size (placed t' v) shown capacity shapes
+kept_order number size t t' v shown capacity shapes e k = subst (λ (y : TableId). IsKept number size (placed y v) shown capacity shapes) (sym e) k
+
+pub sound_order : (t t' : TableId) (v : View) → t' ≡ t → IsSound t'.words v → IsSound t.words v
+sound_order t t' v e s = subst (λ (y : TableId). IsSound y.words v) e s
+
+-- what a caller learns of it
+module _ (number size : ℕ) (place : Holding) (shown : List Shown) (capacity : ℕ) (shapes : RoomyShapes) (k : IsKept number size place shown capacity shapes) where
+  abbrev seen : Knowing
+  seen = record { order = place.table_id; view = place.view; shown = shown }
+
+  pub steady : IsSteady seen
+  steady = record { records = k.records; few = k.few; sound = k.sound; others = k.others }
+
+  pub next_is : length shown < length place.view.words → IsNextUnshown seen (get_or place.view.words (length shown) 0)
+  next_is lt =
+      let n : ℕ = length shown in let words : List ℕ = place.view.words in record {
+        within = lt;
+        word_is = refl;
+        others = All-head (IsOthers place.view) (get_or words n 0) (drop (n + 1) words) (subst (λ (l : List ℕ). All (IsOthers place.view) l) (drop_more words n 0 lt) k.others);
+      }

@@ -1,6 +1,6 @@
 -- When a history explains the answers of a pass. Herlihy, "Wait-free synchronization", 1991: each answer is that of the
--- sequential object at one point of the one order. The answers for want of room and of memory are our own.
-use Rattle.std.specs.Prelude.{◌≡◌, ℕ, ◌<◌, Bool, true, false, if◌then◌else◌, IsTrue, List, [], ◌∷◌, ◌++◌, length, None, Result, Ok, Err}
+-- sequential object at one point of the one order. The answers for want of room, of memory and of a record are our own.
+use Rattle.std.specs.Prelude.{◌≡◌, ℕ, ◌<◌, Bool, true, false, if◌then◌else◌, IsTrue, List, [], ◌∷◌, ◌++◌, length, None, Result, Ok, Err, ◌⊎◌}
 use Rattle.grb_core.specs.declared.refusal.Refusal.{Refusal}
 use Rattle.grb_core.specs.declared.refusal.Refusal.TheVariants.{OrderFull, OutOfMemory, Panic}
 use Rattle.grb_call.specs.declared.call.Call.{Call}
@@ -11,12 +11,13 @@ use Rattle.grb_call.specs.Refused.{refused_by_shapes}
 use Rattle.grb_call.specs.Store.{shapes_of}
 use Rattle.grb_call.specs.After.{refused, answer}
 use Rattle.grb_call.specs.History.{History, store_of}
-use Rattle.grb_context.specs.Known.{Knowing, IsOfOthers, IsOfPasses}
+use Rattle.grb_context.specs.Known.{Knowing, known, IsOfOthers, IsOfPasses}
+use Rattle.grb_context.specs.Point.{IsAtPoint, Grows}
 
 abbrev pub Answer : Type 0
 Answer = Result Reply Refusal
 
--- what an answer rests on: the store, an order with no room, or memory that was refused
+-- what an answer rests on: the store, an order with no room, memory that was refused, or a record that is not there
 pub data Ground : Type 0 where
   ByStore : Ground
   ByRoom : Ground
@@ -49,39 +50,59 @@ is_entry_read (call.GetVector v i) = true
 is_entry_read (call.NvalsVector v) = true
 is_entry_read _ = false
 
--- the history has all the calls that there is room for, and the call would be entered as a further one
+-- the answer is that of one thread in blocking mode after g, at a point of this call
+pub record IsAnswered (room : ℕ) (old new : Knowing) (c : Call) (r : Answer) (g : History) : Type 0 where
+  pub answered : r ≡ answer (store_of g) c
+  pub point : IsAtPoint room old.view new.view g
+
+-- the order has all the calls that there is room for, and this one would be entered as a further one
 pub record IsFull (room : ℕ) (c : Call) (g : History) : Type 0 where
   pub unrefused : refused (store_of g) c ≡ None
   pub enters : IsTrue (enters c)
   pub full : length g ≡ room
 
 -- memory was refused: never in place of a refusal by shapes, nor of a full order, nor where no entry was made
-pub record IsOutOfMemory (room : ℕ) (c : Call) (g : History) : Type 0 where
+pub record IsOutOfMemory (room : ℕ) (old new : Knowing) (c : Call) (g : History) : Type 0 where
+  pub point : IsAtPoint room old.view new.view g
   pub by_shapes : refused_by_shapes (shapes_of (store_of g)) c ≡ None
   pub room_left : IsTrue (enters c) → length g < room
   pub unsettled : IsTrue (is_entry_read c) → 0 < length g
 
--- why the answer is what it is, where g is the history at the call. An answer that rests on the store is the one that a store of
--- one thread in blocking mode gives after g
-abbrev pub IsGrounded : ℕ → Call → Answer → History → Ground → Type 0
-IsGrounded room c r g ByStore = r ≡ answer (store_of g) c
-IsGrounded room c r g ByRoom = IsFull room c g
-IsGrounded room c r g ByMemory = IsOutOfMemory room c g
-IsGrounded room c r g ByRecords = ⊥
+-- the call's own record was not taken, where the call would be entered
+pub record IsUntaken (room : ℕ) (old new : Knowing) (c : Call) (g : History) : Type 0 where
+  pub point : IsAtPoint room old.view new.view g
+  pub unrefused : refused (store_of g) c ≡ None
+  pub enters : IsTrue (enters c)
+  pub room_left : length g < room
+
+-- the record of a word that the pass has learnt was not shown
+abbrev pub IsUnshown : Knowing → Type 0
+IsUnshown new = length (known new) < length new.view.words
+
+-- why the answer is what it is, where g is the history at the call
+abbrev pub IsGrounded : ℕ → Knowing → Knowing → Call → Answer → History → Ground → Type 0
+IsGrounded room old new c r g ByStore = IsAnswered room old new c r g
+IsGrounded room old new c r g ByRoom = IsFull room c g
+IsGrounded room old new c r g ByMemory = IsOutOfMemory room old new c g
+IsGrounded room old new c r g ByRecords = IsUnshown new ⊎ IsUntaken room old new c g
 
 -- One call: the pass first learnt entries of others; then the answer is grounded, and the call stands behind what was known if it
 -- was entered, once, and nowhere if not
-pub record ExplainsCall (old new : Knowing) (c : Call) (r : Answer) : Type 0 where
+pub record ExplainsCall (room : ℕ) (old new : Knowing) (c : Call) (r : Answer) : Type 0 where
+  pub grown : Grows old.view new.view
   pub learnt : History
-  pub others : IsOfOthers old.number learnt
-  pub passes : IsOfPasses old.context.passes learnt
-  pub grounds : IsGrounded old.context.room c r (old.known ++ learnt) (ground_of r)
-  pub known_is : new.known ≡ history_after old.number c r (old.known ++ learnt)
-  pub number_is : new.number ≡ old.number
-  pub context_is : new.context ≡ old.context
+  pub others : IsOfOthers old.view.number learnt
+  pub passes : IsOfPasses old.view.passes learnt
+  pub grounds : IsGrounded room old new c r (known old ++ learnt) (ground_of r)
+  pub known_is : known new ≡ history_after old.view.number c r (known old ++ learnt)
 
 -- the calls of a pass, one after another, and what it knows before and after each
-abbrev pub Explains : Knowing → List Call → List Answer → Knowing → Type 0
-Explains old [] [] new = new ≡ old
-Explains old (c ∷ cs) (r ∷ rs) new = (next : Knowing) × ExplainsCall old next c r × Explains next cs rs new
-Explains old _ _ new = ⊥
+abbrev pub Explains : ℕ → Knowing → List Call → List Answer → Knowing → Type 0
+Explains room old [] [] new = new ≡ old
+Explains room old (c ∷ cs) (r ∷ rs) new = (next : Knowing) × ExplainsCall room old next c r × Explains room next cs rs new
+Explains room old _ _ new = ⊥
+
+-- unless a record is not there, the pass knows the call of each word that it has learnt
+abbrev pub IsCaughtUp : Ground → Knowing → Type 0
+IsCaughtUp ByRecords p = Unit {0}
+IsCaughtUp _ p = length (known p) ≡ length p.view.words

@@ -1,4 +1,6 @@
 pub mod Explains
 pub mod Known
-pub mod Pass
+pub mod Learning
+pub mod Point
+pub mod Reading
 pub mod State

@@ -1,92 +1,90 @@
-ghost use Rattle.std.specs.Prelude.{◌≡◌, ◌≢◌, ◌<◌, ◌≤◌, ◌++◌, true, false, length, None, All, IfOk, OnErr};
+ghost use Rattle.std.specs.Prelude.{◌≡◌, ◌≢◌, ◌++◌, ◌<◌, ◌≤◌, true, All, IfOk};
+ghost use Rattle.grb_order.specs.Order.{room_of, AreFresh};
 ghost use Rattle.grb_call.specs.Kinds.{enters};
-ghost use Rattle.grb_call.specs.After.{refused};
-ghost use Rattle.grb_call.specs.History.{store_of};
-ghost use Rattle.grb_context.specs.Known.{IsPassOf, AreNew, calls_by};
-ghost use Rattle.grb_context.specs.Explains.{ExplainsCall, entered_calls};
+ghost use Rattle.grb_context.specs.Known.{AreNew, IsKnown, IsPassOf, calls_by, known};
+ghost use Rattle.grb_context.specs.Explains.{ExplainsCall, IsCaughtUp, entered_calls, ground_of};
 
 use crate::pass::Pass;
-use grb_call::{Call, Kind, Reply};
+use grb_call::{Call, Reply};
 use grb_core::Refusal;
+use grb_order::{Order, Place};
+use grb_records::Records;
 use std::alloc::{AllocError, Global};
 use std::marker::Model;
+use std::sync::Wait;
 
-/// One store, with one history of calls.
+/// A store that passes share: the order of all calls, and their records.
 #[derive(Drop)]
 pub struct Context {
-    room: u32,
-    passes: u32,
+    pub(crate) order: Order,
+    pub(crate) records: Records,
 }
 
 impl Model for Context {
-    ghost use Rattle.grb_context.specs.Known.{Sharing};
+    ghost use Rattle.grb_context.specs.Known.{Shared};
 
-    ghost Value = { Sharing };
+    ghost Value = { Shared };
 
-    ghost view = { λ c. record { room = c.room; passes = c.passes } };
+    ghost view = { λ c. record { order = c.order; records = c.records } };
 }
 
-/// Enters a call that the store does not refuse, if there is room. Takes no memory.
-fn enter(pass: &mut Pass, call: Call) -> Result<Reply, Refusal>
-    requires unrefused { refused (store_of pass.old.known) call ≡ None }
-    requires enters { enters call ≡ true }
-    ensures explains { ExplainsCall pass.old pass.new call result }
-    ensures within { length pass.new.known ≤ pass.new.context.room }
-    ensures memory { result ≢ Err Refusal.OutOfMemory }
-    ensures refused { OnErr result (pass.new ≡ pass.old) }
+// A pass for each of the places.
+fn passes_of(
+    alloc: Global,
+    order: &Order,
+    places: Vec<Place>,
+    room: u32,
+    passes: u32,
+) -> Result<Vec<Pass>, AllocError>
+    requires room { (room_of order.now ≡ room) × (room ≤ 4096) }
+    requires passes { passes ≤ 64 }
+    requires places { AreFresh order.now passes places.items passes }
+    ensures { IfOk result (λ opened. AreNew order.now passes opened.items passes) }
 {
-    if pass.room_left() == 0 {
-        return Err(Refusal::OrderFull);
+    let mut opened = Vec::with_capacity(alloc, passes as usize)?;
+    for place in places {
+        let number = opened.len() as u32;
+        opened.push_reserved(Pass::open(alloc, number, place, room)?);
     }
-    let reply = pass.reply(&call);
-    pass.enter(call);
-    Ok(reply)
-}
-
-/// Answers a call that the store does not refuse, and that only reads.
-fn read(pass: &mut Pass, call: &Call) -> Result<Reply, Refusal>
-    requires unrefused { refused (store_of pass.old.known) call.now ≡ None }
-    requires reads { enters call.now ≡ false }
-    ensures explains { ExplainsCall pass.old pass.new call.now result }
-    ensures same { pass.new ≡ pass.old }
-{
-    pass.read(call).or(Err(Refusal::OutOfMemory))
+    Ok(opened)
 }
 
 impl Context {
-    /// A context whose history takes `room` calls, and its passes by their numbers. All memory of the calls that change the store
-    /// is taken here, but for what an answer has to evaluate. `AllocError` where memory is refused.
-    ///
-    /// For now a context has one pass.
+    /// A context whose history takes `room` calls, from 1 to 4,096, and its passes, from 1 to 64, which know no call: the one at index
+    /// k has the number k. After this only the records of entered calls and the evaluation of reads take memory. `AllocError` where
+    /// memory is refused.
     pub fn open(alloc: Global, room: u32, passes: u32) -> Result<(Context, Vec<Pass>), AllocError>
         requires room { (0 < room) × (room ≤ 4096) }
-        requires passes { passes ≡ 1 }
-        ensures context { IfOk result (λ opened. opened.0 ≡ record { room = room; passes = passes }) }
-        ensures passes { IfOk result (λ opened. AreNew opened.0 opened.1.items) }
+        requires passes { (0 < passes) × (passes ≤ 64) }
+        ensures room { IfOk result (λ opened. room_of opened.0.order ≡ room) }
+        ensures passes { IfOk result (λ opened. AreNew opened.0.order passes opened.1.items passes) }
         ensures ours { IfOk result (λ opened. All (IsPassOf opened.0) opened.1.items) }
     {
-        let mut opened = Vec::with_capacity(alloc, 1)?;
-        opened.push_reserved(Pass::open(alloc, room, passes)?);
-        Ok((Context { room, passes }, opened))
+        let (order, places) = Order::open(alloc, room, passes)?;
+        let records = Records::open(alloc, passes, room)?;
+        let opened = passes_of(alloc, &order, places, room, passes)?;
+        Ok((Context { order, records }, opened))
     }
 
-    /// Makes the call, and answers what a store of one thread in blocking mode answers after the history known. A call that changes
-    /// the store is entered into the history, and its work is done when an answer needs it; it takes no memory. A call that is
-    /// refused enters nothing.
+    /// Makes one call, by whichever thread has the pass. A refusal says why the call was not made: by shapes (the lowest of those that
+    /// apply, at the end of the history), `OrderFull` where the history has no room for a call that would be entered, `OutOfMemory`
+    /// where the evaluation of a read is refused memory, and `Panic` where a record could not be put, or the record of an earlier
+    /// call is not shown yet; the next call asks for it again.
     ///
-    /// The refusals that the store decides come first (`check` of `grb_call`). Then `OrderFull` for a call that would be entered
-    /// where the history has no room, and `OutOfMemory` for a call that reads entries where memory is refused (own).
-    pub fn call(&self, pass: &mut Pass, call: Call) -> Result<Reply, Refusal>
+    /// Source: GraphBLAS C API 2.0, "Execution modes"; Herlihy, "Wait-free synchronization", 1991.
+    pub fn call<R: Wait>(&self, rt: &R, pass: &mut Pass, call: Call) -> Result<Reply, Refusal>
         requires pass { IsPassOf self.now pass.old }
         ensures pass { IsPassOf self.now pass.new }
-        ensures explains { ExplainsCall pass.old pass.new call result }
-        ensures own { calls_by pass.old.number pass.new.known ≡ calls_by pass.old.number pass.old.known ++ entered_calls call result }
+        ensures explains { ExplainsCall (room_of self.now.order) pass.old pass.new call result }
+        ensures known { IsKnown self.now pass.new }
+        ensures own { calls_by pass.old.view.number (known pass.new) ≡ calls_by pass.old.view.number (known pass.old) ++ entered_calls call result }
+        ensures caught_up { IsCaughtUp (ground_of result) pass.new }
         ensures memory { enters call ≡ true → result ≢ Err Refusal.OutOfMemory }
-        ensures refused { OnErr result (pass.new ≡ pass.old) }
     {
-        match pass.check(&call)? {
-            Kind::Enters => enter(pass, call),
-            Kind::Reads => read(pass, &call),
+        if call.enters() {
+            self.enter(rt, pass, call)
+        } else {
+            self.read(pass, &call)
         }
     }
 }

@@ -1,13 +1,19 @@
 //! A store of matrices and vectors that passes share, and the calls on it.
 //!
-//! A context has one history of calls. A call that changes the store is checked, entered into the history and answered; its work is
-//! done when an answer needs it. A pass is one caller's view: what it knows of the history. For now a context has one pass, which
-//! keeps the history itself.
+//! A context has one history of calls, which all its passes fill: a growing order of words, and the record of the call behind each
+//! word. A pass is one thread's view of it: the words that it has learnt, the records that it was shown, and a store that it
+//! evaluates for itself. A call that changes the store is checked against all that was entered before it, and entered by one
+//! compare-and-swap; its work is done when an answer needs it. Each answer is the one that a single thread in blocking mode gets at
+//! one step of the order between the call and its return.
 #![tactic(auto)]
 
 mod context;
+mod enter;
+mod learn;
 mod methods;
 mod pass;
+mod read;
+mod reader;
 mod state;
 mod stored_vector;
 #[cfg(test)]

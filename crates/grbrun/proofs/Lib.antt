@@ -11,6 +11,7 @@ pub mod MadeLemmas
 pub mod NamesLemmas
 pub mod NextLineLemmas
 pub mod NumberLemmas
+pub mod OnePass
 pub mod Runs
 pub mod ScriptLemmas
 pub mod StatementCount

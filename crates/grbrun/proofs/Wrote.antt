@@ -7,7 +7,7 @@ use Rattle.grb_context.specs.Explains.{Answer}
 use Rattle.grbrun.specs.declared.statement.Statement.{Statement}
 use Rattle.grbrun.specs.Script.{statements_of}
 use Rattle.grbrun.specs.Printed.{IsRun, reply_line, Wrote}
-use Rattle.grbrun.proofs.Runs.{IsRun-had_memory}
+use Rattle.grbrun.proofs.Runs.{IsRun-served}
 
 pub wrote : (room : ℕ) (text : List ℕ) (before after : Option (List ℕ)) (statements : List Statement) (answers : List Answer) (lines : List ℕ) →
     statements ≡ statements_of text → IsRun room [] [] statements answers → lines ≡ flat_map reply_line answers → Appends before after lines →
@@ -19,5 +19,5 @@ wrote room text before after statements answers lines of_text run of_answers app
       answers = answers;
       run = run_of_text;
       written = written;
-      exact = λ had. subst (λ answers. Appends before after (flat_map reply_line answers)) (IsRun-had_memory room [] [] (statements_of text) answers had run_of_text) written;
+      exact = λ had. subst (λ answers. Appends before after (flat_map reply_line answers)) (IsRun-served room [] [] (statements_of text) answers had run_of_text) written;
     }

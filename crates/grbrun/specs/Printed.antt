@@ -1,11 +1,11 @@
 -- What a script prints (own): a line for each statement, in their order. The n-th name that a script makes stands for the vector that
 -- its statement made.
-use Rattle.std.specs.Prelude.{◌≡◌, ◌≢◌, ℕ, Bool, true, false, ◌==◌, ◌&&◌, if◌then◌else◌, List, [], ◌∷◌, ◌++◌, length, slice_get, unwrap_or, is_none, All, Option, Ok, Err, codes}
+use Rattle.std.specs.Prelude.{◌≡◌, ◌≢◌, ℕ, ◌<◌, Bool, true, false, IsTrue, ◌==◌, ◌&&◌, if◌then◌else◌, List, [], ◌∷◌, ◌++◌, length, slice_get, unwrap_or, is_none, All, Option, None, Ok, Err, codes}
 use Rattle.std.specs.List.{flat_map}
 use Rattle.std.specs.Fmt.{decimal}
 use Rattle.std.specs.Io.KnownBytes.{Appends}
 use Rattle.grb_core.specs.declared.value.Value.TheVariants as value
-use Rattle.grb_core.specs.declared.refusal.Refusal.TheVariants.{OrderFull, OutOfMemory}
+use Rattle.grb_core.specs.declared.refusal.Refusal.TheVariants.{OrderFull, OutOfMemory, Panic}
 use Rattle.grb_core.specs.Refusal.{refusal_name}
 use Rattle.grb_call.specs.declared.call.Call.{Call}
 use Rattle.grb_call.specs.declared.call.Call.TheVariants as call
@@ -13,9 +13,11 @@ use Rattle.grb_call.specs.declared.ids.VectorId.{VectorId}
 use Rattle.grb_call.specs.declared.reply.Reply.{Reply}
 use Rattle.grb_call.specs.declared.reply.Reply.TheVariants as reply
 use Rattle.grb_call.specs.Kinds.{enters}
+use Rattle.grb_call.specs.Refused.{refused_by_shapes}
+use Rattle.grb_call.specs.Store.{shapes_of}
 use Rattle.grb_call.specs.After.{refused, answer}
 use Rattle.grb_call.specs.History.{History, store_of}
-use Rattle.grb_context.specs.Explains.{Answer, history_after, IsOutOfMemory}
+use Rattle.grb_context.specs.Explains.{Answer, history_after, is_entry_read}
 use Rattle.grbrun.specs.declared.statement.Statement.{Statement}
 use Rattle.grbrun.specs.declared.statement.Statement.TheVariants as statement
 use Rattle.grbrun.specs.Script.{statements_of}
@@ -49,11 +51,11 @@ ids_after ids _ a = ids
 abbrev pub is_full : ℕ → History → Call → Bool
 is_full room h c = is_none (refused (store_of h) c) && enters c && (length h == room)
 
--- the answer to a call behind these calls, where memory is not refused
+-- the answer to a call behind these calls, where neither memory nor a record is refused
 abbrev pub answer_in : ℕ → History → Call → Answer
 answer_in room h c = if is_full room h c then Err OrderFull else answer (store_of h) c
 
--- the answers to these statements, one behind another, where memory is not refused
+-- the answers to these statements, one behind another, where neither memory nor a record is refused
 abbrev pub answers_in : ℕ → List VectorId → History → List Statement → List Answer
 answers_in room ids h [] = []
 answers_in room ids h (s ∷ more) =
@@ -61,9 +63,22 @@ answers_in room ids h (s ∷ more) =
     let a = answer_in room h c in
     a ∷ answers_in room (ids_after ids s a) (history_after 0 c a h) more
 
--- the answer to a call behind these calls; memory may be refused in place of it
+-- memory may be refused in place of an answer: not in place of a refusal by shapes, nor of a full order, nor where no entry was made
+pub record MayLackMemory (room : ℕ) (h : History) (c : Call) : Type 0 where
+  pub by_shapes : refused_by_shapes (shapes_of (store_of h)) c ≡ None
+  pub room_left : IsTrue (enters c) → length h < room
+  pub unsettled : IsTrue (is_entry_read c) → 0 < length h
+
+-- a record may be refused in place of an answer: only to a call that would be entered
+pub record MayLackRecord (room : ℕ) (h : History) (c : Call) : Type 0 where
+  pub unrefused : refused (store_of h) c ≡ None
+  pub enters : IsTrue (enters c)
+  pub room_left : length h < room
+
+-- the answer to a call behind these calls; memory or a record may be refused in place of it
 abbrev pub IsAnswer : ℕ → History → Call → Answer → Type 0
-IsAnswer room h c (Err OutOfMemory) = IsOutOfMemory room c h
+IsAnswer room h c (Err OutOfMemory) = MayLackMemory room h c
+IsAnswer room h c (Err Panic) = MayLackRecord room h c
 IsAnswer room h c a = a ≡ answer_in room h c
 
 -- the answers to these statements, one behind another
@@ -73,9 +88,9 @@ IsRun room ids h (s ∷ more) (a ∷ answers) =
     IsAnswer room h (call_of ids s) a × IsRun room (ids_after ids s a) (history_after 0 (call_of ids s) a h) more answers
 IsRun room ids h _ _ = ⊥
 
--- memory was not refused
-abbrev pub HadMemory : Answer → Type 0
-HadMemory a = a ≢ Err OutOfMemory
+-- neither memory nor a record was refused
+abbrev pub WasServed : Answer → Type 0
+WasServed a = (a ≢ Err OutOfMemory) × (a ≢ Err Panic)
 
 -- the words of a reply
 abbrev pub printed_reply : Reply → List ℕ
@@ -96,7 +111,7 @@ printed_answer (Err refusal) = refusal_name refusal
 abbrev pub reply_line : Answer → List ℕ
 reply_line a = printed_answer a ++ 10 ∷ []
 
--- what a script prints in a store with room for so many calls, where memory is not refused
+-- what a script prints in a store with room for so many calls, where neither memory nor a record is refused
 abbrev pub printed : ℕ → List ℕ → List ℕ
 printed room text = flat_map reply_line (answers_in room [] [] (statements_of text))
 
@@ -105,4 +120,4 @@ pub record Wrote (room : ℕ) (text : List ℕ) (before after : Option (List ℕ
   pub answers : List Answer
   pub run : IsRun room [] [] (statements_of text) answers
   pub written : Appends before after (flat_map reply_line answers)
-  pub exact : All HadMemory answers → Appends before after (printed room text)
+  pub exact : All WasServed answers → Appends before after (printed room text)

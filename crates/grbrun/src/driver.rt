@@ -1,5 +1,6 @@
 ghost use Rattle.std.specs.Prelude.{◌≡◌, ℕ, ◌-◌, ◌^◌, ◌<◌, ◌≤◌, [], List, length, OnOk, IfOk, IfErr};
-ghost use Rattle.grb_context.specs.Known.{IsPassOf};
+ghost use Rattle.grb_order.specs.Order.{room_of};
+ghost use Rattle.grb_context.specs.Known.{IsPassOf, IsAlone, known};
 ghost use Rattle.grb_context.specs.Explains.{history_after};
 ghost use Rattle.grbrun.specs.Source.{AreCountable};
 ghost use Rattle.grbrun.specs.Printed.{named, call_of, new_id, ids_after, IsAnswer, IsRun};
@@ -80,20 +81,22 @@ fn keep_id(
 }
 
 /// Makes the call of a statement, and keeps what its name stands for.
-fn answer_to(
+fn answer_to<R: Wait>(
+    rt: &R,
     context: &Context,
     pass: &mut Pass,
     ids: &mut Vec<VectorId>,
     statement: &Statement,
 ) -> Result<Answer, AllocError>
-    requires alone { context.now.passes ≡ 1 }
     requires pass { IsPassOf context.now pass.old }
+    requires alone { IsAlone pass.old }
     ensures pass { IsPassOf context.now pass.new }
-    ensures answer { IfOk result (IsAnswer context.now.room pass.old.known (call_of ids.old.items statement.now)) }
-    ensures known { IfOk result (λ answer. pass.new.known ≡ history_after 0 (call_of ids.old.items statement.now) answer pass.old.known) }
+    ensures alone { IsAlone pass.new }
+    ensures answer { IfOk result (IsAnswer (room_of context.now.order) (known pass.old) (call_of ids.old.items statement.now)) }
+    ensures known { IfOk result (λ answer. known pass.new ≡ history_after 0 (call_of ids.old.items statement.now) answer (known pass.old)) }
     ensures ids { IfOk result (λ answer. ids.new.items ≡ ids_after ids.old.items statement.now answer) }
 {
-    let answer = context.call(pass, call_of(ids, statement));
+    let answer = context.call(rt, pass, call_of(ids, statement));
     keep_id(ids, statement, &answer)?;
     Ok(answer)
 }
@@ -101,16 +104,44 @@ fn answer_to(
 /// A new store with room for so many calls, and its one pass.
 fn open_store(alloc: Global, room: u32) -> Result<(Context, Pass), AllocError>
     requires room { (0 < room) × (room ≤ 4096) }
-    ensures context { IfOk result (λ opened. opened.0 ≡ record { room = room; passes = 1 }) }
+    ensures room { IfOk result (λ opened. room_of opened.0.order ≡ room) }
     ensures pass { IfOk result (λ opened. IsPassOf opened.0 opened.1) }
-    ensures known { IfOk result (λ opened. opened.1.known ≡ []) }
+    ensures alone { IfOk result (λ opened. IsAlone opened.1) }
+    ensures known { IfOk result (λ opened. known opened.1 ≡ []) }
 {
     let (context, mut passes) = Context::open(alloc, room, 1)?;
     Ok((context, passes.pop().unwrap()))
 }
 
+/// The answers to these statements, one behind another, by the one pass of a store, which knows no call yet.
+fn answers_by<R: Wait, G: Gate>(
+    rt: &R,
+    alloc: Global,
+    context: &Context,
+    pass: &mut Pass,
+    statements: &[Statement],
+    gate: &G,
+) -> Result<Vec<Answer>, AllocError>
+    requires pass { IsPassOf context.now pass.old }
+    requires alone { IsAlone pass.old }
+    requires new { known pass.old ≡ [] }
+    requires few { length statements.now < 2 ^ 32 }
+    ensures { IfOk result (λ answers. IsRun (room_of context.now.order) [] [] statements.now answers.items) }
+{
+    let mut ids = Vec::with_capacity(alloc, statements.len())?;
+    let mut answers = Vec::with_capacity(alloc, statements.len())?;
+    for (i, statement) in statements.iter().enumerate() {
+        let number = i as u32 + 1;
+        gate.before(MAIN, number);
+        answers.push(answer_to(rt, context, pass, &mut ids, statement)?)?;
+        gate.after(MAIN, number);
+    }
+    Ok(answers)
+}
+
 /// The answers to these statements, one behind another, in a new store with room for so many calls.
-fn answers_to<G: Gate>(
+fn answers_to<R: Wait, G: Gate>(
+    rt: &R,
     alloc: Global,
     room: u32,
     statements: &[Statement],
@@ -121,19 +152,12 @@ fn answers_to<G: Gate>(
     ensures { IfOk result (λ answers. IsRun room [] [] statements.now answers.items) }
 {
     let (context, mut pass) = open_store(alloc, room)?;
-    let mut ids = Vec::with_capacity(alloc, statements.len())?;
-    let mut answers = Vec::with_capacity(alloc, statements.len())?;
-    for (i, statement) in statements.iter().enumerate() {
-        let number = i as u32 + 1;
-        gate.before(MAIN, number);
-        answers.push(answer_to(&context, &mut pass, &mut ids, statement)?)?;
-        gate.after(MAIN, number);
-    }
-    Ok(answers)
+    answers_by(rt, alloc, &context, &mut pass, statements, gate)
 }
 
 /// Runs the main section, which is the whole script.
-fn run_main<S: Source, W: Sink, G: Gate>(
+fn run_main<R: Wait, S: Source, W: Sink, G: Gate>(
+    rt: &R,
     alloc: Global,
     room: u32,
     source: &mut S,
@@ -152,7 +176,7 @@ fn run_main<S: Source, W: Sink, G: Gate>(
 {
     let text = source.script()?;
     let statements = read_script(alloc, &text)?;
-    let answers = answers_to(alloc, room, &statements, gate)?;
+    let answers = answers_to(rt, alloc, room, &statements, gate)?;
     let lines = text_of(alloc, &answers)?;
     put_all(sink, lines.as_bytes())?;
     Ok(())
@@ -163,7 +187,7 @@ fn run_main<S: Source, W: Sink, G: Gate>(
 /// All memory is taken before the first byte is put: where it is refused outside of the calls nothing is written. A call for which it
 /// is refused is answered so, in its line. The gate is called round each statement, as section 0.
 pub fn run_script<R: Threads + Wait + Sync, S: Source, W: Sink, G: Gate + Sync>(
-    _rt: &R,
+    rt: &R,
     alloc: Global,
     room: u32,
     source: &mut S,
@@ -180,5 +204,5 @@ pub fn run_script<R: Threads + Wait + Sync, S: Source, W: Sink, G: Gate + Sync>(
     ensures script_stays { S.script_bytes source.new ≡ S.script_bytes source.old }
     ensures files_stay { (path : List ℕ) → S.file_bytes source.new path ≡ S.file_bytes source.old path }
 {
-    run_main(alloc, room, source, sink, gate)
+    run_main(rt, alloc, room, source, sink, gate)
 }

@@ -1,19 +1,28 @@
-use Rattle.std.proofs.Common.{ℕ, length, sym, ap, ◌∙◌}
-use Rattle.std.proofs.lemmas.List.{length-map}
-use Rattle.grb_call.specs.declared.reply.Reply.{Reply}
-use Rattle.grb_call.specs.declared.reply.Reply.TheVariants.{MadeVector}
-use Rattle.grb_call.specs.Shapes.{ObjectShapes}
+use Rattle.std.proofs.Common.{ap, ◌∙◌}
+use Rattle.grb_call.specs.Store.{Store}
 use Rattle.grb_call.specs.After.{reply_of}
 use Rattle.grb_call.specs.History.{store_of}
-use Rattle.grb_context.specs.Known.{Knowing}
-use Rattle.grb_context.specs.Pass.{history_of}
-use Rattle.grb_context.proofs.Kept.{shapes_known}
+use Rattle.grb_context.specs.Known.{Knowing, known}
+use Rattle.grb_context.proofs.Evaluated.{shown_evaluated, known_evaluated, store_evaluated}
 use Rattle.grb_context.proofs.pass.Pass.reply.Goals as goal
 
-pub returns-in-NewVector : goal.returns-in-NewVector
-returns-in-NewVector c =
-    let inside = c.self.inside in let known = c.args.self.now.known in
-    let made : ℕ → Reply = λ n. MadeVector (record { 0 = n }) in
-    let shapes = shapes_known inside.number inside.calls.items _ c.self.invariant.shapes_are in
-    ap made (c.vectors.ensures ∙ ap (λ (s : ObjectShapes). length s.vectors) shapes ∙ length-map (store_of (history_of inside.number inside.calls.items)).vectors _ ∙ ap (λ (p : Knowing). length (store_of p.known).vectors) c.self.view_is)
-    ∙ ap (reply_of (store_of known)) (sym c.in-NewVector.is)
+pub evaluate-requires-clause-state : goal.evaluate-requires-clause-state
+evaluate-requires-clause-state c = shown_evaluated c.self.inside.reader _ _ _ c.tokens.ensures.steady.few c.tokens.ensures.tokens c.self.invariant.state_is
+
+pub invariant_of-self : goal.invariant_of-self
+invariant_of-self c = record {
+  state_is = known_evaluated c.self.inside.reader _ _ _ c.tokens.ensures.steady.few c.tokens.ensures.tokens c.evaluate.ensures.state;
+  room = c.evaluate.ensures.room ∙ c.self.invariant.room;
+}
+
+pub invariant_of-self-2 : goal.invariant_of-self-2
+invariant_of-self-2 c = record {
+  state_is = known_evaluated c.self.inside.reader _ _ _ c.tokens.ensures.steady.few c.tokens.ensures.tokens c.evaluate.ensures.state;
+  room = c.evaluate.ensures.room ∙ c.self.invariant.room;
+}
+
+pub returns-clause-reply : goal.returns-clause-reply
+returns-clause-reply c =
+    let call = c.args.call.now in
+    let store = store_evaluated c.self.inside.reader c.tokens.result.now c.evaluate.new.evaluated c.evaluate.new.state.store c.tokens.ensures.steady.few c.tokens.ensures.tokens c.evaluate.ensures.state c.in_ok-evaluate.ensures.ok in
+    c.reply.ensures ∙ ap (λ (s : Store). reply_of s call) store ∙ ap (λ (p : Knowing). reply_of (store_of (known p)) call) c.self.view_is

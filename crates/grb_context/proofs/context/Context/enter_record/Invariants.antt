@@ -1,0 +1,20 @@
+use Rattle.std.proofs.Common.{◌≡◌, ◌<◌, ◌-◌, ◌^◌, length}
+use Rattle.grb_order.specs.Order.{room_of}
+use Rattle.grb_records.specs.Token.{IsOf}
+use Rattle.grb_context.specs.Known.{IsPassOf}
+use Rattle.grb_context.specs.Learning.{IsReady, Learns}
+use Rattle.grb_context.proofs.context.Context.enter_record.Given as goal
+
+abbrev pub invariant-tries : goal.invariant-tries
+invariant-tries g l = record {
+  pass : IsPassOf l.self l.reader;
+  learns : Learns l.fn.reader l.reader;
+  of : IsOf l.self.records l.token;
+  own : l.token.pass ≡ l.reader.view.number;
+  index : l.token.index < 2 ^ 48;
+  call : l.token.call ≡ l.fn.call;
+  ready : IsReady (room_of l.self.order) l.fn.reader l.reader l.fn.call;
+}
+
+abbrev pub decreases-tries : goal.decreases-tries
+decreases-tries g l = room_of l.self.order - length l.reader.view.words

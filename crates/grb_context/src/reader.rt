@@ -1,0 +1,175 @@
+ghost use Rattle.std.specs.Prelude.{◌≡◌, ◌<◌, ◌≤◌, ◌+◌, ◌^◌, true, [], ◌∷◌, ◌++◌, length, slice_index, MatchOption, IfOk};
+ghost use Rattle.grb_order.specs.Word.{number_of, index_of};
+ghost use Rattle.grb_order.specs.View.{fresh, LookedLast};
+ghost use Rattle.grb_order.specs.Order.{room_of};
+ghost use Rattle.grb_order.specs.Steps.{Looks};
+ghost use Rattle.grb_call.specs.Kinds.{enters};
+ghost use Rattle.grb_call.specs.Refused.{check_of};
+ghost use Rattle.grb_call.specs.Store.{shapes_of};
+ghost use Rattle.grb_call.specs.After.{reply_of};
+ghost use Rattle.grb_call.specs.History.{store_of};
+ghost use Rattle.grb_context.specs.Known.{known};
+ghost use Rattle.grb_context.specs.Learning.{Enters, IsNextUnshown, IsSteady};
+
+use grb_call::{Call, Kind, Reply, Shapes, VectorId, check};
+use grb_core::Refusal;
+use grb_order::{Entered, Look, Order, Place};
+use grb_records::Token;
+use std::alloc::{AllocError, Global};
+use std::marker::Model;
+
+/// What a pass has read of the order: its words, the records behind the first of them, and the shapes that their calls leave.
+#[derive(Drop)]
+pub(crate) struct Reader {
+    number: u32,
+    // How many words the order has.
+    room: u32,
+    place: Place,
+    // The records of the first words learnt, with room for all words of the order.
+    tokens: Vec<Token>,
+    shapes: Shapes,
+}
+
+impl Model for Reader {
+    ghost use Rattle.grb_context.specs.Known.{Knowing};
+
+    ghost Value = { Knowing };
+
+    ghost use Rattle.grb_context.specs.Reading.{knowing, IsReader};
+
+    ghost view = { knowing };
+
+    ghost invariant = { IsReader };
+}
+
+impl Reader {
+    /// A reader that knows no call, with memory for all that it can learn. `AllocError` where memory is refused.
+    pub(crate) fn open(
+        alloc: Global,
+        number: u32,
+        place: Place,
+        room: u32,
+    ) -> Result<Reader, AllocError>
+        requires number { (number ≡ place.view.number) × (number < place.view.passes) }
+        requires room { (room ≡ room_of place.table_id) × (room ≤ 4096) }
+        requires fresh { place.view ≡ fresh number place.view.passes }
+        ensures { IfOk result (λ reader. reader ≡ record { order = place.table_id; view = place.view; shown = [] }) }
+    {
+        let tokens = Vec::with_capacity(alloc, room as usize)?;
+        let shapes = Shapes::open(alloc, room)?;
+        Ok(Reader {
+            number,
+            room,
+            place,
+            tokens,
+            shapes,
+        })
+    }
+
+    pub(crate) fn number(&self) -> u32
+        ensures { result ≡ self.now.view.number }
+    {
+        self.number
+    }
+
+    /// How many words the pass has learnt.
+    pub(crate) fn words(&self) -> u32
+        ensures { result ≡ length self.now.view.words }
+    {
+        self.place.words().len() as u32
+    }
+
+    /// How many words are still vacant, as far as the pass has learnt.
+    pub(crate) fn room_left(&self) -> u32
+        ensures { result + length self.now.view.words ≡ room_of self.now.order }
+    {
+        self.room - self.words()
+    }
+
+    /// The records shown, in the order of the words.
+    pub(crate) fn tokens(&self) -> &[Token]
+        ensures tokens { result.now ≡ self.now.shown }
+        ensures few { length self.now.shown ≤ 4096 }
+        ensures steady { IsSteady self.now }
+    {
+        &self.tokens
+    }
+
+    /// The word learnt first of those whose record was not shown.
+    pub(crate) fn next_unshown(&self) -> Option<u64>
+        ensures next { MatchOption result (length self.now.shown ≡ length self.now.view.words) (λ word. IsNextUnshown self.now word) }
+        ensures steady { IsSteady self.now }
+    {
+        let shown = self.tokens.len();
+        let words = self.place.words();
+        if shown < words.len() {
+            Some(words[shown])
+        } else {
+            None
+        }
+    }
+
+    /// Takes in the record of that word and its call.
+    pub(crate) fn admit(&mut self, token: Token, call: &Call)
+        requires next { length self.old.shown < length self.old.view.words }
+        requires pass { token.pass ≡ number_of (slice_index self.old.view.words (length self.old.shown)) }
+        requires index { token.index ≡ index_of (slice_index self.old.view.words (length self.old.shown)) }
+        requires call { call.now ≡ token.call }
+        ensures { self.new ≡ record self.old { shown = self.old.shown ++ token ∷ [] } }
+    {
+        self.shapes.absorb(call);
+        self.tokens.push_reserved(token);
+    }
+
+    /// Loads the word after those learnt, in one atomic step, unless all are learnt.
+    pub(crate) fn look(&mut self, order: &Order) -> Look
+        requires { self.old.order ≡ order.now }
+        ensures order { self.new.order ≡ self.old.order }
+        ensures shown { self.new.shown ≡ self.old.shown }
+        ensures look { Looks (room_of order.now) self.old.view result self.new.view }
+        ensures steady { IsSteady self.new }
+    {
+        order.look(&mut self.place)
+    }
+
+    /// What becomes of the call after all known ones, or its refusal.
+    pub(crate) fn check(&self, call: &Call) -> Result<Kind, Refusal>
+        ensures { result ≡ check_of (shapes_of (store_of (known self.now))) call.now }
+    {
+        check(&self.shapes, call)
+    }
+
+    /// The reply to a call that is entered after all known ones.
+    pub(crate) fn reply(&self, call: &Call) -> Reply
+        requires { enters call.now ≡ true }
+        ensures { result ≡ reply_of (store_of (known self.now)) call.now }
+    {
+        match call {
+            Call::NewVector { .. } => Reply::MadeVector(VectorId(self.shapes.vectors())),
+            Call::SetVector { .. } => Reply::Done,
+            Call::GetVector { .. } | Call::NvalsVector { .. } => unreachable!(),
+        }
+    }
+
+    /// Enters the record of a call after all known ones, in one atomic step. The token comes back where another pass was first.
+    pub(crate) fn enter(&mut self, order: &Order, token: Token, call: &Call) -> Option<Token>
+        requires order { self.old.order ≡ order.now }
+        requires looked { LookedLast self.old.view }
+        requires shown { length self.old.shown ≡ length self.old.view.words }
+        requires pass { token.pass ≡ self.old.view.number }
+        requires index { token.index < 2 ^ 48 }
+        requires call { call.now ≡ token.call }
+        ensures order { self.new.order ≡ self.old.order }
+        ensures enters { Enters (room_of order.now) token self.old result self.new }
+        ensures steady { IsSteady self.new }
+    {
+        match order.enter(&mut self.place, token.index()) {
+            Entered::Won => {
+                self.shapes.absorb(call);
+                self.tokens.push_reserved(token);
+                None
+            }
+            Entered::Lost(_) => Some(token),
+        }
+    }
+}

@@ -1,0 +1,126 @@
+-- What ties the parts of a place stays so at each step.
+use Rattle.std.proofs.Common.{◌≡◌, ◌≢◌, ℕ, zero, suc, ◌+◌, ◌^◌, ◌<◌, ◌≤◌, List, [], ◌∷◌, ◌++◌, length, sym, refl, ap, ◌∙◌, subst, arith, length-append}
+use mathlib.Core.Logic.{dite}
+use native.Mathlib.Decide.{ℕ_discrete}
+use Rattle.std.specs.Prelude.{Some, slice_get}
+use Rattle.std.specs.List.{All}
+use Rattle.atomic_table.specs.Seated.{TableId}
+use Rattle.grb_order.specs.Holding.{Holding}
+use Rattle.grb_order.specs.Order.{AreFresh}
+use Rattle.grb_order.specs.Steps.{placed}
+use Rattle.std.proofs.lemmas.List.{get_or_at}
+use Rattle.std.proofs.lemmas.List.Elements.{All-push, All-nil}
+use Rattle.grb_order.specs.Word.{order_word, IsWord}
+use Rattle.grb_order.specs.View.{fresh, learns, finds_vacant, enters, IsOthers, IsSound, LookedLast}
+use Rattle.grb_order.specs.Place.{IsSeated}
+use Rattle.grb_order.specs.declared.view.View.{View}
+use Rattle.grb_order.specs.declared.rule.Standing.{Standing}
+use Rattle.grb_order.proofs.Rows.{positions-others, positions-own, own_word}
+
+pub sound_learns : (room : ℕ) (v : View) (x : ℕ) → length v.words < room → IsSound room v → IsOthers v x → IsSound room (learns v x)
+sound_learns room v x near s other = record {
+  number = s.number;
+  few = omega (arith, length-append v.words (x ∷ []));
+  words = All-push (IsWord v.passes) v.words x s.words other.0;
+  own = positions-others v.number x v.words other.1 ∙ s.own;
+  looks = s.looks;
+}
+
+pub sound_vacant : (room : ℕ) (v : View) → length v.words < room → IsSound room v → IsSound room (finds_vacant v)
+sound_vacant room v near s = record {
+  number = s.number;
+  few = s.few;
+  words = s.words;
+  own = s.own;
+  looks = All-push (λ n. n < room) v.looks (length v.words) s.looks near;
+}
+
+pub sound_enters : (room : ℕ) (v : View) (index : ℕ) → index < 2 ^ 48 → length v.words < room → IsSound room v → IsSound room (enters v (order_word v.number index))
+sound_enters room v index small near s =
+    let x : ℕ = order_word v.number index in let own = own_word v.passes v.number index s.number small in record {
+      number = s.number;
+      few = omega (arith, length-append v.words (x ∷ []));
+      words = All-push (IsWord v.passes) v.words x s.words own.0;
+      own = positions-own v.number x v.words own.1 ∙ ap (λ (l : List ℕ). l ++ length v.words ∷ []) s.own;
+      looks = s.looks;
+    }
+
+-- the last look was within the row
+pub within : (room : ℕ) (v : View) → All (λ n. n < room) v.looks → LookedLast v → length v.words < room
+within room v all last =
+    let earlier : List ℕ = last.0 in
+    let at : length earlier < length (earlier ++ length v.words ∷ []) = omega (arith, length-append earlier (length v.words ∷ [])) in
+    let all' : All (λ n. n < room) (earlier ++ length v.words ∷ []) = subst (All (λ n. n < room)) last.1 all in
+    subst (λ (n : ℕ). n < room) (get_or_at earlier (length v.words) [] 0 (length earlier) refl) (all' (length earlier) 0 at)
+
+module _ (tag room : ℕ) (words : List ℕ) (capacity : ℕ) (v : Standing) (p : IsSeated tag room words capacity v) (near : length v.view.words < room) where
+  pub seated_vacant : IsSeated tag room words capacity (record v { view = finds_vacant v.view })
+  seated_vacant = record {
+    role = p.role;
+    number_is = p.number_is;
+    passes = p.passes;
+    words_are = p.words_are;
+    roomy = p.roomy;
+    sound = sound_vacant room v.view near p.sound;
+  }
+
+  pub seated_learns : (x : ℕ) → IsOthers v.view x → IsSeated tag room (words ++ x ∷ []) capacity (record v { view = learns v.view x })
+  seated_learns x other = record {
+    role = p.role;
+    number_is = p.number_is;
+    passes = p.passes;
+    words_are = ap (λ (l : List ℕ). l ++ x ∷ []) p.words_are;
+    roomy = p.roomy;
+    sound = sound_learns room v.view x near p.sound other;
+  }
+
+  pub seated_enters : (index : ℕ) → index < 2 ^ 48 → IsSeated tag room (words ++ order_word v.view.number index ∷ []) capacity (record v { view = enters v.view (order_word v.view.number index) })
+  seated_enters index small = let x : ℕ = order_word v.view.number index in record {
+    role = p.role;
+    number_is = p.number_is;
+    passes = p.passes;
+    words_are = ap (λ (l : List ℕ). l ++ x ∷ []) p.words_are;
+    roomy = p.roomy;
+    sound = sound_enters room v.view index small near p.sound;
+  }
+
+pub moved : (tag room room' : ℕ) (words words' : List ℕ) (capacity capacity' : ℕ) (v v' : Standing) → room' ≡ room → words' ≡ words → capacity' ≡ capacity → v' ≡ v → IsSeated tag room words capacity v → IsSeated tag room' words' capacity' v'
+moved tag room room' words words' capacity capacity' v v' same_room same_words same_capacity same p =
+    subst (λ (y : ℕ × List ℕ × ℕ × Standing). IsSeated tag y.0 y.1 y.2 y.3) (λ k. (sym same_room k, sym same_words k, sym same_capacity k, sym same k)) p
+
+get_before : {A : Type 0} (xs : List A) (y : A) (k : ℕ) → k < length xs → slice_get (xs ++ y ∷ []) k ≡ slice_get xs k
+get_before [] y k lt = absurd (omega arith)
+get_before (x ∷ xs) y zero lt = refl
+get_before (x ∷ xs) y (suc k) lt = get_before xs y k (omega arith)
+
+get_last : {A : Type 0} (xs : List A) (y : A) → slice_get (xs ++ y ∷ []) (length xs) ≡ Some y
+get_last [] y = refl
+get_last (x ∷ xs) y = get_last xs y
+
+abbrev fresh_at : TableId → ℕ → ℕ → Holding
+fresh_at order passes number = record { table_id = order; view = fresh number passes }
+
+near_of : (k n m : ℕ) → k < n + 1 → k ≢ n → m ≡ n → k < m
+near_of k n m lt ne e = omega arith
+
+else_of : (k n : ℕ) → k < n + 1 → k ≢ n → k < n
+else_of k n lt ne = omega arith
+
+pub fresh_more : (order : TableId) (passes : ℕ) (places : List Holding) (upto : ℕ) (p : Holding) → AreFresh order passes places upto → p ≡ record { table_id = order; view = fresh upto passes } → AreFresh order passes (places ++ p ∷ []) (upto + 1)
+fresh_more order passes places upto p are is = record {
+  count = length-append places (p ∷ []) ∙ ap (λ (n : ℕ). n + 1) are.count;
+  each = λ k lt. dite (ℕ_discrete k upto)
+      (λ (e : k ≡ upto). ap (slice_get (places ++ p ∷ [])) (e ∙ sym are.count) ∙ get_last places p ∙ ap Some is ∙ ap (λ (n : ℕ). Some (fresh_at order passes n)) (sym e))
+      (λ (ne : k ≢ upto). get_before places p k (near_of k upto (length places) lt ne are.count) ∙ are.each k (else_of k upto lt ne));
+}
+
+-- a place that has just been dealt
+pub seated_fresh : (tag room capacity passes : ℕ) → tag < passes → passes ≤ 64 → room ≤ capacity → IsSeated tag room [] capacity (placed tag passes)
+seated_fresh tag room capacity passes few small roomy = record {
+  role = refl;
+  number_is = refl;
+  passes = small;
+  words_are = refl;
+  roomy = roomy;
+  sound = record { number = few; few = omega arith; words = All-nil (IsWord passes); own = refl; looks = All-nil (λ n. n < room) };
+}

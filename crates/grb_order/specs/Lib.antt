@@ -1,0 +1,8 @@
+pub mod Word
+pub mod View
+pub mod Rule
+pub mod Steps
+pub mod Holding
+pub mod Place
+pub mod Order
+pub mod Laws

@@ -1,0 +1,38 @@
+-- What holds of the row and of all views between any two steps.
+use Rattle.std.specs.Prelude.{◌≡◌, ℕ, ◌<◌, ◌≤◌, List, ◌++◌, length, All, replicate}
+use mathlib.Core.Option.{some}
+use lib.ListN.{get_elem?}
+use Rattle.atomic_table.specs.Table.{State}
+use Rattle.grb_order.specs.Word.{IsWord, positions, StartsWith}
+use Rattle.grb_order.specs.declared.rule.Size.{Size}
+use Rattle.grb_order.specs.declared.rule.Standing.{Standing}
+use Rattle.grb_order.specs.declared.rule.Role.{Role}
+use Rattle.grb_order.specs.declared.rule.Role.TheVariants.{Dealer, Placed}
+
+-- a place: its words begin the words entered, and the words of its number are at just its own positions, all of them learnt
+pub record IsPlaced (size : ℕ) (entered : List ℕ) (dealt : ℕ) (seat_of : ℕ → ℕ) (at : ℕ) (v : Standing) : Type 0 where
+  pub number : v.view.number < dealt
+  pub passes : v.view.passes ≡ size
+  pub seat : seat_of v.view.number ≡ at
+  pub words : StartsWith entered v.view.words
+  pub own : positions v.view.number entered ≡ v.view.own
+  pub learnt : positions v.view.number v.view.words ≡ v.view.own
+
+module _ (passes : ℕ) (entered : List ℕ) (dealt dealer : ℕ) (seat_of : ℕ → ℕ) (seat : ℕ) (v : Standing) where
+  abbrev pub Fits : Role → Type 0
+  Fits Dealer = (seat ≡ dealer) × (v.view.number ≡ dealt)
+  Fits Placed = IsPlaced passes entered dealt seat_of seat v
+
+-- the first `dealt` places have a seat each, and the dealer has those from there on
+pub record Orderly (size : Size) (s : State (Unit {0}) Standing) : Type 0 where
+  pub entered : List ℕ
+  pub vacant : ℕ
+  pub dealt : ℕ
+  pub dealer : ℕ
+  pub seat_of : ℕ → ℕ
+  pub row : s.words ≡ entered ++ replicate vacant 0
+  pub wide : length s.words ≡ size.room
+  pub few : dealt ≤ size.passes
+  pub words : All (IsWord dealt) entered
+  pub each : (seat : ℕ) (v : Standing) → get_elem? s.views seat ≡ some v → Fits size.passes entered dealt dealer seat_of seat v v.role
+  pub placed : (number : ℕ) → number < dealt → (v : Standing) × (get_elem? s.views (seat_of number) ≡ some v) × (v.role ≡ Placed) × (v.view.number ≡ number)

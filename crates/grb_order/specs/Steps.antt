@@ -1,0 +1,56 @@
+-- The two kinds of step on the row, both on the first word that the place has not learnt: what each tells, of the step, the seat
+-- before, the number found and the seat after; and what the calls that make them answer.
+use Rattle.std.specs.Prelude.{◌≡◌, ◌≢◌, ℕ, ◌<◌, length}
+use Rattle.atomic_table.specs.Table.{Me, Step}
+use Rattle.grb_order.specs.Word.{order_word}
+use Rattle.grb_order.specs.View.{fresh, learns, finds_vacant, enters, IsOthers}
+use Rattle.grb_order.specs.declared.view.View.{View}
+use Rattle.grb_order.specs.declared.rule.Standing.{Standing}
+use Rattle.grb_order.specs.declared.rule.Role.TheVariants.{Dealer, Placed}
+use Rattle.grb_order.specs.declared.step.Look.{Look}
+use Rattle.grb_order.specs.declared.step.Look.TheVariants.{Next, Vacant, Full}
+use Rattle.grb_order.specs.declared.step.Entered.{Entered}
+use Rattle.grb_order.specs.declared.step.Entered.TheVariants.{Won, Lost}
+
+abbrev pub Sat : Type 0
+Sat = Me (Unit {0}) Standing
+
+abbrev pub Play : Type 1
+Play = Step (Unit {0}) → Sat → ℕ → Sat → Type 0
+
+-- the dealer before it deals the place of this number
+abbrev pub dealing : ℕ → ℕ → Standing
+dealing number passes = record { role = Dealer; view = fresh number passes }
+
+abbrev pub placed : ℕ → ℕ → Standing
+placed number passes = record { role = Placed; view = fresh number passes }
+
+-- the place that the dealer deals
+abbrev pub dealt : Standing → Standing
+dealt v = placed v.view.number v.view.passes
+
+-- the same seat with another view
+abbrev pub seen : Sat → View → Sat
+seen m v = (record m.0 { view = v }, m.1)
+
+abbrev pub Learns : Sat → ℕ → Sat → Type 0
+Learns m found n = (n ≡ seen m (learns m.0.view found)) × IsOthers m.0.view found
+
+-- a load: it finds no word, and the looks grow; or a word of another place, which is learnt
+abbrev pub looked : Play
+looked st m found n = (found ≡ 0 → n ≡ seen m (finds_vacant m.0.view)) × (found ≢ 0 → Learns m found n)
+
+-- a compare-and-swap from 0: won, and the own word is entered; or lost to a word of another place, which is learnt
+abbrev pub tried : Play
+tried st m found n = (found ≡ 0 → n ≡ seen m (enters m.0.view st.second)) × (found ≢ 0 → Learns m found n)
+
+-- a look at a row of `room` words, by the view before and after
+abbrev pub Looks : ℕ → View → Look → View → Type 0
+Looks room v (Next word) w = (w ≡ learns v word) × IsOthers v word × (length v.words < room)
+Looks room v Vacant w = (w ≡ finds_vacant v) × (length v.words < room)
+Looks room v Full w = (w ≡ v) × (length v.words ≡ room)
+
+-- a try to enter the record `index` in a row of `room` words, by the view before and after
+abbrev pub Tries : ℕ → ℕ → View → Entered → View → Type 0
+Tries room index v Won w = (w ≡ enters v (order_word v.number index)) × (length v.words < room)
+Tries room index v (Lost word) w = (w ≡ learns v word) × IsOthers v word × (length v.words < room)

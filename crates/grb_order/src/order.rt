@@ -1,0 +1,70 @@
+ghost use Rattle.std.specs.Prelude.{◌≡◌, ◌<◌, ◌≤◌, [], IfOk};
+ghost use Rattle.grb_order.specs.Steps.{dealing};
+ghost use Rattle.grb_order.specs.Order.{AreFresh};
+
+use crate::place::{Place, Seat};
+use crate::rule::{Deal, Rule, Size, Standing};
+use atomic_table::{Shared, Table};
+use std::alloc::{AllocError, Global};
+use std::marker::Model;
+
+/// A row of words, of which each is 0 until a place enters a word of its own there, the first one first.
+#[derive(Drop)]
+pub struct Order {
+    pub(crate) table: Table<(), Standing, Size, Rule, Global>,
+}
+
+impl Model for Order {
+    ghost use Rattle.std.specs.Prelude.{◌≡◌, ◌<◌};
+    ghost use Rattle.atomic_table.specs.Seated.{TableId, table_id_coded};
+
+    ghost Value = { TableId };
+
+    ghost coded = { table_id_coded };
+
+    ghost view = { λ order. order.table.shared.table_id };
+
+    ghost invariant = { λ order. (0 < order.table.shared.table_id.words) × (order.table.shared.table_id.words ≡ order.table.shared.key.room) };
+}
+
+type Row = Shared<(), Standing, Size, Rule>;
+
+// Cuts a place for each pass off the dealer, each with room for all words of the row.
+fn deal(alloc: Global, row: &Row, mut dealer: Seat, size: Size) -> Result<Vec<Place>, AllocError>
+    requires row { (row.now.key ≡ size) × (row.now.table_id.words ≡ size.room) × (0 < size.room) }
+    requires dealer { (dealer.table_id ≡ row.now.table_id) × (dealer.me ≡ (dealing 0 size.passes, [])) }
+    requires passes { size.passes ≤ 64 }
+    ensures { IfOk result (λ places. AreFresh row.now.table_id size.passes places.items size.passes) }
+{
+    let mut places = Vec::with_capacity(alloc, size.passes as usize)?;
+    for number in 0..size.passes {
+        let words = Vec::with_capacity(alloc, size.room as usize)?;
+        let seat = row.split_seat::<Deal>(&mut dealer);
+        places.push(Place {
+            number,
+            seat,
+            words,
+        })?;
+    }
+    Ok(places)
+}
+
+impl Order {
+    ghost use Rattle.grb_order.specs.Order.{room_of};
+
+    /// An order with `room` vacant words, from 1 to 4,096, and a place for each of `passes` passes, from 1 to 64: the one at index k has
+    /// the number k and has learnt no word. All memory is taken here, the room for each place's words too. `AllocError` where it is
+    /// refused.
+    pub fn open(alloc: Global, room: u32, passes: u32) -> Result<(Order, Vec<Place>), AllocError>
+        requires room { (0 < room) × (room ≤ 4096) }
+        requires passes { (0 < passes) × (passes ≤ 64) }
+        ensures room { IfOk result (λ opened. room_of opened.0 ≡ room) }
+        ensures places { IfOk result (λ opened. AreFresh opened.0 passes opened.1.items passes) }
+    {
+        let size = Size { room, passes };
+        let vacant = Vec::from_elem(alloc, 0u64, room as usize)?;
+        let (table, dealer) = Table::of_words(alloc, &vacant, &size)?;
+        let places = deal(alloc, &table.shared, dealer, size)?;
+        Ok((Order { table }, places))
+    }
+}

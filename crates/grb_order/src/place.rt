@@ -1,0 +1,39 @@
+ghost use Rattle.std.specs.Prelude.{◌≡◌};
+
+use crate::rule::Standing;
+use std::marker::Model;
+
+pub type Seat = atomic_table::Seat<(), Standing>;
+
+/// One pass's seat at an order, by one thread at a time: from it the order is read and filled.
+#[derive(Drop)]
+pub struct Place {
+    pub(crate) number: u32,
+    pub(crate) seat: Seat,
+    // The words learnt, with room for all words of the order.
+    pub(crate) words: Vec<u64>,
+}
+
+impl Model for Place {
+    ghost use Rattle.grb_order.specs.Holding.{Holding};
+
+    ghost Value = { Holding };
+
+    ghost use Rattle.grb_order.specs.Place.{holding, IsPlace};
+
+    ghost view = { holding };
+
+    ghost invariant = { IsPlace };
+}
+
+impl Place {
+    ghost use Rattle.grb_order.specs.View.{IsSound};
+
+    /// The words learnt, from the first of the order on. Takes no memory.
+    pub fn words(&self) -> &[u64]
+        ensures words { result.now ≡ self.now.view.words }
+        ensures sound { IsSound self.now.table_id.words self.now.view }
+    {
+        &self.words
+    }
+}

@@ -1,0 +1,74 @@
+ghost use Rattle.std.specs.Prelude.{◌≡◌, ◌^◌, ◌<◌};
+ghost use Rattle.grb_order.specs.View.{IsSound, LookedLast};
+ghost use Rattle.grb_order.specs.Order.{room_of};
+
+use crate::order::Order;
+use crate::place::Place;
+use crate::rule::{Entering, Looking};
+use crate::word::order_word;
+
+/// What a look found after the words that the place had learnt.
+#[derive(Clone, Copy, Debug, PartialEq, Eq)]
+pub enum Look {
+    /// A word of another place, which is learnt now.
+    Next(u64),
+    /// No word: the words learnt are all that the order held at that step.
+    Vacant,
+    /// All words of the order were learnt before, and no step was made.
+    Full,
+}
+
+/// How a try to enter a word ended.
+#[derive(Clone, Copy, Debug, PartialEq, Eq)]
+pub enum Entered {
+    /// The own word is entered and learnt.
+    Won,
+    /// Another place was first, and its word is learnt.
+    Lost(u64),
+}
+
+impl Order {
+    ghost use Rattle.grb_order.specs.Steps.{Looks, Tries};
+
+    /// Loads the word after those that the place has learnt, in one atomic step. With all words learnt there is none, and no step is
+    /// made. Takes no memory.
+    pub fn look(&self, place: &mut Place) -> Look
+        requires { place.old.table_id ≡ self.now }
+        ensures order { place.new.table_id ≡ self.now }
+        ensures look { Looks (room_of self.now) place.old.view result place.new.view }
+        ensures sound { IsSound (room_of place.new.table_id) place.new.view }
+    {
+        let at = place.words.len();
+        if at == self.table.word_count() {
+            return Look::Full;
+        }
+        let found = self.table.shared.load::<Looking>(&mut place.seat, at);
+        if found == 0 {
+            return Look::Vacant;
+        }
+        place.words.push_reserved(found);
+        Look::Next(found)
+    }
+
+    /// Enters the place's word for the record of this index, unless another place's word is there by now: one compare-and-swap from 0
+    /// of the word after those that the place has learnt. The place looked last at just that word, as after `Vacant`. Takes no memory.
+    pub fn enter(&self, place: &mut Place, index: u64) -> Entered
+        requires order { place.old.table_id ≡ self.now }
+        requires looked { LookedLast place.old.view }
+        requires index { index < 2 ^ 48 }
+        ensures order { place.new.table_id ≡ self.now }
+        ensures entered { Tries (room_of self.now) index place.old.view result place.new.view }
+        ensures sound { IsSound (room_of place.new.table_id) place.new.view }
+    {
+        let at = place.words.len();
+        let own = order_word(place.number, index);
+        let row = &self.table.shared;
+        let found = row.compare_exchange::<Entering>(&mut place.seat, at, 0, own);
+        if found == 0 {
+            place.words.push_reserved(own);
+            return Entered::Won;
+        }
+        place.words.push_reserved(found);
+        Entered::Lost(found)
+    }
+}
