@@ -1,10 +1,10 @@
 ghost use Rattle.std.specs.Prelude.{◌<◌, ◌≤◌};
 ghost use Rattle.grb_context.specs.Known.{IsPassOf};
 
-use crate::report::{Least, RUNS, nanos_since};
+use crate::report::{Least, RUNS, nanos_since, write_check};
 use grb_call::{Reply, VectorId};
 use grb_context::{Context, Pass};
-use grb_core::{Domain, Value};
+use grb_core::{Domain, Refusal, Value};
 use std::rt::Clock;
 use std::sync::{Barrier, Mutex, Wait};
 use std::test::Fail;
@@ -14,25 +14,33 @@ use std::time::Instant;
 /// The calls that a run enters.
 const ROOM: u32 = 4096;
 
-/// Makes a vector, and sets one entry of it after another until the order is full; how many sets were entered.
-fn fill<R: Wait>(rt: &R, context: &Context, pass: &mut Pass) -> u32
+/// What one thread did in a run: how many of its calls or pushes went in, and how many nanoseconds it took.
+#[derive(Clone, Copy)]
+struct Share {
+    entered: u32,
+    nanos: u64,
+}
+
+/// Makes a vector, and sets one entry of it after another until the order is full; how many calls were entered. A call that is
+/// refused for another reason ends it with that refusal.
+fn fill<R: Wait>(rt: &R, context: &Context, pass: &mut Pass) -> Result<u32, Refusal>
     requires { IsPassOf context.now pass.old }
 {
     let mut entered = 0u32;
-    let Ok(Reply::MadeVector(v)) = context.new_vector(rt, pass, Domain::Uint64, u64::from(ROOM))
-    else {
-        return entered;
+    let v = match context.new_vector(rt, pass, Domain::Uint64, u64::from(ROOM)) {
+        Ok(Reply::MadeVector(v)) => v,
+        Ok(_) | Err(Refusal::OrderFull) => return Ok(entered),
+        Err(refusal) => return Err(refusal),
     };
+    entered = entered.wrapping_add(1);
     for i in 0..u64::from(ROOM) {
-        if context
-            .set_vector(rt, pass, v, i, Value::Uint64(i))
-            .is_err()
-        {
-            break;
+        match context.set_vector(rt, pass, v, i, Value::Uint64(i)) {
+            Ok(_) => entered = entered.wrapping_add(1),
+            Err(Refusal::OrderFull) => break,
+            Err(refusal) => return Err(refusal),
         }
-        entered = entered.wrapping_add(1);
     }
-    entered
+    Ok(entered)
 }
 
 /// Pushes the same sets under a mutex until there are as many as the order takes; how many were pushed.
@@ -51,14 +59,23 @@ fn push<R: Wait>(rt: &R, sets: &Mutex<Vec<(VectorId, u64, Value)>>) -> u32 {
     pushed
 }
 
-/// How many nanoseconds a fill took from the moment that all threads were there.
-fn timed_fill<R: Clock + Wait>(rt: &R, all: &Barrier, context: &Context, pass: &mut Pass) -> u64
+/// The share of a fill, timed from the moment that all threads are there; none where a call was refused with room left.
+fn timed_fill<R: Clock + Wait>(
+    rt: &R,
+    all: &Barrier,
+    context: &Context,
+    pass: &mut Pass,
+) -> Option<Share>
     requires { IsPassOf context.now pass.old }
 {
     all.wait(rt);
     let start = Instant::now(rt);
-    fill(rt, context, pass);
-    nanos_since(rt, start)
+    let filled = fill(rt, context, pass);
+    let nanos = nanos_since(rt, start);
+    match filled {
+        Ok(entered) => Some(Share { entered, nanos }),
+        Err(_) => None,
+    }
 }
 
 /// The same of pushes under the mutex.
@@ -66,60 +83,77 @@ fn timed_push<R: Clock + Wait>(
     rt: &R,
     all: &Barrier,
     sets: &Mutex<Vec<(VectorId, u64, Value)>>,
-) -> u64 {
+) -> Option<Share> {
     all.wait(rt);
     let start = Instant::now(rt);
-    push(rt, sets);
-    nanos_since(rt, start)
+    let entered = push(rt, sets);
+    let nanos = nanos_since(rt, start);
+    Some(Share { entered, nanos })
 }
 
-/// The longest of the threads' times.
-fn longest(times: &[u64]) -> u64 {
-    times.iter().copied().max().unwrap_or(0)
+/// The longest of the threads' times; none where a share is missing, or all together are not as many calls as there is room for.
+fn longest(shares: &[Option<Share>]) -> Option<u64> {
+    let mut entered = 0u32;
+    let mut longest = 0u64;
+    for share in shares {
+        let Some(share) = share else {
+            return None;
+        };
+        entered = entered.wrapping_add(share.entered);
+        longest = longest.max(share.nanos);
+    }
+    if entered == ROOM { Some(longest) } else { None }
 }
 
-/// Fills the order by so many passes, each on a thread of its own.
-fn fill_by<R: Clock + Threads + Wait + Sync + AllocGlobal>(rt: &R, passes: u32) -> Result<u64, Fail>
+/// Fills the order by so many passes, each on a thread of its own; the time, if the order was full then.
+fn fill_by<R: Clock + Threads + Wait + Sync + AllocGlobal>(
+    rt: &R,
+    passes: u32,
+) -> Result<Option<u64>, Fail>
     requires { (0 < passes) × (passes ≤ 64) }
 {
     let (context, opened) = Context::open(rt.alloc(), ROOM, passes)?;
     let all = Barrier::new(passes as usize);
-    let times = map_vec(
+    let shares = map_vec(
         rt,
         opened,
         &|mut pass| timed_fill(rt, &all, &context, &mut pass),
     )?;
-    Ok(longest(&times))
+    Ok(longest(&shares))
 }
 
-/// Fills a list under a mutex by so many threads.
+/// Fills a list under a mutex by so many threads; the time, if the list was full then.
 fn push_by<R: Clock + Threads + Wait + Sync + AllocGlobal>(
     rt: &R,
     threads: u32,
-) -> Result<u64, Fail> {
+) -> Result<Option<u64>, Fail> {
     let sets = Mutex::new(Vec::with_capacity(rt.alloc(), ROOM as usize)?);
     let all = Barrier::new(threads as usize);
-    let times = map_indices(
+    let shares = map_indices(
         rt,
         rt.alloc(),
         threads as usize,
         &|_| timed_push(rt, &all, &sets),
     )?;
-    Ok(longest(&times))
+    Ok(longest(&shares))
 }
 
-/// Times fills by one, two and four passes beside pushes under one mutex.
-pub fn run<R: Clock + Threads + Wait + Sync + Eprint + AllocGlobal>(rt: &R) -> Result<(), Fail> {
+/// Times fills by one, two and four passes beside pushes under one mutex. The check is that each of them ended full.
+pub fn run<R: Clock + Threads + Wait + Sync + Print + Eprint + AllocGlobal>(
+    rt: &R,
+) -> Result<(), Fail> {
+    let mut full = true;
     for passes in [1, 2, 4] {
         let mut fills = Least::none();
         let mut pushes = Least::none();
         for _ in 0..RUNS {
-            fills.take(fill_by(rt, passes)?);
-            pushes.take(push_by(rt, passes)?);
+            full &= fills.take_if(fill_by(rt, passes)?);
+            full &= pushes.take_if(push_by(rt, passes)?);
         }
         eprintln!(rt; "by {passes}:")?;
         fills.write(rt, "fill", ROOM)?;
         pushes.write(rt, "fill under a mutex", ROOM)?;
     }
+    write_check(rt, "fill", full)?;
     Ok(())
 }

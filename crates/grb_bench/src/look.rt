@@ -1,6 +1,6 @@
 ghost use Rattle.std.specs.Prelude.{◌≡◌};
 
-use crate::report::{Least, RUNS, nanos_since};
+use crate::report::{Least, RUNS, nanos_since, write_check};
 use grb_order::{Look, Order, Place};
 use std::rt::Clock;
 use std::sync::{Mutex, Wait};
@@ -35,15 +35,15 @@ fn read_on<R: Wait>(rt: &R, words: &Mutex<Vec<u64>>) -> u32 {
     vacant
 }
 
-/// Times uncontended looks beside reads under a free mutex.
-pub fn run<R: Clock + Wait + Eprint + AllocGlobal>(rt: &R) -> Result<(), Fail> {
+/// Times uncontended looks beside reads under a free mutex. The check is that each of them found nothing.
+pub fn run<R: Clock + Wait + Print + Eprint + AllocGlobal>(rt: &R) -> Result<(), Fail> {
     let mut looks = Least::none();
     let mut reads = Least::none();
     let mut seen = 0u32;
     for _ in 0..RUNS {
         let (order, mut places) = Order::open(rt.alloc(), 1, 1)?;
         let Some(mut place) = places.pop() else {
-            return Ok(());
+            break;
         };
         let start = Instant::now(rt);
         seen = seen.wrapping_add(look_on(&order, &mut place));
@@ -55,6 +55,6 @@ pub fn run<R: Clock + Wait + Eprint + AllocGlobal>(rt: &R) -> Result<(), Fail> {
     }
     looks.write(rt, "look", LOOKS)?;
     reads.write(rt, "look under a mutex", LOOKS)?;
-    eprintln!(rt; "looks that found no word: {seen}")?;
+    write_check(rt, "look", seen == 2 * RUNS * LOOKS)?;
     Ok(())
 }

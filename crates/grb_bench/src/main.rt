@@ -1,16 +1,22 @@
-//! Times the shared order on made data, beside the same work under one mutex. It writes fixed words to standard output, and to standard
-//! error for each line its name, the least of several runs in nanoseconds a step, and the steps of a run.
+//! Times the store on made data: the shared order beside the same work under one mutex, builds beside a sort, and sets. It writes
+//! to standard output a fixed word for each check of what the timed work made, and to standard error for each line its name, the
+//! least of several runs in nanoseconds a step, and the steps of a run.
 #![tactic(auto)]
 
+mod build;
 mod fill;
 mod look;
+mod numbers;
+mod open;
 mod report;
+mod sets;
 
 use std::test::Fail;
 
 fn main(rt: HostRuntime) -> Result<(), Fail> {
     look::run(&rt)?;
     fill::run(&rt)?;
-    println!(rt; "done")?;
+    build::run(&rt)?;
+    sets::run(&rt)?;
     Ok(())
 }

@@ -17,7 +17,7 @@ by_no_refusal None k r s t e = cc
 by_no_refusal (Some q) k r s t e = refl
 
 pub shapes_after_ok : (s : ObjectShapes) (c : Call) (kind : Kind) → check_of s c ≡ Ok kind → shapes_after s c ≡ reshaped s c
-shapes_after_ok s c kind e = by_refusal (refused_by_shapes s c) (kind_of c) kind s (reshaped s c) e
+shapes_after_ok s c kind e = by_refusal (refused_by_shapes s c) (kind_of s c) kind s (reshaped s c) e
 
 pub shapes_after_err : (s : ObjectShapes) (c : Call) (r : Refusal) → check_of s c ≡ Err r → shapes_after s c ≡ s
-shapes_after_err s c r e = by_no_refusal (refused_by_shapes s c) (kind_of c) r s (reshaped s c) e
+shapes_after_err s c r e = by_no_refusal (refused_by_shapes s c) (kind_of s c) r s (reshaped s c) e

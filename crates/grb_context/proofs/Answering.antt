@@ -1,6 +1,6 @@
 -- Why an answer is explained.
 use Rattle.std.proofs.Common.{◌≡◌, ℕ, ◌+◌, ◌^◌, ◌<◌, ◌≤◌, Bool, true, false, cond, List, [], ◌∷◌, ◌++◌, length, get_or, refl, sym, ap, ◌∙◌, subst, arith, append_assoc, inl, inr}
-use Rattle.std.specs.Prelude.{Option, None, Result, Ok, Err, IfOk, IsTrue}
+use Rattle.std.specs.Prelude.{Option, Some, None, Result, Ok, Err, IfOk, OnErr, IsTrue}
 use Rattle.std.specs.Result.{result_or}
 use Rattle.std.specs.declared.alloc.AllocError.{AllocError}
 use Rattle.std.specs.Option.{option_map_or}
@@ -15,20 +15,22 @@ use Rattle.grb_call.specs.declared.call.Call.{Call}
 use Rattle.grb_call.specs.declared.call.Call.TheVariants as call
 use Rattle.grb_call.specs.declared.checking.Kind.{Kind}
 use Rattle.grb_call.specs.declared.reply.Reply.{Reply}
-use Rattle.grb_call.specs.Kinds.{enters}
+use Rattle.grb_call.specs.Kinds.{enters, is_build}
 use Rattle.grb_call.specs.Refused.{check_of}
 use Rattle.grb_call.specs.Store.{Store, shapes_of}
 use Rattle.grb_call.specs.After.{refused, answer, reply_of}
 use Rattle.grb_call.specs.History.{History, store_of}
 use Rattle.grb_call.proofs.ByShapes.{by_check}
-use Rattle.grb_call.proofs.Checked.{answer-err, answer-ok, refused-ok}
+use Rattle.grb_call.proofs.Checked.{answer-err, answer-ok, refused-none, by_shapes-ok}
 use Rattle.grb_context.specs.declared.learn.End.{End}
 use Rattle.grb_context.specs.declared.learn.End.TheVariants.{Vacant, Full}
 use Rattle.grb_context.specs.Known.{Knowing, known, spelled}
 use Rattle.grb_context.specs.Point.{GrewTo, IsAtPoint}
-use Rattle.grb_context.specs.Explains.{Answer, Ground, ByStore, ByRoom, ByMemory, ByRecords, ground_of, history_after, is_entry_read, IsGrounded, ExplainsCall, IsCaughtUp}
+use Rattle.grb_context.specs.Explains.{Answer, Ground, ByStore, ByRoom, ByMemory, ByRecords, ground_of, history_after, is_entry_read, is_size, IsGrounded, ExplainsCall, IsCaughtUp}
 use Rattle.grb_context.specs.Learning.{Learns, Finds, IsReady, IsRefused}
 use Rattle.grb_context.proofs.Spelling.{spelled_push, spelled_more, length_spelled}
+use Rattle.grb_context.specs.Reading.{IsChecked}
+use Rattle.grb_context.proofs.Checking.{reads_no_build, build_no_size, build_no_entry_read}
 use Rattle.grb_context.proofs.Kept.{number_of-order_word}
 use Rattle.grb_context.proofs.Learnt.{grows_then, grows_enters, learns_then, learns_word}
 
@@ -64,25 +66,50 @@ refused_by_check room old new end c r f e =
     record {
       grounds = subst (IsGrounded room old new c (Err r) (known new)) by (record { answered = sym (answer-err (store_of (known new)) c r e); point = point_found room old new end f });
       caught_up = subst (λ (g : Ground). IsCaughtUp g new) by (known_found room old new end f);
-      memory = λ writes is. let no : ByStore ≡ ByMemory = by ∙ ap (λ (q : Refusal). ground_of (Err q)) is in cc;
+      memory = λ writes no_build is. let no : ByStore ≡ ByMemory = by ∙ ap (λ (q : Refusal). ground_of (Err q)) is in cc;
     }
 
+-- a call that would be entered is refused at the order's end, by what the store is or for want of memory to a build
+refused_by_store : (room : ℕ) (old new : Knowing) (end : End) (c : Call) (r : Refusal) → Finds room old (Ok end) new → refused (store_of (known new)) c ≡ Some r → ground_of (Err r) ≡ ByStore → IsRefused room old new c r
+refused_by_store room old new end c r f e is =
+    let by : ByStore ≡ ground_of (Err r) = sym is in
+    let answered : Err r ≡ answer (store_of (known new)) c = sym (ap (λ (o : Option Refusal). option_map_or Err o (Ok (reply_of (store_of (known new)) c))) e) in
+    record {
+      grounds = subst (IsGrounded room old new c (Err r) (known new)) by (record { answered = answered; point = point_found room old new end f });
+      caught_up = subst (λ (g : Ground). IsCaughtUp g new) by (known_found room old new end f);
+      memory = λ writes no_build out. let no : ByStore ≡ ByMemory = by ∙ ap (λ (q : Refusal). ground_of (Err q)) out in cc;
+    }
+
+pub refused_checked : (room : ℕ) (old new : Knowing) (end : End) (c : Call) (r : Refusal) → Finds room old (Ok end) new → IsChecked (store_of (known new)) c (Err r) → IsRefused room old new c r
+refused_checked room old new end c OutOfMemory f e = record {
+  grounds = record {
+    point = point_found room old new end f;
+    by_shapes = e.0;
+    no_size = build_no_size c e.1;
+    room_left = λ writes no_build. let no : true ≡ false = sym e.1 ∙ no_build in cc;
+    unsettled = λ reads. let no : true ≡ false = sym reads ∙ build_no_entry_read c e.1 in cc;
+  };
+  caught_up = known_found room old new end f;
+  memory = λ writes no_build is. let no : true ≡ false = sym e.1 ∙ no_build in cc;
+}
+refused_checked room old new end c r f e = refused_by_store room old new end c r f e.0 e.1
+
 -- the order is full
-pub refused_by_room : (room : ℕ) (old new : Knowing) (c : Call) (kind : Kind) → Finds room old (Ok Full) new → enters c ≡ true → check_of (shapes_of (store_of (known new))) c ≡ Ok kind → IsRefused room old new c OrderFull
-refused_by_room room old new c kind f writes e =
+pub refused_by_room : (room : ℕ) (old new : Knowing) (c : Call) → Finds room old (Ok Full) new → enters c ≡ true → refused (store_of (known new)) c ≡ None → IsRefused room old new c OrderFull
+refused_by_room room old new c f writes e =
     let n : length (known new) ≡ length new.view.words = length_known new f.0 in
-    record { grounds = record { unrefused = refused-ok (store_of (known new)) c kind e; enters = writes; full = n ∙ f.1 }; caught_up = n; memory = λ _ is. cc }
+    record { grounds = record { unrefused = e; enters = writes; full = n ∙ f.1 }; caught_up = n; memory = λ _ _ is. cc }
 
 -- a record was not shown
 pub refused_unshown : (room : ℕ) (old new : Knowing) (c : Call) (r : Refusal) → Finds room old (Err r) new → IsRefused room old new c r
-refused_unshown room old new c r f = subst (IsRefused room old new c) (sym f.0) (record { grounds = inl f.1; caught_up = tt; memory = λ _ is. cc })
+refused_unshown room old new c r f = subst (IsRefused room old new c) (sym f.0) (record { grounds = inl f.1; caught_up = tt; memory = λ _ _ is. cc })
 
-pub is_ready : (room : ℕ) (old new : Knowing) (c : Call) (kind : Kind) → Finds room old (Ok Vacant) new → check_of (shapes_of (store_of (known new))) c ≡ Ok kind → IsReady room old new c
-is_ready room old new c kind f e = record {
+pub is_ready : (room : ℕ) (old new : Knowing) (c : Call) → Finds room old (Ok Vacant) new → refused (store_of (known new)) c ≡ None → IsReady room old new c
+is_ready room old new c f e = record {
   all = f.0;
   looked = looked_once old.view.looks new.view.looks (length new.view.words) f.1;
   room_left = f.2;
-  unrefused = refused-ok (store_of (known new)) c kind e;
+  unrefused = e;
 }
 
 -- the call's own record was not taken
@@ -91,7 +118,7 @@ refused_untaken room old new c r is writes ready =
     let n : length (known new) ≡ length new.view.words = length_known new ready.all in
     let near : length (known new) < room = omega (arith, ready.room_left) in
     subst (IsRefused room old new c) (sym is)
-    (record { grounds = inr (record { point = point_looked room old new ready.all ready.looked; unrefused = ready.unrefused; enters = writes; room_left = near }); caught_up = tt; memory = λ _ is. cc })
+    (record { grounds = inr (record { point = point_looked room old new ready.all ready.looked; unrefused = ready.unrefused; enters = writes; room_left = near }); caught_up = tt; memory = λ _ _ is. cc })
 
 -- what a later part of a call explains, the whole call explains
 grew_before : (a b c : List ℕ) (n : ℕ) → StartsWith b a → GrewTo b c n → GrewTo a c n
@@ -106,7 +133,7 @@ module _ (room : ℕ) (a b c : Knowing) (call : Call) (first : Learns a b) where
   grounded_before : (r : Answer) (g : History) (by : Ground) → IsGrounded room b c call r g by → IsGrounded room a c call r g by
   grounded_before r g ByStore is = record { answered = is.answered; point = moved g is.point }
   grounded_before r g ByRoom is = is
-  grounded_before r g ByMemory is = record { point = moved g is.point; by_shapes = is.by_shapes; room_left = is.room_left; unsettled = is.unsettled }
+  grounded_before r g ByMemory is = record { point = moved g is.point; by_shapes = is.by_shapes; no_size = is.no_size; room_left = is.room_left; unsettled = is.unsettled }
   grounded_before r g ByRecords (inl is) = inl is
   grounded_before r g ByRecords (inr is) = inr (record { point = moved g is.point; unrefused = is.unrefused; enters = is.enters; room_left = is.room_left })
 
@@ -193,7 +220,7 @@ explains_read : (room : ℕ) (old new : Knowing) (end : End) (c : Call) (kind : 
     → reply ≡ reply_of (store_of (known new)) c → ExplainsCall room old new c (Ok reply)
 explains_read room old new end c kind reply l f reads e is =
     let g : History = known new in
-    let answered : Ok reply ≡ answer (store_of g) c = ap (λ (r : Reply). Ok r) is ∙ sym (answer-ok (store_of g) c kind e) in
+    let answered : Ok reply ≡ answer (store_of g) c = ap (λ (r : Reply). Ok r) is ∙ sym (answer-ok (store_of g) c kind e (reads_no_build c reads)) in
     let grounds : IsGrounded room old new c (Ok reply) g ByStore = record { answered = answered; point = point_found room old new end f } in
     let behind : g ≡ history_after old.view.number c (Ok reply) g = sym (ap (λ (b : Bool). cond b (g ++ (old.view.number, c) ∷ []) g) reads) in
     record {
@@ -207,7 +234,9 @@ explains_read room old new end c kind reply l f reads e is =
 
 -- memory is refused to a call that only reads, where something is known: with nothing known such a call is refused
 reads_nothing : (c : Call) → IsTrue (is_entry_read c) → refused (store_of []) c ≡ None → ⊥
+reads_nothing (call.GetMatrix a i j) is none = cc
 reads_nothing (call.GetVector v i) is none = cc
+reads_nothing (call.NvalsMatrix a) is none = cc
 reads_nothing (call.NvalsVector v) is none = cc
 reads_nothing _ is none = cc
 
@@ -215,27 +244,28 @@ some_known : (h : History) (c : Call) → refused (store_of h) c ≡ None → Is
 some_known [] c none is = absurd (reads_nothing c is none)
 some_known (e ∷ h) c none is = omega arith
 
-refused_by_memory : (room : ℕ) (old new : Knowing) (end : End) (c : Call) (kind : Kind) → Finds room old (Ok end) new → enters c ≡ false → check_of (shapes_of (store_of (known new))) c ≡ Ok kind → IsRefused room old new c OutOfMemory
-refused_by_memory room old new end c kind f reads e =
-    let none : refused (store_of (known new)) c ≡ None = refused-ok (store_of (known new)) c kind e in
+refused_by_memory : (room : ℕ) (old new : Knowing) (end : End) (c : Call) (kind : Kind) → Finds room old (Ok end) new → enters c ≡ false → check_of (shapes_of (store_of (known new))) c ≡ Ok kind → is_size c ≡ false → IsRefused room old new c OutOfMemory
+refused_by_memory room old new end c kind f reads e no_size =
+    let none : refused (store_of (known new)) c ≡ None = refused-none (store_of (known new)) c kind e (reads_no_build c reads) in
     record {
       grounds = record {
         point = point_found room old new end f;
-        by_shapes = none;
-        room_left = λ writes. let no : false ≡ true = sym reads ∙ writes in cc;
+        by_shapes = by_shapes-ok (store_of (known new)) c kind e;
+        no_size = no_size;
+        room_left = λ writes no_build. let no : false ≡ true = sym reads ∙ writes in cc;
         unsettled = some_known (known new) c none;
       };
       caught_up = known_found room old new end f;
-      memory = λ writes is. let no : false ≡ true = sym reads ∙ writes in cc;
+      memory = λ writes no_build is. let no : false ≡ true = sym reads ∙ writes in cc;
     }
 
 -- what a call that only reads answers, where its evaluation may be refused memory
 module _ (room : ℕ) (old now new : Knowing) (end : End) (c : Call) (kind : Kind) (found : Finds room old (Ok end) now) (same : new ≡ now) where
   pub explains_evaluated : (r : Result Reply AllocError) → Learns old now → enters c ≡ false → check_of (shapes_of (store_of (known now))) c ≡ Ok kind
-      → IfOk r (λ reply. reply ≡ reply_of (store_of (known now)) c) → ExplainsCall room old new c (result_or r (Err OutOfMemory))
-  explains_evaluated (Ok reply) l reads e is = subst (λ (p : Knowing). ExplainsCall room old p c (Ok reply)) (sym same) (explains_read room old now end c kind reply l found reads e is)
-  explains_evaluated (Err error) l reads e is =
-      subst (λ (p : Knowing). ExplainsCall room old p c (Err OutOfMemory)) (sym same) (explains_refused room old now c OutOfMemory l (refused_by_memory room old now end c kind found reads e))
+      → IfOk r (λ reply. reply ≡ reply_of (store_of (known now)) c) → OnErr r (is_size c ≡ false) → ExplainsCall room old new c (result_or r (Err OutOfMemory))
+  explains_evaluated (Ok reply) l reads e is no_size = subst (λ (p : Knowing). ExplainsCall room old p c (Ok reply)) (sym same) (explains_read room old now end c kind reply l found reads e is)
+  explains_evaluated (Err error) l reads e is no_size =
+      subst (λ (p : Knowing). ExplainsCall room old p c (Err OutOfMemory)) (sym same) (explains_refused room old now c OutOfMemory l (refused_by_memory room old now end c kind found reads e no_size))
 
   pub known_evaluated : (r : Result Reply AllocError) → IsCaughtUp (ground_of (result_or r (Err OutOfMemory))) new
   known_evaluated (Ok reply) = subst (λ (p : Knowing). length (known p) ≡ length p.view.words) (sym same) (known_found room old now end found)

@@ -6,7 +6,7 @@ use Rattle.grb_core.specs.declared.refusal.Refusal.TheVariants.{OrderFull, OutOf
 use Rattle.grb_call.specs.declared.call.Call.{Call}
 use Rattle.grb_call.specs.declared.call.Call.TheVariants as call
 use Rattle.grb_call.specs.declared.reply.Reply.{Reply}
-use Rattle.grb_call.specs.Kinds.{enters}
+use Rattle.grb_call.specs.Kinds.{enters, is_build}
 use Rattle.grb_call.specs.Refused.{refused_by_shapes}
 use Rattle.grb_call.specs.Store.{shapes_of}
 use Rattle.grb_call.specs.After.{refused, answer}
@@ -46,9 +46,17 @@ history_after number c r g = if is_entered c r then g ++ (number, c) ∷ [] else
 
 -- whether the call reads the entries of an object
 abbrev pub is_entry_read : Call → Bool
+is_entry_read (call.GetMatrix a i j) = true
 is_entry_read (call.GetVector v i) = true
+is_entry_read (call.NvalsMatrix a) = true
 is_entry_read (call.NvalsVector v) = true
 is_entry_read _ = false
+
+-- whether the call asks for dimensions alone, which takes no memory
+abbrev pub is_size : Call → Bool
+is_size (call.SizeMatrix a) = true
+is_size (call.SizeVector v) = true
+is_size _ = false
 
 -- the answer is that of one thread in blocking mode after g, at a point of this call
 pub record IsAnswered (room : ℕ) (old new : Knowing) (c : Call) (r : Answer) (g : History) : Type 0 where
@@ -61,11 +69,13 @@ pub record IsFull (room : ℕ) (c : Call) (g : History) : Type 0 where
   pub enters : IsTrue (enters c)
   pub full : length g ≡ room
 
--- memory was refused: never in place of a refusal by shapes, nor of a full order, nor where no entry was made
+-- memory was refused: never in place of a refusal by shapes, nor to a call for dimensions, nor in place of a full order unless the
+-- call is a build, nor where no entry was made
 pub record IsOutOfMemory (room : ℕ) (old new : Knowing) (c : Call) (g : History) : Type 0 where
   pub point : IsAtPoint room old.view new.view g
   pub by_shapes : refused_by_shapes (shapes_of (store_of g)) c ≡ None
-  pub room_left : IsTrue (enters c) → length g < room
+  pub no_size : is_size c ≡ false
+  pub room_left : IsTrue (enters c) → is_build c ≡ false → length g < room
   pub unsettled : IsTrue (is_entry_read c) → 0 < length g
 
 -- the call's own record was not taken, where the call would be entered

@@ -1,3 +1,4 @@
+pub mod Edited
 pub mod Explains
 pub mod Known
 pub mod Learning

@@ -1,5 +1,7 @@
 -- What ties the parts of a pass (own).
-use Rattle.std.specs.Prelude.{◌≡◌, ℕ, ◌+◌, ◌≤◌, List, length, map, take, drop, All, vec_capacity}
+use Rattle.std.specs.Prelude.{◌≡◌, ℕ, ◌+◌, ◌≤◌, true, List, length, map, take, drop, All, vec_capacity, Some, None, Result, Ok, Err}
+use Rattle.grb_core.specs.declared.refusal.Refusal.{Refusal}
+use Rattle.grb_core.specs.declared.refusal.Refusal.TheVariants.{OutOfMemory}
 use Rattle.grb_order.specs.View.{IsOthers, IsSound}
 use Rattle.grb_order.specs.Order.{room_of}
 use Rattle.grb_order.specs.Holding.{Holding}
@@ -7,7 +9,11 @@ use Rattle.grb_records.specs.Token.{Shown}
 use Rattle.grb_call.specs.declared.call.Call.{Call}
 use Rattle.grb_call.specs.Shapes.{RoomyShapes}
 use Rattle.grb_call.specs.Store.{Store, empty_store, shapes_of}
+use Rattle.grb_call.specs.Kinds.{is_build}
+use Rattle.grb_call.specs.Refused.{refused_by_shapes}
+use Rattle.grb_call.specs.After.{refused, refused_build}
 use Rattle.grb_call.specs.History.{after_all, calls_of, store_of}
+use Rattle.grb_context.specs.Explains.{ByStore, ground_of}
 use Rattle.grb_context.specs.Known.{Knowing, known, spelled, AreRecords}
 use Rattle.grb_context.specs.State.{RoomyStore}
 use Rattle.grb_context.specs.declared.reader.Reader.TheInside.{Inside}
@@ -44,3 +50,15 @@ pub record IsEvaluated (calls : List Call) (evaluated : ℕ) (store : Store) : T
 pub record IsPass (p : Knowing) (state : RoomyStore) (evaluated : ℕ) : Type 0 where
   pub state_is : IsEvaluated (calls_of (known p)) evaluated state.store
   pub room : state.room + evaluated ≡ room_of p.order
+
+-- what a check of a build by what is stored found: no refusal, or memory was refused to the evaluation, or this refusal
+abbrev pub IsBuildChecked : Store → Call → Result (Unit {0}) Refusal → Type 0
+IsBuildChecked s c (Ok _) = refused_build s c ≡ None
+IsBuildChecked s c (Err OutOfMemory) = Unit {0}
+IsBuildChecked s c (Err r) = refused_build s c ≡ Some r
+
+-- what a check after all known calls found: the call is not refused, or memory was refused to a build's evaluation, or this refusal
+abbrev pub IsChecked : Store → Call → Result (Unit {0}) Refusal → Type 0
+IsChecked s c (Ok _) = refused s c ≡ None
+IsChecked s c (Err OutOfMemory) = (refused_by_shapes (shapes_of s) c ≡ None) × (is_build c ≡ true)
+IsChecked s c (Err r) = (refused s c ≡ Some r) × (ground_of (Err r) ≡ ByStore)

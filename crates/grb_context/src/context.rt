@@ -1,6 +1,6 @@
-ghost use Rattle.std.specs.Prelude.{◌≡◌, ◌≢◌, ◌++◌, ◌<◌, ◌≤◌, true, All, IfOk};
+ghost use Rattle.std.specs.Prelude.{◌≡◌, ◌≢◌, ◌++◌, ◌<◌, ◌≤◌, true, false, All, IfOk};
 ghost use Rattle.grb_order.specs.Order.{room_of, AreFresh};
-ghost use Rattle.grb_call.specs.Kinds.{enters};
+ghost use Rattle.grb_call.specs.Kinds.{enters, is_build};
 ghost use Rattle.grb_context.specs.Known.{AreNew, IsKnown, IsPassOf, calls_by, known};
 ghost use Rattle.grb_context.specs.Explains.{ExplainsCall, IsCaughtUp, entered_calls, ground_of};
 
@@ -67,9 +67,9 @@ impl Context {
     }
 
     /// Makes one call, by whichever thread has the pass. A refusal says why the call was not made: by shapes (the lowest of those that
-    /// apply, at the end of the history), `OrderFull` where the history has no room for a call that would be entered, `OutOfMemory`
-    /// where the evaluation of a read is refused memory, and `Panic` where a record could not be put, or the record of an earlier
-    /// call is not shown yet; the next call asks for it again.
+    /// apply, at the end of the history), by a build's object, `OrderFull` where the history has no room for a call that would be
+    /// entered, `OutOfMemory` where the evaluation of a read or of a build's object is refused memory, and `Panic` where a record could
+    /// not be put, or the record of an earlier call is not shown yet; the next call asks for it again.
     ///
     /// Source: GraphBLAS C API 2.0, "Execution modes"; Herlihy, "Wait-free synchronization", 1991.
     pub fn call<R: Wait>(&self, rt: &R, pass: &mut Pass, call: Call) -> Result<Reply, Refusal>
@@ -79,7 +79,7 @@ impl Context {
         ensures known { IsKnown self.now pass.new }
         ensures own { calls_by pass.old.view.number (known pass.new) ≡ calls_by pass.old.view.number (known pass.old) ++ entered_calls call result }
         ensures caught_up { IsCaughtUp (ground_of result) pass.new }
-        ensures memory { enters call ≡ true → result ≢ Err Refusal.OutOfMemory }
+        ensures memory { enters call ≡ true → is_build call ≡ false → result ≢ Err Refusal.OutOfMemory }
     {
         if call.enters() {
             self.enter(rt, pass, call)

@@ -1,17 +1,22 @@
-ghost use Rattle.std.specs.Prelude.{◌≡◌, ◌<◌, ◌≤◌, ◌+◌, false, [], length, All, IfOk, OnOk};
-ghost use Rattle.grb_order.specs.View.{fresh};
+ghost use Rattle.std.specs.Prelude.{◌≡◌, ◌<◌, ◌≤◌, ◌+◌, ◌^◌, false, [], length, All, IfOk, OnOk, OnErr};
+ghost use Rattle.grb_order.specs.View.{fresh, LookedLast};
 ghost use Rattle.grb_order.specs.Order.{room_of};
 ghost use Rattle.grb_records.specs.Token.{IsOf};
 ghost use Rattle.grb_call.specs.Kinds.{enters};
+ghost use Rattle.grb_call.specs.Refused.{is_in_bounds};
+ghost use Rattle.grb_call.specs.Store.{shapes_of};
 ghost use Rattle.grb_call.specs.After.{reply_of};
 ghost use Rattle.grb_call.specs.History.{store_of};
 ghost use Rattle.grb_context.specs.Known.{known};
-ghost use Rattle.grb_context.specs.Reading.{IsEvaluated, calls_shown};
+ghost use Rattle.grb_context.specs.Explains.{is_size};
+ghost use Rattle.grb_context.specs.Learning.{Enters, IsSteady};
+ghost use Rattle.grb_context.specs.Reading.{IsBuildChecked, IsChecked, IsEvaluated, calls_shown};
 
 use crate::reader::Reader;
 use crate::state::State;
-use grb_call::{Call, Reply};
-use grb_order::Place;
+use grb_call::{Call, Kind, Reply};
+use grb_core::Refusal;
+use grb_order::{Order, Place};
 use grb_records::{Records, Token};
 use std::alloc::{AllocError, Global};
 use std::marker::Model;
@@ -105,9 +110,49 @@ impl Pass {
         self.reader.room_left()
     }
 
-    /// The reply to a call that only reads, after all known ones, which it evaluates. `AllocError` where memory is refused.
-    pub(crate) fn reply(&mut self, records: &Records, call: &Call) -> Result<Reply, AllocError>
+    /// Why what is stored after all known calls refuses the build, if it does; it evaluates them. `OutOfMemory` where memory is refused.
+    fn check_build(
+        &mut self,
+        records: &Records,
+        call: &Call,
+        in_bounds: bool,
+    ) -> Result<(), Refusal>
+        requires records { All (IsOf records.now) self.old.shown }
+        requires in_bounds { in_bounds ≡ is_in_bounds (shapes_of (store_of (known self.old))) call.now }
+        ensures checked { IsBuildChecked (store_of (known self.old)) call.now result }
+        ensures same { self.new ≡ self.old }
+    {
+        let evaluated = evaluate(
+            records,
+            self.reader.tokens(),
+            &mut self.state,
+            &mut self.evaluated,
+        );
+        match evaluated {
+            Err(_refused) => Err(Refusal::OutOfMemory),
+            Ok(()) => match self.state.refused_build(call, in_bounds) {
+                Some(refusal) => Err(refusal),
+                None => Ok(()),
+            },
+        }
+    }
+
+    /// Whether the call is refused after all known ones, and why; a build evaluates them. `OutOfMemory` where memory is refused to that.
+    pub(crate) fn check(&mut self, records: &Records, call: &Call) -> Result<(), Refusal>
+        requires records { All (IsOf records.now) self.old.shown }
+        ensures checked { IsChecked (store_of (known self.old)) call.now result }
+        ensures same { self.new ≡ self.old }
+    {
+        match self.reader.check(call)? {
+            Kind::Build { in_bounds } => self.check_build(records, call, in_bounds),
+            Kind::Enters | Kind::Reads => Ok(()),
+        }
+    }
+
+    /// The reply to a call that reads entries, after all known ones, which it evaluates. `AllocError` where memory is refused.
+    fn reply_of_entries(&mut self, records: &Records, call: &Call) -> Result<Reply, AllocError>
         requires reads { enters call.now ≡ false }
+        requires no_size { is_size call.now ≡ false }
         requires records { All (IsOf records.now) self.old.shown }
         ensures reply { IfOk result (λ reply. reply ≡ reply_of (store_of (known self.old)) call.now) }
         ensures same { self.new ≡ self.old }
@@ -119,5 +164,35 @@ impl Pass {
             &mut self.evaluated,
         )?;
         Ok(self.state.reply(call))
+    }
+
+    /// The reply to a call that only reads, after all known ones. One for dimensions takes no memory; any other evaluates the known
+    /// calls. `AllocError` where memory is refused to that.
+    pub(crate) fn reply(&mut self, records: &Records, call: &Call) -> Result<Reply, AllocError>
+        requires reads { enters call.now ≡ false }
+        requires records { All (IsOf records.now) self.old.shown }
+        ensures reply { IfOk result (λ reply. reply ≡ reply_of (store_of (known self.old)) call.now) }
+        ensures memory { OnErr result (is_size call.now ≡ false) }
+        ensures same { self.new ≡ self.old }
+    {
+        match call {
+            Call::SizeMatrix { .. } | Call::SizeVector { .. } => Ok(self.reader.size(call)),
+            _ => self.reply_of_entries(records, call),
+        }
+    }
+
+    /// Enters the record of a call after all known ones, in one atomic step. The token comes back where another pass was first.
+    pub(crate) fn enter(&mut self, order: &Order, token: Token, call: &Call) -> Option<Token>
+        requires order { self.old.order ≡ order.now }
+        requires looked { LookedLast self.old.view }
+        requires shown { length self.old.shown ≡ length self.old.view.words }
+        requires pass { token.pass ≡ self.old.view.number }
+        requires index { token.index < 2 ^ 48 }
+        requires call { call.now ≡ token.call }
+        ensures order { self.new.order ≡ self.old.order }
+        ensures enters { Enters (room_of order.now) token self.old result self.new }
+        ensures steady { IsSteady self.new }
+    {
+        self.reader.enter(order, token, call)
     }
 }

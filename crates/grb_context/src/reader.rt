@@ -9,9 +9,10 @@ ghost use Rattle.grb_call.specs.Store.{shapes_of};
 ghost use Rattle.grb_call.specs.After.{reply_of};
 ghost use Rattle.grb_call.specs.History.{store_of};
 ghost use Rattle.grb_context.specs.Known.{known};
+ghost use Rattle.grb_context.specs.Explains.{is_size};
 ghost use Rattle.grb_context.specs.Learning.{Enters, IsNextUnshown, IsSteady};
 
-use grb_call::{Call, Kind, Reply, Shapes, VectorId, check};
+use grb_call::{Call, Kind, MatrixId, Reply, Shapes, VectorId, check};
 use grb_core::Refusal;
 use grb_order::{Entered, Look, Order, Place};
 use grb_records::Token;
@@ -145,9 +146,31 @@ impl Reader {
         ensures { result ≡ reply_of (store_of (known self.now)) call.now }
     {
         match call {
-            Call::NewVector { .. } => Reply::MadeVector(VectorId(self.shapes.vectors())),
-            Call::SetVector { .. } => Reply::Done,
-            Call::GetVector { .. } | Call::NvalsVector { .. } => unreachable!(),
+            Call::NewMatrix { .. } | Call::DupMatrix { .. } => {
+                Reply::MadeMatrix(MatrixId(self.shapes.matrices()))
+            }
+            Call::NewVector { .. } | Call::DupVector { .. } => {
+                Reply::MadeVector(VectorId(self.shapes.vectors()))
+            }
+            _ => Reply::Done,
+        }
+    }
+
+    /// The reply to a call for the dimensions of an object, after all known calls. Takes no memory.
+    pub(crate) fn size(&self, call: &Call) -> Reply
+        requires { is_size call.now ≡ true }
+        ensures { result ≡ reply_of (store_of (known self.now)) call.now }
+    {
+        match call {
+            Call::SizeMatrix { a } => self
+                .shapes
+                .matrix(*a)
+                .map_or(Reply::Done, |shape| Reply::Dims(shape.1, shape.2)),
+            Call::SizeVector { v } => self
+                .shapes
+                .vector(*v)
+                .map_or(Reply::Done, |shape| Reply::Size(shape.1)),
+            _ => unreachable!(),
         }
     }
 

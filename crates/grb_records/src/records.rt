@@ -43,8 +43,14 @@ impl Records {
         ensures refused { IfErr result (λ refusal. refusal ≡ Refusal.Panic) }
     {
         match self.records.push_shown(rt, call) {
-            Ok(pushed) if pushed.index() < RECORDS => Ok(Token { pass, pushed }),
-            _ => Err(Refusal::Panic),
+            Ok(pushed) => {
+                if pushed.index() < RECORDS {
+                    Ok(Token { pass, pushed })
+                } else {
+                    Err(Refusal::Panic)
+                }
+            }
+            Err(_untaken) => Err(Refusal::Panic),
         }
     }
 

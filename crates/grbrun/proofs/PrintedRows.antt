@@ -5,36 +5,76 @@ use Rattle.std.specs.Fmt.{digits}
 use Rattle.std.specs.List.{flat_map}
 use Rattle.grb_core.specs.declared.domain.Domain.TheVariants as domain
 use Rattle.grb_core.specs.declared.value.Value.TheVariants as value
-use Rattle.grbrun.specs.declared.statement.Statement.{Statement}
-use Rattle.grbrun.specs.declared.statement.Statement.TheVariants.{Vector, Set, Get, Nvals}
+use Rattle.grb_core.specs.declared.monoid.Monoid.TheVariants as monoid
+use Rattle.grb_script.specs.declared.names.Sort.TheVariants as sort
+use Rattle.grb_script.specs.declared.statement.Statement.{Statement}
+use Rattle.grb_script.specs.declared.statement.Statement.TheVariants.{Matrix, Vector, Dup, Free, Nvals, Size, Clear, SetMatrix, SetVector, RemoveVector, GetMatrix, GetVector, ResizeMatrix, BuildVector}
 use Rattle.grbrun.specs.Printed.{answers_in, reply_line}
 
 abbrev lines : ℕ → List Statement → List ℕ
 lines room statements = flat_map reply_line (answers_in room [] [] statements)
 
 a_vector : lines 4096
-    (Vector domain.Uint64 5 ∷ Set 0 2 (value.Uint64 7) ∷ Get 0 2 ∷ Get 0 3 ∷ Nvals 0 ∷ [])
+    (Vector domain.Uint64 5 ∷ SetVector 0 2 (value.Uint64 7) ∷ GetVector 0 2 ∷ GetVector 0 3 ∷ Nvals 0 sort.Vector ∷ [])
     ≡ codes "ok\nok\nvalue 7\nnone\ncount 1\n"
 unfolding digits
 a_vector = refl
 
 -- a refusal by shapes comes before a full order, and reading goes on
 a_full_order : lines 2
-    (Vector domain.Uint64 3 ∷ Set 0 0 (value.Uint64 7) ∷ Set 0 1 (value.Uint64 8) ∷ Get 0 0 ∷ Set 0 3 (value.Uint64 1) ∷ [])
+    (Vector domain.Uint64 3 ∷ SetVector 0 0 (value.Uint64 7) ∷ SetVector 0 1 (value.Uint64 8) ∷ GetVector 0 0 ∷ SetVector 0 3 (value.Uint64 1) ∷ [])
     ≡ codes "ok\nok\nOrderFull\nvalue 7\nGrB_INVALID_INDEX\n"
 unfolding digits
 a_full_order = refl
 
 -- a name whose vector was refused stands for none, and the next name for the next vector
 a_refused_name : lines 4096
-    (Vector domain.Bool 0 ∷ Set 0 0 (value.Bool true) ∷ Nvals 0 ∷ Vector domain.Bool 2 ∷ Set 1 1 (value.Bool false) ∷ Get 1 1 ∷ Get 0 1 ∷ [])
+    (Vector domain.Bool 0 ∷ SetVector 0 0 (value.Bool true) ∷ Nvals 0 sort.Vector ∷ Vector domain.Bool 2 ∷ SetVector 1 1 (value.Bool false) ∷ GetVector 1 1 ∷ GetVector 0 1 ∷ [])
     ≡ codes "GrB_INVALID_VALUE\nGrB_UNINITIALIZED_OBJECT\nGrB_UNINITIALIZED_OBJECT\nok\nok\nvalue false\nGrB_UNINITIALIZED_OBJECT\n"
 unfolding digits
 a_refused_name = refl
 
 -- the largest value, and a value of another domain
 a_domain : lines 4096
-    (Vector domain.Uint64 4294967295 ∷ Set 0 4294967294 (value.Uint64 18446744073709551615) ∷ Get 0 4294967294 ∷ Set 0 0 (value.Bool true) ∷ [])
+    (Vector domain.Uint64 4294967295 ∷ SetVector 0 4294967294 (value.Uint64 18446744073709551615) ∷ GetVector 0 4294967294 ∷ SetVector 0 0 (value.Bool true) ∷ [])
     ≡ codes "ok\nok\nvalue 18446744073709551615\nGrB_DOMAIN_MISMATCH\n"
 unfolding digits
 a_domain = refl
+
+-- entries outside the new dimensions are gone for good
+a_matrix : lines 4096
+    (Matrix domain.Uint64 3 3 ∷ SetMatrix 0 2 2 (value.Uint64 8) ∷ ResizeMatrix 0 2 2 ∷ ResizeMatrix 0 3 3 ∷ GetMatrix 0 2 2 ∷ Size 0 sort.Matrix ∷ ResizeMatrix 0 0 3 ∷ [])
+    ≡ codes "ok\nok\nok\nok\nnone\nsize 3 3\nGrB_INVALID_VALUE\n"
+unfolding digits
+a_matrix = refl
+
+-- a build combines what stands twice, and is refused where entries are
+a_build : lines 4096
+    (Vector domain.Uint64 4 ∷ SetVector 0 1 (value.Uint64 3) ∷ RemoveVector 0 1
+    ∷ BuildVector 0 ((2, value.Uint64 5) ∷ (2, value.Uint64 6) ∷ (0, value.Uint64 1) ∷ []) monoid.Plus ∷ GetVector 0 2
+    ∷ BuildVector 0 ((3, value.Uint64 1) ∷ []) monoid.Plus ∷ [])
+    ≡ codes "ok\nok\nok\nok\nvalue 11\nGrB_OUTPUT_NOT_EMPTY\n"
+unfolding digits
+a_build = refl
+
+-- or where an index is not below the size
+a_build_out_of_bounds : lines 4096
+    (Vector domain.Uint64 5 ∷ BuildVector 0 ((0, value.Uint64 1) ∷ (5, value.Uint64 2) ∷ (1, value.Uint64 3) ∷ []) monoid.Plus ∷ Nvals 0 sort.Vector ∷ [])
+    ≡ codes "ok\nGrB_INDEX_OUT_OF_BOUNDS\ncount 0\n"
+unfolding digits
+a_build_out_of_bounds = refl
+
+-- what is freed stays freed
+a_free : lines 4096
+    (Vector domain.Uint64 2 ∷ Free 0 sort.Vector ∷ GetVector 0 0 ∷ Free 0 sort.Vector ∷ [])
+    ≡ codes "ok\nok\nGrB_UNINITIALIZED_OBJECT\nGrB_UNINITIALIZED_OBJECT\n"
+unfolding digits
+a_free = refl
+
+-- a copy keeps what its source had
+a_copy : lines 4096
+    (Vector domain.Bool 3 ∷ SetVector 0 0 (value.Bool false) ∷ Nvals 0 sort.Vector ∷ Dup 0 sort.Vector ∷ Clear 0 sort.Vector ∷ Nvals 0 sort.Vector ∷ GetVector 1 0
+    ∷ RemoveVector 1 2 ∷ Size 1 sort.Vector ∷ [])
+    ≡ codes "ok\nok\ncount 1\nok\nok\ncount 0\nvalue false\nok\nsize 3\n"
+unfolding digits
+a_copy = refl

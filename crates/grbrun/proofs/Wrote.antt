@@ -4,8 +4,8 @@ use Rattle.std.specs.Prelude.{Option}
 use Rattle.std.specs.List.{flat_map}
 use Rattle.std.specs.Io.KnownBytes.{Appends}
 use Rattle.grb_context.specs.Explains.{Answer}
-use Rattle.grbrun.specs.declared.statement.Statement.{Statement}
-use Rattle.grbrun.specs.Script.{statements_of}
+use Rattle.grb_script.specs.declared.statement.Statement.{Statement}
+use Rattle.grb_script.specs.Script.{statements_of}
 use Rattle.grbrun.specs.Printed.{IsRun, reply_line, Wrote}
 use Rattle.grbrun.proofs.Runs.{IsRun-served}
 

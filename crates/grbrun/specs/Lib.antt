@@ -1,12 +1,8 @@
 pub mod CommandLine
 pub mod Files
-pub mod Form
-pub mod Line
+pub mod Objects
 pub mod Printed
 pub mod Run
 pub mod RunFault
-pub mod Script
-pub mod ScriptFault
 pub mod Sink
 pub mod Source
-pub mod Word

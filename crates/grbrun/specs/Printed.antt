@@ -1,6 +1,5 @@
--- What a script prints (own): a line for each statement, in their order. The n-th name that a script makes stands for the vector that
--- its statement made.
-use Rattle.std.specs.Prelude.{◌≡◌, ◌≢◌, ℕ, ◌<◌, Bool, true, false, IsTrue, ◌==◌, ◌&&◌, if◌then◌else◌, List, [], ◌∷◌, ◌++◌, length, slice_get, unwrap_or, is_none, All, Option, None, Ok, Err, codes}
+-- What a script prints (own): a line for each statement, in their order.
+use Rattle.std.specs.Prelude.{◌≡◌, ◌≢◌, ℕ, ◌<◌, Bool, true, false, IsTrue, ◌==◌, ◌&&◌, if◌then◌else◌, List, [], ◌∷◌, ◌++◌, length, is_none, All, Option, None, Ok, Err, codes}
 use Rattle.std.specs.List.{flat_map}
 use Rattle.std.specs.Fmt.{decimal}
 use Rattle.std.specs.Io.KnownBytes.{Appends}
@@ -8,44 +7,18 @@ use Rattle.grb_core.specs.declared.value.Value.TheVariants as value
 use Rattle.grb_core.specs.declared.refusal.Refusal.TheVariants.{OrderFull, OutOfMemory, Panic}
 use Rattle.grb_core.specs.Refusal.{refusal_name}
 use Rattle.grb_call.specs.declared.call.Call.{Call}
-use Rattle.grb_call.specs.declared.call.Call.TheVariants as call
-use Rattle.grb_call.specs.declared.ids.VectorId.{VectorId}
+use Rattle.grb_call.specs.declared.ids.Object.{Object}
 use Rattle.grb_call.specs.declared.reply.Reply.{Reply}
 use Rattle.grb_call.specs.declared.reply.Reply.TheVariants as reply
-use Rattle.grb_call.specs.Kinds.{enters}
+use Rattle.grb_call.specs.Kinds.{enters, is_build}
 use Rattle.grb_call.specs.Refused.{refused_by_shapes}
 use Rattle.grb_call.specs.Store.{shapes_of}
 use Rattle.grb_call.specs.After.{refused, answer}
 use Rattle.grb_call.specs.History.{History, store_of}
-use Rattle.grb_context.specs.Explains.{Answer, history_after, is_entry_read}
-use Rattle.grbrun.specs.declared.statement.Statement.{Statement}
-use Rattle.grbrun.specs.declared.statement.Statement.TheVariants as statement
-use Rattle.grbrun.specs.Script.{statements_of}
-
--- what a name stands for whose vector was not made: this number is never given, so a call of it is refused
-abbrev pub no_vector : VectorId
-no_vector = record { 0 = 4294967295 }
-
--- the vector that a name stands for, where the names so far stand for these
-abbrev pub named : List VectorId → ℕ → VectorId
-named ids name = unwrap_or (slice_get ids name) no_vector
-
--- the call that a statement makes
-abbrev pub call_of : List VectorId → Statement → Call
-call_of ids (statement.Vector domain size) = call.NewVector domain size
-call_of ids (statement.Set name index value) = call.SetVector (named ids name) index value
-call_of ids (statement.Get name index) = call.GetVector (named ids name) index
-call_of ids (statement.Nvals name) = call.NvalsVector (named ids name)
-
--- what a new name stands for, where its statement was answered this
-abbrev pub new_id : Answer → VectorId
-new_id (Ok (reply.MadeVector v)) = v
-new_id _ = no_vector
-
--- what the names stand for behind a statement that was answered this
-abbrev pub ids_after : List VectorId → Statement → Answer → List VectorId
-ids_after ids (statement.Vector domain size) a = ids ++ new_id a ∷ []
-ids_after ids _ a = ids
+use Rattle.grb_context.specs.Explains.{Answer, history_after, is_entry_read, is_size}
+use Rattle.grb_script.specs.declared.statement.Statement.{Statement}
+use Rattle.grb_script.specs.Script.{statements_of}
+use Rattle.grbrun.specs.Objects.{call_of, made_sort, objects_after}
 
 -- the call would be entered, and the history has all the calls that there is room for
 abbrev pub is_full : ℕ → History → Call → Bool
@@ -56,17 +29,19 @@ abbrev pub answer_in : ℕ → History → Call → Answer
 answer_in room h c = if is_full room h c then Err OrderFull else answer (store_of h) c
 
 -- the answers to these statements, one behind another, where neither memory nor a record is refused
-abbrev pub answers_in : ℕ → List VectorId → History → List Statement → List Answer
-answers_in room ids h [] = []
-answers_in room ids h (s ∷ more) =
-    let c = call_of ids s in
+abbrev pub answers_in : ℕ → List Object → History → List Statement → List Answer
+answers_in room objects h [] = []
+answers_in room objects h (s ∷ more) =
+    let c = call_of objects s in
     let a = answer_in room h c in
-    a ∷ answers_in room (ids_after ids s a) (history_after 0 c a h) more
+    a ∷ answers_in room (objects_after objects (made_sort s) a) (history_after 0 c a h) more
 
--- memory may be refused in place of an answer: not in place of a refusal by shapes, nor of a full order, nor where no entry was made
+-- memory may be refused in place of an answer: not in place of a refusal by shapes, nor to a call for dimensions, nor in place of a full
+-- order unless the call is a build, nor where no entry was made
 pub record MayLackMemory (room : ℕ) (h : History) (c : Call) : Type 0 where
   pub by_shapes : refused_by_shapes (shapes_of (store_of h)) c ≡ None
-  pub room_left : IsTrue (enters c) → length h < room
+  pub no_size : is_size c ≡ false
+  pub room_left : IsTrue (enters c) → is_build c ≡ false → length h < room
   pub unsettled : IsTrue (is_entry_read c) → 0 < length h
 
 -- a record may be refused in place of an answer: only to a call that would be entered
@@ -82,11 +57,11 @@ IsAnswer room h c (Err Panic) = MayLackRecord room h c
 IsAnswer room h c a = a ≡ answer_in room h c
 
 -- the answers to these statements, one behind another
-abbrev pub IsRun : ℕ → List VectorId → History → List Statement → List Answer → Type 0
-IsRun room ids h [] [] = Unit {0}
-IsRun room ids h (s ∷ more) (a ∷ answers) =
-    IsAnswer room h (call_of ids s) a × IsRun room (ids_after ids s a) (history_after 0 (call_of ids s) a h) more answers
-IsRun room ids h _ _ = ⊥
+abbrev pub IsRun : ℕ → List Object → History → List Statement → List Answer → Type 0
+IsRun room objects h [] [] = Unit {0}
+IsRun room objects h (s ∷ more) (a ∷ answers) =
+    IsAnswer room h (call_of objects s) a × IsRun room (objects_after objects (made_sort s) a) (history_after 0 (call_of objects s) a h) more answers
+IsRun room objects h _ _ = ⊥
 
 -- neither memory nor a record was refused
 abbrev pub WasServed : Answer → Type 0
@@ -95,12 +70,15 @@ WasServed a = (a ≢ Err OutOfMemory) × (a ≢ Err Panic)
 -- the words of a reply
 abbrev pub printed_reply : Reply → List ℕ
 printed_reply reply.Done = codes "ok"
+printed_reply (reply.MadeMatrix a) = codes "ok"
 printed_reply (reply.MadeVector v) = codes "ok"
 printed_reply (reply.Value (value.Bool true)) = codes "value true"
 printed_reply (reply.Value (value.Bool false)) = codes "value false"
 printed_reply (reply.Value (value.Uint64 n)) = codes "value " ++ decimal n
 printed_reply reply.NoValue = codes "none"
 printed_reply (reply.Count n) = codes "count " ++ decimal n
+printed_reply (reply.Size n) = codes "size " ++ decimal n
+printed_reply (reply.Dims r c) = codes "size " ++ decimal r ++ codes " " ++ decimal c
 
 -- the words of an answer: of a refusal its name
 abbrev pub printed_answer : Answer → List ℕ

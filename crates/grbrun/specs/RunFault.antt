@@ -1,6 +1,6 @@
 -- The fault of a run by what made it end.
-use Rattle.grbrun.specs.declared.fault.ReadFault.{ReadFault}
-use Rattle.grbrun.specs.declared.fault.ReadFault.TheVariants as read
+use Rattle.grb_script.specs.declared.fault.ReadFault.{ReadFault}
+use Rattle.grb_script.specs.declared.fault.ReadFault.TheVariants as read
 use Rattle.grbrun.specs.declared.fault.RunFault.{RunFault}
 use Rattle.grbrun.specs.declared.fault.RunFault.TheVariants as run
 use Rattle.grbrun.specs.declared.source.SourceFault.{SourceFault}

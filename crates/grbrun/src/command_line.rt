@@ -68,7 +68,8 @@ pub fn status_of_words(error: &Error) -> u8
 mod tests {
     use super::{options, status_of_run, status_of_words};
     use crate::arguments::Options;
-    use crate::fault::{FaultKind, RunFault};
+    use crate::fault::RunFault;
+    use grb_script::FaultKind;
     use std::test::Fail;
 
     const HELP: &str = "Runs a script of GraphBLAS calls on one shared store\n\n\

@@ -3,18 +3,19 @@ ghost use Rattle.grb_order.specs.Order.{room_of};
 ghost use Rattle.grb_context.specs.Known.{IsPassOf, IsAlone, known};
 ghost use Rattle.grb_context.specs.Explains.{history_after};
 ghost use Rattle.grbrun.specs.Source.{AreCountable};
-ghost use Rattle.grbrun.specs.Printed.{named, call_of, new_id, ids_after, IsAnswer, IsRun};
+ghost use Rattle.grbrun.specs.Objects.{call_of, made_sort, objects_after};
+ghost use Rattle.grbrun.specs.Printed.{IsAnswer, IsRun};
 ghost use Rattle.grbrun.specs.Run.{WroteAll, EndsWith, sink_failures_after, MetFaults};
 
 use crate::fault::RunFault;
 use crate::gate::Gate;
+use crate::objects::{call_of, keep_object, made_sort};
 use crate::reply_line::{Answer, text_of};
-use crate::script::read_script;
 use crate::sink::{Sink, put_all};
 use crate::source::Source;
-use crate::statement::Statement;
-use grb_call::{Call, Reply, VectorId};
+use grb_call::Object;
 use grb_context::{Context, Pass};
+use grb_script::{Statement, read_script};
 use std::alloc::{AllocError, Global};
 use std::sync::Wait;
 use std::thread::Threads;
@@ -22,82 +23,25 @@ use std::thread::Threads;
 /// The number of the main section.
 const MAIN: u32 = 0;
 
-/// What a name stands for whose vector was not made: no vector has this number, so a call of it is refused.
-const NO_VECTOR: VectorId = VectorId(0xffff_ffff);
-
-/// The vector that a name stands for, where the names so far stand for these.
-fn named(ids: &[VectorId], name: usize) -> VectorId
-    ensures { result ≡ named ids.now name }
-{
-    ids.get(name).copied().unwrap_or(NO_VECTOR)
-}
-
-/// The call that a statement makes, where the names so far stand for these vectors.
-fn call_of(ids: &[VectorId], statement: &Statement) -> Call
-    ensures { result ≡ call_of ids.now statement.now }
-{
-    match statement {
-        Statement::Vector { domain, size } => Call::NewVector {
-            domain: *domain,
-            size: *size,
-        },
-        Statement::Set { name, index, value } => Call::SetVector {
-            v: named(ids, *name),
-            i: *index,
-            value: *value,
-        },
-        Statement::Get { name, index } => Call::GetVector {
-            v: named(ids, *name),
-            i: *index,
-        },
-        Statement::Nvals { name } => Call::NvalsVector {
-            v: named(ids, *name),
-        },
-    }
-}
-
-/// What a new name stands for, where its statement was answered this.
-fn new_id(answer: &Answer) -> VectorId
-    ensures { result ≡ new_id answer.now }
-{
-    match answer {
-        Ok(Reply::MadeVector(v)) => *v,
-        _ => NO_VECTOR,
-    }
-}
-
-/// Keeps what the name stands for that the statement makes, if it makes one.
-fn keep_id(
-    ids: &mut Vec<VectorId>,
-    statement: &Statement,
-    answer: &Answer,
-) -> Result<(), AllocError>
-    ensures { OnOk result (ids.new.items ≡ ids_after ids.old.items statement.now answer.now) }
-{
-    if let Statement::Vector { .. } = statement {
-        ids.push(new_id(answer))?;
-    }
-    Ok(())
-}
-
 /// Makes the call of a statement, and keeps what its name stands for.
 fn answer_to<R: Wait>(
     rt: &R,
     context: &Context,
     pass: &mut Pass,
-    ids: &mut Vec<VectorId>,
-    statement: &Statement,
+    objects: &mut Vec<Object>,
+    statement: Statement,
 ) -> Result<Answer, AllocError>
     requires pass { IsPassOf context.now pass.old }
     requires alone { IsAlone pass.old }
     ensures pass { IsPassOf context.now pass.new }
     ensures alone { IsAlone pass.new }
-    ensures answer { IfOk result (IsAnswer (room_of context.now.order) (known pass.old) (call_of ids.old.items statement.now)) }
-    ensures known { IfOk result (λ answer. known pass.new ≡ history_after 0 (call_of ids.old.items statement.now) answer (known pass.old)) }
-    ensures ids { IfOk result (λ answer. ids.new.items ≡ ids_after ids.old.items statement.now answer) }
+    ensures answer { IfOk result (IsAnswer (room_of context.now.order) (known pass.old) (call_of objects.old.items statement)) }
+    ensures known { IfOk result (λ answer. known pass.new ≡ history_after 0 (call_of objects.old.items statement) answer (known pass.old)) }
+    ensures objects { IfOk result (λ answer. objects.new.items ≡ objects_after objects.old.items (made_sort statement) answer) }
 {
-    let answer = context.call(rt, pass, call_of(ids, statement));
-    keep_id(ids, statement, &answer)?;
+    let made = made_sort(&statement);
+    let answer = context.call(rt, pass, call_of(objects, statement));
+    keep_object(objects, made, &answer)?;
     Ok(answer)
 }
 
@@ -119,21 +63,22 @@ fn answers_by<R: Wait, G: Gate>(
     alloc: Global,
     context: &Context,
     pass: &mut Pass,
-    statements: &[Statement],
+    statements: Vec<Statement>,
     gate: &G,
 ) -> Result<Vec<Answer>, AllocError>
     requires pass { IsPassOf context.now pass.old }
     requires alone { IsAlone pass.old }
     requires new { known pass.old ≡ [] }
-    requires few { length statements.now < 2 ^ 32 }
-    ensures { IfOk result (λ answers. IsRun (room_of context.now.order) [] [] statements.now answers.items) }
+    requires few { length statements.items < 2 ^ 32 }
+    ensures { IfOk result (λ answers. IsRun (room_of context.now.order) [] [] statements.items answers.items) }
 {
-    let mut ids = Vec::with_capacity(alloc, statements.len())?;
+    let mut objects = Vec::with_capacity(alloc, statements.len())?;
     let mut answers = Vec::with_capacity(alloc, statements.len())?;
-    for (i, statement) in statements.iter().enumerate() {
-        let number = i as u32 + 1;
+    let mut number: u32 = 0;
+    for statement in statements {
+        number += 1;
         gate.before(MAIN, number);
-        answers.push(answer_to(rt, context, pass, &mut ids, statement)?)?;
+        answers.push(answer_to(rt, context, pass, &mut objects, statement)?)?;
         gate.after(MAIN, number);
     }
     Ok(answers)
@@ -144,12 +89,12 @@ fn answers_to<R: Wait, G: Gate>(
     rt: &R,
     alloc: Global,
     room: u32,
-    statements: &[Statement],
+    statements: Vec<Statement>,
     gate: &G,
 ) -> Result<Vec<Answer>, AllocError>
     requires room { (0 < room) × (room ≤ 4096) }
-    requires few { length statements.now < 2 ^ 32 }
-    ensures { IfOk result (λ answers. IsRun room [] [] statements.now answers.items) }
+    requires few { length statements.items < 2 ^ 32 }
+    ensures { IfOk result (λ answers. IsRun room [] [] statements.items answers.items) }
 {
     let (context, mut pass) = open_store(alloc, room)?;
     answers_by(rt, alloc, &context, &mut pass, statements, gate)
@@ -176,7 +121,7 @@ fn run_main<R: Wait, S: Source, W: Sink, G: Gate>(
 {
     let text = source.script()?;
     let statements = read_script(alloc, &text)?;
-    let answers = answers_to(rt, alloc, room, &statements, gate)?;
+    let answers = answers_to(rt, alloc, room, statements, gate)?;
     let lines = text_of(alloc, &answers)?;
     put_all(sink, lines.as_bytes())?;
     Ok(())

@@ -1,67 +1,12 @@
 ghost use Rattle.std.specs.Prelude.{◌≡◌};
-ghost use Rattle.grbrun.specs.declared.fault.ReadFault.TheVariants as read;
 ghost use Rattle.grbrun.specs.declared.fault.RunFault.TheVariants as run;
 ghost use Rattle.grbrun.specs.RunFault.{source_run_fault, read_run_fault};
 
 use crate::sink::SinkFault;
 use crate::source::SourceFault;
+use grb_script::{FaultKind, ReadFault, ScriptFault};
 use std::alloc::AllocError;
 use thiserror::Error;
-
-/// What is wrong with a line of a script. Of several the first in this order is answered (own).
-#[derive(Clone, Copy, Debug, PartialEq, Eq, Error)]
-pub enum FaultKind {
-    /// The text's last line has no line end.
-    #[error("unended line")]
-    UnendedLine,
-    /// A byte other than 0x20 to 0x7E stands in the line.
-    #[error("bad byte")]
-    BadByte,
-    /// The line begins with `thread` or `finally`, where no section may stand.
-    #[error("section")]
-    Section,
-    /// The line has the form of no statement, whatever its names stand for.
-    #[error("statement")]
-    Statement,
-    /// The line makes a name that stands already.
-    #[error("name taken")]
-    NameTaken,
-    /// The line uses a name that does not stand. A name that the line itself makes does not yet stand.
-    #[error("unknown name")]
-    UnknownName,
-    /// A name stands for an object of another sort than the form asks for. No script has it yet, since all objects are vectors.
-    #[error("wrong kind")]
-    WrongKind,
-    /// The monoid and the operator of a semiring differ in domain. No script has it yet, since no statement takes a semiring.
-    #[error("semiring")]
-    Semiring,
-}
-
-/// The first fault of a script.
-#[derive(Clone, Copy, Debug, PartialEq, Eq)]
-pub struct ScriptFault {
-    /// The number of the line, from 1.
-    pub line: u64,
-    /// The first of its faults.
-    pub kind: FaultKind,
-}
-
-/// Why a text was not read as a script.
-#[derive(Debug, PartialEq, Eq, Drop)]
-pub enum ReadFault {
-    /// The text has a fault, and this is the first.
-    Fault(ScriptFault),
-    /// Memory was refused.
-    OutOfMemory,
-}
-
-impl From<AllocError> for ReadFault {
-    ghost from_gives = { λ _ fault. fault ≡ read.OutOfMemory };
-
-    fn from(_refused: AllocError) -> ReadFault {
-        ReadFault::OutOfMemory
-    }
-}
 
 /// Why a run of a script ended without writing all of its lines.
 #[derive(Debug, PartialEq, Eq, Drop, Error)]

@@ -14,18 +14,14 @@ mod driver;
 mod fault;
 mod files;
 mod gate;
-mod line;
-mod names;
+mod objects;
 mod output;
 mod reply_line;
 mod report;
-mod script;
 mod sink;
 mod source;
-mod statement;
 #[cfg(test)]
 mod tests;
-mod word;
 
 use crate::arguments::Options;
 use crate::command_line::options;

@@ -14,11 +14,13 @@ fn push_reply(text: &mut String, answer: &Answer) -> Result<(), AllocError>
     ensures { OnOk result (string_bytes text.new ≡ string_bytes text.old ++ reply_line answer.now) }
 {
     match answer {
-        Ok(Reply::Done | Reply::MadeVector(_)) => text.push_str("ok\n"),
+        Ok(Reply::Done | Reply::MadeMatrix(_) | Reply::MadeVector(_)) => text.push_str("ok\n"),
         Ok(Reply::Value(Value::Bool(b))) => write!(text, "value {b}\n"),
         Ok(Reply::Value(Value::Uint64(n))) => write!(text, "value {n}\n"),
         Ok(Reply::NoValue) => text.push_str("none\n"),
         Ok(Reply::Count(n)) => write!(text, "count {n}\n"),
+        Ok(Reply::Size(n)) => write!(text, "size {n}\n"),
+        Ok(Reply::Dims(rows, columns)) => write!(text, "size {rows} {columns}\n"),
         Err(refusal) => {
             text.push_str(refusal.name())?;
             text.push_str("\n")

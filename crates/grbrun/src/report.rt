@@ -45,7 +45,8 @@ pub fn report_unread_words(rt: &impl Eprint, error: &io::Error) -> u8
 mod tests {
     use super::{report_run, report_unread_words, report_words};
     use crate::command_line::options;
-    use crate::fault::{FaultKind, RunFault};
+    use crate::fault::RunFault;
+    use grb_script::FaultKind;
     use std::cell::Cell;
     use std::fmt::Display;
     use std::io;

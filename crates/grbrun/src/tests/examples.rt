@@ -1,12 +1,13 @@
 ghost use Rattle.std.specs.Prelude.{◌≡◌};
 
 use crate::driver::run_script;
-use crate::fault::{FaultKind, RunFault};
+use crate::fault::RunFault;
 use crate::gate::OpenGate;
 use crate::source::SourceFault;
 use crate::tests::gates::CountingGate;
 use crate::tests::sinks::{Full, SmallSink};
 use crate::tests::sources::TextSource;
+use grb_script::FaultKind;
 use std::alloc::Global;
 use std::sync::atomic::Ordering;
 use std::test::Fail;
@@ -101,6 +102,83 @@ fn a_script_prints_its_lines(rt: HostRuntime) -> Result<(), Fail> {
 }
 
 #[test]
+fn statements_on_matrices_and_vectors_print_their_lines(rt: HostRuntime) -> Result<(), Fail> {
+    let rows = [
+        (
+            4096,
+            "matrix A uint64 3 3\nset A 2 2 8\nresize A 2 2\nresize A 3 3\nget A 2 2\nsize A\nresize A 0 3\n",
+            "ok\nok\nok\nok\nnone\nsize 3 3\nGrB_INVALID_VALUE\n",
+        ),
+        (
+            4096,
+            "vector v uint64 4\nset v 1 3\nremove v 1\nbuild v plus 2 5 2 6 0 1\nget v 2\nbuild v plus 3 1\n",
+            "ok\nok\nok\nok\nvalue 11\nGrB_OUTPUT_NOT_EMPTY\n",
+        ),
+        (
+            4096,
+            "vector v uint64 5\nbuild v plus 0 1 5 2 1 3\nnvals v\n",
+            "ok\nGrB_INDEX_OUT_OF_BOUNDS\ncount 0\n",
+        ),
+        (
+            4096,
+            "vector v uint64 2\nfree v\nget v 0\nfree v\n",
+            "ok\nok\nGrB_UNINITIALIZED_OBJECT\nGrB_UNINITIALIZED_OBJECT\n",
+        ),
+        (
+            4096,
+            "vector v uint64 5\nset v 9 true\nset v 1 true\nfree v\nset v 9 true\n",
+            "ok\nGrB_INVALID_INDEX\nGrB_DOMAIN_MISMATCH\nok\nGrB_UNINITIALIZED_OBJECT\n",
+        ),
+        (
+            4096,
+            "vector v uint64 4\nbuild v plus\nbuild v max 1 5 1 9\nget v 1\nbuild v max 9 1\n",
+            "ok\nok\nok\nvalue 9\nGrB_OUTPUT_NOT_EMPTY\n",
+        ),
+        (
+            4096,
+            "vector v bool 3\nset v 0 false\nnvals v\ndup w v\nclear v\nnvals v\nget w 0\nremove w 2\nsize w\n",
+            "ok\nok\ncount 1\nok\nok\ncount 0\nvalue false\nok\nsize 3\n",
+        ),
+        (
+            4096,
+            "matrix A bool 2 3\nbuild A lxor 0 2 true 1 0 false 0 2 true\nnvals A\nget A 0 2\nset A 1 1 true\nremove A 1 0\ndup B A\nclear A\nnvals A\nnvals B\nget B 1 1\nsize B\nfree A\nsize A\nsize B\n",
+            "ok\nok\ncount 2\nvalue false\nok\nok\nok\nok\ncount 0\ncount 2\nvalue true\nsize 2 3\nok\nGrB_UNINITIALIZED_OBJECT\nsize 2 3\n",
+        ),
+        (
+            4096,
+            "matrix A uint64 2 2\nvector v uint64 2\nset A 0 1 4\nset v 1 5\nresize v 1\nresize v 2\nget v 1\nget A 0 1\nget A 1 2\nget A 2 1\nset A 1 1 true\nbuild A plus 0 0 1\n",
+            "ok\nok\nok\nok\nok\nok\nnone\nvalue 4\nGrB_INVALID_INDEX\nGrB_INVALID_INDEX\nGrB_DOMAIN_MISMATCH\nGrB_OUTPUT_NOT_EMPTY\n",
+        ),
+        (
+            4096,
+            "matrix A uint64 2 2\nbuild A lor\nbuild A plus 0 0 true\nbuild A plus 2 0 1\nbuild A times 1 1 3 1 1 5\nget A 1 1\nmatrix B uint64 0 2\nmatrix C bool 2 4294967296\ndup D B\nsize D\nmatrix E bool 4294967295 1\nsize E\n",
+            "ok\nGrB_DOMAIN_MISMATCH\nGrB_DOMAIN_MISMATCH\nGrB_INDEX_OUT_OF_BOUNDS\nok\nvalue 15\nGrB_INVALID_VALUE\nGrB_INVALID_VALUE\nGrB_UNINITIALIZED_OBJECT\nGrB_UNINITIALIZED_OBJECT\nok\nsize 4294967295 1\n",
+        ),
+        (
+            2,
+            "vector v uint64 3\nset v 0 7\nbuild v plus 1 1\nclear v\nsize v\nfree v\nmatrix A bool 1 1\nsize A\nnvals v\n",
+            "ok\nok\nGrB_OUTPUT_NOT_EMPTY\nOrderFull\nsize 3\nOrderFull\nOrderFull\nGrB_UNINITIALIZED_OBJECT\ncount 1\n",
+        ),
+        (
+            1,
+            "vector v uint64 3\nbuild v plus 3 1\nbuild v plus 2 1\nremove v 3\nremove v 2\n",
+            "ok\nGrB_INDEX_OUT_OF_BOUNDS\nOrderFull\nGrB_INVALID_INDEX\nOrderFull\n",
+        ),
+    ];
+    for (room, script, lines) in rows {
+        let mut source = source_of(rt.alloc(), script);
+        let mut sink = sink_of(rt.alloc(), 1000, 1000);
+        run_script(&rt, rt.alloc(), room, &mut source, &mut sink, &OpenGate)?;
+        assert_eq!(rt;
+            sink.taken.as_slice(),
+            lines.as_bytes(),
+            "room {room}: {script}"
+        );
+    }
+    Ok(())
+}
+
+#[test]
 fn a_script_with_a_fault_writes_nothing(rt: HostRuntime) -> Result<(), Fail> {
     let rows = [
         ("get x 1\n", 1, FaultKind::UnknownName),
@@ -115,6 +193,7 @@ fn a_script_with_a_fault_writes_nothing(rt: HostRuntime) -> Result<(), Fail> {
         ("vector v uint64\n", 1, FaultKind::Statement),
         ("vector v uint64 5\nthread\n", 2, FaultKind::Section),
         ("vector\tv uint64 5\n", 1, FaultKind::BadByte),
+        ("matrix A bool 2 2\nset A 0 true\n", 2, FaultKind::WrongKind),
     ];
     for (script, line, kind) in rows {
         let mut source = source_of(rt.alloc(), script);

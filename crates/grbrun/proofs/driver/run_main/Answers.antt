@@ -1,9 +1,9 @@
 use Rattle.std.proofs.Common.{◌∙◌, ap, sym, length, arith}
-use Rattle.grbrun.specs.Script.{statements_of}
-use Rattle.grbrun.specs.ScriptFault.{script_fault}
+use Rattle.grb_script.specs.Script.{statements_of}
+use Rattle.grb_script.specs.ScriptFault.{script_fault}
 use Rattle.std.specs.List.{flat_map}
 use Rattle.grbrun.specs.Printed.{reply_line}
-use Rattle.grbrun.proofs.StatementCount.{length-statements_of}
+use Rattle.grb_script.proofs.StatementCount.{length-statements_of}
 use Rattle.grbrun.proofs.Wrote.{wrote}
 use Rattle.grbrun.proofs.driver.run_main.Goals as goal
 
@@ -13,15 +13,15 @@ returns-clause-ok g c = record {
   given = c.in_ok-text.ensures.given;
   faultless = ap script_fault (sym c.deref.ensures.value) ∙ c.in_ok-statements.ensures.read.0;
   lines =
-      wrote _ _ _ _ _ _ _ (c.deref-2.ensures.value ∙ c.in_ok-statements.ensures.read.1 ∙ ap statements_of c.deref.ensures.value) c.in_ok-answers.ensures
-      (c.as_bytes.ensures.value ∙ c.in_ok-lines.ensures ∙ ap (flat_map reply_line) c.deref-3.ensures.value) c.in_ok-put_all.ensures.ok;
+      wrote _ _ _ _ _ _ _ (c.in_ok-statements.ensures.read.1 ∙ ap statements_of c.deref.ensures.value) c.in_ok-answers.ensures
+      (c.as_bytes.ensures.value ∙ c.in_ok-lines.ensures ∙ ap (flat_map reply_line) c.deref-2.ensures.value) c.in_ok-put_all.ensures.ok;
 }
 
 pub answers_to-requires-clause-few : goal.answers_to-requires-clause-few
 answers_to-requires-clause-few g c =
     omega (
       arith,
-      ap length (c.deref-2.ensures.value ∙ c.in_ok-statements.ensures.read.1 ∙ ap statements_of c.deref.ensures.value),
+      ap length (c.in_ok-statements.ensures.read.1 ∙ ap statements_of c.deref.ensures.value),
       length-statements_of c.in_ok-text.text.items,
       c.in_ok-text.ensures.given.within,
     )

@@ -7,14 +7,14 @@ use Rattle.grb_context.proofs.context.Context.enter_record.Given as goal
 
 abbrev pub invariant-tries : goal.invariant-tries
 invariant-tries g l = record {
-  pass : IsPassOf l.self l.reader;
-  learns : Learns l.fn.reader l.reader;
+  pass : IsPassOf l.self l.pass;
+  learns : Learns l.fn.pass l.pass;
   of : IsOf l.self.records l.token;
-  own : l.token.pass ≡ l.reader.view.number;
+  own : l.token.pass ≡ l.pass.view.number;
   index : l.token.index < 2 ^ 48;
   call : l.token.call ≡ l.fn.call;
-  ready : IsReady (room_of l.self.order) l.fn.reader l.reader l.fn.call;
+  ready : IsReady (room_of l.self.order) l.fn.pass l.pass l.fn.call;
 }
 
 abbrev pub decreases-tries : goal.decreases-tries
-decreases-tries g l = room_of l.self.order - length l.reader.view.words
+decreases-tries g l = room_of l.self.order - length l.pass.view.words

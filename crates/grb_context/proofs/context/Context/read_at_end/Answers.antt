@@ -25,7 +25,7 @@ returns-in_err-check-clause-caught_up c =
 pub returns-clause-explains : goal.returns-clause-explains
 returns-clause-explains c =
     let room = room_of c.args.self.now.order in let new = c.reply.new.self in let call = c.args.call.now in
-    let is = explains_evaluated room _ c.learn.new.reader new c.in_ok-learn.field-0 call _ c.in_ok-learn.ensures.finds c.reply.ensures.same c.reply.result c.learn.ensures.learns c.requires.reads (sym c.check.ensures ∙ c.in_ok-check.was) c.reply.ensures.reply in
+    let is = explains_evaluated room _ c.learn.new.reader new c.in_ok-learn.field-0 call _ c.in_ok-learn.ensures.finds c.reply.ensures.same c.reply.result c.learn.ensures.learns c.requires.reads (sym c.check.ensures ∙ c.in_ok-check.was) c.reply.ensures.reply c.reply.ensures.memory in
     subst (λ (y : Knowing × Answer). ExplainsCall room y.0 new call y.1) (λ i. (c.pass.view_is i, sym c.or.ensures i)) is
 
 pub returns-clause-caught_up : goal.returns-clause-caught_up

@@ -1,0 +1,13 @@
+use Rattle.std.specs.Ordering.{nat_cmp}
+use Rattle.std.specs.Cmp.{nat_cmp_total}
+use Rattle.std.specs.FinMap.{nat_cmp-IsAntisymmetric}
+use Rattle.grb_core.specs.Entries.{cell_cmp}
+use Rattle.grb_core.proofs.Maps.{cell_cmp_total, cell_cmp-IsAntisymmetric}
+use Rattle.grb_core.proofs.Edits as edits
+use Rattle.grb_core.proofs.laws.remove_then_get.Goals as goal
+
+pub returns-clause-vectors : goal.returns-clause-vectors
+returns-clause-vectors c = edits.remove_then_get nat_cmp nat_cmp_total nat_cmp-IsAntisymmetric
+
+pub returns-clause-matrices : goal.returns-clause-matrices
+returns-clause-matrices c = edits.remove_then_get cell_cmp cell_cmp_total cell_cmp-IsAntisymmetric

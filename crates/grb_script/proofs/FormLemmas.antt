@@ -1,0 +1,101 @@
+-- What form words have, and what a statement of it leaves of the names.
+use Rattle.std.proofs.Common.{◌≡◌, ℕ, ◌-◌, ◌≤◌, true, List, [], ◌∷◌, length, get_or, take, drop, Option, Some, None, Ok, Err, Bor, if◌then◌else◌, refl, sym, ap, ◌∙◌, arith}
+use Rattle.std.proofs.lemmas.List.{take_all}
+use Rattle.std.specs.Option.{option_and_then, option_map, option_map_or, ok_or}
+use Rattle.grb_script.specs.declared.fault.FaultKind.{FaultKind}
+use Rattle.grb_script.specs.declared.fault.FaultKind.TheVariants.{Statement, UnknownName}
+use Rattle.grb_script.specs.declared.keyword.Keyword.{Keyword}
+use Rattle.grb_script.specs.declared.keyword.Placed.{Placed}
+use Rattle.grb_script.specs.declared.keyword.Placed.TheVariants.{Remove, Get, Resize}
+use Rattle.grb_script.specs.declared.keyword.Whole.{Whole}
+use Rattle.grb_script.specs.declared.keyword.Whole.TheVariants.{Free, Nvals, Size, Clear}
+use Rattle.grb_core.specs.declared.value.Value.{Value}
+use Rattle.grb_script.specs.declared.names.Sort.{Sort}
+use Rattle.grb_script.specs.declared.place.Place.{Place}
+use Rattle.grb_script.specs.Line.{Word}
+use Rattle.grb_script.specs.Names.{Name, found}
+use Rattle.grb_script.specs.Word.{is_name, keyword_of, monoid_of}
+use Rattle.grb_script.specs.Form.{Form, SetForm, BuildForm, form_of_placed, place_of, place_and_value_of, values_of, matrix_form, vector_form, whole_form, placed_form, set_form, build_form, form_with, form_of}
+use Rattle.grb_script.specs.Reading.{reading, names_behind, set_at}
+use Rattle.grb_script.proofs.PlaceLemmas.{no_word}
+use Rattle.grb_script.proofs.TupleLemmas.{now_of}
+
+-- what an `ok_or` is that is `Ok`, and one that is not
+pub some_of_ok : {X : Type 0} (o : Option X) (kind : FaultKind) (x : X) → Ok x ≡ ok_or o kind → Some x ≡ o
+some_of_ok None kind x e = cc
+some_of_ok (Some y) kind x e = cc
+
+pub none_of_err : {X : Type 0} (o : Option X) (kind other : FaultKind) → Err other ≡ ok_or o kind → (None ≡ o) × (other ≡ kind)
+none_of_err None kind other e = (refl, (cc))
+none_of_err (Some y) kind other e = cc
+
+-- the words behind the first two, as a slice has them
+abbrev pub others_of : List (Bor (List ℕ)) → List Word
+others_of words = now_of (take (length words - 2) (drop 2 words))
+
+-- words by their keyword and their name
+pub form_of-words : (words : List (Bor (List ℕ))) (k : Keyword) → 2 ≤ length words → is_name (get_or words 1 no_word).now ≡ true → keyword_of (get_or words 0 no_word).now ≡ Some k
+    → form_of (now_of words) ≡ form_with k (get_or words 1 no_word).now (others_of words)
+form_of-words [] k l n e = absurd (omega arith)
+form_of-words (a ∷ []) k l n e = absurd (omega arith)
+form_of-words (a ∷ b ∷ more) k l n e =
+    (λ j. if n j then option_and_then (λ k. form_with k b.now (now_of more)) (e j) else None)
+    ∙ ap (λ ws. form_with k b.now (now_of ws)) (sym (take_all (length (a ∷ b ∷ more) - 2) more (omega arith)))
+
+module _ (names : List Name) where
+  -- fewer than two words have no form
+  pub reading-short : (words : List (Bor (List ℕ))) → (2 ≤ length words → ⊥) → reading names (form_of (now_of words)) ≡ Err Statement
+  reading-short [] h = refl
+  reading-short (a ∷ []) h = refl
+  reading-short (a ∷ b ∷ more) h = absurd (h (omega arith))
+
+  -- nor do words of a wrong number
+  pub reading-matrix_form : (name : Word) (words : List (Bor (List ℕ))) → (length words ≡ 3 → ⊥) → reading names (matrix_form name (now_of words)) ≡ Err Statement
+  reading-matrix_form name [] h = refl
+  reading-matrix_form name (a ∷ []) h = refl
+  reading-matrix_form name (a ∷ b ∷ []) h = refl
+  reading-matrix_form name (a ∷ b ∷ c ∷ []) h = absurd (h refl)
+  reading-matrix_form name (a ∷ b ∷ c ∷ d ∷ more) h = refl
+
+  pub reading-vector_form : (name : Word) (words : List (Bor (List ℕ))) → (length words ≡ 2 → ⊥) → reading names (vector_form name (now_of words)) ≡ Err Statement
+  reading-vector_form name [] h = refl
+  reading-vector_form name (a ∷ []) h = refl
+  reading-vector_form name (a ∷ b ∷ []) h = absurd (h refl)
+  reading-vector_form name (a ∷ b ∷ c ∷ more) h = refl
+
+  -- what a `set` says
+  pub reading-set_form : (name : Word) (others : List Word) (p : Place) (x : Value) (r : Option (ℕ × Sort)) → Ok (p, x) ≡ ok_or (place_and_value_of others) Statement
+      → r ≡ found names name → option_map_or (λ n. set_at n.0 n.1 p x) r (Err UnknownName) ≡ reading names (set_form name others)
+  reading-set_form name others p x r e f =
+      (λ j. option_map_or (λ n. set_at n.0 n.1 p x) (f j) (Err UnknownName))
+      ∙ ap (λ o. reading names (option_map (λ p. SetForm name p.0 p.1) o)) (some_of_ok (place_and_value_of others) Statement (p, x) e)
+
+  -- a form that is made of a value, or of two in turn, and makes no name
+  kept-map : {A : Type 0} (f : A → Form) → ((a : A) → names_behind names (Some (f a)) ≡ names) → (o : Option A) → names_behind names (option_map f o) ≡ names
+  kept-map f h None = refl
+  kept-map f h (Some a) = h a
+
+  kept-and_then : {A : Type 0} (f : A → Option Form) → ((a : A) → names_behind names (f a) ≡ names) → (o : Option A) → names_behind names (option_and_then f o) ≡ names
+  kept-and_then f h None = refl
+  kept-and_then f h (Some a) = h a
+
+  -- these forms make no names
+  pub names_behind-whole : (w : Whole) (name : Word) (others : List Word) → names_behind names (whole_form w name others) ≡ names
+  names_behind-whole Free name [] = refl
+  names_behind-whole Nvals name [] = refl
+  names_behind-whole Size name [] = refl
+  names_behind-whole Clear name [] = refl
+  names_behind-whole w name (x ∷ more) = refl
+
+  pub names_behind-placed : (w : Placed) (name : Word) (others : List Word) → names_behind names (placed_form w name others) ≡ names
+  names_behind-placed Remove name others = kept-map (form_of_placed Remove name) (λ p. refl) (place_of others)
+  names_behind-placed Get name others = kept-map (form_of_placed Get name) (λ p. refl) (place_of others)
+  names_behind-placed Resize name others = kept-map (form_of_placed Resize name) (λ p. refl) (place_of others)
+
+  pub names_behind-set : (name : Word) (others : List Word) → names_behind names (set_form name others) ≡ names
+  names_behind-set name others = kept-map (λ p. SetForm name p.0 p.1) (λ p. refl) (place_and_value_of others)
+
+  pub names_behind-build : (name : Word) (others : List Word) → names_behind names (build_form name others) ≡ names
+  names_behind-build name [] = refl
+  names_behind-build name (monoid ∷ values) =
+      kept-and_then (λ dup. option_map (BuildForm name dup) (values_of values)) (λ dup. kept-map (BuildForm name dup) (λ vs. refl) (values_of values)) (monoid_of monoid)

@@ -1,0 +1,10 @@
+mod ScriptRows
+pub mod FormLemmas
+pub mod LineLemmas
+pub mod NamesLemmas
+pub mod NextLineLemmas
+pub mod NumberLemmas
+pub mod PlaceLemmas
+pub mod ScriptLemmas
+pub mod StatementCount
+pub mod TupleLemmas

@@ -1,0 +1,174 @@
+-- Worked rows: what the definitions of scripts say of small texts, by computing. Expected values are by hand.
+use Rattle.std.specs.Prelude.{◌≡◌, ℕ, List, [], ◌∷◌, ◌++◌, Some, None, refl, codes, true, false}
+use Rattle.grb_core.specs.declared.domain.Domain.TheVariants as domain
+use Rattle.grb_core.specs.declared.monoid.Monoid.TheVariants as monoid
+use Rattle.grb_core.specs.declared.value.Value.TheVariants as value
+use Rattle.grb_script.specs.declared.fault.FaultKind.{FaultKind}
+use Rattle.grb_script.specs.declared.fault.FaultKind.TheVariants.{UnendedLine, BadByte, Section, Statement, NameTaken, UnknownName, WrongKind}
+use Rattle.grb_script.specs.declared.names.Sort.TheVariants as sort
+use Rattle.grb_script.specs.declared.statement.Statement.TheVariants as statement
+use Rattle.grb_script.specs.Script.{statements_of}
+use Rattle.grb_script.specs.ScriptFault.{script_fault}
+
+-- the text has this first fault
+abbrev IsFaulty : List ℕ → ℕ → FaultKind → Type 0
+IsFaulty text line kind = script_fault text ≡ Some (record { line = line; kind = kind })
+
+-- the line ended
+abbrev ended : List ℕ → List ℕ
+ended line = line ++ 10 ∷ []
+
+-- a script
+abbrev first : List ℕ
+first = ended (codes "vector v uint64 5") ++ ended (codes "set v 2 7") ++ ended (codes "get v 2") ++ ended (codes "nvals v")
+
+no_text : (script_fault [] ≡ None) × (statements_of [] ≡ [])
+no_text = (refl, refl)
+
+one_empty_line : (script_fault (10 ∷ []) ≡ None) × (statements_of (10 ∷ []) ≡ [])
+one_empty_line = (refl, refl)
+
+first_script : (script_fault first ≡ None) × (statements_of first ≡ statement.Vector domain.Uint64 5 ∷ statement.SetVector 0 2 (value.Uint64 7) ∷ statement.GetVector 0 2 ∷ statement.Nvals 0 sort.Vector ∷ [])
+first_script = (refl, refl)
+
+-- names count from 0 in the order of making; comments, lines of spaces and many spaces are skipped
+abbrev two_names : List ℕ
+two_names = ended (codes "# names") ++ ended (codes "vector a bool 1") ++ ended (codes "   ") ++ ended (codes "  vector   b_2 uint64 18446744073709551615 ") ++ ended (codes "  # more") ++ ended (codes "set a 0 false") ++ ended (codes "get b_2 18446744073709551615")
+
+numbered : (script_fault two_names ≡ None) × (statements_of two_names ≡ statement.Vector domain.Bool 1 ∷ statement.Vector domain.Uint64 18446744073709551615 ∷ statement.SetVector 0 0 (value.Bool false) ∷ statement.GetVector 1 18446744073709551615 ∷ [])
+numbered = (refl, refl)
+
+unended : IsFaulty (ended (codes "vector v uint64 5") ++ codes "nvals v") 2 UnendedLine
+unended = refl
+
+carriage_return : IsFaulty (codes "vector v uint64 5" ++ 13 ∷ 10 ∷ []) 1 BadByte
+carriage_return = refl
+
+delete_in_a_comment : IsFaulty (ended (ended [] ++ codes "# " ++ 127 ∷ [])) 2 BadByte
+delete_in_a_comment = refl
+
+section : IsFaulty (ended (codes "thread 1")) 1 Section
+section = refl
+
+section_behind_a_space : IsFaulty (ended (codes " finally")) 1 Section
+section_behind_a_space = refl
+
+leading_zero : IsFaulty (ended (codes "vector v uint64 05")) 1 Statement
+leading_zero = refl
+
+short_set : IsFaulty (ended (codes "vector v uint64 5") ++ ended (codes "set v 1")) 2 Statement
+short_set = refl
+
+too_great : IsFaulty (ended (codes "vector v uint64 5") ++ ended (codes "get v 18446744073709551616")) 2 Statement
+too_great = refl
+
+long_name : IsFaulty (ended (codes "nvals a23456789012345678901234567890123")) 1 Statement
+long_name = refl
+
+longest_name : IsFaulty (ended (codes "nvals a2345678901234567890123456789012")) 1 UnknownName
+longest_name = refl
+
+unknown_keyword : IsFaulty (ended (codes "Nvals v")) 1 Statement
+unknown_keyword = refl
+
+taken : IsFaulty (ended (codes "vector v uint64 5") ++ ended (codes "vector v bool 1")) 2 NameTaken
+taken = refl
+
+unknown : IsFaulty (ended (codes "get x 1")) 1 UnknownName
+unknown = refl
+
+made_too_late : IsFaulty (ended (codes "nvals v") ++ ended (codes "vector v uint64 5")) 1 UnknownName
+made_too_late = refl
+
+-- a fault of an earlier line comes before those of a later one, whatever their kinds
+earlier_line : IsFaulty (ended (codes "get x 1") ++ codes "thread" ++ 0 ∷ []) 1 UnknownName
+earlier_line = refl
+
+-- of one line the first kind is answered
+unended_before_bad_byte : IsFaulty (codes "thread" ++ 0 ∷ []) 1 UnendedLine
+unended_before_bad_byte = refl
+
+bad_byte_before_section : IsFaulty (ended (codes "thread" ++ 0 ∷ [])) 1 BadByte
+bad_byte_before_section = refl
+
+section_before_statement : IsFaulty (ended (codes "finally nvals x")) 1 Section
+section_before_statement = refl
+
+statement_before_unknown_name : IsFaulty (ended (codes "get x 01")) 1 Statement
+statement_before_unknown_name = refl
+
+statement_before_name_taken : IsFaulty (ended (codes "vector v bool 1") ++ ended (codes "vector v bool 01")) 2 Statement
+statement_before_name_taken = refl
+
+-- a word of sections is one only where it begins a line
+name_of_a_section : (script_fault (ended (codes "vector thread uint64 5")) ≡ None) × (statements_of (ended (codes "vector thread uint64 5")) ≡ statement.Vector domain.Uint64 5 ∷ [])
+name_of_a_section = (refl, refl)
+
+longer_word : IsFaulty (ended (codes "threads")) 1 Statement
+longer_word = refl
+
+-- the statements on a matrix, behind those on a vector: names of both sorts count together
+abbrev matrices : List ℕ
+matrices =
+    ended (codes "vector v bool 9") ++ ended (codes "matrix A uint64 3 4") ++ ended (codes "set A 2 3 7") ++ ended (codes "remove A 2 0")
+    ++ ended (codes "get A 0 1") ++ ended (codes "resize A 5 6") ++ ended (codes "build A plus 1 0 8 0 1 true") ++ ended (codes "dup B A") ++ ended (codes "free A")
+    ++ ended (codes "get A 0 0") ++ ended (codes "size B") ++ ended (codes "clear v")
+
+matrix_statements : (script_fault matrices ≡ None) × (statements_of matrices ≡ statement.Vector domain.Bool 9 ∷ statement.Matrix domain.Uint64 3 4 ∷ statement.SetMatrix 1 2 3 (value.Uint64 7)
+    ∷ statement.RemoveMatrix 1 2 0 ∷ statement.GetMatrix 1 0 1 ∷ statement.ResizeMatrix 1 5 6
+    ∷ statement.BuildMatrix 1 ((1, 0, value.Uint64 8) ∷ (0, 1, value.Bool true) ∷ []) monoid.Plus ∷ statement.Dup 1 sort.Matrix ∷ statement.Free 1 sort.Matrix
+    ∷ statement.GetMatrix 1 0 0 ∷ statement.Size 2 sort.Matrix ∷ statement.Clear 0 sort.Vector ∷ [])
+matrix_statements = (refl, refl)
+
+-- a list of tuples may be empty, and its values of any domain
+abbrev builds : List ℕ
+builds = ended (codes "vector v uint64 5") ++ ended (codes "build v plus") ++ ended (codes "build v min 2 5 0 false 2 6") ++ ended (codes "resize v 6") ++ ended (codes "remove v 5")
+
+vector_builds : (script_fault builds ≡ None) × (statements_of builds ≡ statement.Vector domain.Uint64 5 ∷ statement.BuildVector 0 [] monoid.Plus
+    ∷ statement.BuildVector 0 ((2, value.Uint64 5) ∷ (0, value.Bool false) ∷ (2, value.Uint64 6) ∷ []) monoid.Min ∷ statement.ResizeVector 0 6 ∷ statement.RemoveVector 0 5 ∷ [])
+vector_builds = (refl, refl)
+
+-- a copy of itself
+unknown_copy : IsFaulty (ended (codes "dup A A")) 1 UnknownName
+unknown_copy = refl
+
+taken_copy : IsFaulty (ended (codes "matrix A bool 1 1") ++ ended (codes "dup A A")) 2 NameTaken
+taken_copy = refl
+
+taken_before_unknown : IsFaulty (ended (codes "matrix A bool 1 1") ++ ended (codes "dup A B")) 2 NameTaken
+taken_before_unknown = refl
+
+-- `free` keeps the name
+taken_when_freed : IsFaulty (ended (codes "vector v bool 1") ++ ended (codes "free v") ++ ended (codes "vector v bool 1")) 3 NameTaken
+taken_when_freed = refl
+
+-- places and groups of the other sort
+short_place : IsFaulty (ended (codes "matrix A bool 1 1") ++ ended (codes "set A 0 1")) 2 WrongKind
+short_place = refl
+
+long_place : IsFaulty (ended (codes "vector v bool 1") ++ ended (codes "set v 0 1 2")) 2 WrongKind
+long_place = refl
+
+copied_sort : IsFaulty (ended (codes "matrix A bool 1 1") ++ ended (codes "dup B A") ++ ended (codes "resize B 2")) 3 WrongKind
+copied_sort = refl
+
+short_group : IsFaulty (ended (codes "matrix A bool 1 1") ++ ended (codes "build A lor 0 0")) 2 WrongKind
+short_group = refl
+
+half_group : IsFaulty (ended (codes "vector v bool 1") ++ ended (codes "build v lor 0 true 1")) 2 WrongKind
+half_group = refl
+
+truth_as_index : IsFaulty (ended (codes "vector v bool 1") ++ ended (codes "build v lor true 1")) 2 WrongKind
+truth_as_index = refl
+
+unknown_before_kind : IsFaulty (ended (codes "build v lor true 1")) 1 UnknownName
+unknown_before_kind = refl
+
+no_monoid : IsFaulty (ended (codes "build v first 0 1")) 1 Statement
+no_monoid = refl
+
+no_value : IsFaulty (ended (codes "build v plus 0 01")) 1 Statement
+no_value = refl
+
+no_columns : IsFaulty (ended (codes "matrix A uint64 2")) 1 Statement
+no_columns = refl

@@ -1,0 +1,33 @@
+use Rattle.std.proofs.Common.{◌∙◌, get_or, ap, sym, rules, arith}
+use Rattle.grb_script.specs.Reading.{reading, names_behind}
+use Rattle.grb_script.specs.declared.keyword.Keyword.TheVariants as keyword
+use Rattle.grb_script.proofs.FormLemmas.{others_of, form_of-words, reading-short, names_behind-whole, names_behind-placed, names_behind-set}
+use Rattle.grb_script.proofs.PlaceLemmas.{no_word}
+use Rattle.grb_script.proofs.statement.read_statement.Goals as goal
+
+pub returns-in_default-clause-fault : goal.returns-in_default-clause-fault
+returns-in_default-clause-fault c = reading-short c.args.names.now c.args.words.now (λ l. absurd (omega arith))
+
+pub returns-in_ok-whole-in-Whole-clause-read : goal.returns-in_ok-whole-in-Whole-clause-read
+returns-in_ok-whole-in-Whole-clause-read c =
+    let form = form_of-words c.args.words.now (keyword.Whole c.in-Whole.word) (omega arith) (search rules) (search rules) in
+    record {
+      says = ap (reading c.args.names.now) form ∙ sym c.in_ok-whole-in-Whole.ensures;
+      behind = sym (ap (names_behind c.args.names.now) form ∙ names_behind-whole c.args.names.now c.in-Whole.word (get_or c.args.words.now 1 no_word).now (others_of c.args.words.now));
+    }
+
+pub returns-in_ok-placed-in-Placed-clause-read : goal.returns-in_ok-placed-in-Placed-clause-read
+returns-in_ok-placed-in-Placed-clause-read c =
+    let form = form_of-words c.args.words.now (keyword.Placed c.in-Placed.word) (omega arith) (search rules) (search rules) in
+    record {
+      says = ap (reading c.args.names.now) form ∙ sym c.in_ok-placed-in-Placed.ensures;
+      behind = sym (ap (names_behind c.args.names.now) form ∙ names_behind-placed c.args.names.now c.in-Placed.word (get_or c.args.words.now 1 no_word).now (others_of c.args.words.now));
+    }
+
+pub returns-in_ok-set-in-Set-clause-read : goal.returns-in_ok-set-in-Set-clause-read
+returns-in_ok-set-in-Set-clause-read c =
+    let form = form_of-words c.args.words.now keyword.Set (omega arith) (search rules) (search rules) in
+    record {
+      says = ap (reading c.args.names.now) form ∙ sym c.in_ok-set-in-Set.ensures;
+      behind = sym (ap (names_behind c.args.names.now) form ∙ names_behind-set c.args.names.now (get_or c.args.words.now 1 no_word).now (others_of c.args.words.now));
+    }

@@ -1,0 +1,28 @@
+-- The names of a script (own): each stands for a matrix or a vector, and has as its number how many names were made before it.
+use Rattle.std.specs.Prelude.{ℕ, Bool, List, Option, is_some}
+use Rattle.std.specs.List.{position_or_len}
+use Rattle.std.specs.Map.{lookup}
+use Rattle.std.specs.Option.{option_map}
+use Rattle.std.specs.Str.{bytes_eq}
+use Rattle.grb_script.specs.declared.names.Sort.{Sort}
+use Rattle.grb_script.specs.Line.{Word}
+
+-- a name, and the sort of the object that it stands for
+abbrev pub Name : Type 0
+Name = Word × Sort
+
+-- the sort of a name, if it is one of these
+abbrev pub sort_of : List Name → Word → Option Sort
+sort_of names name = lookup (bytes_eq name) names
+
+-- the name is one of these
+abbrev pub stands : List Name → Word → Bool
+stands names name = is_some (sort_of names name)
+
+-- the number of a name: the place where it was made among these
+abbrev pub number_in : List Name → Word → ℕ
+number_in names name = position_or_len (λ n. bytes_eq name n.0) names
+
+-- the number and the sort of a name, if it is one of these
+abbrev pub found : List Name → Word → Option (ℕ × Sort)
+found names name = option_map (λ sort. (number_in names name, sort)) (sort_of names name)

@@ -1,0 +1,101 @@
+-- What a statement says where some names stand (own): the call that it makes, or the first of what is wrong with it: it has no form,
+-- it makes a name that stands, it uses one that does not, or one of another sort than its form asks for.
+use Rattle.std.specs.Prelude.{◌≡◌, ℕ, if◌then◌else◌, List, [], ◌∷◌, ◌++◌, Option, Some, None, Result, Ok, Err}
+use Rattle.std.specs.Option.{option_map, option_map_or}
+use Rattle.grb_core.specs.declared.monoid.Monoid.{Monoid}
+use Rattle.grb_core.specs.declared.value.Value.{Value}
+use Rattle.grb_core.specs.declared.value.Value.TheVariants as value
+use Rattle.grb_script.specs.declared.fault.FaultKind.{FaultKind}
+use Rattle.grb_script.specs.declared.fault.FaultKind.TheVariants as kind
+use Rattle.grb_script.specs.declared.fault.Unread.{Unread}
+use Rattle.grb_script.specs.declared.fault.Unread.TheVariants as unread
+use Rattle.grb_script.specs.declared.names.Sort.{Sort}
+use Rattle.grb_script.specs.declared.names.Sort.TheVariants as sort
+use Rattle.grb_script.specs.declared.place.Place.{Place}
+use Rattle.grb_script.specs.declared.place.Place.TheVariants as place
+use Rattle.grb_script.specs.declared.statement.Statement.{Statement}
+use Rattle.grb_script.specs.declared.statement.Statement.TheVariants as statement
+use Rattle.grb_script.specs.Line.{Word}
+use Rattle.grb_script.specs.Names.{Name, sort_of, stands, found}
+use Rattle.grb_script.specs.Form.{Form, MatrixForm, VectorForm, DupForm, FreeForm, NvalsForm, SizeForm, ClearForm, RemoveForm, GetForm, ResizeForm, SetForm, BuildForm}
+
+-- a statement by the number and the sort of its name, and by its place: one number at a vector, two at a matrix
+abbrev pub set_at : ℕ → Sort → Place → Value → Result Statement FaultKind
+set_at n sort.Matrix (place.Two i j) x = Ok (statement.SetMatrix n i j x)
+set_at n sort.Vector (place.One i) x = Ok (statement.SetVector n i x)
+set_at n _ _ x = Err kind.WrongKind
+
+abbrev pub remove_at : ℕ → Sort → Place → Result Statement FaultKind
+remove_at n sort.Matrix (place.Two i j) = Ok (statement.RemoveMatrix n i j)
+remove_at n sort.Vector (place.One i) = Ok (statement.RemoveVector n i)
+remove_at n _ _ = Err kind.WrongKind
+
+abbrev pub get_at : ℕ → Sort → Place → Result Statement FaultKind
+get_at n sort.Matrix (place.Two i j) = Ok (statement.GetMatrix n i j)
+get_at n sort.Vector (place.One i) = Ok (statement.GetVector n i)
+get_at n _ _ = Err kind.WrongKind
+
+abbrev pub resize_to : ℕ → Sort → Place → Result Statement FaultKind
+resize_to n sort.Matrix (place.Two nrows ncols) = Ok (statement.ResizeMatrix n nrows ncols)
+resize_to n sort.Vector (place.One size) = Ok (statement.ResizeVector n size)
+resize_to n _ _ = Err kind.WrongKind
+
+-- the tuples of a vector: groups of an index and a value
+abbrev pub vector_tuples : List Value → Option (List (ℕ × Value))
+vector_tuples [] = Some []
+vector_tuples (value.Uint64 i ∷ x ∷ more) = option_map (λ tuples. (i, x) ∷ tuples) (vector_tuples more)
+vector_tuples _ = None
+
+-- the tuples of a matrix: groups of a row, a column and a value
+abbrev pub matrix_tuples : List Value → Option (List (ℕ × ℕ × Value))
+matrix_tuples [] = Some []
+matrix_tuples (value.Uint64 i ∷ value.Uint64 j ∷ x ∷ more) = option_map (λ tuples. (i, j, x) ∷ tuples) (matrix_tuples more)
+matrix_tuples _ = None
+
+abbrev pub build_of : ℕ → Sort → Monoid → List Value → Result Statement FaultKind
+build_of n sort.Matrix dup values = option_map_or (λ tuples. Ok (statement.BuildMatrix n tuples dup)) (matrix_tuples values) (Err kind.WrongKind)
+build_of n sort.Vector dup values = option_map_or (λ tuples. Ok (statement.BuildVector n tuples dup)) (vector_tuples values) (Err kind.WrongKind)
+
+-- what a statement says that makes this name
+abbrev pub made : List Name → Word → Result Statement FaultKind → Result Statement FaultKind
+made names name says = if stands names name then Err kind.NameTaken else says
+
+-- what a statement says that uses this name
+abbrev pub used : List Name → Word → (ℕ → Sort → Result Statement FaultKind) → Result Statement FaultKind
+used names name says = option_map_or (λ n. says n.0 n.1) (found names name) (Err kind.UnknownName)
+
+-- what a statement of this form says
+abbrev pub saying : List Name → Form → Result Statement FaultKind
+saying names (MatrixForm name domain nrows ncols) = made names name (Ok (statement.Matrix domain nrows ncols))
+saying names (VectorForm name domain size) = made names name (Ok (statement.Vector domain size))
+saying names (DupForm name source) = made names name (used names source (λ n sort. Ok (statement.Dup n sort)))
+saying names (FreeForm name) = used names name (λ n sort. Ok (statement.Free n sort))
+saying names (NvalsForm name) = used names name (λ n sort. Ok (statement.Nvals n sort))
+saying names (SizeForm name) = used names name (λ n sort. Ok (statement.Size n sort))
+saying names (ClearForm name) = used names name (λ n sort. Ok (statement.Clear n sort))
+saying names (RemoveForm name p) = used names name (λ n sort. remove_at n sort p)
+saying names (GetForm name p) = used names name (λ n sort. get_at n sort p)
+saying names (ResizeForm name p) = used names name (λ n sort. resize_to n sort p)
+saying names (SetForm name p x) = used names name (λ n sort. set_at n sort p x)
+saying names (BuildForm name dup values) = used names name (λ n sort. build_of n sort dup values)
+
+-- the same of words that may have no form
+abbrev pub reading : List Name → Option Form → Result Statement FaultKind
+reading names form = option_map_or (saying names) form (Err kind.Statement)
+
+-- the names that stand behind a statement of this form: one more where it makes one. A copy is of the sort of what it copies
+abbrev pub names_behind : List Name → Option Form → List Name
+names_behind names (Some (MatrixForm name domain nrows ncols)) = names ++ (name, sort.Matrix) ∷ []
+names_behind names (Some (VectorForm name domain size)) = names ++ (name, sort.Vector) ∷ []
+names_behind names (Some (DupForm name source)) = option_map_or (λ sort. names ++ (name, sort) ∷ []) (sort_of names source) names
+names_behind names _ = names
+
+-- this is what the form says, and these are the names behind it
+pub record IsReading (names : List Name) (form : Option Form) (s : Statement) (after : List Name) : Type 0 where
+  pub says : reading names form ≡ Ok s
+  pub behind : after ≡ names_behind names form
+
+-- why the form was not read: this is wrong with it, or memory was refused
+abbrev pub IsWhyUnread : List Name → Option Form → Unread → Type 0
+IsWhyUnread names form (unread.Fault kind) = reading names form ≡ Err kind
+IsWhyUnread names form unread.OutOfMemory = Unit {0}

@@ -1,0 +1,75 @@
+-- The classes of words: keywords, names, numbers, values, domains and monoids (own).
+use Rattle.std.specs.Prelude.{ℕ, ◌^◌, Bool, true, false, not, ◌==◌, ◌&&◌, ◌||◌, nat_le, nat_lt, if◌then◌else◌, List, [], ◌∷◌, length, Option, Some, None, codes}
+use Rattle.std.specs.List.{list_all}
+use Rattle.std.specs.Map.{lookup}
+use Rattle.std.specs.Option.{option_map}
+use Rattle.std.specs.Str.{bytes_eq}
+use Rattle.std.specs.Str.Parse.{digits_value}
+use Rattle.grb_core.specs.declared.domain.Domain.{Domain}
+use Rattle.grb_core.specs.declared.domain.Domain.TheVariants as domain
+use Rattle.grb_core.specs.declared.value.Value.{Value}
+use Rattle.grb_core.specs.declared.value.Value.TheVariants as value
+use Rattle.grb_core.specs.declared.monoid.Monoid.{Monoid}
+use Rattle.grb_core.specs.declared.monoid.Monoid.TheVariants as monoid
+use Rattle.grb_script.specs.declared.keyword.Keyword.{Keyword}
+use Rattle.grb_script.specs.declared.keyword.Keyword.TheVariants as keyword
+use Rattle.grb_script.specs.declared.keyword.Placed.TheVariants as placed
+use Rattle.grb_script.specs.declared.keyword.Whole.TheVariants as whole
+use Rattle.grb_script.specs.Line.{Word}
+
+abbrev pub is_digit : ℕ → Bool
+is_digit b = nat_le 48 b && nat_le b 57
+
+abbrev pub is_letter : ℕ → Bool
+is_letter b = (nat_le 65 b && nat_le b 90) || (nat_le 97 b && nat_le b 122)
+
+-- a byte of a name behind its first: a letter, a digit or '_'
+abbrev pub is_name_byte : ℕ → Bool
+is_name_byte b = is_letter b || is_digit b || (b == 95)
+
+-- NAME: a letter, then up to 31 letters, digits or '_'
+abbrev pub is_name : Word → Bool
+is_name [] = false
+is_name (b ∷ bs) = is_letter b && list_all is_name_byte bs && nat_le (length bs) 31
+
+-- '0', or digits of which the first is no '0'
+abbrev pub is_numeral : Word → Bool
+is_numeral [] = false
+is_numeral (b ∷ []) = is_digit b
+is_numeral (b ∷ bs) = list_all is_digit (b ∷ bs) && not (b == 48)
+
+-- a number: a numeral of at most 18446744073709551615
+abbrev pub number_of : Word → Option ℕ
+number_of word = if is_numeral word && nat_lt (digits_value 10 word) (2 ^ 64) then Some (digits_value 10 word) else None
+
+-- DOMAIN
+abbrev pub domain_of : Word → Option Domain
+domain_of word = if bytes_eq word (codes "bool") then Some domain.Bool else (if bytes_eq word (codes "uint64") then Some domain.Uint64 else None)
+
+-- VALUE: 'true' or 'false', or a number
+abbrev pub value_of : Word → Option Value
+value_of word =
+    if bytes_eq word (codes "true") then Some (value.Bool true)
+    else (if bytes_eq word (codes "false") then Some (value.Bool false)
+    else option_map (λ n. value.Uint64 n) (number_of word))
+
+-- MONOID
+abbrev pub monoids : List (Word × Monoid)
+monoids =
+    (codes "lor", monoid.Lor) ∷ (codes "land", monoid.Land) ∷ (codes "lxor", monoid.Lxor) ∷ (codes "lxnor", monoid.Lxnor)
+    ∷ (codes "plus", monoid.Plus) ∷ (codes "times", monoid.Times) ∷ (codes "min", monoid.Min) ∷ (codes "max", monoid.Max) ∷ []
+
+abbrev pub monoid_of : Word → Option Monoid
+monoid_of word = lookup (bytes_eq word) monoids
+
+-- the first words of statements
+abbrev pub keywords : List (Word × Keyword)
+keywords =
+    (codes "matrix", keyword.Matrix) ∷ (codes "vector", keyword.Vector) ∷ (codes "dup", keyword.Dup)
+    ∷ (codes "free", keyword.Whole whole.Free) ∷ (codes "nvals", keyword.Whole whole.Nvals)
+    ∷ (codes "size", keyword.Whole whole.Size) ∷ (codes "clear", keyword.Whole whole.Clear)
+    ∷ (codes "remove", keyword.Placed placed.Remove) ∷ (codes "get", keyword.Placed placed.Get)
+    ∷ (codes "resize", keyword.Placed placed.Resize) ∷ (codes "set", keyword.Set) ∷ (codes "build", keyword.Build) ∷ []
+
+abbrev pub keyword_of : Word → Option Keyword
+keyword_of word = lookup (bytes_eq word) keywords

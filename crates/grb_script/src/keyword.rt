@@ -1,0 +1,42 @@
+/// The first word of a statement.
+#[derive(Clone, Copy, Debug, PartialEq, Eq)]
+pub enum Keyword {
+    /// `matrix NAME DOMAIN R C`.
+    Matrix,
+    /// `vector NAME DOMAIN N`.
+    Vector,
+    /// `dup NAME NAME`.
+    Dup,
+    /// A keyword behind which a name stands alone.
+    Whole(Whole),
+    /// A keyword behind which a name and a place stand.
+    Placed(Placed),
+    /// `set NAME PLACE VALUE`.
+    Set,
+    /// `build NAME MONOID ..`.
+    Build,
+}
+
+/// The first word of a statement on a whole object.
+#[derive(Clone, Copy, Debug, PartialEq, Eq)]
+pub enum Whole {
+    /// `free NAME`.
+    Free,
+    /// `nvals NAME`.
+    Nvals,
+    /// `size NAME`.
+    Size,
+    /// `clear NAME`.
+    Clear,
+}
+
+/// The first word of a statement with a place and no value.
+#[derive(Clone, Copy, Debug, PartialEq, Eq)]
+pub enum Placed {
+    /// `remove NAME PLACE`.
+    Remove,
+    /// `get NAME PLACE`.
+    Get,
+    /// `resize NAME PLACE`, where the place tells the new size, or the new rows and columns.
+    Resize,
+}

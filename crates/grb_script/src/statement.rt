@@ -1,0 +1,316 @@
+ghost use Rattle.std.specs.Prelude.{◌≡◌, [], ◌∷◌, Ok, IfOk, IfErr, map};
+ghost use Rattle.std.specs.Option.{ok_or};
+ghost use Rattle.grb_script.specs.Names.{found};
+ghost use Rattle.grb_script.specs.Form.{form_of, matrix_form, vector_form, dup_form, whole_form, placed_form, set_form, build_form};
+ghost use Rattle.grb_script.specs.Reading.{reading, set_at, remove_at, get_at, resize_to, IsReading, IsWhyUnread};
+
+use crate::fault::{FaultKind, Unread};
+use crate::keyword::{Keyword, Placed, Whole};
+use crate::names::{Names, Sort};
+use crate::place::{Place, place_and_value_of, place_of};
+use crate::tuples::{matrix_tuples, values, vector_tuples};
+use crate::word;
+use grb_call::{MatrixTuples, VectorTuples};
+use grb_core::{Domain, Monoid, Value};
+use std::alloc::Global;
+
+/// One statement of a script. Names stand as their numbers: the n-th name that the script makes, for a matrix or a vector, has the
+/// number n, from 0. Indices begin at 0.
+#[derive(Debug, PartialEq, Eq, Drop)]
+pub enum Statement {
+    /// `matrix NAME DOMAIN R C` makes a matrix, and the next name for it.
+    Matrix {
+        domain: Domain,
+        nrows: u64,
+        ncols: u64,
+    },
+    /// `vector NAME DOMAIN N` makes a vector, and the next name for it.
+    Vector {
+        domain: Domain,
+        size: u64,
+    },
+    /// `dup NAME NAME` makes a copy of the object of the second name, and the next name for it. The name here is the second.
+    Dup {
+        name: usize,
+        sort: Sort,
+    },
+    /// `free NAME`. The name keeps standing.
+    Free {
+        name: usize,
+        sort: Sort,
+    },
+    /// `nvals NAME`.
+    Nvals {
+        name: usize,
+        sort: Sort,
+    },
+    /// `size NAME`.
+    Size {
+        name: usize,
+        sort: Sort,
+    },
+    /// `clear NAME`.
+    Clear {
+        name: usize,
+        sort: Sort,
+    },
+    /// `set NAME I J VALUE`.
+    SetMatrix {
+        name: usize,
+        i: u64,
+        j: u64,
+        value: Value,
+    },
+    /// `set NAME I VALUE`.
+    SetVector {
+        name: usize,
+        i: u64,
+        value: Value,
+    },
+    /// `remove NAME I J`.
+    RemoveMatrix {
+        name: usize,
+        i: u64,
+        j: u64,
+    },
+    /// `remove NAME I`.
+    RemoveVector {
+        name: usize,
+        i: u64,
+    },
+    /// `get NAME I J`.
+    GetMatrix {
+        name: usize,
+        i: u64,
+        j: u64,
+    },
+    /// `get NAME I`.
+    GetVector {
+        name: usize,
+        i: u64,
+    },
+    /// `resize NAME R C`.
+    ResizeMatrix {
+        name: usize,
+        nrows: u64,
+        ncols: u64,
+    },
+    /// `resize NAME N`.
+    ResizeVector {
+        name: usize,
+        size: u64,
+    },
+    /// `build NAME MONOID I J VALUE ..`.
+    BuildMatrix {
+        name: usize,
+        tuples: MatrixTuples,
+        dup: Monoid,
+    },
+    /// `build NAME MONOID I VALUE ..`.
+    BuildVector {
+        name: usize,
+        tuples: VectorTuples,
+        dup: Monoid,
+    },
+}
+
+/// The number and the sort of the name that a statement uses.
+fn used(name: &[u8], names: &Names) -> Result<(usize, Sort), FaultKind>
+    ensures { result ≡ ok_or (found names.now name.now) FaultKind.UnknownName }
+{
+    names.find(name).ok_or(FaultKind::UnknownName)
+}
+
+/// `matrix NAME DOMAIN R C`.
+fn matrix(name: &[u8], others: &[&[u8]], names: &mut Names) -> Result<Statement, Unread>
+    ensures read { IfOk result (λ s. IsReading names.old (matrix_form name.now (map (λ word. word.now) others.now)) s names.new) }
+    ensures fault { IfErr result (IsWhyUnread names.old (matrix_form name.now (map (λ word. word.now) others.now))) }
+{
+    let [domain, nrows, ncols] = others else {
+        return Err(Unread::Fault(FaultKind::Statement));
+    };
+    let domain = word::domain(domain).ok_or(FaultKind::Statement)?;
+    let nrows = word::number(nrows).ok_or(FaultKind::Statement)?;
+    let ncols = word::number(ncols).ok_or(FaultKind::Statement)?;
+    if names.find(name).is_some() {
+        return Err(Unread::Fault(FaultKind::NameTaken));
+    }
+    names.make(name, Sort::Matrix)?;
+    Ok(Statement::Matrix {
+        domain,
+        nrows,
+        ncols,
+    })
+}
+
+/// `vector NAME DOMAIN N`.
+fn vector(name: &[u8], others: &[&[u8]], names: &mut Names) -> Result<Statement, Unread>
+    ensures read { IfOk result (λ s. IsReading names.old (vector_form name.now (map (λ word. word.now) others.now)) s names.new) }
+    ensures fault { IfErr result (IsWhyUnread names.old (vector_form name.now (map (λ word. word.now) others.now))) }
+{
+    let [domain, size] = others else {
+        return Err(Unread::Fault(FaultKind::Statement));
+    };
+    let domain = word::domain(domain).ok_or(FaultKind::Statement)?;
+    let size = word::number(size).ok_or(FaultKind::Statement)?;
+    if names.find(name).is_some() {
+        return Err(Unread::Fault(FaultKind::NameTaken));
+    }
+    names.make(name, Sort::Vector)?;
+    Ok(Statement::Vector { domain, size })
+}
+
+/// `dup NAME NAME`.
+fn dup(name: &[u8], others: &[&[u8]], names: &mut Names) -> Result<Statement, Unread>
+    ensures read { IfOk result (λ s. IsReading names.old (dup_form name.now (map (λ word. word.now) others.now)) s names.new) }
+    ensures fault { IfErr result (IsWhyUnread names.old (dup_form name.now (map (λ word. word.now) others.now))) }
+{
+    let [source] = others else {
+        return Err(Unread::Fault(FaultKind::Statement));
+    };
+    if !word::is_name(source) {
+        return Err(Unread::Fault(FaultKind::Statement));
+    }
+    if names.find(name).is_some() {
+        return Err(Unread::Fault(FaultKind::NameTaken));
+    }
+    let Some((source, sort)) = names.find(source) else {
+        return Err(Unread::Fault(FaultKind::UnknownName));
+    };
+    names.make(name, sort)?;
+    Ok(Statement::Dup { name: source, sort })
+}
+
+/// `free NAME`, `nvals NAME`, `size NAME` or `clear NAME`.
+fn whole(whole: Whole, name: &[u8], others: &[&[u8]], names: &Names) -> Result<Statement, FaultKind>
+    ensures { result ≡ reading names.now (whole_form whole name.now (map (λ word. word.now) others.now)) }
+{
+    if !others.is_empty() {
+        return Err(FaultKind::Statement);
+    }
+    let (name, sort) = used(name, names)?;
+    Ok(match whole {
+        Whole::Free => Statement::Free { name, sort },
+        Whole::Nvals => Statement::Nvals { name, sort },
+        Whole::Size => Statement::Size { name, sort },
+        Whole::Clear => Statement::Clear { name, sort },
+    })
+}
+
+fn remove_at(name: usize, sort: Sort, place: Place) -> Result<Statement, FaultKind>
+    ensures { result ≡ remove_at name sort place }
+{
+    match (sort, place) {
+        (Sort::Matrix, Place::Two(i, j)) => Ok(Statement::RemoveMatrix { name, i, j }),
+        (Sort::Vector, Place::One(i)) => Ok(Statement::RemoveVector { name, i }),
+        _ => Err(FaultKind::WrongKind),
+    }
+}
+
+fn get_at(name: usize, sort: Sort, place: Place) -> Result<Statement, FaultKind>
+    ensures { result ≡ get_at name sort place }
+{
+    match (sort, place) {
+        (Sort::Matrix, Place::Two(i, j)) => Ok(Statement::GetMatrix { name, i, j }),
+        (Sort::Vector, Place::One(i)) => Ok(Statement::GetVector { name, i }),
+        _ => Err(FaultKind::WrongKind),
+    }
+}
+
+fn resize_to(name: usize, sort: Sort, place: Place) -> Result<Statement, FaultKind>
+    ensures { result ≡ resize_to name sort place }
+{
+    match (sort, place) {
+        (Sort::Matrix, Place::Two(nrows, ncols)) => {
+            Ok(Statement::ResizeMatrix { name, nrows, ncols })
+        }
+        (Sort::Vector, Place::One(size)) => Ok(Statement::ResizeVector { name, size }),
+        _ => Err(FaultKind::WrongKind),
+    }
+}
+
+/// `remove NAME PLACE`, `get NAME PLACE` or `resize NAME PLACE`.
+fn placed(
+    placed: Placed,
+    name: &[u8],
+    others: &[&[u8]],
+    names: &Names,
+) -> Result<Statement, FaultKind>
+    ensures { result ≡ reading names.now (placed_form placed name.now (map (λ word. word.now) others.now)) }
+{
+    let place = place_of(others).ok_or(FaultKind::Statement)?;
+    let (name, sort) = used(name, names)?;
+    match placed {
+        Placed::Remove => remove_at(name, sort, place),
+        Placed::Get => get_at(name, sort, place),
+        Placed::Resize => resize_to(name, sort, place),
+    }
+}
+
+fn set_at(name: usize, sort: Sort, place: Place, value: Value) -> Result<Statement, FaultKind>
+    ensures { result ≡ set_at name sort place value }
+{
+    match (sort, place) {
+        (Sort::Matrix, Place::Two(i, j)) => Ok(Statement::SetMatrix { name, i, j, value }),
+        (Sort::Vector, Place::One(i)) => Ok(Statement::SetVector { name, i, value }),
+        _ => Err(FaultKind::WrongKind),
+    }
+}
+
+/// `set NAME PLACE VALUE`.
+fn set(name: &[u8], others: &[&[u8]], names: &Names) -> Result<Statement, FaultKind>
+    ensures { result ≡ reading names.now (set_form name.now (map (λ word. word.now) others.now)) }
+{
+    let (place, value) = place_and_value_of(others).ok_or(FaultKind::Statement)?;
+    let (name, sort) = used(name, names)?;
+    set_at(name, sort, place, value)
+}
+
+/// `build NAME MONOID ..`.
+fn build(alloc: Global, name: &[u8], others: &[&[u8]], names: &Names) -> Result<Statement, Unread>
+    ensures says { IfOk result (λ s. reading names.now (build_form name.now (map (λ word. word.now) others.now)) ≡ Ok s) }
+    ensures fault { IfErr result (IsWhyUnread names.now (build_form name.now (map (λ word. word.now) others.now))) }
+{
+    let [monoid, list @ ..] = others else {
+        return Err(Unread::Fault(FaultKind::Statement));
+    };
+    let dup = word::monoid(monoid).ok_or(FaultKind::Statement)?;
+    let values = values(alloc, list)?;
+    let (name, sort) = used(name, names)?;
+    match sort {
+        Sort::Matrix => {
+            let tuples = matrix_tuples(alloc, &values)?;
+            Ok(Statement::BuildMatrix { name, tuples, dup })
+        }
+        Sort::Vector => {
+            let tuples = vector_tuples(alloc, &values)?;
+            Ok(Statement::BuildVector { name, tuples, dup })
+        }
+    }
+}
+
+/// The statement that these words spell where these names stand, or what is wrong with it. The name that it makes joins the names.
+pub fn read_statement(
+    alloc: Global,
+    words: &[&[u8]],
+    names: &mut Names,
+) -> Result<Statement, Unread>
+    ensures read { IfOk result (λ s. IsReading names.old (form_of (map (λ word. word.now) words.now)) s names.new) }
+    ensures fault { IfErr result (IsWhyUnread names.old (form_of (map (λ word. word.now) words.now))) }
+{
+    let [first, name, others @ ..] = words else {
+        return Err(Unread::Fault(FaultKind::Statement));
+    };
+    if !word::is_name(name) {
+        return Err(Unread::Fault(FaultKind::Statement));
+    }
+    match word::keyword(first).ok_or(FaultKind::Statement)? {
+        Keyword::Matrix => matrix(name, others, names),
+        Keyword::Vector => vector(name, others, names),
+        Keyword::Dup => dup(name, others, names),
+        Keyword::Whole(word) => Ok(whole(word, name, others, names)?),
+        Keyword::Placed(word) => Ok(placed(word, name, others, names)?),
+        Keyword::Set => Ok(set(name, others, names)?),
+        Keyword::Build => build(alloc, name, others, names),
+    }
+}

@@ -1,0 +1,137 @@
+ghost use Rattle.std.specs.Prelude.{◌≡◌};
+ghost use Rattle.std.specs.List.{list_all};
+ghost use Rattle.grb_script.specs.Word.{is_digit, is_name_byte, is_name, is_numeral, number_of, value_of, domain_of, monoid_of, keyword_of};
+
+use crate::keyword::{Keyword, Placed, Whole};
+use grb_core::{Domain, Monoid, Value};
+
+fn is_name_byte(b: u8) -> bool
+    ensures { result ≡ is_name_byte b }
+{
+    b.is_ascii_alphabetic() || b.is_ascii_digit() || b == b'_'
+}
+
+fn has_name_bytes(bytes: &[u8]) -> bool
+    ensures { result ≡ list_all is_name_byte bytes.now }
+{
+    bytes.iter().all(|b| is_name_byte(*b))
+}
+
+/// Whether the word is a name: a letter, then up to 31 letters, digits or `_`.
+pub fn is_name(word: &[u8]) -> bool
+    ensures { result ≡ is_name word.now }
+{
+    match word.split_first() {
+        None => false,
+        Some((first, others)) => {
+            first.is_ascii_alphabetic() && has_name_bytes(others) && others.len() <= 31
+        }
+    }
+}
+
+fn has_digits(bytes: &[u8]) -> bool
+    ensures { result ≡ list_all is_digit bytes.now }
+{
+    bytes.iter().all(|b| b.is_ascii_digit())
+}
+
+fn is_numeral(word: &[u8]) -> bool
+    ensures { result ≡ is_numeral word.now }
+{
+    match word {
+        [] => false,
+        [digit] => digit.is_ascii_digit(),
+        [first, ..] => has_digits(word) && *first != b'0',
+    }
+}
+
+/// The number that the word is, if it is one: decimal digits without a leading zero, at most 2^64 - 1.
+pub fn number(word: &[u8]) -> Option<u64>
+    ensures { result ≡ number_of word.now }
+{
+    if !is_numeral(word) {
+        return None;
+    }
+    let mut number: u64 = 0;
+    for b in word {
+        let tens = number.checked_mul(10)?;
+        number = tens.checked_add(u64::from(*b - b'0'))?;
+    }
+    Some(number)
+}
+
+/// The value that the word is, if it is one: `true`, `false` or a number.
+pub fn value(word: &[u8]) -> Option<Value>
+    ensures { result ≡ value_of word.now }
+{
+    if word == b"true".as_slice() {
+        Some(Value::Bool(true))
+    } else if word == b"false".as_slice() {
+        Some(Value::Bool(false))
+    } else {
+        number(word).map(Value::Uint64)
+    }
+}
+
+/// The domain that the word names, if it names one: `bool` or `uint64`.
+pub fn domain(word: &[u8]) -> Option<Domain>
+    ensures { result ≡ domain_of word.now }
+{
+    if word == b"bool".as_slice() {
+        Some(Domain::Bool)
+    } else if word == b"uint64".as_slice() {
+        Some(Domain::Uint64)
+    } else {
+        None
+    }
+}
+
+/// The monoid that the word names, if it names one.
+pub fn monoid(word: &[u8]) -> Option<Monoid>
+    ensures { result ≡ monoid_of word.now }
+{
+    match word {
+        b"lor" => Some(Monoid::Lor),
+        b"land" => Some(Monoid::Land),
+        b"lxor" => Some(Monoid::Lxor),
+        b"lxnor" => Some(Monoid::Lxnor),
+        b"plus" => Some(Monoid::Plus),
+        b"times" => Some(Monoid::Times),
+        b"min" => Some(Monoid::Min),
+        b"max" => Some(Monoid::Max),
+        _ => None,
+    }
+}
+
+/// The keyword that the word is, if it is one.
+pub fn keyword(word: &[u8]) -> Option<Keyword>
+    ensures { result ≡ keyword_of word.now }
+{
+    if word == b"matrix".as_slice() {
+        Some(Keyword::Matrix)
+    } else if word == b"vector".as_slice() {
+        Some(Keyword::Vector)
+    } else if word == b"dup".as_slice() {
+        Some(Keyword::Dup)
+    } else if word == b"free".as_slice() {
+        Some(Keyword::Whole(Whole::Free))
+    } else if word == b"nvals".as_slice() {
+        Some(Keyword::Whole(Whole::Nvals))
+    } else if word == b"size".as_slice() {
+        Some(Keyword::Whole(Whole::Size))
+    } else if word == b"clear".as_slice() {
+        Some(Keyword::Whole(Whole::Clear))
+    } else if word == b"remove".as_slice() {
+        Some(Keyword::Placed(Placed::Remove))
+    } else if word == b"get".as_slice() {
+        Some(Keyword::Placed(Placed::Get))
+    } else if word == b"resize".as_slice() {
+        Some(Keyword::Placed(Placed::Resize))
+    } else if word == b"set".as_slice() {
+        Some(Keyword::Set)
+    } else if word == b"build".as_slice() {
+        Some(Keyword::Build)
+    } else {
+        None
+    }
+}

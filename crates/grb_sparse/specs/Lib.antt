@@ -1,0 +1,4 @@
+pub mod Build
+pub mod Matrix
+pub mod Row
+pub mod Vector

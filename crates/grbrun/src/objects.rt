@@ -1,0 +1,200 @@
+ghost use Rattle.std.specs.Prelude.{◌≡◌, OnOk};
+ghost use Rattle.grbrun.specs.Objects.{matrix_named, vector_named, new_object, made_sort, objects_after, dup_call, free_call, nvals_call, size_call, clear_call, call_of};
+
+use crate::reply_line::Answer;
+use grb_call::{Call, MatrixId, Object, Reply, VectorId};
+use grb_script::{Sort, Statement};
+use std::alloc::AllocError;
+
+/// What a name stands for whose matrix was not made: no matrix has this number, so a call of it is refused.
+const NO_MATRIX: MatrixId = MatrixId(0xffff_ffff);
+
+/// What a name stands for whose vector was not made: no vector has this number, so a call of it is refused.
+const NO_VECTOR: VectorId = VectorId(0xffff_ffff);
+
+/// The matrix that a name stands for, where the names so far stand for these objects.
+fn matrix_named(objects: &[Object], name: usize) -> MatrixId
+    ensures { result ≡ matrix_named objects.now name }
+{
+    match objects.get(name) {
+        Some(Object::Matrix(a)) => *a,
+        _ => NO_MATRIX,
+    }
+}
+
+/// The vector that a name stands for, where the names so far stand for these objects.
+fn vector_named(objects: &[Object], name: usize) -> VectorId
+    ensures { result ≡ vector_named objects.now name }
+{
+    match objects.get(name) {
+        Some(Object::Vector(v)) => *v,
+        _ => NO_VECTOR,
+    }
+}
+
+fn dup_call(objects: &[Object], name: usize, sort: Sort) -> Call
+    ensures { result ≡ dup_call objects.now name sort }
+{
+    match sort {
+        Sort::Matrix => Call::DupMatrix {
+            a: matrix_named(objects, name),
+        },
+        Sort::Vector => Call::DupVector {
+            v: vector_named(objects, name),
+        },
+    }
+}
+
+fn free_call(objects: &[Object], name: usize, sort: Sort) -> Call
+    ensures { result ≡ free_call objects.now name sort }
+{
+    match sort {
+        Sort::Matrix => Call::FreeMatrix {
+            a: matrix_named(objects, name),
+        },
+        Sort::Vector => Call::FreeVector {
+            v: vector_named(objects, name),
+        },
+    }
+}
+
+fn nvals_call(objects: &[Object], name: usize, sort: Sort) -> Call
+    ensures { result ≡ nvals_call objects.now name sort }
+{
+    match sort {
+        Sort::Matrix => Call::NvalsMatrix {
+            a: matrix_named(objects, name),
+        },
+        Sort::Vector => Call::NvalsVector {
+            v: vector_named(objects, name),
+        },
+    }
+}
+
+fn size_call(objects: &[Object], name: usize, sort: Sort) -> Call
+    ensures { result ≡ size_call objects.now name sort }
+{
+    match sort {
+        Sort::Matrix => Call::SizeMatrix {
+            a: matrix_named(objects, name),
+        },
+        Sort::Vector => Call::SizeVector {
+            v: vector_named(objects, name),
+        },
+    }
+}
+
+fn clear_call(objects: &[Object], name: usize, sort: Sort) -> Call
+    ensures { result ≡ clear_call objects.now name sort }
+{
+    match sort {
+        Sort::Matrix => Call::ClearMatrix {
+            a: matrix_named(objects, name),
+        },
+        Sort::Vector => Call::ClearVector {
+            v: vector_named(objects, name),
+        },
+    }
+}
+
+/// The call that a statement makes, where the names so far stand for these objects. The list of a build goes into its call. Takes no
+/// memory.
+pub(crate) fn call_of(objects: &[Object], statement: Statement) -> Call
+    ensures { result ≡ call_of objects.now statement }
+{
+    match statement {
+        Statement::Matrix {
+            domain,
+            nrows,
+            ncols,
+        } => Call::NewMatrix {
+            domain,
+            nrows,
+            ncols,
+        },
+        Statement::Vector { domain, size } => Call::NewVector { domain, size },
+        Statement::Dup { name, sort } => dup_call(objects, name, sort),
+        Statement::Free { name, sort } => free_call(objects, name, sort),
+        Statement::Nvals { name, sort } => nvals_call(objects, name, sort),
+        Statement::Size { name, sort } => size_call(objects, name, sort),
+        Statement::Clear { name, sort } => clear_call(objects, name, sort),
+        Statement::SetMatrix { name, i, j, value } => {
+            let a = matrix_named(objects, name);
+            Call::SetMatrix { a, i, j, value }
+        }
+        Statement::SetVector { name, i, value } => {
+            let v = vector_named(objects, name);
+            Call::SetVector { v, i, value }
+        }
+        Statement::RemoveMatrix { name, i, j } => {
+            let a = matrix_named(objects, name);
+            Call::RemoveMatrix { a, i, j }
+        }
+        Statement::RemoveVector { name, i } => {
+            let v = vector_named(objects, name);
+            Call::RemoveVector { v, i }
+        }
+        Statement::GetMatrix { name, i, j } => {
+            let a = matrix_named(objects, name);
+            Call::GetMatrix { a, i, j }
+        }
+        Statement::GetVector { name, i } => {
+            let v = vector_named(objects, name);
+            Call::GetVector { v, i }
+        }
+        Statement::ResizeMatrix { name, nrows, ncols } => {
+            let a = matrix_named(objects, name);
+            Call::ResizeMatrix { a, nrows, ncols }
+        }
+        Statement::ResizeVector { name, size } => {
+            let v = vector_named(objects, name);
+            Call::ResizeVector { v, size }
+        }
+        Statement::BuildMatrix { name, tuples, dup } => {
+            let a = matrix_named(objects, name);
+            Call::BuildMatrix { a, tuples, dup }
+        }
+        Statement::BuildVector { name, tuples, dup } => {
+            let v = vector_named(objects, name);
+            Call::BuildVector { v, tuples, dup }
+        }
+    }
+}
+
+/// The sort of the object that a statement makes, if it makes one.
+pub(crate) fn made_sort(statement: &Statement) -> Option<Sort>
+    ensures { result ≡ made_sort statement.now }
+{
+    match statement {
+        Statement::Matrix { .. } => Some(Sort::Matrix),
+        Statement::Vector { .. } => Some(Sort::Vector),
+        Statement::Dup { sort, .. } => Some(*sort),
+        _ => None,
+    }
+}
+
+/// What a new name stands for whose statement makes an object of this sort and was answered this.
+fn new_object(sort: Sort, answer: &Answer) -> Object
+    ensures { result ≡ new_object sort answer.now }
+{
+    match (sort, answer) {
+        (_, Ok(Reply::MadeMatrix(a))) => Object::Matrix(*a),
+        (_, Ok(Reply::MadeVector(v))) => Object::Vector(*v),
+        (Sort::Matrix, _) => Object::Matrix(NO_MATRIX),
+        (Sort::Vector, _) => Object::Vector(NO_VECTOR),
+    }
+}
+
+/// Keeps what the name stands for that a statement makes, if it makes one of this sort and was answered this.
+pub(crate) fn keep_object(
+    objects: &mut Vec<Object>,
+    made: Option<Sort>,
+    answer: &Answer,
+) -> Result<(), AllocError>
+    ensures { OnOk result (objects.new.items ≡ objects_after objects.old.items made answer.now) }
+{
+    if let Some(sort) = made {
+        objects.push(new_object(sort, answer))?;
+    }
+    Ok(())
+}
