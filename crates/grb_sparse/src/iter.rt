@@ -36,9 +36,9 @@ impl<'a> Iterator for VectorEntries<'a> {
     ghost remaining = { item_count (λ s. s) };
 
     fn next(&mut self) -> Option<(u64, Value)> {
-        let (first, others) = self.rest.split_first()?;
+        let (entry, others) = self.rest.split_first()?;
         self.rest = others;
-        Some(*first)
+        Some(*entry)
     }
 }
 

@@ -284,6 +284,7 @@ fn cells(
 #[cfg(test)]
 mod tests {
     use super::*;
+    use std::process::Abort;
     use std::test::Fail;
 
     #[test]
@@ -346,6 +347,92 @@ mod tests {
         a.resize(2, 2)?;
         assert!(rt; a.domain() == Domain::Bool && a.is_assembled() && a.nvals() == 1);
         assert!(rt; a.get(0, 0) == Some(Value::Bool(true)) && a.get(0, 1) == None);
+        Ok(())
+    }
+
+    /// A matrix of 2 rows and 10 columns that stores a 1 at (1, 2), and nothing else. A build that is refused memory is tried once more.
+    fn with_one_entry(alloc: Global) -> Result<SparseMatrix, AllocError>
+        ensures domain { IfOk result (λ a. a.matrix.domain ≡ Domain.Uint64) }
+        ensures dims { IfOk result (λ a. (a.matrix.nrows ≡ 2) × (a.matrix.ncols ≡ 10)) }
+    {
+        let tuples = [(1, 2, Value::Uint64(1))];
+        let mut a = SparseMatrix::new(alloc, Domain::Uint64, 2, 10);
+        if a.build(&tuples, Monoid::Plus).is_err() {
+            a.build(&tuples, Monoid::Plus)?;
+        }
+        Ok(a)
+    }
+
+    fn expect_one_entry(rt: &impl Abort, a: &SparseMatrix) {
+        assert_eq!(rt; (a.domain(), a.dims()), (Domain::Uint64, (2, 10)));
+        assert_eq!(rt; (a.nvals(), a.get(1, 2)), (1, Some(Value::Uint64(1))));
+    }
+
+    #[test]
+    fn a_refused_build_changes_nothing(rt: HostRuntime) -> Result<(), Fail> {
+        let tuples = [(1, 2, Value::Uint64(4)), (1, 2, Value::Uint64(5))];
+        let mut a = SparseMatrix::new(rt.alloc(), Domain::Uint64, 2, 10);
+        if a.build(&tuples, Monoid::Plus).is_err() {
+            assert_eq!(rt; (a.nvals(), a.get(1, 2)), (0, None));
+            assert!(rt; a.is_assembled());
+            a.build(&tuples, Monoid::Plus)?;
+        }
+        assert_eq!(rt; (a.nvals(), a.get(1, 2)), (1, Some(Value::Uint64(9))));
+        Ok(())
+    }
+
+    #[test]
+    fn a_refused_reservation_changes_nothing(rt: HostRuntime) -> Result<(), Fail> {
+        let mut a = with_one_entry(rt.alloc())?;
+        // more places than any memory holds
+        assert!(rt; a.reserve_pending(0xffff_ffff_ffff_ffff).is_err());
+        expect_one_entry(&rt, &a);
+        assert!(rt; a.is_assembled());
+        if a.reserve_pending(1_000).is_err() {
+            expect_one_entry(&rt, &a);
+            assert!(rt; a.is_assembled());
+            a.reserve_pending(1_000)?;
+        }
+        a.set(0, 9, Value::Uint64(7));
+        assert_eq!(rt; (a.nvals(), a.get(0, 9)), (2, Some(Value::Uint64(7))));
+        Ok(())
+    }
+
+    #[test]
+    fn a_refused_copy_leaves_its_source(rt: HostRuntime) -> Result<(), Fail> {
+        let a = with_one_entry(rt.alloc())?;
+        let mut copy = match a.try_clone() {
+            Ok(copy) => copy,
+            Err(_) => {
+                expect_one_entry(&rt, &a);
+                a.try_clone()?
+            }
+        };
+        expect_one_entry(&rt, &copy);
+        copy.clear();
+        expect_one_entry(&rt, &a);
+        Ok(())
+    }
+
+    #[test]
+    fn a_refused_assemble_or_resize_changes_nothing(rt: HostRuntime) -> Result<(), Fail> {
+        let mut a = with_one_entry(rt.alloc())?;
+        if a.reserve_pending(2).is_err() {
+            a.reserve_pending(2)?;
+        }
+        a.remove(0, 9);
+        if a.assemble().is_err() {
+            expect_one_entry(&rt, &a);
+            assert!(rt; !a.is_assembled());
+            a.assemble()?;
+        }
+        expect_one_entry(&rt, &a);
+        assert!(rt; a.is_assembled());
+        if a.resize(2, 2).is_err() {
+            expect_one_entry(&rt, &a);
+            a.resize(2, 2)?;
+        }
+        assert_eq!(rt; (a.dims(), a.nvals(), a.get(1, 2)), ((2, 2), 0, None));
         Ok(())
     }
 }

@@ -249,6 +249,7 @@ impl SparseVector {
 #[cfg(test)]
 mod tests {
     use super::*;
+    use std::process::Abort;
     use std::test::Fail;
 
     #[test]
@@ -320,20 +321,88 @@ mod tests {
         Ok(())
     }
 
+    /// A vector of size 10 that stores a 1 at index 3, and nothing else. A build that is refused memory is tried once more.
+    fn with_one_entry(alloc: Global) -> Result<SparseVector, AllocError>
+        ensures { IfOk result (λ v. (v.vector.domain ≡ Domain.Uint64) × (v.vector.size ≡ 10)) }
+    {
+        let tuples = [(3, Value::Uint64(1))];
+        let mut v = SparseVector::new(alloc, Domain::Uint64, 10);
+        if v.build(&tuples, Monoid::Plus).is_err() {
+            v.build(&tuples, Monoid::Plus)?;
+        }
+        Ok(v)
+    }
+
+    fn expect_one_entry(rt: &impl Abort, v: &SparseVector) {
+        assert_eq!(rt; (v.domain(), v.dims()), (Domain::Uint64, 10));
+        assert_eq!(rt; (v.nvals(), v.get(3)), (1, Some(Value::Uint64(1))));
+    }
+
     #[test]
-    fn a_refused_allocation_changes_nothing(rt: HostRuntime) -> Result<(), Fail> {
+    fn a_refused_build_changes_nothing(rt: HostRuntime) -> Result<(), Fail> {
+        let tuples = [(3, Value::Uint64(4)), (3, Value::Uint64(5))];
         let mut v = SparseVector::new(rt.alloc(), Domain::Uint64, 10);
-        if v.build(&[(3, Value::Uint64(1))], Monoid::Plus).is_err() {
-            assert!(rt; v.nvals() == 0 && v.is_assembled());
-            return Ok(());
+        if v.build(&tuples, Monoid::Plus).is_err() {
+            assert_eq!(rt; (v.nvals(), v.get(3)), (0, None));
+            assert!(rt; v.is_assembled());
+            v.build(&tuples, Monoid::Plus)?;
         }
+        assert_eq!(rt; (v.nvals(), v.get(3)), (1, Some(Value::Uint64(9))));
+        Ok(())
+    }
+
+    #[test]
+    fn a_refused_reservation_changes_nothing(rt: HostRuntime) -> Result<(), Fail> {
+        let mut v = with_one_entry(rt.alloc())?;
+        // more places than any memory holds
+        assert!(rt; v.reserve_pending(0xffff_ffff_ffff_ffff).is_err());
+        expect_one_entry(&rt, &v);
+        assert!(rt; v.is_assembled());
         if v.reserve_pending(1_000).is_err() {
-            assert!(rt; v.nvals() == 1 && v.get(3) == Some(Value::Uint64(1)));
-            return Ok(());
+            expect_one_entry(&rt, &v);
+            assert!(rt; v.is_assembled());
+            v.reserve_pending(1_000)?;
         }
-        if v.try_clone().is_err() {
-            assert!(rt; v.nvals() == 1 && v.get(3) == Some(Value::Uint64(1)));
+        v.set(9, Value::Uint64(7));
+        assert_eq!(rt; (v.nvals(), v.get(9)), (2, Some(Value::Uint64(7))));
+        Ok(())
+    }
+
+    #[test]
+    fn a_refused_copy_leaves_its_source(rt: HostRuntime) -> Result<(), Fail> {
+        let v = with_one_entry(rt.alloc())?;
+        let mut copy = match v.try_clone() {
+            Ok(copy) => copy,
+            Err(_) => {
+                expect_one_entry(&rt, &v);
+                v.try_clone()?
+            }
+        };
+        expect_one_entry(&rt, &copy);
+        copy.clear();
+        expect_one_entry(&rt, &v);
+        Ok(())
+    }
+
+    #[test]
+    fn a_refused_assemble_or_resize_changes_nothing(rt: HostRuntime) -> Result<(), Fail> {
+        let mut v = with_one_entry(rt.alloc())?;
+        if v.reserve_pending(2).is_err() {
+            v.reserve_pending(2)?;
         }
+        v.remove(9);
+        if v.assemble().is_err() {
+            expect_one_entry(&rt, &v);
+            assert!(rt; !v.is_assembled());
+            v.assemble()?;
+        }
+        expect_one_entry(&rt, &v);
+        assert!(rt; v.is_assembled());
+        if v.resize(3).is_err() {
+            expect_one_entry(&rt, &v);
+            v.resize(3)?;
+        }
+        assert_eq!(rt; (v.dims(), v.nvals(), v.get(3)), (3, 0, None));
         Ok(())
     }
 }

@@ -16,6 +16,15 @@ const FIRST: &str = "vector v uint64 5\nset v 2 7\nget v 2\nget v 3\nnvals v\n";
 
 const FIRST_LINES: &str = "ok\nok\nvalue 7\nnone\ncount 1\n";
 
+/// The lines of the same script where one call is refused memory, or its record is not taken.
+const FIRST_LINES_REFUSED: [&str; 5] = [
+    "GrB_PANIC\nGrB_UNINITIALIZED_OBJECT\nGrB_UNINITIALIZED_OBJECT\nGrB_UNINITIALIZED_OBJECT\nGrB_UNINITIALIZED_OBJECT\n",
+    "ok\nGrB_PANIC\nnone\nnone\ncount 0\n",
+    "ok\nok\nGrB_OUT_OF_MEMORY\nnone\ncount 1\n",
+    "ok\nok\nvalue 7\nGrB_OUT_OF_MEMORY\ncount 1\n",
+    "ok\nok\nvalue 7\nnone\nGrB_OUT_OF_MEMORY\n",
+];
+
 /// A script of one vector that fills a history with room for two calls.
 const FULL: &str = "vector v uint64 3\nset v 0 7\nset v 1 8\nget v 0\nset v 3 1\n";
 
@@ -230,6 +239,38 @@ fn a_source_that_fails_writes_nothing(rt: HostRuntime) -> Result<(), Fail> {
         );
         assert_eq!(rt; sink.taken.len(), 0, "{fault:?}");
     }
+    Ok(())
+}
+
+/// Whether a run that ended so, with these lines written, tells of memory that was refused once.
+fn tells_of_memory(ended: &Result<(), RunFault>, lines: &[u8]) -> bool {
+    match ended {
+        Ok(()) => FIRST_LINES_REFUSED
+            .iter()
+            .any(|refused| refused.as_bytes() == lines),
+        Err(RunFault::OutOfMemory) => lines.is_empty(),
+        // the sink of the tests takes memory
+        Err(RunFault::CannotWrite) => FIRST_LINES.as_bytes().starts_with(lines),
+        Err(_) => false,
+    }
+}
+
+#[test]
+fn memory_that_is_refused_once_spoils_one_run_at_most(rt: HostRuntime) -> Result<(), Fail> {
+    let mut spoilt = 0u32;
+    for run in 0..3 {
+        let mut source = source_of(rt.alloc(), FIRST);
+        let mut sink = sink_of(rt.alloc(), 1000, 1000);
+        let result = run_script(&rt, rt.alloc(), 8, &mut source, &mut sink, &OpenGate);
+        if result != Ok(()) || sink.taken.as_slice() != FIRST_LINES.as_bytes() {
+            assert!(rt;
+                tells_of_memory(&result, &sink.taken),
+                "run {run}: {result:?}"
+            );
+            spoilt = spoilt.saturating_add(1);
+        }
+    }
+    assert!(rt; spoilt <= 1, "{spoilt} runs");
     Ok(())
 }
 
