@@ -10,7 +10,6 @@ use grb_core::{Domain, Monoid, Value};
 use grb_sparse::SparseMatrix;
 use std::alloc::{AllocError, Global};
 use std::rt::Clock;
-use std::sync::Wait;
 use std::test::Fail;
 use std::time::Instant;
 
@@ -19,6 +18,9 @@ const TUPLES: u32 = 100_000;
 
 /// The rows of the matrix, and its columns.
 const SIDE: u64 = 65_536;
+
+/// From one place of a rising build to the next, in cells counted row by row.
+const STEP: u64 = 42_949;
 
 /// The tuples of a build, at places of the matrix.
 fn made(alloc: Global) -> Result<Vec<(u64, u64, Value)>, AllocError>
@@ -37,8 +39,24 @@ fn made(alloc: Global) -> Result<Vec<(u64, u64, Value)>, AllocError>
     Ok(tuples)
 }
 
+/// The tuples of a build that stand in rising order of their places already.
+fn made_rising(alloc: Global) -> Result<Vec<(u64, u64, Value)>, AllocError>
+    ensures rows { IfOk result (λ tuples. All (λ e. e.0 < 65536) tuples.items) }
+    ensures columns { IfOk result (λ tuples. All (λ e. e.1 < 65536) tuples.items) }
+    ensures domain { IfOk result (λ tuples. All (λ e. value_domain e.2 ≡ Domain.Uint64) tuples.items) }
+{
+    let mut numbers = Numbers::new();
+    let mut tuples = Vec::with_capacity(alloc, TUPLES as usize)?;
+    for k in 0..TUPLES {
+        let cell = u64::from(k) * STEP;
+        let value = numbers.next();
+        tuples.push((cell / SIDE, cell % SIDE, Value::Uint64(value)))?;
+    }
+    Ok(tuples)
+}
+
 /// The number that a value of the domain `Uint64` is.
-fn number_of(value: Value) -> u64 {
+pub(crate) fn number_of(value: Value) -> u64 {
     match value {
         Value::Bool(truth) => u64::from(truth),
         Value::Uint64(number) => number,
@@ -102,7 +120,7 @@ struct Built {
 }
 
 /// One build by the store; none where a call was refused.
-fn timed_build<R: Clock + Wait + AllocGlobal>(
+fn timed_build<R: Clock + AllocGlobal>(
     rt: &R,
     tuples: &[(u64, u64, Value)],
 ) -> Result<Option<Built>, AllocError> {
@@ -110,12 +128,11 @@ fn timed_build<R: Clock + Wait + AllocGlobal>(
     let Some((context, mut pass)) = open_one(rt.alloc(), 2)? else {
         return Ok(None);
     };
-    let Ok(Reply::MadeMatrix(a)) = context.new_matrix(rt, &mut pass, Domain::Uint64, SIDE, SIDE)
-    else {
+    let Ok(Reply::MadeMatrix(a)) = context.new_matrix(&mut pass, Domain::Uint64, SIDE, SIDE) else {
         return Ok(None);
     };
     let start = Instant::now(rt);
-    let entered = context.build_matrix(rt, &mut pass, a, list, Monoid::Plus);
+    let entered = context.build_matrix(&mut pass, a, list, Monoid::Plus);
     let entering = nanos_since(rt, start);
     let start = Instant::now(rt);
     let counted = context.nvals_matrix(&mut pass, a);
@@ -136,6 +153,7 @@ struct Times {
     sort: Least,
     sort_by_place: Least,
     alone: Least,
+    rising: Least,
     entering: Least,
     evaluating: Least,
     both: Least,
@@ -147,6 +165,7 @@ impl Times {
             sort: Least::none(),
             sort_by_place: Least::none(),
             alone: Least::none(),
+            rising: Least::none(),
             entering: Least::none(),
             evaluating: Least::none(),
             both: Least::none(),
@@ -154,7 +173,7 @@ impl Times {
     }
 
     /// One run of each part; whether all of them found as many places as the sort.
-    fn take_run<R: Clock + Wait + AllocGlobal>(
+    fn take_run<R: Clock + AllocGlobal>(
         &mut self,
         rt: &R,
         tuples: &[(u64, u64, Value)],
@@ -183,23 +202,31 @@ impl Times {
         self.sort.write(rt, "sort", TUPLES)?;
         self.sort_by_place.write(rt, "sort by place", TUPLES)?;
         self.alone.write(rt, "build of one matrix", TUPLES)?;
+        self.rising
+            .write(rt, "build of one matrix, rising", TUPLES)?;
         self.entering.write(rt, "build: entering", TUPLES)?;
         self.evaluating.write(rt, "build: evaluating", TUPLES)?;
         self.both.write(rt, "build: both", TUPLES)?;
         self.alone
             .write_ratio(rt, "build of one matrix / sort", self.sort)?;
+        self.rising
+            .write_ratio(rt, "build of one matrix, rising / sort", self.sort)?;
         self.both.write_ratio(rt, "build: both / sort", self.sort)?;
         Ok(())
     }
 }
 
 /// Times builds of one matrix by the store, beside a sort of the same tuples.
-pub fn run<R: Clock + Wait + Print + Eprint + AllocGlobal>(rt: &R) -> Result<(), Fail> {
+pub fn run<R: Clock + Print + Eprint + AllocGlobal>(rt: &R) -> Result<(), Fail> {
     let tuples = made(rt.alloc())?;
+    let rising = made_rising(rt.alloc())?;
     let mut times = Times::none();
     let mut holds = true;
     for _ in 0..RUNS {
         holds &= times.take_run(rt, &tuples)?;
+        let (nanos, nvals) = timed_alone(rt, &rising)?;
+        times.rising.take(nanos);
+        holds &= nvals == u64::from(TUPLES);
     }
     times.write(rt)?;
     write_check(rt, "build", holds)?;

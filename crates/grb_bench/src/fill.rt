@@ -2,6 +2,7 @@ ghost use Rattle.std.specs.Prelude.{◌<◌, ◌≤◌};
 ghost use Rattle.grb_context.specs.Known.{IsPassOf};
 
 use crate::report::{Least, RUNS, nanos_since, write_check};
+use crate::single;
 use grb_call::{Reply, VectorId};
 use grb_context::{Context, Pass};
 use grb_core::{Domain, Refusal, Value};
@@ -12,29 +13,29 @@ use std::thread::{Threads, map_indices, map_vec};
 use std::time::Instant;
 
 /// The calls that a run enters.
-const ROOM: u32 = 4096;
+pub(crate) const ROOM: u32 = 4096;
 
 /// What one thread did in a run: how many of its calls or pushes went in, and how many nanoseconds it took.
 #[derive(Clone, Copy)]
-struct Share {
-    entered: u32,
-    nanos: u64,
+pub(crate) struct Share {
+    pub entered: u32,
+    pub nanos: u64,
 }
 
 /// Makes a vector, and sets one entry of it after another until the order is full; how many calls were entered. A call that is
 /// refused for another reason ends it with that refusal.
-fn fill<R: Wait>(rt: &R, context: &Context, pass: &mut Pass) -> Result<u32, Refusal>
+fn fill(context: &Context, pass: &mut Pass) -> Result<u32, Refusal>
     requires { IsPassOf context.now pass.old }
 {
     let mut entered = 0u32;
-    let v = match context.new_vector(rt, pass, Domain::Uint64, u64::from(ROOM)) {
+    let v = match context.new_vector(pass, Domain::Uint64, u64::from(ROOM)) {
         Ok(Reply::MadeVector(v)) => v,
         Ok(_) | Err(Refusal::OrderFull) => return Ok(entered),
         Err(refusal) => return Err(refusal),
     };
     entered = entered.wrapping_add(1);
     for i in 0..u64::from(ROOM) {
-        match context.set_vector(rt, pass, v, i, Value::Uint64(i)) {
+        match context.set_vector(pass, v, i, Value::Uint64(i)) {
             Ok(_) => entered = entered.wrapping_add(1),
             Err(Refusal::OrderFull) => break,
             Err(refusal) => return Err(refusal),
@@ -70,7 +71,7 @@ fn timed_fill<R: Clock + Wait>(
 {
     all.wait(rt);
     let start = Instant::now(rt);
-    let filled = fill(rt, context, pass);
+    let filled = fill(context, pass);
     let nanos = nanos_since(rt, start);
     match filled {
         Ok(entered) => Some(Share { entered, nanos }),
@@ -91,8 +92,8 @@ fn timed_push<R: Clock + Wait>(
     Some(Share { entered, nanos })
 }
 
-/// The longest of the threads' times; none where a share is missing, or all together are not as many calls as there is room for.
-fn longest(shares: &[Option<Share>]) -> Option<u64> {
+/// The longest of the threads' times; none where a share is missing, or all together did not enter so many calls.
+pub(crate) fn longest(shares: &[Option<Share>], calls: u32) -> Option<u64> {
     let mut entered = 0u32;
     let mut longest = 0u64;
     for share in shares {
@@ -102,7 +103,11 @@ fn longest(shares: &[Option<Share>]) -> Option<u64> {
         entered = entered.wrapping_add(share.entered);
         longest = longest.max(share.nanos);
     }
-    if entered == ROOM { Some(longest) } else { None }
+    if entered == calls {
+        Some(longest)
+    } else {
+        None
+    }
 }
 
 /// Fills the order by so many passes, each on a thread of its own; the time, if the order was full then.
@@ -119,7 +124,7 @@ fn fill_by<R: Clock + Threads + Wait + Sync + AllocGlobal>(
         opened,
         &|mut pass| timed_fill(rt, &all, &context, &mut pass),
     )?;
-    Ok(longest(&shares))
+    Ok(longest(&shares, ROOM))
 }
 
 /// Fills a list under a mutex by so many threads; the time, if the list was full then.
@@ -135,10 +140,11 @@ fn push_by<R: Clock + Threads + Wait + Sync + AllocGlobal>(
         threads as usize,
         &|_| timed_push(rt, &all, &sets),
     )?;
-    Ok(longest(&shares))
+    Ok(longest(&shares, ROOM))
 }
 
-/// Times fills by one, two and four passes beside pushes under one mutex. The check is that each of them ended full.
+/// Times fills by one, two and four passes beside pushes under one mutex, and beside fills of the same store with one pass under one
+/// mutex. The check is that each of them ended full.
 pub fn run<R: Clock + Threads + Wait + Sync + Print + Eprint + AllocGlobal>(
     rt: &R,
 ) -> Result<(), Fail> {
@@ -146,13 +152,18 @@ pub fn run<R: Clock + Threads + Wait + Sync + Print + Eprint + AllocGlobal>(
     for passes in [1, 2, 4] {
         let mut fills = Least::none();
         let mut pushes = Least::none();
+        let mut singles = Least::none();
         for _ in 0..RUNS {
             full &= fills.take_if(fill_by(rt, passes)?);
             full &= pushes.take_if(push_by(rt, passes)?);
+            full &= singles.take_if(single::fill_by(rt, passes)?);
         }
         eprintln!(rt; "by {passes}:")?;
         fills.write(rt, "fill", ROOM)?;
         pushes.write(rt, "fill under a mutex", ROOM)?;
+        singles.write(rt, "store under a mutex", ROOM)?;
+        fills.write_ratio(rt, "fill / fill under a mutex", pushes)?;
+        fills.write_ratio(rt, "fill / store under a mutex", singles)?;
     }
     write_check(rt, "fill", full)?;
     Ok(())

@@ -1,4 +1,4 @@
-//! Times the store on made data: the shared order beside the same work under one mutex, builds beside a sort, and sets. It writes
+//! Times the store on made data: the shared order beside the same work under one mutex, builds beside a sort, sets, and the methods of one object. It writes
 //! to standard output a fixed word for each check of what the timed work made, and to standard error for each line its name, the
 //! least of several runs in nanoseconds a step, and the steps of a run.
 #![tactic(auto)]
@@ -7,16 +7,21 @@ mod build;
 mod fill;
 mod look;
 mod numbers;
+mod objects;
 mod open;
+mod opening;
 mod report;
 mod sets;
+mod single;
 
 use std::test::Fail;
 
 fn main(rt: HostRuntime) -> Result<(), Fail> {
     look::run(&rt)?;
+    opening::run(&rt)?;
     fill::run(&rt)?;
     build::run(&rt)?;
     sets::run(&rt)?;
+    objects::run(&rt)?;
     Ok(())
 }

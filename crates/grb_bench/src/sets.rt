@@ -8,7 +8,6 @@ use grb_context::{Context, Pass};
 use grb_core::{Domain, Refusal, Value};
 use std::alloc::{AllocError, Global};
 use std::rt::Clock;
-use std::sync::Wait;
 use std::test::Fail;
 use std::time::Instant;
 
@@ -52,8 +51,7 @@ fn distinct<K: Ord + Copy>(alloc: Global, keys: &[K]) -> Result<u64, AllocError>
 }
 
 /// Sets an entry at each index, to the index itself, until a set is refused; then the refusal.
-fn set_indices<R: Wait>(
-    rt: &R,
+fn set_indices(
     context: &Context,
     pass: &mut Pass,
     v: VectorId,
@@ -63,14 +61,13 @@ fn set_indices<R: Wait>(
     ensures { IsPassOf context.now pass.new }
 {
     for i in indices {
-        context.set_vector(rt, pass, v, *i, Value::Uint64(*i))?;
+        context.set_vector(pass, v, *i, Value::Uint64(*i))?;
     }
     Ok(())
 }
 
 /// Sets an entry at each place, to its row, until a set is refused; then the refusal.
-fn set_places<R: Wait>(
-    rt: &R,
+fn set_places(
     context: &Context,
     pass: &mut Pass,
     a: MatrixId,
@@ -80,7 +77,7 @@ fn set_places<R: Wait>(
     ensures { IsPassOf context.now pass.new }
 {
     for place in places {
-        context.set_matrix(rt, pass, a, place.0, place.1, Value::Uint64(place.0))?;
+        context.set_matrix(pass, a, place.0, place.1, Value::Uint64(place.0))?;
     }
     Ok(())
 }
@@ -94,18 +91,18 @@ struct Counted {
 }
 
 /// One run on a vector; none where a call was refused.
-fn timed_vector<R: Clock + Wait + AllocGlobal>(
+fn timed_vector<R: Clock + AllocGlobal>(
     rt: &R,
     indices: &[u64],
 ) -> Result<Option<Counted>, AllocError> {
     let Some((context, mut pass)) = open_one(rt.alloc(), ROOM)? else {
         return Ok(None);
     };
-    let Ok(Reply::MadeVector(v)) = context.new_vector(rt, &mut pass, Domain::Uint64, SIZE) else {
+    let Ok(Reply::MadeVector(v)) = context.new_vector(&mut pass, Domain::Uint64, SIZE) else {
         return Ok(None);
     };
     let start = Instant::now(rt);
-    let set = set_indices(rt, &context, &mut pass, v, indices);
+    let set = set_indices(&context, &mut pass, v, indices);
     let setting = nanos_since(rt, start);
     let start = Instant::now(rt);
     let counted = context.nvals_vector(&mut pass, v);
@@ -121,19 +118,18 @@ fn timed_vector<R: Clock + Wait + AllocGlobal>(
 }
 
 /// One run on a matrix; none where a call was refused.
-fn timed_matrix<R: Clock + Wait + AllocGlobal>(
+fn timed_matrix<R: Clock + AllocGlobal>(
     rt: &R,
     places: &[(u64, u64)],
 ) -> Result<Option<Counted>, AllocError> {
     let Some((context, mut pass)) = open_one(rt.alloc(), ROOM)? else {
         return Ok(None);
     };
-    let Ok(Reply::MadeMatrix(a)) = context.new_matrix(rt, &mut pass, Domain::Uint64, SIZE, SIZE)
-    else {
+    let Ok(Reply::MadeMatrix(a)) = context.new_matrix(&mut pass, Domain::Uint64, SIZE, SIZE) else {
         return Ok(None);
     };
     let start = Instant::now(rt);
-    let set = set_places(rt, &context, &mut pass, a, places);
+    let set = set_places(&context, &mut pass, a, places);
     let setting = nanos_since(rt, start);
     let start = Instant::now(rt);
     let counted = context.nvals_matrix(&mut pass, a);
@@ -175,7 +171,7 @@ impl Times {
 }
 
 /// Times sets at random places of one vector and of one matrix, and their evaluation.
-pub fn run<R: Clock + Wait + Print + Eprint + AllocGlobal>(rt: &R) -> Result<(), Fail> {
+pub fn run<R: Clock + Print + Eprint + AllocGlobal>(rt: &R) -> Result<(), Fail> {
     let indices = indices(rt.alloc())?;
     let places = places(rt.alloc())?;
     let wanted_indices = distinct(rt.alloc(), &indices)?;

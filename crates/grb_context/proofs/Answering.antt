@@ -1,6 +1,6 @@
 -- Why an answer is explained.
 use Rattle.std.proofs.Common.{◌≡◌, ℕ, ◌+◌, ◌^◌, ◌<◌, ◌≤◌, Bool, true, false, cond, List, [], ◌∷◌, ◌++◌, length, get_or, refl, sym, ap, ◌∙◌, subst, arith, append_assoc, inl, inr}
-use Rattle.std.specs.Prelude.{Option, Some, None, Result, Ok, Err, IfOk, OnErr, IsTrue}
+use Rattle.std.specs.Prelude.{◌⊎◌, Option, Some, None, Result, Ok, Err, IfOk, OnErr, IsTrue}
 use Rattle.std.specs.Result.{result_or}
 use Rattle.std.specs.declared.alloc.AllocError.{AllocError}
 use Rattle.std.specs.Option.{option_map_or}
@@ -8,14 +8,14 @@ use Rattle.std.proofs.lemmas.List.{append-nil, length_push, get_or_at}
 use Rattle.grb_core.specs.declared.refusal.Refusal.{Refusal}
 use Rattle.grb_core.specs.declared.refusal.Refusal.TheVariants.{OrderFull, OutOfMemory, Panic}
 use Rattle.grb_order.specs.Word.{order_word, number_of, StartsWith}
-use Rattle.grb_order.specs.View.{enters as enters_word, learns, LookedLast}
+use Rattle.grb_order.specs.View.{enters_word, learns, LookedLast}
 use Rattle.grb_order.specs.declared.view.View.{View}
 use Rattle.grb_records.specs.Token.{Shown}
 use Rattle.grb_call.specs.declared.call.Call.{Call}
 use Rattle.grb_call.specs.declared.call.Call.TheVariants as call
 use Rattle.grb_call.specs.declared.checking.Kind.{Kind}
 use Rattle.grb_call.specs.declared.reply.Reply.{Reply}
-use Rattle.grb_call.specs.Kinds.{enters, is_build}
+use Rattle.grb_call.specs.Kinds.{enters, is_entry_read, is_size}
 use Rattle.grb_call.specs.Refused.{check_of}
 use Rattle.grb_call.specs.Store.{Store, shapes_of}
 use Rattle.grb_call.specs.After.{refused, answer, reply_of}
@@ -26,11 +26,11 @@ use Rattle.grb_context.specs.declared.learn.End.{End}
 use Rattle.grb_context.specs.declared.learn.End.TheVariants.{Vacant, Full}
 use Rattle.grb_context.specs.Known.{Knowing, known, spelled}
 use Rattle.grb_context.specs.Point.{GrewTo, IsAtPoint}
-use Rattle.grb_context.specs.Explains.{Answer, Ground, ByStore, ByRoom, ByMemory, ByRecords, ground_of, history_after, is_entry_read, is_size, IsGrounded, ExplainsCall, IsCaughtUp}
+use Rattle.grb_context.specs.Explains.{Answer, Ground, ByStore, ByRoom, ByMemory, ByRecords, ground_of, history_after, IsGrounded, IsOutOfMemory, MayLackMemory, ExplainsCall, IsCaughtUp}
 use Rattle.grb_context.specs.Learning.{Learns, Finds, IsReady, IsRefused}
 use Rattle.grb_context.proofs.Spelling.{spelled_push, spelled_more, length_spelled}
 use Rattle.grb_context.specs.Reading.{IsChecked}
-use Rattle.grb_context.proofs.Checking.{reads_no_build, build_no_size, build_no_entry_read}
+use Rattle.grb_context.proofs.Checking.{reads_no_build, build_no_size, build_no_entry_read, enters_no_size, enters_no_entry_read, unrefused_by_shapes}
 use Rattle.grb_context.proofs.Kept.{number_of-order_word}
 use Rattle.grb_context.proofs.Learnt.{grows_then, grows_enters, learns_then, learns_word}
 
@@ -66,7 +66,6 @@ refused_by_check room old new end c r f e =
     record {
       grounds = subst (IsGrounded room old new c (Err r) (known new)) by (record { answered = sym (answer-err (store_of (known new)) c r e); point = point_found room old new end f });
       caught_up = subst (λ (g : Ground). IsCaughtUp g new) by (known_found room old new end f);
-      memory = λ writes no_build is. let no : ByStore ≡ ByMemory = by ∙ ap (λ (q : Refusal). ground_of (Err q)) is in cc;
     }
 
 -- a call that would be entered is refused at the order's end, by what the store is or for want of memory to a build
@@ -77,20 +76,20 @@ refused_by_store room old new end c r f e is =
     record {
       grounds = subst (IsGrounded room old new c (Err r) (known new)) by (record { answered = answered; point = point_found room old new end f });
       caught_up = subst (λ (g : Ground). IsCaughtUp g new) by (known_found room old new end f);
-      memory = λ writes no_build out. let no : ByStore ≡ ByMemory = by ∙ ap (λ (q : Refusal). ground_of (Err q)) out in cc;
     }
 
 pub refused_checked : (room : ℕ) (old new : Knowing) (end : End) (c : Call) (r : Refusal) → Finds room old (Ok end) new → IsChecked (store_of (known new)) c (Err r) → IsRefused room old new c r
 refused_checked room old new end c OutOfMemory f e = record {
   grounds = record {
     point = point_found room old new end f;
-    by_shapes = e.0;
-    no_size = build_no_size c e.1;
-    room_left = λ writes no_build. let no : true ≡ false = sym e.1 ∙ no_build in cc;
-    unsettled = λ reads. let no : true ≡ false = sym reads ∙ build_no_entry_read c e.1 in cc;
+    may = record {
+      by_shapes = e.0;
+      no_size = build_no_size c e.1;
+      room_left = λ writes no_build. let no : true ≡ false = sym e.1 ∙ no_build in cc;
+      unsettled = λ reads. let no : true ≡ false = sym reads ∙ build_no_entry_read c e.1 in cc;
+    };
   };
   caught_up = known_found room old new end f;
-  memory = λ writes no_build is. let no : true ≡ false = sym e.1 ∙ no_build in cc;
 }
 refused_checked room old new end c r f e = refused_by_store room old new end c r f e.0 e.1
 
@@ -98,11 +97,11 @@ refused_checked room old new end c r f e = refused_by_store room old new end c r
 pub refused_by_room : (room : ℕ) (old new : Knowing) (c : Call) → Finds room old (Ok Full) new → enters c ≡ true → refused (store_of (known new)) c ≡ None → IsRefused room old new c OrderFull
 refused_by_room room old new c f writes e =
     let n : length (known new) ≡ length new.view.words = length_known new f.0 in
-    record { grounds = record { unrefused = e; enters = writes; full = n ∙ f.1 }; caught_up = n; memory = λ _ _ is. cc }
+    record { grounds = record { unrefused = e; enters = writes; full = n ∙ f.1 }; caught_up = n }
 
 -- a record was not shown
 pub refused_unshown : (room : ℕ) (old new : Knowing) (c : Call) (r : Refusal) → Finds room old (Err r) new → IsRefused room old new c r
-refused_unshown room old new c r f = subst (IsRefused room old new c) (sym f.0) (record { grounds = inl f.1; caught_up = tt; memory = λ _ _ is. cc })
+refused_unshown room old new c r f = subst (IsRefused room old new c) (sym f.0) (record { grounds = inl f.1; caught_up = tt })
 
 pub is_ready : (room : ℕ) (old new : Knowing) (c : Call) → Finds room old (Ok Vacant) new → refused (store_of (known new)) c ≡ None → IsReady room old new c
 is_ready room old new c f e = record {
@@ -112,13 +111,39 @@ is_ready room old new c f e = record {
   unrefused = e;
 }
 
--- the call's own record was not taken
-pub refused_untaken : (room : ℕ) (old new : Knowing) (c : Call) (r : Refusal) → r ≡ Panic → enters c ≡ true → IsReady room old new c → IsRefused room old new c r
-refused_untaken room old new c r is writes ready =
+-- the call's own record was not put: its cell did not take it, or memory was refused
+pub refused_put : (room : ℕ) (old new : Knowing) (c : Call) (r : Refusal) → (r ≡ Panic) ⊎ (r ≡ OutOfMemory) → enters c ≡ true → IsReady room old new c → IsRefused room old new c r
+refused_put room old new c r (inl is) writes ready =
     let n : length (known new) ≡ length new.view.words = length_known new ready.all in
     let near : length (known new) < room = omega (arith, ready.room_left) in
     subst (IsRefused room old new c) (sym is)
-    (record { grounds = inr (record { point = point_looked room old new ready.all ready.looked; unrefused = ready.unrefused; enters = writes; room_left = near }); caught_up = tt; memory = λ _ _ is. cc })
+    (record { grounds = inr (record { point = point_looked room old new ready.all ready.looked; may = record { unrefused = ready.unrefused; enters = writes; room_left = near } }); caught_up = tt })
+refused_put room old new c r (inr is) writes ready =
+    let n : length (known new) ≡ length new.view.words = length_known new ready.all in
+    let near : length (known new) < room = omega (arith, ready.room_left) in
+    subst (IsRefused room old new c) (sym is)
+    (record {
+      grounds = record {
+        point = point_looked room old new ready.all ready.looked;
+        may = record {
+          by_shapes = unrefused_by_shapes (store_of (known new)) c ready.unrefused;
+          no_size = enters_no_size c writes;
+          room_left = λ _ _. near;
+          unsettled = λ reads. absurd (enters_no_entry_read c writes reads);
+        };
+      };
+      caught_up = n;
+    })
+
+-- memory that was refused may lack
+memory_refused : (room : ℕ) (old new : Knowing) (c : Call) (r : Answer) (g : History) → r ≡ Err OutOfMemory → IsGrounded room old new c r g (ground_of r) → MayLackMemory room g c
+memory_refused room old new c r g is grounds = let out : IsOutOfMemory room old new c g = subst (λ (a : Answer). IsGrounded room old new c a g (ground_of a)) is grounds in out.may
+
+pub memory_explained : (room : ℕ) (old new : Knowing) (c : Call) (r : Answer) → ExplainsCall room old new c r → r ≡ Err OutOfMemory → MayLackMemory room (known new) c
+memory_explained room old new c r e is =
+    let g : History = known old ++ e.learnt in
+    let same : g ≡ known new = sym (e.known_is ∙ ap (λ (a : Answer). history_after old.view.number c a g) is) in
+    subst (λ (h : History). MayLackMemory room h c) same (memory_refused room old new c r g is e.grounds)
 
 -- what a later part of a call explains, the whole call explains
 grew_before : (a b c : List ℕ) (n : ℕ) → StartsWith b a → GrewTo b c n → GrewTo a c n
@@ -130,15 +155,15 @@ module _ (room : ℕ) (a b c : Knowing) (call : Call) (first : Learns a b) where
   moved g (inr (inl p)) = inr (inl (p.0 ∙ ap (λ (l : List ℕ). l ++ length g ∷ []) first.own, p.1))
   moved g (inr (inr p)) = inr (inr p)
 
-  grounded_before : (r : Answer) (g : History) (by : Ground) → IsGrounded room b c call r g by → IsGrounded room a c call r g by
+  pub grounded_before : (r : Answer) (g : History) (by : Ground) → IsGrounded room b c call r g by → IsGrounded room a c call r g by
   grounded_before r g ByStore is = record { answered = is.answered; point = moved g is.point }
   grounded_before r g ByRoom is = is
-  grounded_before r g ByMemory is = record { point = moved g is.point; by_shapes = is.by_shapes; no_size = is.no_size; room_left = is.room_left; unsettled = is.unsettled }
+  grounded_before r g ByMemory is = record { point = moved g is.point; may = is.may }
   grounded_before r g ByRecords (inl is) = inl is
-  grounded_before r g ByRecords (inr is) = inr (record { point = moved g is.point; unrefused = is.unrefused; enters = is.enters; room_left = is.room_left })
+  grounded_before r g ByRecords (inr is) = inr (record { point = moved g is.point; may = is.may })
 
   pub refused_before : (r : Refusal) → IsRefused room b c call r → IsRefused room a c call r
-  refused_before r is = record { grounds = grounded_before (Err r) (known c) (ground_of (Err r)) is.grounds; caught_up = is.caught_up; memory = is.memory }
+  refused_before r is = record { grounds = grounded_before (Err r) (known c) (ground_of (Err r)) is.grounds; caught_up = is.caught_up }
 
   pub ready_before : IsReady room b c call → IsReady room a c call
   ready_before is = record {
@@ -250,13 +275,14 @@ refused_by_memory room old new end c kind f reads e no_size =
     record {
       grounds = record {
         point = point_found room old new end f;
-        by_shapes = by_shapes-ok (store_of (known new)) c kind e;
-        no_size = no_size;
-        room_left = λ writes no_build. let no : false ≡ true = sym reads ∙ writes in cc;
-        unsettled = some_known (known new) c none;
+        may = record {
+          by_shapes = by_shapes-ok (store_of (known new)) c kind e;
+          no_size = no_size;
+          room_left = λ writes no_build. let no : false ≡ true = sym reads ∙ writes in cc;
+          unsettled = some_known (known new) c none;
+        };
       };
       caught_up = known_found room old new end f;
-      memory = λ writes no_build is. let no : false ≡ true = sym reads ∙ writes in cc;
     }
 
 -- what a call that only reads answers, where its evaluation may be refused memory

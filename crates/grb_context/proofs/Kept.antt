@@ -5,7 +5,7 @@ use Rattle.std.proofs.lemmas.List.{drop_more, drop-append-le, drop_all, length_p
 use Rattle.std.proofs.lemmas.Nat.{mod-mul-add}
 use Rattle.std.proofs.lemmas.List.Elements.{All-push, All-head, All-tail, All-nil, All-same}
 use Rattle.grb_order.specs.Word.{number_of, index_of, order_word, IsWord}
-use Rattle.grb_order.specs.View.{fresh, learns, finds_vacant, enters, IsOthers, IsSound}
+use Rattle.grb_order.specs.View.{fresh, learns, finds_vacant, enters_word, IsOthers, IsSound}
 use Rattle.grb_order.specs.Holding.{Holding, TableId}
 use Rattle.grb_order.specs.Steps.{Looks}
 use Rattle.grb_order.specs.declared.view.View.{View}
@@ -106,7 +106,7 @@ module _ (number size : ℕ) (t : TableId) (v : View) (shown : List Shown) (capa
 
   -- after the record of a call was entered
   pub kept_won : (token : Shown) (call : Call) (tokens : List Shown) (capacity' : ℕ) (after : RoomyShapes) (w : View)
-      → length shown ≡ length v.words → token.pass ≡ v.number → token.index < 2 ^ 48 → w ≡ enters v (order_word v.number token.index) → IsSound t.words w → call ≡ token.call
+      → length shown ≡ length v.words → token.pass ≡ v.number → token.index < 2 ^ 48 → w ≡ enters_word v (order_word v.number token.index) → IsSound t.words w → call ≡ token.call
       → tokens ≡ shown ++ token ∷ [] → capacity' ≡ capacity → after.objects ≡ shapes_after shapes.objects call → after.room + 1 ≡ shapes.room
       → IsKept number size (placed t w) tokens capacity' after
   kept_won token call tokens capacity' after w all own small won sound is pushed same grown less =
@@ -120,7 +120,7 @@ module _ (number size : ℕ) (t : TableId) (v : View) (shown : List Shown) (capa
       let pass : token.pass ≡ number_of (get_or words (length shown) 0) = own ∙ sym (ap number_of at ∙ number_of-order_word v.number token.index small) in
       let index : token.index ≡ index_of (get_or words (length shown) 0) = sym (ap index_of at ∙ mod-mul-add (v.number + 1) (2 ^ 48) token.index small) in
       let over : length words ≤ length (shown ++ token ∷ []) = omega arith in
-      let new : IsKept number size (placed t (enters v word)) (shown ++ token ∷ []) capacity after = record {
+      let new : IsKept number size (placed t (enters_word v word)) (shown ++ token ∷ []) capacity after = record {
         number_is = k.number_is;
         sound = subst (λ (y : View). IsSound t.words y) won sound;
         few = omega arith;
@@ -147,12 +147,12 @@ pub sound_order : (t t' : TableId) (v : View) → t' ≡ t → IsSound t'.words 
 sound_order t t' v e s = subst (λ (y : TableId). IsSound y.words v) e s
 
 -- what a caller learns of it
-module _ (number size : ℕ) (place : Holding) (shown : List Shown) (capacity : ℕ) (shapes : RoomyShapes) (k : IsKept number size place shown capacity shapes) where
+module _ (number size : ℕ) (place : Holding) (shown : List Shown) (capacity : ℕ) (shapes : RoomyShapes) (k : IsKept number size place shown capacity shapes) (steps : ℕ) where
   abbrev seen : Knowing
-  seen = record { order = place.table_id; view = place.view; shown = shown }
+  seen = record { order = place.table_id; view = place.view; shown = shown; steps = steps }
 
   pub steady : IsSteady seen
-  steady = record { records = k.records; few = k.few; sound = k.sound; others = k.others }
+  steady = record { records = k.records; few = k.few; sound = k.sound; others = k.others; small = k.small }
 
   pub next_is : length shown < length place.view.words → IsNextUnshown seen (get_or place.view.words (length shown) 0)
   next_is lt =

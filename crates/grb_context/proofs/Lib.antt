@@ -1,12 +1,12 @@
 pub mod Alone
-mod Accepted
+mod Agreeing
 mod Answering
-mod Applied
 mod Checking
+mod Counted
 mod Evaluated
 mod Kept
 mod Learnt
-mod Objects
 mod Opening
 mod Owning
+mod Promised
 mod Spelling

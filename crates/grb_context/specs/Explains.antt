@@ -1,12 +1,11 @@
 -- When a history explains the answers of a pass. Herlihy, "Wait-free synchronization", 1991: each answer is that of the
 -- sequential object at one point of the one order. The answers for want of room, of memory and of a record are our own.
-use Rattle.std.specs.Prelude.{◌≡◌, ℕ, ◌<◌, Bool, true, false, if◌then◌else◌, IsTrue, List, [], ◌∷◌, ◌++◌, length, None, Result, Ok, Err, ◌⊎◌}
+use Rattle.std.specs.Prelude.{◌≡◌, ℕ, ◌<◌, Bool, false, if◌then◌else◌, IsTrue, List, [], ◌∷◌, ◌++◌, length, None, Result, Ok, Err, ◌⊎◌}
 use Rattle.grb_core.specs.declared.refusal.Refusal.{Refusal}
 use Rattle.grb_core.specs.declared.refusal.Refusal.TheVariants.{OrderFull, OutOfMemory, Panic}
 use Rattle.grb_call.specs.declared.call.Call.{Call}
-use Rattle.grb_call.specs.declared.call.Call.TheVariants as call
 use Rattle.grb_call.specs.declared.reply.Reply.{Reply}
-use Rattle.grb_call.specs.Kinds.{enters, is_build}
+use Rattle.grb_call.specs.Kinds.{enters, is_build, is_entry_read, is_size}
 use Rattle.grb_call.specs.Refused.{refused_by_shapes}
 use Rattle.grb_call.specs.Store.{shapes_of}
 use Rattle.grb_call.specs.After.{refused, answer}
@@ -44,20 +43,6 @@ entered_calls c r = if is_entered c r then c ∷ [] else []
 abbrev pub history_after : ℕ → Call → Answer → History → History
 history_after number c r g = if is_entered c r then g ++ (number, c) ∷ [] else g
 
--- whether the call reads the entries of an object
-abbrev pub is_entry_read : Call → Bool
-is_entry_read (call.GetMatrix a i j) = true
-is_entry_read (call.GetVector v i) = true
-is_entry_read (call.NvalsMatrix a) = true
-is_entry_read (call.NvalsVector v) = true
-is_entry_read _ = false
-
--- whether the call asks for dimensions alone, which takes no memory
-abbrev pub is_size : Call → Bool
-is_size (call.SizeMatrix a) = true
-is_size (call.SizeVector v) = true
-is_size _ = false
-
 -- the answer is that of one thread in blocking mode after g, at a point of this call
 pub record IsAnswered (room : ℕ) (old new : Knowing) (c : Call) (r : Answer) (g : History) : Type 0 where
   pub answered : r ≡ answer (store_of g) c
@@ -69,21 +54,29 @@ pub record IsFull (room : ℕ) (c : Call) (g : History) : Type 0 where
   pub enters : IsTrue (enters c)
   pub full : length g ≡ room
 
--- memory was refused: never in place of a refusal by shapes, nor to a call for dimensions, nor in place of a full order unless the
--- call is a build, nor where no entry was made
-pub record IsOutOfMemory (room : ℕ) (old new : Knowing) (c : Call) (g : History) : Type 0 where
-  pub point : IsAtPoint room old.view new.view g
+-- memory may be refused in place of an answer: not in place of a refusal by shapes, nor to a call for dimensions, nor in place of a full
+-- order unless the call is a build, nor where no entry was made
+pub record MayLackMemory (room : ℕ) (g : History) (c : Call) : Type 0 where
   pub by_shapes : refused_by_shapes (shapes_of (store_of g)) c ≡ None
   pub no_size : is_size c ≡ false
   pub room_left : IsTrue (enters c) → is_build c ≡ false → length g < room
   pub unsettled : IsTrue (is_entry_read c) → 0 < length g
 
--- the call's own record was not taken, where the call would be entered
-pub record IsUntaken (room : ℕ) (old new : Knowing) (c : Call) (g : History) : Type 0 where
+-- memory was refused where it may be
+pub record IsOutOfMemory (room : ℕ) (old new : Knowing) (c : Call) (g : History) : Type 0 where
   pub point : IsAtPoint room old.view new.view g
+  pub may : MayLackMemory room g c
+
+-- a record may be refused in place of an answer: only to a call that would be entered
+pub record MayLackRecord (room : ℕ) (g : History) (c : Call) : Type 0 where
   pub unrefused : refused (store_of g) c ≡ None
   pub enters : IsTrue (enters c)
   pub room_left : length g < room
+
+-- the call's own record was not taken, where it may be refused
+pub record IsUntaken (room : ℕ) (old new : Knowing) (c : Call) (g : History) : Type 0 where
+  pub point : IsAtPoint room old.view new.view g
+  pub may : MayLackRecord room g c
 
 -- the record of a word that the pass has learnt was not shown
 abbrev pub IsUnshown : Knowing → Type 0

@@ -1,13 +1,12 @@
 -- What the steps inside a call leave (own).
-use Rattle.std.specs.Prelude.{◌≡◌, ◌≢◌, ℕ, ◌<◌, ◌≤◌, false, [], ◌∷◌, ◌++◌, length, slice_index, drop, All, IsTrue, Option, Some, None, Result, Ok, Err}
+use Rattle.std.specs.Prelude.{◌≡◌, ℕ, ◌<◌, ◌≤◌, [], ◌∷◌, ◌++◌, length, slice_index, drop, All, Option, Some, None, Result, Ok, Err}
 use Rattle.grb_core.specs.declared.refusal.Refusal.{Refusal}
-use Rattle.grb_core.specs.declared.refusal.Refusal.TheVariants.{OutOfMemory, Panic}
+use Rattle.grb_core.specs.declared.refusal.Refusal.TheVariants.{Panic}
 use Rattle.grb_order.specs.Word.{order_word}
-use Rattle.grb_order.specs.View.{learns, enters, IsOthers, IsSound}
+use Rattle.grb_order.specs.View.{learns, enters_word, IsOthers, IsSound}
 use Rattle.grb_order.specs.Order.{room_of}
 use Rattle.grb_records.specs.Token.{Shown}
 use Rattle.grb_call.specs.declared.call.Call.{Call}
-use Rattle.grb_call.specs.Kinds.{enters as enters_call, is_build}
 use Rattle.grb_call.specs.After.{refused}
 use Rattle.grb_call.specs.History.{History, store_of}
 use Rattle.grb_context.specs.declared.learn.End.{End}
@@ -23,6 +22,7 @@ pub record IsSteady (p : Knowing) : Type 0 where
   pub few : length p.shown ≤ length p.view.words
   pub sound : IsSound (room_of p.order) p.view
   pub others : All (IsOthers p.view) (drop (length p.shown) p.view.words)
+  pub small : room_of p.order ≤ 4096
 
 -- the word learnt first of those whose record was not shown; another pass entered it
 pub record IsNextUnshown (p : Knowing) (word : ℕ) : Type 0 where
@@ -52,13 +52,12 @@ pub record IsReady (room : ℕ) (old new : Knowing) (c : Call) : Type 0 where
   pub room_left : length new.view.words < room
   pub unrefused : refused (store_of (known new)) c ≡ None
 
--- the call is refused at the end of what the pass knows, and never for want of memory where it would be entered and is no build
+-- the call is refused at the end of what the pass knows
 pub record IsRefused (room : ℕ) (old new : Knowing) (c : Call) (r : Refusal) : Type 0 where
   pub grounds : IsGrounded room old new c (Err r) (known new) (ground_of (Err r))
   pub caught_up : IsCaughtUp (ground_of (Err r)) new
-  pub memory : IsTrue (enters_call c) → is_build c ≡ false → r ≢ OutOfMemory
 
 -- A try to enter the record of a token. It comes back where another pass was first
 abbrev pub Enters : ℕ → Shown → Knowing → Option Shown → Knowing → Type 0
-Enters room token old None new = (new.view ≡ enters old.view (order_word old.view.number token.index)) × (new.shown ≡ old.shown ++ token ∷ []) × (length old.view.words < room)
+Enters room token old None new = (new.view ≡ enters_word old.view (order_word old.view.number token.index)) × (new.shown ≡ old.shown ++ token ∷ []) × (length old.view.words < room)
 Enters room token old (Some back) new = (back ≡ token) × (new.shown ≡ old.shown) × (word : ℕ) × (new.view ≡ learns old.view word) × IsOthers old.view word

@@ -1,7 +1,9 @@
-pub mod Edited
+pub mod Answered
+pub mod Counting
 pub mod Explains
 pub mod Known
+pub mod Laws
 pub mod Learning
 pub mod Point
+pub mod Putting
 pub mod Reading
-pub mod State

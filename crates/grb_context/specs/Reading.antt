@@ -1,5 +1,5 @@
 -- What ties the parts of a pass (own).
-use Rattle.std.specs.Prelude.{◌≡◌, ℕ, ◌+◌, ◌≤◌, true, List, length, map, take, drop, All, vec_capacity, Some, None, Result, Ok, Err}
+use Rattle.std.specs.Prelude.{◌≡◌, ℕ, ◌+◌, ◌≤◌, true, List, length, take, drop, All, vec_capacity, Some, None, Result, Ok, Err}
 use Rattle.grb_core.specs.declared.refusal.Refusal.{Refusal}
 use Rattle.grb_core.specs.declared.refusal.Refusal.TheVariants.{OutOfMemory}
 use Rattle.grb_order.specs.View.{IsOthers, IsSound}
@@ -15,11 +15,11 @@ use Rattle.grb_call.specs.After.{refused, refused_build}
 use Rattle.grb_call.specs.History.{after_all, calls_of, store_of}
 use Rattle.grb_context.specs.Explains.{ByStore, ground_of}
 use Rattle.grb_context.specs.Known.{Knowing, known, spelled, AreRecords}
-use Rattle.grb_context.specs.State.{RoomyStore}
+use Rattle.grb_replay.specs.State.{RoomyStore}
 use Rattle.grb_context.specs.declared.reader.Reader.TheInside.{Inside}
 
 abbrev pub knowing : Inside → Knowing
-knowing r = record { order = r.place.table_id; view = r.place.view; shown = r.tokens.items }
+knowing r = record { order = r.place.table_id; view = r.place.view; shown = r.tokens.items; steps = r.steps }
 
 -- a reader with these tokens and shapes; the words whose records were not shown yet are of others
 pub record IsKept (number size : ℕ) (place : Holding) (shown : List Shown) (capacity : ℕ) (shapes : RoomyShapes) : Type 0 where
@@ -36,10 +36,6 @@ pub record IsKept (number size : ℕ) (place : Holding) (shown : List Shown) (ca
 
 abbrev pub IsReader : Inside → Type 0
 IsReader r = IsKept r.number r.room r.place r.tokens.items (vec_capacity r.tokens) r.shapes
-
--- the calls of these records
-abbrev pub calls_shown : List Shown → List Call
-calls_shown shown = map (λ t. t.call) shown
 
 -- the store is the one after so many of the calls
 pub record IsEvaluated (calls : List Call) (evaluated : ℕ) (store : Store) : Type 0 where

@@ -1,8 +1,7 @@
-ghost use Rattle.std.specs.Prelude.{◌≡◌, ◌≢◌, ◌++◌, ◌<◌, ◌≤◌, true, false, All, IfOk};
+ghost use Rattle.std.specs.Prelude.{◌≡◌, ◌<◌, ◌≤◌, All, IfOk};
 ghost use Rattle.grb_order.specs.Order.{room_of, AreFresh};
-ghost use Rattle.grb_call.specs.Kinds.{enters, is_build};
-ghost use Rattle.grb_context.specs.Known.{AreNew, IsKnown, IsPassOf, calls_by, known};
-ghost use Rattle.grb_context.specs.Explains.{ExplainsCall, IsCaughtUp, entered_calls, ground_of};
+ghost use Rattle.grb_context.specs.Known.{AreNew, IsPassOf};
+ghost use Rattle.grb_context.specs.Answered.{Answered};
 
 use crate::pass::Pass;
 use grb_call::{Call, Reply};
@@ -11,7 +10,6 @@ use grb_order::{Order, Place};
 use grb_records::Records;
 use std::alloc::{AllocError, Global};
 use std::marker::Model;
-use std::sync::Wait;
 
 /// A store that passes share: the order of all calls, and their records.
 #[derive(Drop)]
@@ -51,8 +49,8 @@ fn passes_of(
 
 impl Context {
     /// A context whose history takes `room` calls, from 1 to 4,096, and its passes, from 1 to 64, which know no call: the one at index
-    /// k has the number k. After this only the records of entered calls and the evaluation of reads take memory. `AllocError` where
-    /// memory is refused.
+    /// k has the number k. After this only the records of entered calls and the evaluation of reads and builds take memory.
+    /// `AllocError` where memory is refused.
     pub fn open(alloc: Global, room: u32, passes: u32) -> Result<(Context, Vec<Pass>), AllocError>
         requires room { (0 < room) × (room ≤ 4096) }
         requires passes { (0 < passes) × (passes ≤ 64) }
@@ -66,23 +64,19 @@ impl Context {
         Ok((Context { order, records }, opened))
     }
 
-    /// Makes one call, by whichever thread has the pass. A refusal says why the call was not made: by shapes (the lowest of those that
-    /// apply, at the end of the history), by a build's object, `OrderFull` where the history has no room for a call that would be
-    /// entered, `OutOfMemory` where the evaluation of a read or of a build's object is refused memory, and `Panic` where a record could
-    /// not be put, or the record of an earlier call is not shown yet; the next call asks for it again.
+    /// Makes one call, by whichever thread has the pass, and does not wait. A refusal says why the call was not made: by shapes (the
+    /// lowest of those that apply, at the end of the history), by a build's object, `OrderFull` where the history has no room for a call
+    /// that would be entered, `OutOfMemory` where the record of an entered call or the evaluation of a read or of a build's object is
+    /// refused memory, and `Panic` where a record could not be put, or the record of an earlier call is not shown yet; the next call
+    /// asks for it again.
     ///
     /// Source: GraphBLAS C API 2.0, "Execution modes"; Herlihy, "Wait-free synchronization", 1991.
-    pub fn call<R: Wait>(&self, rt: &R, pass: &mut Pass, call: Call) -> Result<Reply, Refusal>
+    pub fn call(&self, pass: &mut Pass, call: Call) -> Result<Reply, Refusal>
         requires pass { IsPassOf self.now pass.old }
-        ensures pass { IsPassOf self.now pass.new }
-        ensures explains { ExplainsCall (room_of self.now.order) pass.old pass.new call result }
-        ensures known { IsKnown self.now pass.new }
-        ensures own { calls_by pass.old.view.number (known pass.new) ≡ calls_by pass.old.view.number (known pass.old) ++ entered_calls call result }
-        ensures caught_up { IsCaughtUp (ground_of result) pass.new }
-        ensures memory { enters call ≡ true → is_build call ≡ false → result ≢ Err Refusal.OutOfMemory }
+        ensures { Answered self.now pass.old pass.new call result }
     {
         if call.enters() {
-            self.enter(rt, pass, call)
+            self.enter(pass, call)
         } else {
             self.read(pass, &call)
         }

@@ -1,8 +1,10 @@
-ghost use Rattle.std.specs.Prelude.{◌≡◌, ◌≢◌, ◌++◌, true, false, OnOk, IfErr};
+ghost use Rattle.std.specs.Prelude.{◌≡◌, ◌+◌, ◌<◌, ◌≤◌, ◌^◌, length, true, OnOk, IfErr};
 ghost use Rattle.grb_order.specs.Order.{room_of};
-ghost use Rattle.grb_call.specs.Kinds.{enters, is_build};
-ghost use Rattle.grb_context.specs.Known.{IsKnown, IsPassOf, calls_by, known};
-ghost use Rattle.grb_context.specs.Explains.{ExplainsCall, IsCaughtUp, entered_calls, ground_of};
+ghost use Rattle.grb_call.specs.Kinds.{enters};
+ghost use Rattle.grb_context.specs.Known.{IsPassOf};
+ghost use Rattle.grb_context.specs.Explains.{ExplainsCall, IsCaughtUp, ground_of};
+ghost use Rattle.grb_context.specs.Answered.{Answered};
+ghost use Rattle.grb_context.specs.Counting.{Counts, CountsCall};
 ghost use Rattle.grb_context.specs.Learning.{IsReady, IsRefused, IsSteady, Learns};
 
 use crate::context::Context;
@@ -10,7 +12,6 @@ use crate::learn::End;
 use crate::pass::Pass;
 use grb_call::{Call, Reply};
 use grb_core::Refusal;
-use std::sync::Wait;
 
 impl Context {
     /// Learns the order to its end, and checks there a call that enters. Takes memory for a build alone, whose object is evaluated, and
@@ -18,7 +19,10 @@ impl Context {
     fn ready(&self, pass: &mut Pass, call: &Call) -> Result<(), Refusal>
         requires pass { IsPassOf self.now pass.old }
         requires enters { enters call.now ≡ true }
+        requires few { pass.old.steps < 2 ^ 30 }
         ensures pass { IsPassOf self.now pass.new }
+        ensures counts { Counts pass.old pass.new }
+        ensures few { length pass.new.view.looks ≤ length pass.old.view.looks + 1 }
         ensures learns { Learns pass.old pass.new }
         ensures steady { IsSteady pass.new }
         ensures ready { OnOk result (IsReady (room_of self.now.order) pass.old pass.new call.now) }
@@ -33,19 +37,20 @@ impl Context {
     }
 
     /// Puts the record of a call and enters it. After a lost try the call is checked again, with the words learnt since.
-    fn enter_record<R: Wait>(&self, rt: &R, pass: &mut Pass, call: Call) -> Result<Reply, Refusal>
+    fn enter_record(&self, pass: &mut Pass, call: Call) -> Result<Reply, Refusal>
         requires pass { IsPassOf self.now pass.old }
         requires enters { enters call ≡ true }
+        requires begun { pass.old.steps ≡ 0 }
         ensures pass { IsPassOf self.now pass.new }
+        ensures counts { CountsCall pass.old pass.new }
         ensures explains { ExplainsCall (room_of self.now.order) pass.old pass.new call result }
         ensures steady { IsSteady pass.new }
         ensures caught_up { IsCaughtUp (ground_of result) pass.new }
-        ensures memory { is_build call ≡ false → result ≢ Err Refusal.OutOfMemory }
     {
         self.ready(pass, &call)?;
-        let mut token = self.records.put(rt, pass.number(), call)?;
+        let mut token = pass.put(&self.records, call)?;
         'tries: loop {
-            let call = self.records.call_of(&token);
+            let call = self.records.call_of(&mut token);
             let reply = pass.reader.reply(call);
             let Some(back) = pass.enter(&self.order, token, call) else {
                 return Ok(reply);
@@ -56,21 +61,12 @@ impl Context {
     }
 
     /// Enters a call that changes the store, after all that were entered before it.
-    pub(crate) fn enter<R: Wait>(
-        &self,
-        rt: &R,
-        pass: &mut Pass,
-        call: Call,
-    ) -> Result<Reply, Refusal>
+    pub(crate) fn enter(&self, pass: &mut Pass, call: Call) -> Result<Reply, Refusal>
         requires pass { IsPassOf self.now pass.old }
         requires enters { enters call ≡ true }
-        ensures pass { IsPassOf self.now pass.new }
-        ensures explains { ExplainsCall (room_of self.now.order) pass.old pass.new call result }
-        ensures known { IsKnown self.now pass.new }
-        ensures own { calls_by pass.old.view.number (known pass.new) ≡ calls_by pass.old.view.number (known pass.old) ++ entered_calls call result }
-        ensures caught_up { IsCaughtUp (ground_of result) pass.new }
-        ensures memory { is_build call ≡ false → result ≢ Err Refusal.OutOfMemory }
+        ensures { Answered self.now pass.old pass.new call result }
     {
-        self.enter_record(rt, pass, call)
+        pass.begin();
+        self.enter_record(pass, call)
     }
 }

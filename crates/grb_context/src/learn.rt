@@ -1,6 +1,7 @@
-ghost use Rattle.std.specs.Prelude.{◌≡◌, ◌<◌, length, OnOk, IfErr};
+ghost use Rattle.std.specs.Prelude.{◌≡◌, ◌+◌, ◌<◌, ◌≤◌, ◌^◌, length, OnOk, IfErr};
 ghost use Rattle.grb_order.specs.Order.{room_of};
 ghost use Rattle.grb_context.specs.Known.{IsPassOf, known};
+ghost use Rattle.grb_context.specs.Counting.{Counts};
 ghost use Rattle.grb_context.specs.Learning.{Finds, IsSteady, Learns};
 
 use crate::context::Context;
@@ -23,6 +24,7 @@ impl Context {
         requires { IsPassOf self.now reader.old }
         ensures pass { IsPassOf self.now reader.new }
         ensures view { reader.new.view ≡ reader.old.view }
+        ensures steps { reader.new.steps ≡ reader.old.steps }
         ensures learns { Learns reader.old reader.new }
         ensures steady { IsSteady reader.new }
         ensures all { OnOk result (length reader.new.shown ≡ length reader.new.view.words) }
@@ -39,10 +41,13 @@ impl Context {
 
     /// Learns the order to its end. `Panic` where a record is not shown. Takes no memory and does not wait.
     pub(crate) fn learn(&self, reader: &mut Reader) -> Result<End, Refusal>
-        requires { IsPassOf self.now reader.old }
+        requires pass { IsPassOf self.now reader.old }
+        requires few { reader.old.steps < 2 ^ 30 }
         ensures pass { IsPassOf self.now reader.new }
         ensures learns { Learns reader.old reader.new }
         ensures steady { IsSteady reader.new }
+        ensures counts { Counts reader.old reader.new }
+        ensures few { length reader.new.view.looks ≤ length reader.old.view.looks + 1 }
         ensures finds { Finds (room_of self.now.order) reader.old result reader.new }
     {
         'words: loop {

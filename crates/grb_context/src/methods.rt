@@ -1,34 +1,24 @@
-ghost use Rattle.std.specs.Prelude.{◌≡◌, ◌≢◌, ◌++◌};
-ghost use Rattle.grb_order.specs.Order.{room_of};
-ghost use Rattle.grb_context.specs.Known.{IsKnown, IsPassOf, calls_by, known};
-ghost use Rattle.grb_context.specs.Explains.{ExplainsCall, IsCaughtUp, entered_calls, ground_of};
+ghost use Rattle.grb_context.specs.Known.{IsPassOf};
+ghost use Rattle.grb_context.specs.Answered.{Answered};
 
 use crate::context::Context;
 use crate::pass::Pass;
 use grb_call::{Call, MatrixId, MatrixTuples, Reply, VectorId, VectorTuples};
 use grb_core::{Domain, Monoid, Refusal, Value};
-use std::sync::Wait;
 
 impl Context {
     /// Makes a matrix with no entries; `nrows` and `ncols` are from 1 to 4,294,967,295. Otherwise `InvalidValue`. (`GrB_Matrix_new`.)
-    pub fn new_matrix<R: Wait>(
+    pub fn new_matrix(
         &self,
-        rt: &R,
         pass: &mut Pass,
         domain: Domain,
         nrows: u64,
         ncols: u64,
     ) -> Result<Reply, Refusal>
         requires pass { IsPassOf self.now pass.old }
-        ensures pass { IsPassOf self.now pass.new }
-        ensures explains { ExplainsCall (room_of self.now.order) pass.old pass.new (Call.NewMatrix domain nrows ncols) result }
-        ensures known { IsKnown self.now pass.new }
-        ensures own { calls_by pass.old.view.number (known pass.new) ≡ calls_by pass.old.view.number (known pass.old) ++ entered_calls (Call.NewMatrix domain nrows ncols) result }
-        ensures caught_up { IsCaughtUp (ground_of result) pass.new }
-        ensures memory { result ≢ Err Refusal.OutOfMemory }
+        ensures { Answered self.now pass.old pass.new (Call.NewMatrix domain nrows ncols) result }
     {
         self.call(
-            rt,
             pass,
             Call::NewMatrix {
                 domain,
@@ -39,65 +29,33 @@ impl Context {
     }
 
     /// Makes a vector with no entries; `size` is from 1 to 4,294,967,295. Otherwise `InvalidValue`. (`GrB_Vector_new`.)
-    pub fn new_vector<R: Wait>(
-        &self,
-        rt: &R,
-        pass: &mut Pass,
-        domain: Domain,
-        size: u64,
-    ) -> Result<Reply, Refusal>
+    pub fn new_vector(&self, pass: &mut Pass, domain: Domain, size: u64) -> Result<Reply, Refusal>
         requires pass { IsPassOf self.now pass.old }
-        ensures pass { IsPassOf self.now pass.new }
-        ensures explains { ExplainsCall (room_of self.now.order) pass.old pass.new (Call.NewVector domain size) result }
-        ensures known { IsKnown self.now pass.new }
-        ensures own { calls_by pass.old.view.number (known pass.new) ≡ calls_by pass.old.view.number (known pass.old) ++ entered_calls (Call.NewVector domain size) result }
-        ensures caught_up { IsCaughtUp (ground_of result) pass.new }
-        ensures memory { result ≢ Err Refusal.OutOfMemory }
+        ensures { Answered self.now pass.old pass.new (Call.NewVector domain size) result }
     {
-        self.call(rt, pass, Call::NewVector { domain, size })
+        self.call(pass, Call::NewVector { domain, size })
     }
 
     /// Ends the matrix; its number is not used again. `UninitializedObject` where there is no such matrix. (`GrB_free`.)
-    pub fn free_matrix<R: Wait>(
-        &self,
-        rt: &R,
-        pass: &mut Pass,
-        a: MatrixId,
-    ) -> Result<Reply, Refusal>
+    pub fn free_matrix(&self, pass: &mut Pass, a: MatrixId) -> Result<Reply, Refusal>
         requires pass { IsPassOf self.now pass.old }
-        ensures pass { IsPassOf self.now pass.new }
-        ensures explains { ExplainsCall (room_of self.now.order) pass.old pass.new (Call.FreeMatrix a) result }
-        ensures known { IsKnown self.now pass.new }
-        ensures own { calls_by pass.old.view.number (known pass.new) ≡ calls_by pass.old.view.number (known pass.old) ++ entered_calls (Call.FreeMatrix a) result }
-        ensures caught_up { IsCaughtUp (ground_of result) pass.new }
-        ensures memory { result ≢ Err Refusal.OutOfMemory }
+        ensures { Answered self.now pass.old pass.new (Call.FreeMatrix a) result }
     {
-        self.call(rt, pass, Call::FreeMatrix { a })
+        self.call(pass, Call::FreeMatrix { a })
     }
 
     /// Ends the vector; its number is not used again. `UninitializedObject` where there is no such vector. (`GrB_free`.)
-    pub fn free_vector<R: Wait>(
-        &self,
-        rt: &R,
-        pass: &mut Pass,
-        v: VectorId,
-    ) -> Result<Reply, Refusal>
+    pub fn free_vector(&self, pass: &mut Pass, v: VectorId) -> Result<Reply, Refusal>
         requires pass { IsPassOf self.now pass.old }
-        ensures pass { IsPassOf self.now pass.new }
-        ensures explains { ExplainsCall (room_of self.now.order) pass.old pass.new (Call.FreeVector v) result }
-        ensures known { IsKnown self.now pass.new }
-        ensures own { calls_by pass.old.view.number (known pass.new) ≡ calls_by pass.old.view.number (known pass.old) ++ entered_calls (Call.FreeVector v) result }
-        ensures caught_up { IsCaughtUp (ground_of result) pass.new }
-        ensures memory { result ≢ Err Refusal.OutOfMemory }
+        ensures { Answered self.now pass.old pass.new (Call.FreeVector v) result }
     {
-        self.call(rt, pass, Call::FreeVector { v })
+        self.call(pass, Call::FreeVector { v })
     }
 
     /// Stores `value` in row `i`, column `j`, in place of what was stored there. `UninitializedObject`, `InvalidIndex` or `DomainMismatch` where
     /// there is no such matrix, it has no such row or column, or another domain. (`GrB_Matrix_setElement`.)
-    pub fn set_matrix<R: Wait>(
+    pub fn set_matrix(
         &self,
-        rt: &R,
         pass: &mut Pass,
         a: MatrixId,
         i: u64,
@@ -105,87 +63,55 @@ impl Context {
         value: Value,
     ) -> Result<Reply, Refusal>
         requires pass { IsPassOf self.now pass.old }
-        ensures pass { IsPassOf self.now pass.new }
-        ensures explains { ExplainsCall (room_of self.now.order) pass.old pass.new (Call.SetMatrix a i j value) result }
-        ensures known { IsKnown self.now pass.new }
-        ensures own { calls_by pass.old.view.number (known pass.new) ≡ calls_by pass.old.view.number (known pass.old) ++ entered_calls (Call.SetMatrix a i j value) result }
-        ensures caught_up { IsCaughtUp (ground_of result) pass.new }
-        ensures memory { result ≢ Err Refusal.OutOfMemory }
+        ensures { Answered self.now pass.old pass.new (Call.SetMatrix a i j value) result }
     {
-        self.call(rt, pass, Call::SetMatrix { a, i, j, value })
+        self.call(pass, Call::SetMatrix { a, i, j, value })
     }
 
     /// Stores `value` at `i`, in place of what was stored there. `UninitializedObject`, `InvalidIndex` or `DomainMismatch` where there
     /// is no such vector, it has no such index or another domain. (`GrB_Vector_setElement`.)
-    pub fn set_vector<R: Wait>(
+    pub fn set_vector(
         &self,
-        rt: &R,
         pass: &mut Pass,
         v: VectorId,
         i: u64,
         value: Value,
     ) -> Result<Reply, Refusal>
         requires pass { IsPassOf self.now pass.old }
-        ensures pass { IsPassOf self.now pass.new }
-        ensures explains { ExplainsCall (room_of self.now.order) pass.old pass.new (Call.SetVector v i value) result }
-        ensures known { IsKnown self.now pass.new }
-        ensures own { calls_by pass.old.view.number (known pass.new) ≡ calls_by pass.old.view.number (known pass.old) ++ entered_calls (Call.SetVector v i value) result }
-        ensures caught_up { IsCaughtUp (ground_of result) pass.new }
-        ensures memory { result ≢ Err Refusal.OutOfMemory }
+        ensures { Answered self.now pass.old pass.new (Call.SetVector v i value) result }
     {
-        self.call(rt, pass, Call::SetVector { v, i, value })
+        self.call(pass, Call::SetVector { v, i, value })
     }
 
     /// Removes the entry in row `i`, column `j`, if there is one. `UninitializedObject` or `InvalidIndex` where there is no such matrix or
     /// it has no such row or column. (`GrB_Matrix_removeElement`.)
-    pub fn remove_matrix<R: Wait>(
+    pub fn remove_matrix(
         &self,
-        rt: &R,
         pass: &mut Pass,
         a: MatrixId,
         i: u64,
         j: u64,
     ) -> Result<Reply, Refusal>
         requires pass { IsPassOf self.now pass.old }
-        ensures pass { IsPassOf self.now pass.new }
-        ensures explains { ExplainsCall (room_of self.now.order) pass.old pass.new (Call.RemoveMatrix a i j) result }
-        ensures known { IsKnown self.now pass.new }
-        ensures own { calls_by pass.old.view.number (known pass.new) ≡ calls_by pass.old.view.number (known pass.old) ++ entered_calls (Call.RemoveMatrix a i j) result }
-        ensures caught_up { IsCaughtUp (ground_of result) pass.new }
-        ensures memory { result ≢ Err Refusal.OutOfMemory }
+        ensures { Answered self.now pass.old pass.new (Call.RemoveMatrix a i j) result }
     {
-        self.call(rt, pass, Call::RemoveMatrix { a, i, j })
+        self.call(pass, Call::RemoveMatrix { a, i, j })
     }
 
     /// Removes the entry at `i`, if there is one. `UninitializedObject` or `InvalidIndex` where there is no such vector or it has no such
     /// index. (`GrB_Vector_removeElement`.)
-    pub fn remove_vector<R: Wait>(
-        &self,
-        rt: &R,
-        pass: &mut Pass,
-        v: VectorId,
-        i: u64,
-    ) -> Result<Reply, Refusal>
+    pub fn remove_vector(&self, pass: &mut Pass, v: VectorId, i: u64) -> Result<Reply, Refusal>
         requires pass { IsPassOf self.now pass.old }
-        ensures pass { IsPassOf self.now pass.new }
-        ensures explains { ExplainsCall (room_of self.now.order) pass.old pass.new (Call.RemoveVector v i) result }
-        ensures known { IsKnown self.now pass.new }
-        ensures own { calls_by pass.old.view.number (known pass.new) ≡ calls_by pass.old.view.number (known pass.old) ++ entered_calls (Call.RemoveVector v i) result }
-        ensures caught_up { IsCaughtUp (ground_of result) pass.new }
-        ensures memory { result ≢ Err Refusal.OutOfMemory }
+        ensures { Answered self.now pass.old pass.new (Call.RemoveVector v i) result }
     {
-        self.call(rt, pass, Call::RemoveVector { v, i })
+        self.call(pass, Call::RemoveVector { v, i })
     }
 
     /// The value stored in row `i`, column `j`. `UninitializedObject` or `InvalidIndex` where there is no such matrix or it has no such row
     /// or column. Does not wait. (`GrB_Matrix_extractElement`.)
     pub fn get_matrix(&self, pass: &mut Pass, a: MatrixId, i: u64, j: u64) -> Result<Reply, Refusal>
         requires pass { IsPassOf self.now pass.old }
-        ensures pass { IsPassOf self.now pass.new }
-        ensures explains { ExplainsCall (room_of self.now.order) pass.old pass.new (Call.GetMatrix a i j) result }
-        ensures known { IsKnown self.now pass.new }
-        ensures own { calls_by pass.old.view.number (known pass.new) ≡ calls_by pass.old.view.number (known pass.old) ++ entered_calls (Call.GetMatrix a i j) result }
-        ensures caught_up { IsCaughtUp (ground_of result) pass.new }
+        ensures { Answered self.now pass.old pass.new (Call.GetMatrix a i j) result }
     {
         self.read(pass, &Call::GetMatrix { a, i, j })
     }
@@ -194,11 +120,7 @@ impl Context {
     /// wait. (`GrB_Vector_extractElement`.)
     pub fn get_vector(&self, pass: &mut Pass, v: VectorId, i: u64) -> Result<Reply, Refusal>
         requires pass { IsPassOf self.now pass.old }
-        ensures pass { IsPassOf self.now pass.new }
-        ensures explains { ExplainsCall (room_of self.now.order) pass.old pass.new (Call.GetVector v i) result }
-        ensures known { IsKnown self.now pass.new }
-        ensures own { calls_by pass.old.view.number (known pass.new) ≡ calls_by pass.old.view.number (known pass.old) ++ entered_calls (Call.GetVector v i) result }
-        ensures caught_up { IsCaughtUp (ground_of result) pass.new }
+        ensures { Answered self.now pass.old pass.new (Call.GetVector v i) result }
     {
         self.read(pass, &Call::GetVector { v, i })
     }
@@ -206,11 +128,7 @@ impl Context {
     /// The number of stored entries. `UninitializedObject` where there is no such matrix. Does not wait. (`GrB_Matrix_nvals`.)
     pub fn nvals_matrix(&self, pass: &mut Pass, a: MatrixId) -> Result<Reply, Refusal>
         requires pass { IsPassOf self.now pass.old }
-        ensures pass { IsPassOf self.now pass.new }
-        ensures explains { ExplainsCall (room_of self.now.order) pass.old pass.new (Call.NvalsMatrix a) result }
-        ensures known { IsKnown self.now pass.new }
-        ensures own { calls_by pass.old.view.number (known pass.new) ≡ calls_by pass.old.view.number (known pass.old) ++ entered_calls (Call.NvalsMatrix a) result }
-        ensures caught_up { IsCaughtUp (ground_of result) pass.new }
+        ensures { Answered self.now pass.old pass.new (Call.NvalsMatrix a) result }
     {
         self.read(pass, &Call::NvalsMatrix { a })
     }
@@ -218,11 +136,7 @@ impl Context {
     /// The number of stored entries. `UninitializedObject` where there is no such vector. Does not wait. (`GrB_Vector_nvals`.)
     pub fn nvals_vector(&self, pass: &mut Pass, v: VectorId) -> Result<Reply, Refusal>
         requires pass { IsPassOf self.now pass.old }
-        ensures pass { IsPassOf self.now pass.new }
-        ensures explains { ExplainsCall (room_of self.now.order) pass.old pass.new (Call.NvalsVector v) result }
-        ensures known { IsKnown self.now pass.new }
-        ensures own { calls_by pass.old.view.number (known pass.new) ≡ calls_by pass.old.view.number (known pass.old) ++ entered_calls (Call.NvalsVector v) result }
-        ensures caught_up { IsCaughtUp (ground_of result) pass.new }
+        ensures { Answered self.now pass.old pass.new (Call.NvalsVector v) result }
     {
         self.read(pass, &Call::NvalsVector { v })
     }
@@ -231,11 +145,7 @@ impl Context {
     /// (`GrB_Matrix_nrows`, `GrB_Matrix_ncols`.)
     pub fn size_matrix(&self, pass: &mut Pass, a: MatrixId) -> Result<Reply, Refusal>
         requires pass { IsPassOf self.now pass.old }
-        ensures pass { IsPassOf self.now pass.new }
-        ensures explains { ExplainsCall (room_of self.now.order) pass.old pass.new (Call.SizeMatrix a) result }
-        ensures known { IsKnown self.now pass.new }
-        ensures own { calls_by pass.old.view.number (known pass.new) ≡ calls_by pass.old.view.number (known pass.old) ++ entered_calls (Call.SizeMatrix a) result }
-        ensures caught_up { IsCaughtUp (ground_of result) pass.new }
+        ensures { Answered self.now pass.old pass.new (Call.SizeMatrix a) result }
     {
         self.read(pass, &Call::SizeMatrix { a })
     }
@@ -243,168 +153,97 @@ impl Context {
     /// The size. `UninitializedObject` where there is no such vector. Takes no memory and does not wait. (`GrB_Vector_size`.)
     pub fn size_vector(&self, pass: &mut Pass, v: VectorId) -> Result<Reply, Refusal>
         requires pass { IsPassOf self.now pass.old }
-        ensures pass { IsPassOf self.now pass.new }
-        ensures explains { ExplainsCall (room_of self.now.order) pass.old pass.new (Call.SizeVector v) result }
-        ensures known { IsKnown self.now pass.new }
-        ensures own { calls_by pass.old.view.number (known pass.new) ≡ calls_by pass.old.view.number (known pass.old) ++ entered_calls (Call.SizeVector v) result }
-        ensures caught_up { IsCaughtUp (ground_of result) pass.new }
+        ensures { Answered self.now pass.old pass.new (Call.SizeVector v) result }
     {
         self.read(pass, &Call::SizeVector { v })
     }
 
     /// Removes all entries; the dimensions stay. `UninitializedObject` where there is no such matrix. (`GrB_Matrix_clear`.)
-    pub fn clear_matrix<R: Wait>(
-        &self,
-        rt: &R,
-        pass: &mut Pass,
-        a: MatrixId,
-    ) -> Result<Reply, Refusal>
+    pub fn clear_matrix(&self, pass: &mut Pass, a: MatrixId) -> Result<Reply, Refusal>
         requires pass { IsPassOf self.now pass.old }
-        ensures pass { IsPassOf self.now pass.new }
-        ensures explains { ExplainsCall (room_of self.now.order) pass.old pass.new (Call.ClearMatrix a) result }
-        ensures known { IsKnown self.now pass.new }
-        ensures own { calls_by pass.old.view.number (known pass.new) ≡ calls_by pass.old.view.number (known pass.old) ++ entered_calls (Call.ClearMatrix a) result }
-        ensures caught_up { IsCaughtUp (ground_of result) pass.new }
-        ensures memory { result ≢ Err Refusal.OutOfMemory }
+        ensures { Answered self.now pass.old pass.new (Call.ClearMatrix a) result }
     {
-        self.call(rt, pass, Call::ClearMatrix { a })
+        self.call(pass, Call::ClearMatrix { a })
     }
 
     /// Removes all entries; the size stays. `UninitializedObject` where there is no such vector. (`GrB_Vector_clear`.)
-    pub fn clear_vector<R: Wait>(
-        &self,
-        rt: &R,
-        pass: &mut Pass,
-        v: VectorId,
-    ) -> Result<Reply, Refusal>
+    pub fn clear_vector(&self, pass: &mut Pass, v: VectorId) -> Result<Reply, Refusal>
         requires pass { IsPassOf self.now pass.old }
-        ensures pass { IsPassOf self.now pass.new }
-        ensures explains { ExplainsCall (room_of self.now.order) pass.old pass.new (Call.ClearVector v) result }
-        ensures known { IsKnown self.now pass.new }
-        ensures own { calls_by pass.old.view.number (known pass.new) ≡ calls_by pass.old.view.number (known pass.old) ++ entered_calls (Call.ClearVector v) result }
-        ensures caught_up { IsCaughtUp (ground_of result) pass.new }
-        ensures memory { result ≢ Err Refusal.OutOfMemory }
+        ensures { Answered self.now pass.old pass.new (Call.ClearVector v) result }
     {
-        self.call(rt, pass, Call::ClearVector { v })
+        self.call(pass, Call::ClearVector { v })
     }
 
     /// Gives new dimensions, each from 1 to 4,294,967,295; entries outside them are gone for good. `UninitializedObject` or `InvalidValue`
     /// where there is no such matrix or a dimension is out of its range. (`GrB_Matrix_resize`.)
-    pub fn resize_matrix<R: Wait>(
+    pub fn resize_matrix(
         &self,
-        rt: &R,
         pass: &mut Pass,
         a: MatrixId,
         nrows: u64,
         ncols: u64,
     ) -> Result<Reply, Refusal>
         requires pass { IsPassOf self.now pass.old }
-        ensures pass { IsPassOf self.now pass.new }
-        ensures explains { ExplainsCall (room_of self.now.order) pass.old pass.new (Call.ResizeMatrix a nrows ncols) result }
-        ensures known { IsKnown self.now pass.new }
-        ensures own { calls_by pass.old.view.number (known pass.new) ≡ calls_by pass.old.view.number (known pass.old) ++ entered_calls (Call.ResizeMatrix a nrows ncols) result }
-        ensures caught_up { IsCaughtUp (ground_of result) pass.new }
-        ensures memory { result ≢ Err Refusal.OutOfMemory }
+        ensures { Answered self.now pass.old pass.new (Call.ResizeMatrix a nrows ncols) result }
     {
-        self.call(rt, pass, Call::ResizeMatrix { a, nrows, ncols })
+        self.call(pass, Call::ResizeMatrix { a, nrows, ncols })
     }
 
     /// Gives a new size, from 1 to 4,294,967,295; entries outside it are gone for good. `UninitializedObject` or `InvalidValue` where there
     /// is no such vector or the size is out of its range. (`GrB_Vector_resize`.)
-    pub fn resize_vector<R: Wait>(
-        &self,
-        rt: &R,
-        pass: &mut Pass,
-        v: VectorId,
-        size: u64,
-    ) -> Result<Reply, Refusal>
+    pub fn resize_vector(&self, pass: &mut Pass, v: VectorId, size: u64) -> Result<Reply, Refusal>
         requires pass { IsPassOf self.now pass.old }
-        ensures pass { IsPassOf self.now pass.new }
-        ensures explains { ExplainsCall (room_of self.now.order) pass.old pass.new (Call.ResizeVector v size) result }
-        ensures known { IsKnown self.now pass.new }
-        ensures own { calls_by pass.old.view.number (known pass.new) ≡ calls_by pass.old.view.number (known pass.old) ++ entered_calls (Call.ResizeVector v size) result }
-        ensures caught_up { IsCaughtUp (ground_of result) pass.new }
-        ensures memory { result ≢ Err Refusal.OutOfMemory }
+        ensures { Answered self.now pass.old pass.new (Call.ResizeVector v size) result }
     {
-        self.call(rt, pass, Call::ResizeVector { v, size })
+        self.call(pass, Call::ResizeVector { v, size })
     }
 
     /// Makes a matrix of the same domain, dimensions and entries. `UninitializedObject` where there is no such matrix. (`GrB_Matrix_dup`.)
-    pub fn dup_matrix<R: Wait>(
-        &self,
-        rt: &R,
-        pass: &mut Pass,
-        a: MatrixId,
-    ) -> Result<Reply, Refusal>
+    pub fn dup_matrix(&self, pass: &mut Pass, a: MatrixId) -> Result<Reply, Refusal>
         requires pass { IsPassOf self.now pass.old }
-        ensures pass { IsPassOf self.now pass.new }
-        ensures explains { ExplainsCall (room_of self.now.order) pass.old pass.new (Call.DupMatrix a) result }
-        ensures known { IsKnown self.now pass.new }
-        ensures own { calls_by pass.old.view.number (known pass.new) ≡ calls_by pass.old.view.number (known pass.old) ++ entered_calls (Call.DupMatrix a) result }
-        ensures caught_up { IsCaughtUp (ground_of result) pass.new }
-        ensures memory { result ≢ Err Refusal.OutOfMemory }
+        ensures { Answered self.now pass.old pass.new (Call.DupMatrix a) result }
     {
-        self.call(rt, pass, Call::DupMatrix { a })
+        self.call(pass, Call::DupMatrix { a })
     }
 
     /// Makes a vector of the same domain, size and entries. `UninitializedObject` where there is no such vector. (`GrB_Vector_dup`.)
-    pub fn dup_vector<R: Wait>(
-        &self,
-        rt: &R,
-        pass: &mut Pass,
-        v: VectorId,
-    ) -> Result<Reply, Refusal>
+    pub fn dup_vector(&self, pass: &mut Pass, v: VectorId) -> Result<Reply, Refusal>
         requires pass { IsPassOf self.now pass.old }
-        ensures pass { IsPassOf self.now pass.new }
-        ensures explains { ExplainsCall (room_of self.now.order) pass.old pass.new (Call.DupVector v) result }
-        ensures known { IsKnown self.now pass.new }
-        ensures own { calls_by pass.old.view.number (known pass.new) ≡ calls_by pass.old.view.number (known pass.old) ++ entered_calls (Call.DupVector v) result }
-        ensures caught_up { IsCaughtUp (ground_of result) pass.new }
-        ensures memory { result ≢ Err Refusal.OutOfMemory }
+        ensures { Answered self.now pass.old pass.new (Call.DupVector v) result }
     {
-        self.call(rt, pass, Call::DupVector { v })
+        self.call(pass, Call::DupVector { v })
     }
 
     /// Fills a matrix that stores nothing; values at one place are combined by `dup`. `UninitializedObject` where there is no such matrix,
     /// `DomainMismatch` where `dup` or a value is of another domain, `OutputNotEmpty` where it stores an entry, `IndexOutOfBounds` where a
     /// row or column of the list is not below the dimensions. Evaluates the known calls, for which memory may be refused.
     /// (`GrB_Matrix_build`.)
-    pub fn build_matrix<R: Wait>(
+    pub fn build_matrix(
         &self,
-        rt: &R,
         pass: &mut Pass,
         a: MatrixId,
         tuples: MatrixTuples,
         dup: Monoid,
     ) -> Result<Reply, Refusal>
         requires pass { IsPassOf self.now pass.old }
-        ensures pass { IsPassOf self.now pass.new }
-        ensures explains { ExplainsCall (room_of self.now.order) pass.old pass.new (Call.BuildMatrix a tuples dup) result }
-        ensures known { IsKnown self.now pass.new }
-        ensures own { calls_by pass.old.view.number (known pass.new) ≡ calls_by pass.old.view.number (known pass.old) ++ entered_calls (Call.BuildMatrix a tuples dup) result }
-        ensures caught_up { IsCaughtUp (ground_of result) pass.new }
+        ensures { Answered self.now pass.old pass.new (Call.BuildMatrix a tuples dup) result }
     {
-        self.call(rt, pass, Call::BuildMatrix { a, tuples, dup })
+        self.call(pass, Call::BuildMatrix { a, tuples, dup })
     }
 
     /// Fills a vector that stores nothing; values at one index are combined by `dup`. `UninitializedObject` where there is no such vector,
     /// `DomainMismatch` where `dup` or a value is of another domain, `OutputNotEmpty` where it stores an entry, `IndexOutOfBounds` where an
     /// index of the list is not below the size. Evaluates the known calls, for which memory may be refused. (`GrB_Vector_build`.)
-    pub fn build_vector<R: Wait>(
+    pub fn build_vector(
         &self,
-        rt: &R,
         pass: &mut Pass,
         v: VectorId,
         tuples: VectorTuples,
         dup: Monoid,
     ) -> Result<Reply, Refusal>
         requires pass { IsPassOf self.now pass.old }
-        ensures pass { IsPassOf self.now pass.new }
-        ensures explains { ExplainsCall (room_of self.now.order) pass.old pass.new (Call.BuildVector v tuples dup) result }
-        ensures known { IsKnown self.now pass.new }
-        ensures own { calls_by pass.old.view.number (known pass.new) ≡ calls_by pass.old.view.number (known pass.old) ++ entered_calls (Call.BuildVector v tuples dup) result }
-        ensures caught_up { IsCaughtUp (ground_of result) pass.new }
+        ensures { Answered self.now pass.old pass.new (Call.BuildVector v tuples dup) result }
     {
-        self.call(rt, pass, Call::BuildVector { v, tuples, dup })
+        self.call(pass, Call::BuildVector { v, tuples, dup })
     }
 }

@@ -1,23 +1,24 @@
-ghost use Rattle.std.specs.Prelude.{◌≡◌, ◌<◌, ◌≤◌, ◌+◌, ◌^◌, false, [], length, All, IfOk, OnOk, OnErr};
+ghost use Rattle.std.specs.Prelude.{◌≡◌, ◌<◌, ◌≤◌, ◌+◌, ◌^◌, ◌⊎◌, false, [], length, All, IfOk, IfErr, OnOk, OnErr};
 ghost use Rattle.grb_order.specs.View.{fresh, LookedLast};
 ghost use Rattle.grb_order.specs.Order.{room_of};
 ghost use Rattle.grb_records.specs.Token.{IsOf};
-ghost use Rattle.grb_call.specs.Kinds.{enters};
+ghost use Rattle.grb_call.specs.Kinds.{enters, is_size};
 ghost use Rattle.grb_call.specs.Refused.{is_in_bounds};
 ghost use Rattle.grb_call.specs.Store.{shapes_of};
 ghost use Rattle.grb_call.specs.After.{reply_of};
 ghost use Rattle.grb_call.specs.History.{store_of};
 ghost use Rattle.grb_context.specs.Known.{known};
-ghost use Rattle.grb_context.specs.Explains.{is_size};
+ghost use Rattle.grb_context.specs.Counting.{Counts};
 ghost use Rattle.grb_context.specs.Learning.{Enters, IsSteady};
-ghost use Rattle.grb_context.specs.Reading.{IsBuildChecked, IsChecked, IsEvaluated, calls_shown};
+ghost use Rattle.grb_context.specs.Reading.{IsBuildChecked, IsChecked, IsPass};
 
 use crate::reader::Reader;
-use crate::state::State;
+use crate::row::Row;
 use grb_call::{Call, Kind, Reply};
 use grb_core::Refusal;
 use grb_order::{Order, Place};
 use grb_records::{Records, Token};
+use grb_replay::State;
 use std::alloc::{AllocError, Global};
 use std::marker::Model;
 
@@ -28,6 +29,8 @@ pub struct Pass {
     // The store after the first calls known, as many as were evaluated.
     state: State,
     evaluated: usize,
+    // Where its own records go.
+    row: Row,
 }
 
 impl Model for Pass {
@@ -44,19 +47,18 @@ impl Model for Pass {
 /// Applies the calls of the records that were not yet evaluated. Where memory is refused, those before stay evaluated.
 fn evaluate(
     records: &Records,
-    tokens: &[Token],
+    reader: &mut Reader,
     state: &mut State,
     evaluated: &mut usize,
 ) -> Result<(), AllocError>
-    requires of { All (IsOf records.now) tokens.now }
-    requires state { IsEvaluated (calls_shown tokens.now) evaluated.old state.old.store }
-    requires room { length tokens.now ≤ state.old.room + evaluated.old }
-    ensures ok { OnOk result (evaluated.new ≡ length tokens.now) }
-    ensures state { IsEvaluated (calls_shown tokens.now) evaluated.new state.new.store }
-    ensures room { state.new.room + evaluated.new ≡ state.old.room + evaluated.old }
+    requires kept { IsPass reader.old state.old evaluated.old }
+    requires of { All (IsOf records.now) reader.old.shown }
+    ensures same { reader.new ≡ reader.old }
+    ensures kept { IsPass reader.new state.new evaluated.new }
+    ensures store { OnOk result (state.new.store ≡ store_of (known reader.new)) }
 {
-    'calls: while *evaluated < tokens.len() {
-        state.apply(records.call_of(&tokens[*evaluated]))?;
+    'calls: while *evaluated < reader.known() as usize {
+        state.apply(reader.call_at(records, *evaluated))?;
         *evaluated += 1;
     }
     Ok(())
@@ -73,12 +75,13 @@ impl Pass {
         requires number { (number ≡ place.view.number) × (number < place.view.passes) }
         requires room { (room ≡ room_of place.table_id) × (room ≤ 4096) }
         requires fresh { place.view ≡ fresh number place.view.passes }
-        ensures { IfOk result (λ pass. pass ≡ record { order = place.table_id; view = place.view; shown = [] }) }
+        ensures { IfOk result (λ pass. pass ≡ record { order = place.table_id; view = place.view; shown = []; steps = 0 }) }
     {
         Ok(Pass {
             reader: Reader::open(alloc, number, place, room)?,
             state: State::open(alloc, room)?,
             evaluated: 0,
+            row: Row::open(room),
         })
     }
 
@@ -93,7 +96,7 @@ impl Pass {
     pub fn known(&self) -> u32
         ensures { result ≡ length (known self.now) }
     {
-        self.reader.tokens().len() as u32
+        self.reader.known()
     }
 
     /// How many words of the order the pass has learnt. Takes no memory.
@@ -103,11 +106,37 @@ impl Pass {
         self.reader.words()
     }
 
+    /// How many atomic steps the pass's last call made on the order; 0 before its first. Takes no memory.
+    pub fn steps(&self) -> u32
+        ensures { result ≡ self.now.steps }
+    {
+        self.reader.steps()
+    }
+
+    /// Begins to count the steps of a call.
+    pub(crate) fn begin(&mut self)
+        ensures { self.new ≡ record self.old { steps = 0 } }
+    {
+        self.reader.begin();
+    }
+
     /// How many more calls the history takes, as far as the pass has learnt. Takes no memory.
     pub fn room_left(&self) -> u32
         ensures { result + length self.now.view.words ≡ room_of self.now.order }
     {
         self.reader.room_left()
+    }
+
+    /// Puts the call as the next record of the pass, as [`Row::put`] does.
+    pub(crate) fn put(&mut self, records: &Records, call: Call) -> Result<Token, Refusal>
+        ensures same { self.new ≡ self.old }
+        ensures put { IfOk result (λ token. (token.pass ≡ self.old.view.number) × (token.call ≡ call)) }
+        ensures index { IfOk result (λ token. token.index < 2 ^ 48) }
+        ensures of { IfOk result (IsOf records.now) }
+        ensures refused { IfErr result (λ refusal. (refusal ≡ Refusal.Panic) ⊎ (refusal ≡ Refusal.OutOfMemory)) }
+    {
+        let number = self.number();
+        self.row.put(records, number, call)
     }
 
     /// Why what is stored after all known calls refuses the build, if it does; it evaluates them. `OutOfMemory` where memory is refused.
@@ -124,7 +153,7 @@ impl Pass {
     {
         let evaluated = evaluate(
             records,
-            self.reader.tokens(),
+            &mut self.reader,
             &mut self.state,
             &mut self.evaluated,
         );
@@ -159,7 +188,7 @@ impl Pass {
     {
         evaluate(
             records,
-            self.reader.tokens(),
+            &mut self.reader,
             &mut self.state,
             &mut self.evaluated,
         )?;
@@ -189,9 +218,11 @@ impl Pass {
         requires pass { token.pass ≡ self.old.view.number }
         requires index { token.index < 2 ^ 48 }
         requires call { call.now ≡ token.call }
+        requires few { self.old.steps < 2 ^ 31 }
         ensures order { self.new.order ≡ self.old.order }
         ensures enters { Enters (room_of order.now) token self.old result self.new }
         ensures steady { IsSteady self.new }
+        ensures counts { Counts self.old self.new }
     {
         self.reader.enter(order, token, call)
     }

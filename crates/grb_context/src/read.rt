@@ -1,8 +1,10 @@
-ghost use Rattle.std.specs.Prelude.{◌≡◌, ◌++◌, false};
+ghost use Rattle.std.specs.Prelude.{◌≡◌, false};
 ghost use Rattle.grb_order.specs.Order.{room_of};
 ghost use Rattle.grb_call.specs.Kinds.{enters};
-ghost use Rattle.grb_context.specs.Known.{IsKnown, IsPassOf, calls_by, known};
-ghost use Rattle.grb_context.specs.Explains.{ExplainsCall, IsCaughtUp, entered_calls, ground_of};
+ghost use Rattle.grb_context.specs.Known.{IsPassOf};
+ghost use Rattle.grb_context.specs.Explains.{ExplainsCall, IsCaughtUp, ground_of};
+ghost use Rattle.grb_context.specs.Answered.{Answered};
+ghost use Rattle.grb_context.specs.Counting.{CountsCall};
 ghost use Rattle.grb_context.specs.Learning.{IsSteady};
 
 use crate::context::Context;
@@ -15,7 +17,9 @@ impl Context {
     fn read_at_end(&self, pass: &mut Pass, call: &Call) -> Result<Reply, Refusal>
         requires pass { IsPassOf self.now pass.old }
         requires reads { enters call.now ≡ false }
+        requires begun { pass.old.steps ≡ 0 }
         ensures pass { IsPassOf self.now pass.new }
+        ensures counts { CountsCall pass.old pass.new }
         ensures explains { ExplainsCall (room_of self.now.order) pass.old pass.new call.now result }
         ensures steady { IsSteady pass.new }
         ensures caught_up { IsCaughtUp (ground_of result) pass.new }
@@ -30,12 +34,9 @@ impl Context {
     pub(crate) fn read(&self, pass: &mut Pass, call: &Call) -> Result<Reply, Refusal>
         requires pass { IsPassOf self.now pass.old }
         requires reads { enters call.now ≡ false }
-        ensures pass { IsPassOf self.now pass.new }
-        ensures explains { ExplainsCall (room_of self.now.order) pass.old pass.new call.now result }
-        ensures known { IsKnown self.now pass.new }
-        ensures own { calls_by pass.old.view.number (known pass.new) ≡ calls_by pass.old.view.number (known pass.old) ++ entered_calls call.now result }
-        ensures caught_up { IsCaughtUp (ground_of result) pass.new }
+        ensures { Answered self.now pass.old pass.new call.now result }
     {
+        pass.begin();
         self.read_at_end(pass, call)
     }
 }

@@ -1,21 +1,22 @@
-ghost use Rattle.std.specs.Prelude.{◌≡◌, ◌<◌, ◌≤◌, ◌+◌, ◌^◌, true, [], ◌∷◌, ◌++◌, length, slice_index, MatchOption, IfOk};
+ghost use Rattle.std.specs.Prelude.{◌≡◌, ◌<◌, ◌≤◌, ◌+◌, ◌^◌, true, [], ◌∷◌, ◌++◌, length, All, Some, slice_get, slice_index, MatchOption, IfOk};
 ghost use Rattle.grb_order.specs.Word.{number_of, index_of};
 ghost use Rattle.grb_order.specs.View.{fresh, LookedLast};
 ghost use Rattle.grb_order.specs.Order.{room_of};
 ghost use Rattle.grb_order.specs.Steps.{Looks};
-ghost use Rattle.grb_call.specs.Kinds.{enters};
+ghost use Rattle.grb_records.specs.Token.{IsOf};
+ghost use Rattle.grb_call.specs.Kinds.{enters, is_size};
 ghost use Rattle.grb_call.specs.Refused.{check_of};
 ghost use Rattle.grb_call.specs.Store.{shapes_of};
 ghost use Rattle.grb_call.specs.After.{reply_of};
-ghost use Rattle.grb_call.specs.History.{store_of};
+ghost use Rattle.grb_call.specs.History.{calls_of, store_of};
 ghost use Rattle.grb_context.specs.Known.{known};
-ghost use Rattle.grb_context.specs.Explains.{is_size};
 ghost use Rattle.grb_context.specs.Learning.{Enters, IsNextUnshown, IsSteady};
+ghost use Rattle.grb_context.specs.Counting.{Counts, look_steps};
 
 use grb_call::{Call, Kind, MatrixId, Reply, Shapes, VectorId, check};
 use grb_core::Refusal;
 use grb_order::{Entered, Look, Order, Place};
-use grb_records::Token;
+use grb_records::{Records, Token};
 use std::alloc::{AllocError, Global};
 use std::marker::Model;
 
@@ -29,6 +30,8 @@ pub(crate) struct Reader {
     // The records of the first words learnt, with room for all words of the order.
     tokens: Vec<Token>,
     shapes: Shapes,
+    // The steps of the last call.
+    steps: u32,
 }
 
 impl Model for Reader {
@@ -43,6 +46,17 @@ impl Model for Reader {
     ghost invariant = { IsReader };
 }
 
+/// How many steps a look made.
+fn steps_of_look(look: Look) -> u32
+    ensures steps { result ≡ look_steps look }
+    ensures few { result ≤ 1 }
+{
+    match look {
+        Look::Next(_) | Look::Vacant => 1,
+        Look::Full => 0,
+    }
+}
+
 impl Reader {
     /// A reader that knows no call, with memory for all that it can learn. `AllocError` where memory is refused.
     pub(crate) fn open(
@@ -54,7 +68,7 @@ impl Reader {
         requires number { (number ≡ place.view.number) × (number < place.view.passes) }
         requires room { (room ≡ room_of place.table_id) × (room ≤ 4096) }
         requires fresh { place.view ≡ fresh number place.view.passes }
-        ensures { IfOk result (λ reader. reader ≡ record { order = place.table_id; view = place.view; shown = [] }) }
+        ensures { IfOk result (λ reader. reader ≡ record { order = place.table_id; view = place.view; shown = []; steps = 0 }) }
     {
         let tokens = Vec::with_capacity(alloc, room as usize)?;
         let shapes = Shapes::open(alloc, room)?;
@@ -64,6 +78,7 @@ impl Reader {
             place,
             tokens,
             shapes,
+            steps: 0,
         })
     }
 
@@ -71,6 +86,20 @@ impl Reader {
         ensures { result ≡ self.now.view.number }
     {
         self.number
+    }
+
+    /// Begins to count the steps of a call.
+    pub(crate) fn begin(&mut self)
+        ensures { self.new ≡ record self.old { steps = 0 } }
+    {
+        self.steps = 0;
+    }
+
+    /// The steps of the last call.
+    pub(crate) fn steps(&self) -> u32
+        ensures { result ≡ self.now.steps }
+    {
+        self.steps
     }
 
     /// How many words the pass has learnt.
@@ -87,13 +116,22 @@ impl Reader {
         self.room - self.words()
     }
 
-    /// The records shown, in the order of the words.
-    pub(crate) fn tokens(&self) -> &[Token]
-        ensures tokens { result.now ≡ self.now.shown }
-        ensures few { length self.now.shown ≤ 4096 }
-        ensures steady { IsSteady self.now }
+    /// How many records were shown.
+    pub(crate) fn known(&self) -> u32
+        ensures known { result ≡ length (known self.now) }
+        ensures few { length (known self.now) ≤ room_of self.now.order }
     {
-        &self.tokens
+        self.tokens.len() as u32
+    }
+
+    /// The call of the record shown at this place.
+    pub(crate) fn call_at<'a>(&mut self, records: &'a Records, at: usize) -> &'a Call
+        requires known { at < length (known self.old) }
+        requires of { All (IsOf records.now) self.old.shown }
+        ensures call { slice_get (calls_of (known self.old)) at ≡ Some result.now }
+        ensures same { self.new ≡ self.old }
+    {
+        records.call_of(&mut self.tokens[at])
     }
 
     /// The word learnt first of those whose record was not shown.
@@ -124,13 +162,17 @@ impl Reader {
 
     /// Loads the word after those learnt, in one atomic step, unless all are learnt.
     pub(crate) fn look(&mut self, order: &Order) -> Look
-        requires { self.old.order ≡ order.now }
+        requires order { self.old.order ≡ order.now }
+        requires few { self.old.steps < 2 ^ 31 }
         ensures order { self.new.order ≡ self.old.order }
         ensures shown { self.new.shown ≡ self.old.shown }
         ensures look { Looks (room_of order.now) self.old.view result self.new.view }
         ensures steady { IsSteady self.new }
+        ensures counts { Counts self.old self.new }
     {
-        order.look(&mut self.place)
+        let look = order.look(&mut self.place);
+        self.steps += steps_of_look(look);
+        look
     }
 
     /// What becomes of the call after all known ones, or its refusal.
@@ -182,10 +224,13 @@ impl Reader {
         requires pass { token.pass ≡ self.old.view.number }
         requires index { token.index < 2 ^ 48 }
         requires call { call.now ≡ token.call }
+        requires few { self.old.steps < 2 ^ 31 }
         ensures order { self.new.order ≡ self.old.order }
         ensures enters { Enters (room_of order.now) token self.old result self.new }
         ensures steady { IsSteady self.new }
+        ensures counts { Counts self.old self.new }
     {
+        self.steps += 1;
         match order.enter(&mut self.place, token.index()) {
             Entered::Won => {
                 self.shapes.absorb(call);

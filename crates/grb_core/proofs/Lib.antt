@@ -4,3 +4,8 @@ pub mod Folds
 pub mod Edits
 pub mod Builds
 pub mod Rows
+pub mod Written
+pub mod Made
+pub mod Gridded
+pub mod ResultLaws
+pub mod ResultRows

@@ -2,7 +2,12 @@ pub mod Contents
 pub mod Entries
 pub mod Fold
 pub mod Laws
+pub mod Mask
 pub mod Monoid
 pub mod Operator
 pub mod Refusal
+pub mod ResultLaws
+pub mod Results
+pub mod Semiring
 pub mod Value
+pub mod Written

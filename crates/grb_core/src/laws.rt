@@ -1,7 +1,9 @@
-//! What a user of stored entries, builds and folds relies on. Each function has a law as its contract, and does nothing.
+//! What a user of stored entries, builds, folds, masks and results relies on. Each function has a law as its contract, and does nothing.
+ghost use Rattle.std.specs.Prelude.{ℕ};
 ghost use Rattle.std.specs.Ordering.{nat_cmp};
 ghost use Rattle.grb_core.specs.Entries.{cell_cmp};
 ghost use Rattle.grb_core.specs.Laws.{SetThenGet, RemoveThenGet, BuildStoresFolds, BuildIsSets, BuildsInAnyOrder, VectorResizedTwice, MatrixResizedTwice, FoldsInParts, FoldsInAnyOrder};
+ghost use Rattle.grb_core.specs.ResultLaws.{MonoidsCommute, EwiseInEitherOrder, ComplementParts, WritesInside, LeavesOutside, ClearsOutside, IsBelow, IsCellBelow, EwiseMakesEntries, WrittenMakesEntries, MxvMakesEntries, MxmMakesEntries, ReduceRowsMakesEntries, ReduceMakesValue};
 
 /// A value that was set is what a get gives, and every other place gives what it gave before.
 ///
@@ -59,4 +61,57 @@ pub fn resize_twice()
 pub fn folds_in_any_order()
     ensures parts { FoldsInParts }
     ensures orders { FoldsInAnyOrder }
+{}
+
+/// eWiseAdd and eWiseMult with an operator that commutes do not depend on which input comes first. The operators of the monoids do
+/// commute; First, Second and Minus do not.
+///
+/// Source: GraphBLAS C API 2.0, "eWiseAdd", "eWiseMult" and "Monoids".
+pub fn ewise_in_either_order()
+    ensures vectors { EwiseInEitherOrder nat_cmp }
+    ensures matrices { EwiseInEitherOrder cell_cmp }
+    ensures operators { MonoidsCommute }
+{}
+
+/// Each place is either inside a mask or inside its complement, whether the mask is read by value or by structure. Where there is no
+/// mask, each place is inside, and none with the complement (own).
+///
+/// Source: GraphBLAS C API 2.0, "Masks" and "Descriptors".
+pub fn complement_parts()
+    ensures vectors { ComplementParts nat_cmp }
+    ensures matrices { ComplementParts cell_cmp }
+{}
+
+/// Inside, an output has what the accumulator made of the old output and the result; outside, the old output stays without replace,
+/// and with replace nothing is left.
+///
+/// Source: GraphBLAS C API 2.0, "Masks" and "Descriptors".
+pub fn writes_inside_alone()
+    ensures vectors_inside { WritesInside nat_cmp }
+    ensures vectors_kept { LeavesOutside nat_cmp }
+    ensures vectors_replaced { ClearsOutside nat_cmp }
+    ensures matrices_inside { WritesInside cell_cmp }
+    ensures matrices_kept { LeavesOutside cell_cmp }
+    ensures matrices_replaced { ClearsOutside cell_cmp }
+{}
+
+/// What eWiseAdd, eWiseMult and a written output store of entries that are in order, within the dimensions and of one domain is so
+/// too.
+///
+/// Source: GraphBLAS C API 2.0, "Vectors" and "Matrices".
+pub fn element_wise_results_are_whole()
+    ensures vectors { (size : ℕ) → EwiseMakesEntries nat_cmp (IsBelow size) }
+    ensures matrices { (nrows ncols : ℕ) → EwiseMakesEntries cell_cmp (IsCellBelow nrows ncols) }
+    ensures written_vectors { (size : ℕ) → WrittenMakesEntries nat_cmp (IsBelow size) }
+    ensures written_matrices { (nrows ncols : ℕ) → WrittenMakesEntries cell_cmp (IsCellBelow nrows ncols) }
+{}
+
+/// What mxv, mxm and the reductions store of such entries is so too, within the dimensions of their output.
+///
+/// Source: GraphBLAS C API 2.0, "mxv", "mxm" and "reduce".
+pub fn products_and_reductions_are_whole()
+    ensures mxv { MxvMakesEntries }
+    ensures mxm { MxmMakesEntries }
+    ensures rows { ReduceRowsMakesEntries }
+    ensures totals { ReduceMakesValue }
 {}

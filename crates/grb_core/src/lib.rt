@@ -1,7 +1,8 @@
-//! The values that matrices and vectors store, their domains, operators and monoids, and the names of what a call is refused for.
+//! The values that matrices and vectors store, their domains, operators, monoids and semirings, and the names of what a call is
+//! refused for.
 //!
 //! The mathematics that every layer speaks in stands in `specs/`: a matrix or a vector is a domain, dimensions and a finite map from
-//! places to values, and each method is an operation on that map. Nothing here takes memory, and nothing here knows of stores,
+//! places to values, and each method and operation is an operation on such maps. Nothing here takes memory, and nothing here knows of stores,
 //! calls or threads.
 #![tactic(auto)]
 
@@ -10,14 +11,18 @@ mod laws;
 mod monoid;
 mod operator;
 mod refusal;
+mod semiring;
 mod value;
 
 pub use domain::Domain;
 pub use laws::{
-    build_is_sets, build_stores_folds, builds_in_any_order, folds_in_any_order, remove_then_get,
-    resize_twice, set_then_get,
+    build_is_sets, build_stores_folds, builds_in_any_order, complement_parts,
+    element_wise_results_are_whole, ewise_in_either_order, folds_in_any_order,
+    products_and_reductions_are_whole, remove_then_get, resize_twice, set_then_get,
+    writes_inside_alone,
 };
 pub use monoid::{Monoid, identity};
 pub use operator::{BinaryOp, apply};
 pub use refusal::{Info, Refusal};
+pub use semiring::Semiring;
 pub use value::Value;

@@ -11,7 +11,7 @@ use Rattle.grb_order.specs.Steps.{placed}
 use Rattle.std.proofs.lemmas.List.{get_or_at}
 use Rattle.std.proofs.lemmas.List.Elements.{All-push, All-nil}
 use Rattle.grb_order.specs.Word.{order_word, IsWord}
-use Rattle.grb_order.specs.View.{fresh, learns, finds_vacant, enters, IsOthers, IsSound, LookedLast}
+use Rattle.grb_order.specs.View.{fresh, learns, finds_vacant, enters_word, IsOthers, IsSound, LookedLast}
 use Rattle.grb_order.specs.Place.{IsSeated}
 use Rattle.grb_order.specs.declared.view.View.{View}
 use Rattle.grb_order.specs.declared.rule.Standing.{Standing}
@@ -35,7 +35,7 @@ sound_vacant room v near s = record {
   looks = All-push (λ n. n < room) v.looks (length v.words) s.looks near;
 }
 
-pub sound_enters : (room : ℕ) (v : View) (index : ℕ) → index < 2 ^ 48 → length v.words < room → IsSound room v → IsSound room (enters v (order_word v.number index))
+pub sound_enters : (room : ℕ) (v : View) (index : ℕ) → index < 2 ^ 48 → length v.words < room → IsSound room v → IsSound room (enters_word v (order_word v.number index))
 sound_enters room v index small near s =
     let x : ℕ = order_word v.number index in let own = own_word v.passes v.number index s.number small in record {
       number = s.number;
@@ -74,7 +74,7 @@ module _ (tag room : ℕ) (words : List ℕ) (capacity : ℕ) (v : Standing) (p 
     sound = sound_learns room v.view x near p.sound other;
   }
 
-  pub seated_enters : (index : ℕ) → index < 2 ^ 48 → IsSeated tag room (words ++ order_word v.view.number index ∷ []) capacity (record v { view = enters v.view (order_word v.view.number index) })
+  pub seated_enters : (index : ℕ) → index < 2 ^ 48 → IsSeated tag room (words ++ order_word v.view.number index ∷ []) capacity (record v { view = enters_word v.view (order_word v.view.number index) })
   seated_enters index small = let x : ℕ = order_word v.view.number index in record {
     role = p.role;
     number_is = p.number_is;

@@ -10,7 +10,7 @@ use Rattle.std.proofs.lemmas.List.Elements.{All-push, All-weaker, All-nil}
 use Rattle.atomic_table.specs.Table.{State, Act, Valid, stepped, carried_after, step, keeps, Allows, Splits, opening}
 use Rattle.atomic_table.proofs.Lists.{at_set, set_else, at_longer, at_last, exchanged}
 use Rattle.grb_order.specs.Word.{order_word, number_of, IsWord, positions, StartsWith}
-use Rattle.grb_order.specs.View.{learns, finds_vacant, enters, IsOthers}
+use Rattle.grb_order.specs.View.{learns, finds_vacant, enters_word, IsOthers}
 use Rattle.grb_order.specs.Rule.{IsPlaced, Fits, Orderly}
 use Rattle.grb_order.specs.Steps.{Sat, dealing, placed, looked, tried}
 use Rattle.grb_order.specs.declared.rule.Size.{Size}
@@ -142,10 +142,10 @@ module _ (entered : List ℕ) (dealt dealer : ℕ) (seat_of : ℕ → ℕ) (pass
 -- a place enters its word behind all words of the row
 enters_next : (size : Size) (s : Row) (h : Orderly size s) (id index : ℕ) (v : Standing) → get_elem? s.views id ≡ some v → v.role ≡ Placed → index < 2 ^ 48
     → length v.view.words < size.room → get_or s.words (length v.view.words) 0 ≡ 0
-    → Orderly size record { words = set s.words (length v.view.words) (order_word v.view.number index); homes = s.homes; views = set s.views id (record v { view = enters v.view (order_word v.view.number index) }) }
+    → Orderly size record { words = set s.words (length v.view.words) (order_word v.view.number index); homes = s.homes; views = set s.views id (record v { view = enters_word v.view (order_word v.view.number index) }) }
 enters_next size s h id index v at role small room is =
     let words : List ℕ = v.view.words in let n : ℕ = length words in let x : ℕ = order_word v.view.number index in
-    let w : Standing = record v { view = enters v.view x } in
+    let w : Standing = record v { view = enters_word v.view x } in
     let p : IsPlaced size.passes h.entered h.dealt h.seat_of id v = is_placed size s h id v at role in
     let all : h.entered ≡ words = next_vacant h.dealt h.vacant h.entered words p.words h.words (subst (λ (l : List ℕ). get_or l n 0 ≡ 0) h.row is) in
     let own = own_word h.dealt v.view.number index p.number small in
@@ -189,7 +189,7 @@ tries size slots id n index me role here few room =
     let v : Standing = me.0 in let k : ℕ = length v.view.words in let found : ℕ = get_or s.words k 0 in
     exchanged found 0 own
     (λ x. (w : Standing) × (a : Act (Unit {0})) × Valid s.homes me.1 a × Orderly size (stepped s k x id me.1 w a) × tried (step slots k 0 own none) me found (w, carried_after me.1 a))
-    (λ (is : found ≡ 0). (record v { view = enters v.view own }, keeps, tt, enters_next size s h id index v at role few lt is, ((λ _. refl), (λ ne. absurd (ne is)))))
+    (λ (is : found ≡ 0). (record v { view = enters_word v.view own }, keeps, tt, enters_next size s h id index v at role few lt is, ((λ _. refl), (λ ne. absurd (ne is)))))
     (λ (ne : found ≢ 0).
     let t = learns_next size s h id v at role ne in
     (record v { view = learns v.view found }, keeps, tt, t.0, ((λ is. absurd (ne is)), (λ _. (refl, t.1)))))) room

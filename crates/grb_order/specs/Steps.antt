@@ -3,7 +3,7 @@
 use Rattle.std.specs.Prelude.{◌≡◌, ◌≢◌, ℕ, ◌<◌, length}
 use Rattle.atomic_table.specs.Table.{Me, Step}
 use Rattle.grb_order.specs.Word.{order_word}
-use Rattle.grb_order.specs.View.{fresh, learns, finds_vacant, enters, IsOthers}
+use Rattle.grb_order.specs.View.{fresh, learns, finds_vacant, enters_word, IsOthers}
 use Rattle.grb_order.specs.declared.view.View.{View}
 use Rattle.grb_order.specs.declared.rule.Standing.{Standing}
 use Rattle.grb_order.specs.declared.rule.Role.TheVariants.{Dealer, Placed}
@@ -33,16 +33,16 @@ dealt v = placed v.view.number v.view.passes
 abbrev pub seen : Sat → View → Sat
 seen m v = (record m.0 { view = v }, m.1)
 
-abbrev pub Learns : Sat → ℕ → Sat → Type 0
-Learns m found n = (n ≡ seen m (learns m.0.view found)) × IsOthers m.0.view found
+abbrev pub LearnsWord : Sat → ℕ → Sat → Type 0
+LearnsWord m found n = (n ≡ seen m (learns m.0.view found)) × IsOthers m.0.view found
 
 -- a load: it finds no word, and the looks grow; or a word of another place, which is learnt
 abbrev pub looked : Play
-looked st m found n = (found ≡ 0 → n ≡ seen m (finds_vacant m.0.view)) × (found ≢ 0 → Learns m found n)
+looked st m found n = (found ≡ 0 → n ≡ seen m (finds_vacant m.0.view)) × (found ≢ 0 → LearnsWord m found n)
 
 -- a compare-and-swap from 0: won, and the own word is entered; or lost to a word of another place, which is learnt
 abbrev pub tried : Play
-tried st m found n = (found ≡ 0 → n ≡ seen m (enters m.0.view st.second)) × (found ≢ 0 → Learns m found n)
+tried st m found n = (found ≡ 0 → n ≡ seen m (enters_word m.0.view st.second)) × (found ≢ 0 → LearnsWord m found n)
 
 -- a look at a row of `room` words, by the view before and after
 abbrev pub Looks : ℕ → View → Look → View → Type 0
@@ -52,5 +52,5 @@ Looks room v Full w = (w ≡ v) × (length v.words ≡ room)
 
 -- a try to enter the record `index` in a row of `room` words, by the view before and after
 abbrev pub Tries : ℕ → ℕ → View → Entered → View → Type 0
-Tries room index v Won w = (w ≡ enters v (order_word v.number index)) × (length v.words < room)
+Tries room index v Won w = (w ≡ enters_word v (order_word v.number index)) × (length v.words < room)
 Tries room index v (Lost word) w = (w ≡ learns v word) × IsOthers v word × (length v.words < room)

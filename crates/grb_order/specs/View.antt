@@ -16,8 +16,8 @@ abbrev pub finds_vacant : View → View
 finds_vacant v = record v { looks = v.looks ++ length v.words ∷ [] }
 
 -- its own word is entered after the words that it has learnt
-abbrev pub enters : View → ℕ → View
-enters v word = record v { words = v.words ++ word ∷ []; own = v.own ++ length v.words ∷ [] }
+abbrev pub enters_word : View → ℕ → View
+enters_word v word = record v { words = v.words ++ word ∷ []; own = v.own ++ length v.words ∷ [] }
 
 -- another place entered the word
 abbrev pub IsOthers : View → ℕ → Type 0

@@ -1,19 +1,47 @@
-ghost use Rattle.std.specs.Prelude.{◌≡◌, ◌↔◌, ◌<◌, ◌^◌, IfOk, IfErr, IfSome, IsTrue};
+ghost use Rattle.std.specs.Prelude.{◌≡◌, ◌↔◌, ◌⊎◌, ◌<◌, ◌≤◌, length, All, None, Some, Err, MatchOption, IfOk, IfErr, IfSome, IsTrue};
+ghost use Rattle.once_cell.specs.Once.{cell_name};
 
 use crate::token::Token;
 use grb_call::Call;
 use grb_core::Refusal;
+use once_cell::race::OnceBox;
 use std::alloc::{AllocError, Global};
 use std::marker::Model;
-use std::sync::Wait;
 
-/// How many indices a word of the order can name.
-const RECORDS: usize = 1 << 48;
+type Cell = OnceBox<Call>;
 
-/// The records of all passes.
+/// The cells of one pass.
+#[derive(Drop)]
+struct Row {
+    cells: Vec<Cell>,
+}
+
+impl Model for Row {
+    ghost use Rattle.grb_records.specs.Token.{Cells};
+
+    ghost Value = { Cells };
+
+    ghost view = { λ r. r.cells.items };
+}
+
+impl Row {
+    /// A row of `room` empty cells.
+    fn open(alloc: Global, room: u32) -> Result<Row, AllocError>
+        ensures { IfOk result (λ row. length row ≡ room) }
+    {
+        let mut cells = Vec::with_capacity(alloc, room as usize)?;
+        for _ in 0..room {
+            cells.push_reserved(OnceBox::new(alloc));
+        }
+        Ok(Row { cells })
+    }
+}
+
+/// The records of all passes: a row of cells for each.
 #[derive(Drop)]
 pub struct Records {
-    records: boxcar::Vec<Call>,
+    rows: Vec<Row>,
+    alloc: Global,
 }
 
 impl Model for Records {
@@ -21,35 +49,54 @@ impl Model for Records {
 
     ghost Value = { Shelf };
 
-    ghost view = { λ r. record { tag = r.records.tag; buckets = r.records.buckets } };
+    ghost view = { λ r. r.rows.items };
 }
 
 impl Records {
-    ghost use Rattle.grb_records.specs.Token.{IsOf, IsSameRecord};
+    ghost use Rattle.grb_records.specs.Token.{cell_at, HasRows, IsOf, IsSameRecord};
 
-    /// No records, and memory for `room` of them, whichever of the passes puts them. `AllocError` where memory is refused.
-    pub fn open(alloc: Global, _passes: u32, room: u32) -> Result<Records, AllocError> {
-        Ok(Records {
-            records: boxcar::Vec::with_capacity(alloc, room as usize)?,
-        })
+    /// No records, and a row of `room` cells for each pass. All memory is taken here; `AllocError` where it is refused.
+    pub fn open(alloc: Global, passes: u32, room: u32) -> Result<Records, AllocError>
+        ensures { IfOk result (HasRows passes room) }
+    {
+        let mut rows = Vec::with_capacity(alloc, passes as usize)?;
+        for _ in 0..passes {
+            rows.push_reserved(Row::open(alloc, room)?);
+        }
+        Ok(Records { rows, alloc })
     }
 
-    /// Puts a call of the pass as a record, whose index is below 2^48. `Panic`, and nothing else, where the store of records did not
-    /// take it or gave it a higher index. May take memory, and may wait for another thread that takes it.
-    pub fn put<R: Wait>(&self, rt: &R, pass: u32, call: Call) -> Result<Token, Refusal>
-        ensures put { IfOk result (λ token. (token.pass ≡ pass) × (token.call ≡ call)) }
-        ensures index { IfOk result (λ token. token.index < 2 ^ 48) }
-        ensures of { IfOk result (IsOf self.now) }
-        ensures refused { IfErr result (λ refusal. refusal ≡ Refusal.Panic) }
+    // The cell at the index in the row of the pass, if there is one.
+    fn cell(&self, pass: u32, at: u64) -> Option<&Cell>
+        ensures { MatchOption result (cell_at self.now pass at ≡ None) (λ cell. cell_at self.now pass at ≡ Some (cell_name cell.now)) }
     {
-        match self.records.push_shown(rt, call) {
-            Ok(pushed) => {
-                if pushed.index() < RECORDS {
-                    Ok(Token { pass, pushed })
-                } else {
-                    Err(Refusal::Panic)
-                }
-            }
+        let row = self.rows.get(pass as usize)?;
+        row.cells.get(at as usize)
+    }
+
+    /// Puts a call of the pass as the record at this index of its row, from 0. `Panic` where there is no such pass or index, or the cell
+    /// did not take the call since it has a record; `OutOfMemory` where memory for the record is refused, and then the cell is as
+    /// before. Nothing else is refused; that a cell without a record takes one where there is memory, no contract says. Takes memory
+    /// for the record alone, and does not wait.
+    pub fn put(&self, pass: u32, at: u64, call: Call) -> Result<Token, Refusal>
+        ensures put { IfOk result (λ token. (token.pass ≡ pass) × (token.index ≡ at) × (token.call ≡ call)) }
+        ensures of { IfOk result (IsOf self.now) }
+        ensures outside { cell_at self.now pass at ≡ None → result ≡ Err Refusal.Panic }
+        ensures refused { IfErr result (λ refusal. (refusal ≡ Refusal.Panic) ⊎ (refusal ≡ Refusal.OutOfMemory)) }
+    {
+        let Some(cell) = self.cell(pass, at) else {
+            return Err(Refusal::Panic);
+        };
+        let Ok(boxed) = Box::new(self.alloc, call) else {
+            return Err(Refusal::OutOfMemory);
+        };
+        let mut note = cell.note();
+        match cell.set_as(boxed, &mut note) {
+            Ok(()) => Ok(Token {
+                pass,
+                index: at,
+                note,
+            }),
             Err(_untaken) => Err(Refusal::Panic),
         }
     }
@@ -60,30 +107,39 @@ impl Records {
         ensures call { IfSome result (λ shown. shown.0.now ≡ shown.1.call) }
         ensures of { IfSome result (λ shown. IsOf self.now shown.1) }
     {
-        let pushed = self.records.witness(index as usize)?;
-        let token = Token { pass, pushed };
-        Some((self.call_of(&token), token))
+        let cell = self.cell(pass, index)?;
+        let mut note = cell.note();
+        let call = cell.get_as(&mut note)?;
+        Some((call, Token { pass, index, note }))
     }
 
-    /// The token's call, always. Takes no memory and does not wait.
-    pub fn call_of(&self, token: &Token) -> &Call
-        requires { IsOf self.now token.now }
-        ensures { result.now ≡ token.now.call }
+    /// The token's call, always. Takes no memory and does not wait. The token is as before: a note is read through a `&mut` alone.
+    pub fn call_of(&self, token: &mut Token) -> &Call
+        requires { IsOf self.now token.old }
+        ensures call { result.now ≡ token.old.call }
+        ensures same { token.new ≡ token.old }
     {
-        self.records.value(&token.pushed)
+        match self.cell(token.pass, token.index) {
+            Some(cell) => match cell.get_as(&mut token.note) {
+                Some(call) => call,
+                None => unreachable!(),
+            },
+            None => unreachable!(),
+        }
     }
 
     /// Whether both are tokens of one record. Then they have one call. Takes no memory and does not wait.
-    pub fn same(&self, a: &Token, b: &Token) -> bool
-        requires a { IsOf self.now a.now }
-        requires b { IsOf self.now b.now }
-        ensures record { IsTrue result ↔ IsSameRecord a.now b.now }
-        ensures call { IsTrue result → a.now.call ≡ b.now.call }
+    pub fn same(&self, a: &mut Token, b: &mut Token) -> bool
+        requires a { IsOf self.now a.old }
+        requires b { IsOf self.now b.old }
+        ensures record { IsTrue result ↔ IsSameRecord a.old b.old }
+        ensures call { IsTrue result → a.old.call ≡ b.old.call }
+        ensures same { (a.new ≡ a.old) × (b.new ≡ b.old) }
     {
-        if a.pass != b.pass || a.index() != b.index() {
+        if a.pass != b.pass || a.index != b.index {
             return false;
         }
-        self.records.agrees(&a.pushed, &b.pushed);
+        a.note.compare(b.note.again());
         true
     }
 }

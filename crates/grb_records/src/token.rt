@@ -1,23 +1,27 @@
 ghost use Rattle.std.specs.Prelude.{◌≡◌};
 
-use boxcar::Pushed;
 use grb_call::Call;
-use std::alloc::Global;
+use once_cell::race::Note;
 use std::marker::Model;
 
-/// One record, as whoever put it or was shown it knows it: of which pass it is, its index, and its call.
+/// One record, as whoever put it or was shown it knows it: of which pass it is, its index, and what its cell is known
+/// to hold.
 #[derive(Drop)]
 pub struct Token {
     pub(crate) pass: u32,
-    pub(crate) pushed: Pushed<Call, Global>,
+    pub(crate) index: u64,
+    pub(crate) note: Note<Call>,
 }
 
 impl Model for Token {
-    ghost use Rattle.grb_records.specs.Token.{Shown};
+    ghost use Rattle.std.specs.Prelude.{IsSome};
+    ghost use Rattle.grb_records.specs.Token.{Shown, held};
 
     ghost Value = { Shown };
 
-    ghost view = { λ t. record { pass = t.pass; index = t.pushed.index; call = t.pushed.value; place = record { bucket = t.pushed.bucket; row = t.pushed.row; item = t.pushed.item } } };
+    ghost view = { λ t. record { pass = t.pass; index = t.index; call = held t.note.known; place = t.note.cell } };
+
+    ghost invariant = { λ t. IsSome t.note.known };
 }
 
 impl Token {
@@ -25,6 +29,6 @@ impl Token {
     pub fn index(&self) -> u64
         ensures { result ≡ self.now.index }
     {
-        self.pushed.index() as u64
+        self.index
     }
 }

@@ -11,13 +11,13 @@ use Rattle.grb_script.specs.declared.keyword.Whole.{Whole}
 use Rattle.grb_script.specs.declared.keyword.Whole.TheVariants.{Free, Nvals, Size, Clear}
 use Rattle.grb_core.specs.declared.value.Value.{Value}
 use Rattle.grb_script.specs.declared.names.Sort.{Sort}
-use Rattle.grb_script.specs.declared.place.Place.{Place}
+use Rattle.grb_script.specs.declared.indices.Indices.{Indices}
 use Rattle.grb_script.specs.Line.{Word}
-use Rattle.grb_script.specs.Names.{Name, found}
+use Rattle.grb_script.specs.Names.{Name, name_found}
 use Rattle.grb_script.specs.Word.{is_name, keyword_of, monoid_of}
-use Rattle.grb_script.specs.Form.{Form, SetForm, BuildForm, form_of_placed, place_of, place_and_value_of, values_of, matrix_form, vector_form, whole_form, placed_form, set_form, build_form, form_with, form_of}
+use Rattle.grb_script.specs.Form.{Form, SetForm, BuildForm, form_of_placed, indices_of, indices_and_value_of, values_in, matrix_form, vector_form, whole_form, placed_form, set_form, build_form, form_with, form_of}
 use Rattle.grb_script.specs.Reading.{reading, names_behind, set_at}
-use Rattle.grb_script.proofs.PlaceLemmas.{no_word}
+use Rattle.grb_script.proofs.IndicesLemmas.{no_word}
 use Rattle.grb_script.proofs.TupleLemmas.{now_of}
 
 -- what an `ok_or` is that is `Ok`, and one that is not
@@ -64,11 +64,11 @@ module _ (names : List Name) where
   reading-vector_form name (a ∷ b ∷ c ∷ more) h = refl
 
   -- what a `set` says
-  pub reading-set_form : (name : Word) (others : List Word) (p : Place) (x : Value) (r : Option (ℕ × Sort)) → Ok (p, x) ≡ ok_or (place_and_value_of others) Statement
-      → r ≡ found names name → option_map_or (λ n. set_at n.0 n.1 p x) r (Err UnknownName) ≡ reading names (set_form name others)
+  pub reading-set_form : (name : Word) (others : List Word) (p : Indices) (x : Value) (r : Option (ℕ × Sort)) → Ok (p, x) ≡ ok_or (indices_and_value_of others) Statement
+      → r ≡ name_found names name → option_map_or (λ n. set_at n.0 n.1 p x) r (Err UnknownName) ≡ reading names (set_form name others)
   reading-set_form name others p x r e f =
       (λ j. option_map_or (λ n. set_at n.0 n.1 p x) (f j) (Err UnknownName))
-      ∙ ap (λ o. reading names (option_map (λ p. SetForm name p.0 p.1) o)) (some_of_ok (place_and_value_of others) Statement (p, x) e)
+      ∙ ap (λ o. reading names (option_map (λ p. SetForm name p.0 p.1) o)) (some_of_ok (indices_and_value_of others) Statement (p, x) e)
 
   -- a form that is made of a value, or of two in turn, and makes no name
   kept-map : {A : Type 0} (f : A → Form) → ((a : A) → names_behind names (Some (f a)) ≡ names) → (o : Option A) → names_behind names (option_map f o) ≡ names
@@ -88,14 +88,14 @@ module _ (names : List Name) where
   names_behind-whole w name (x ∷ more) = refl
 
   pub names_behind-placed : (w : Placed) (name : Word) (others : List Word) → names_behind names (placed_form w name others) ≡ names
-  names_behind-placed Remove name others = kept-map (form_of_placed Remove name) (λ p. refl) (place_of others)
-  names_behind-placed Get name others = kept-map (form_of_placed Get name) (λ p. refl) (place_of others)
-  names_behind-placed Resize name others = kept-map (form_of_placed Resize name) (λ p. refl) (place_of others)
+  names_behind-placed Remove name others = kept-map (form_of_placed Remove name) (λ p. refl) (indices_of others)
+  names_behind-placed Get name others = kept-map (form_of_placed Get name) (λ p. refl) (indices_of others)
+  names_behind-placed Resize name others = kept-map (form_of_placed Resize name) (λ p. refl) (indices_of others)
 
   pub names_behind-set : (name : Word) (others : List Word) → names_behind names (set_form name others) ≡ names
-  names_behind-set name others = kept-map (λ p. SetForm name p.0 p.1) (λ p. refl) (place_and_value_of others)
+  names_behind-set name others = kept-map (λ p. SetForm name p.0 p.1) (λ p. refl) (indices_and_value_of others)
 
   pub names_behind-build : (name : Word) (others : List Word) → names_behind names (build_form name others) ≡ names
   names_behind-build name [] = refl
   names_behind-build name (monoid ∷ values) =
-      kept-and_then (λ dup. option_map (BuildForm name dup) (values_of values)) (λ dup. kept-map (BuildForm name dup) (λ vs. refl) (values_of values)) (monoid_of monoid)
+      kept-and_then (λ dup. option_map (BuildForm name dup) (values_in values)) (λ dup. kept-map (BuildForm name dup) (λ vs. refl) (values_in values)) (monoid_of monoid)

@@ -4,7 +4,7 @@ pub mod LineLemmas
 pub mod NamesLemmas
 pub mod NextLineLemmas
 pub mod NumberLemmas
-pub mod PlaceLemmas
+pub mod IndicesLemmas
 pub mod ScriptLemmas
 pub mod StatementCount
 pub mod TupleLemmas

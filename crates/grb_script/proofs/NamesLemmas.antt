@@ -6,7 +6,7 @@ use Rattle.std.specs.Option.{option_map}
 use Rattle.std.specs.Str.{bytes_eq}
 use Rattle.indexmap.specs.IndexMap.{insert_entry}
 use Rattle.grb_script.specs.declared.names.Sort.{Sort}
-use Rattle.grb_script.specs.Names.{Name, sort_of, stands, number_in, found}
+use Rattle.grb_script.specs.Names.{Name, sort_of, stands, number_in, name_found}
 
 module _ {V : Type 0} (bytes : V → List ℕ) where
   -- the names that these entries are
@@ -28,15 +28,15 @@ module _ {V : Type 0} (bytes : V → List ℕ) where
 
   module _ (entries : List (V × Sort)) (name : List ℕ) where
     -- what a look-up finds
-    pub found-some : (n : ℕ) (sort : Sort) → Some n ≡ position (λ k. bytes_eq name (bytes k)) (keys_of entries) → Some sort ≡ lookup (λ k. bytes_eq name (bytes k)) entries
-        → Some (n, sort) ≡ found (names_in entries) name
-    found-some n sort at is =
+    pub name_found-some : (n : ℕ) (sort : Sort) → Some n ≡ position (λ k. bytes_eq name (bytes k)) (keys_of entries) → Some sort ≡ lookup (λ k. bytes_eq name (bytes k)) entries
+        → Some (n, sort) ≡ name_found (names_in entries) name
+    name_found-some n sort at is =
         ap (λ m. Some (m, sort)) (sym (first_place _ _ n at) ∙ sym (number_in-names_in entries name))
         ∙ ap (option_map (λ s. (number_in (names_in entries) name, s))) (is ∙ sym (sort_of-names_in entries name))
 
     -- and where it finds none
-    pub found-none : None ≡ lookup (λ k. bytes_eq name (bytes k)) entries → None ≡ found (names_in entries) name
-    found-none is = ap (option_map (λ s. (number_in (names_in entries) name, s))) (is ∙ sym (sort_of-names_in entries name))
+    pub name_found-none : None ≡ lookup (λ k. bytes_eq name (bytes k)) entries → None ≡ name_found (names_in entries) name
+    name_found-none is = ap (option_map (λ s. (number_in (names_in entries) name, s))) (is ∙ sym (sort_of-names_in entries name))
 
   -- a name that does not stand is none of the names
   none_of : (b : Bool) (sort : Sort) (more : Option Sort) → is_some (cond b (Some sort) more) ≡ false → (b ≡ false) × (is_some more ≡ false)

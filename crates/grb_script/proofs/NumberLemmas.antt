@@ -8,7 +8,7 @@ use Rattle.std.proofs.lemmas.Bool.Decides.{nat_tests}
 use Rattle.std.proofs.lemmas.Int.Digits.{digits_value_more}
 use Rattle.std.proofs.lemmas.List.Folds.{list_all_at}
 use Rattle.std.proofs.lemmas.Str.Parse.{digits_value-take-le}
-use Rattle.grb_script.specs.Word.{is_digit, is_numeral, number_of}
+use Rattle.grb_script.specs.Word.{is_digit, is_numeral, numeral_value}
 
 -- the first of two tests that pass
 and_left : (a b : Bool) → (a && b) ≡ true → a ≡ true
@@ -46,8 +46,8 @@ digits_value-next w i n h l e =
     step ∙ (λ j. sym e j * 10 + digit j)
 
 -- a word that is too great in its first digits is no number
-pub number_of-too_great : (w : List ℕ) (i : ℕ) → 2 ^ 64 ≤ digits_value 10 (take i w) → None ≡ number_of w
-number_of-too_great w i great =
+pub numeral_value-too_great : (w : List ℕ) (i : ℕ) → 2 ^ 64 ≤ digits_value 10 (take i w) → None ≡ numeral_value w
+numeral_value-too_great w i great =
     let most = digits_value-take-le 10 w i (omega arith) in
     let large : 2 ^ 64 ≤ digits_value 10 w = omega arith in
     by (is_numeral w) (ltb (digits_value 10 w) (2 ^ 64)) (grind (arith, nat_tests))
@@ -57,7 +57,7 @@ number_of-too_great w i great =
     by false b e = refl
 
 -- a numeral that fits is a number
-pub number_of-fits : (w : List ℕ) → is_numeral w ≡ true → digits_value 10 w < 2 ^ 64 → number_of w ≡ Some (digits_value 10 w)
-number_of-fits w h l =
+pub numeral_value-fits : (w : List ℕ) → is_numeral w ≡ true → digits_value 10 w < 2 ^ 64 → numeral_value w ≡ Some (digits_value 10 w)
+numeral_value-fits w h l =
     let fits : ltb (digits_value 10 w) (2 ^ 64) ≡ true = grind (arith, nat_tests) in
     λ j. cond (h j && fits j) (Some (digits_value 10 w)) None

@@ -10,13 +10,13 @@ use Rattle.grb_script.specs.declared.keyword.Placed.{Placed}
 use Rattle.grb_script.specs.declared.keyword.Placed.TheVariants as placed
 use Rattle.grb_script.specs.declared.keyword.Whole.{Whole}
 use Rattle.grb_script.specs.declared.keyword.Whole.TheVariants as whole
-use Rattle.grb_script.specs.declared.place.Place.{Place}
-use Rattle.grb_script.specs.declared.place.Place.TheVariants as place
+use Rattle.grb_script.specs.declared.indices.Indices.{Indices}
+use Rattle.grb_script.specs.declared.indices.Indices.TheVariants as indices
 use Rattle.grb_script.specs.Line.{Word, words_of, is_skipped, Line}
-use Rattle.grb_script.specs.Word.{is_name, number_of, domain_of, value_of, monoid_of, keyword_of}
+use Rattle.grb_script.specs.Word.{is_name, numeral_value, domain_of, value_of, monoid_of, keyword_of}
 
 -- 'matrix NAME DOMAIN R C', 'vector NAME DOMAIN N', 'dup NAME NAME', 'free NAME', 'nvals NAME', 'size NAME', 'clear NAME',
--- 'remove NAME PLACE', 'get NAME PLACE', 'resize NAME PLACE', 'set NAME PLACE VALUE', 'build NAME MONOID ..'
+-- 'remove NAME INDICES', 'get NAME INDICES', 'resize NAME INDICES', 'set NAME INDICES VALUE', 'build NAME MONOID ..'
 pub data Form : Type 0 where
   MatrixForm : Word → Domain → ℕ → ℕ → Form
   VectorForm : Word → Domain → ℕ → Form
@@ -25,42 +25,42 @@ pub data Form : Type 0 where
   NvalsForm : Word → Form
   SizeForm : Word → Form
   ClearForm : Word → Form
-  RemoveForm : Word → Place → Form
-  GetForm : Word → Place → Form
-  ResizeForm : Word → Place → Form
-  SetForm : Word → Place → Value → Form
+  RemoveForm : Word → Indices → Form
+  GetForm : Word → Indices → Form
+  ResizeForm : Word → Indices → Form
+  SetForm : Word → Indices → Value → Form
   BuildForm : Word → Monoid → List Value → Form
 
 -- the form, where the word is a name
 abbrev pub where_name : Word → Option Form → Option Form
 where_name word form = if is_name word then form else None
 
--- the place that these words name: one number, or two
-abbrev pub place_of : List Word → Option Place
-place_of (i ∷ []) = option_map place.One (number_of i)
-place_of (i ∷ j ∷ []) = option_and_then (λ n. option_map (place.Two n) (number_of j)) (number_of i)
-place_of _ = None
+-- the indices that these words spell: one number, or two
+abbrev pub indices_of : List Word → Option Indices
+indices_of (i ∷ []) = option_map indices.One (numeral_value i)
+indices_of (i ∷ j ∷ []) = option_and_then (λ n. option_map (indices.Two n) (numeral_value j)) (numeral_value i)
+indices_of _ = None
 
--- the place and the value that these words name
-abbrev pub place_and_value_of : List Word → Option (Place × Value)
-place_and_value_of (i ∷ x ∷ []) = option_and_then (λ n. option_map (λ v. (place.One n, v)) (value_of x)) (number_of i)
-place_and_value_of (i ∷ j ∷ x ∷ []) =
-    option_and_then (λ n. option_and_then (λ m. option_map (λ v. (place.Two n m, v)) (value_of x)) (number_of j)) (number_of i)
-place_and_value_of _ = None
+-- the indices and the value that these words spell
+abbrev pub indices_and_value_of : List Word → Option (Indices × Value)
+indices_and_value_of (i ∷ x ∷ []) = option_and_then (λ n. option_map (λ v. (indices.One n, v)) (value_of x)) (numeral_value i)
+indices_and_value_of (i ∷ j ∷ x ∷ []) =
+    option_and_then (λ n. option_and_then (λ m. option_map (λ v. (indices.Two n m, v)) (value_of x)) (numeral_value j)) (numeral_value i)
+indices_and_value_of _ = None
 
 -- the values that these words are, if each is one
-abbrev pub values_of : List Word → Option (List Value)
-values_of [] = Some []
-values_of (word ∷ words) = option_and_then (λ v. option_map (λ vs. v ∷ vs) (values_of words)) (value_of word)
+abbrev pub values_in : List Word → Option (List Value)
+values_in [] = Some []
+values_in (word ∷ words) = option_and_then (λ v. option_map (λ vs. v ∷ vs) (values_in words)) (value_of word)
 
 -- each form by its name and the words behind that
 abbrev pub matrix_form : Word → List Word → Option Form
 matrix_form name (domain ∷ nrows ∷ ncols ∷ []) =
-    option_and_then (λ d. option_and_then (λ r. option_map (λ c. MatrixForm name d r c) (number_of ncols)) (number_of nrows)) (domain_of domain)
+    option_and_then (λ d. option_and_then (λ r. option_map (λ c. MatrixForm name d r c) (numeral_value ncols)) (numeral_value nrows)) (domain_of domain)
 matrix_form name _ = None
 
 abbrev pub vector_form : Word → List Word → Option Form
-vector_form name (domain ∷ size ∷ []) = option_and_then (λ d. option_map (λ n. VectorForm name d n) (number_of size)) (domain_of domain)
+vector_form name (domain ∷ size ∷ []) = option_and_then (λ d. option_map (λ n. VectorForm name d n) (numeral_value size)) (domain_of domain)
 vector_form name _ = None
 
 abbrev pub dup_form : Word → List Word → Option Form
@@ -77,20 +77,20 @@ abbrev pub whole_form : Whole → Word → List Word → Option Form
 whole_form w name [] = Some (form_of_whole w name)
 whole_form w name _ = None
 
-abbrev pub form_of_placed : Placed → Word → Place → Form
+abbrev pub form_of_placed : Placed → Word → Indices → Form
 form_of_placed placed.Remove name p = RemoveForm name p
 form_of_placed placed.Get name p = GetForm name p
 form_of_placed placed.Resize name p = ResizeForm name p
 
 abbrev pub placed_form : Placed → Word → List Word → Option Form
-placed_form w name others = option_map (form_of_placed w name) (place_of others)
+placed_form w name others = option_map (form_of_placed w name) (indices_of others)
 
 abbrev pub set_form : Word → List Word → Option Form
-set_form name others = option_map (λ p. SetForm name p.0 p.1) (place_and_value_of others)
+set_form name others = option_map (λ p. SetForm name p.0 p.1) (indices_and_value_of others)
 
 abbrev pub build_form : Word → List Word → Option Form
 build_form name [] = None
-build_form name (monoid ∷ values) = option_and_then (λ dup. option_map (BuildForm name dup) (values_of values)) (monoid_of monoid)
+build_form name (monoid ∷ values) = option_and_then (λ dup. option_map (BuildForm name dup) (values_in values)) (monoid_of monoid)
 
 -- the form that a keyword, a name and the words behind them have, if they have one
 abbrev pub form_with : Keyword → Word → List Word → Option Form

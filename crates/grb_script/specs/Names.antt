@@ -24,5 +24,5 @@ abbrev pub number_in : List Name → Word → ℕ
 number_in names name = position_or_len (λ n. bytes_eq name n.0) names
 
 -- the number and the sort of a name, if it is one of these
-abbrev pub found : List Name → Word → Option (ℕ × Sort)
-found names name = option_map (λ sort. (number_in names name, sort)) (sort_of names name)
+abbrev pub name_found : List Name → Word → Option (ℕ × Sort)
+name_found names name = option_map (λ sort. (number_in names name, sort)) (sort_of names name)

@@ -11,33 +11,33 @@ use Rattle.grb_script.specs.declared.fault.Unread.{Unread}
 use Rattle.grb_script.specs.declared.fault.Unread.TheVariants as unread
 use Rattle.grb_script.specs.declared.names.Sort.{Sort}
 use Rattle.grb_script.specs.declared.names.Sort.TheVariants as sort
-use Rattle.grb_script.specs.declared.place.Place.{Place}
-use Rattle.grb_script.specs.declared.place.Place.TheVariants as place
+use Rattle.grb_script.specs.declared.indices.Indices.{Indices}
+use Rattle.grb_script.specs.declared.indices.Indices.TheVariants as indices
 use Rattle.grb_script.specs.declared.statement.Statement.{Statement}
 use Rattle.grb_script.specs.declared.statement.Statement.TheVariants as statement
 use Rattle.grb_script.specs.Line.{Word}
-use Rattle.grb_script.specs.Names.{Name, sort_of, stands, found}
+use Rattle.grb_script.specs.Names.{Name, sort_of, stands, name_found}
 use Rattle.grb_script.specs.Form.{Form, MatrixForm, VectorForm, DupForm, FreeForm, NvalsForm, SizeForm, ClearForm, RemoveForm, GetForm, ResizeForm, SetForm, BuildForm}
 
--- a statement by the number and the sort of its name, and by its place: one number at a vector, two at a matrix
-abbrev pub set_at : ℕ → Sort → Place → Value → Result Statement FaultKind
-set_at n sort.Matrix (place.Two i j) x = Ok (statement.SetMatrix n i j x)
-set_at n sort.Vector (place.One i) x = Ok (statement.SetVector n i x)
+-- a statement by the number and the sort of its name, and by its indices: one number at a vector, two at a matrix
+abbrev pub set_at : ℕ → Sort → Indices → Value → Result Statement FaultKind
+set_at n sort.Matrix (indices.Two i j) x = Ok (statement.SetMatrix n i j x)
+set_at n sort.Vector (indices.One i) x = Ok (statement.SetVector n i x)
 set_at n _ _ x = Err kind.WrongKind
 
-abbrev pub remove_at : ℕ → Sort → Place → Result Statement FaultKind
-remove_at n sort.Matrix (place.Two i j) = Ok (statement.RemoveMatrix n i j)
-remove_at n sort.Vector (place.One i) = Ok (statement.RemoveVector n i)
+abbrev pub remove_at : ℕ → Sort → Indices → Result Statement FaultKind
+remove_at n sort.Matrix (indices.Two i j) = Ok (statement.RemoveMatrix n i j)
+remove_at n sort.Vector (indices.One i) = Ok (statement.RemoveVector n i)
 remove_at n _ _ = Err kind.WrongKind
 
-abbrev pub get_at : ℕ → Sort → Place → Result Statement FaultKind
-get_at n sort.Matrix (place.Two i j) = Ok (statement.GetMatrix n i j)
-get_at n sort.Vector (place.One i) = Ok (statement.GetVector n i)
+abbrev pub get_at : ℕ → Sort → Indices → Result Statement FaultKind
+get_at n sort.Matrix (indices.Two i j) = Ok (statement.GetMatrix n i j)
+get_at n sort.Vector (indices.One i) = Ok (statement.GetVector n i)
 get_at n _ _ = Err kind.WrongKind
 
-abbrev pub resize_to : ℕ → Sort → Place → Result Statement FaultKind
-resize_to n sort.Matrix (place.Two nrows ncols) = Ok (statement.ResizeMatrix n nrows ncols)
-resize_to n sort.Vector (place.One size) = Ok (statement.ResizeVector n size)
+abbrev pub resize_to : ℕ → Sort → Indices → Result Statement FaultKind
+resize_to n sort.Matrix (indices.Two nrows ncols) = Ok (statement.ResizeMatrix n nrows ncols)
+resize_to n sort.Vector (indices.One size) = Ok (statement.ResizeVector n size)
 resize_to n _ _ = Err kind.WrongKind
 
 -- the tuples of a vector: groups of an index and a value
@@ -62,7 +62,7 @@ made names name says = if stands names name then Err kind.NameTaken else says
 
 -- what a statement says that uses this name
 abbrev pub used : List Name → Word → (ℕ → Sort → Result Statement FaultKind) → Result Statement FaultKind
-used names name says = option_map_or (λ n. says n.0 n.1) (found names name) (Err kind.UnknownName)
+used names name says = option_map_or (λ n. says n.0 n.1) (name_found names name) (Err kind.UnknownName)
 
 -- what a statement of this form says
 abbrev pub saying : List Name → Form → Result Statement FaultKind

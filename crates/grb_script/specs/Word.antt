@@ -39,8 +39,8 @@ is_numeral (b ∷ []) = is_digit b
 is_numeral (b ∷ bs) = list_all is_digit (b ∷ bs) && not (b == 48)
 
 -- a number: a numeral of at most 18446744073709551615
-abbrev pub number_of : Word → Option ℕ
-number_of word = if is_numeral word && nat_lt (digits_value 10 word) (2 ^ 64) then Some (digits_value 10 word) else None
+abbrev pub numeral_value : Word → Option ℕ
+numeral_value word = if is_numeral word && nat_lt (digits_value 10 word) (2 ^ 64) then Some (digits_value 10 word) else None
 
 -- DOMAIN
 abbrev pub domain_of : Word → Option Domain
@@ -51,7 +51,7 @@ abbrev pub value_of : Word → Option Value
 value_of word =
     if bytes_eq word (codes "true") then Some (value.Bool true)
     else (if bytes_eq word (codes "false") then Some (value.Bool false)
-    else option_map (λ n. value.Uint64 n) (number_of word))
+    else option_map (λ n. value.Uint64 n) (numeral_value word))
 
 -- MONOID
 abbrev pub monoids : List (Word × Monoid)

@@ -9,9 +9,9 @@ pub enum Keyword {
     Dup,
     /// A keyword behind which a name stands alone.
     Whole(Whole),
-    /// A keyword behind which a name and a place stand.
+    /// A keyword behind which a name and its indices stand.
     Placed(Placed),
-    /// `set NAME PLACE VALUE`.
+    /// `set NAME INDICES VALUE`.
     Set,
     /// `build NAME MONOID ..`.
     Build,
@@ -30,13 +30,13 @@ pub enum Whole {
     Clear,
 }
 
-/// The first word of a statement with a place and no value.
+/// The first word of a statement with indices and no value.
 #[derive(Clone, Copy, Debug, PartialEq, Eq)]
 pub enum Placed {
-    /// `remove NAME PLACE`.
+    /// `remove NAME INDICES`.
     Remove,
-    /// `get NAME PLACE`.
+    /// `get NAME INDICES`.
     Get,
-    /// `resize NAME PLACE`, where the place tells the new size, or the new rows and columns.
+    /// `resize NAME INDICES`, where the numbers tell the new size, or the new rows and columns.
     Resize,
 }

@@ -5,10 +5,10 @@
 #![tactic(auto)]
 
 mod fault;
+mod indices;
 mod keyword;
 mod line;
 mod names;
-mod place;
 mod script;
 mod statement;
 mod tuples;

@@ -1,5 +1,5 @@
 ghost use Rattle.std.specs.Prelude.{◌≡◌, [], ◌∷◌, ◌++◌, OnOk, OnErr, false};
-ghost use Rattle.grb_script.specs.Names.{stands, found};
+ghost use Rattle.grb_script.specs.Names.{stands, name_found};
 
 use indexmap::IndexMap;
 use std::alloc::{AllocError, Global};
@@ -42,7 +42,7 @@ impl Names {
 
     /// The number and the sort of a name, if it stands.
     pub fn find(&self, name: &[u8]) -> Option<(usize, Sort)>
-        ensures { result ≡ found self.now name.now }
+        ensures { result ≡ name_found self.now name.now }
     {
         let (number, _, sort) = self.sorts.get_full(name)?;
         Some((number, *sort))

@@ -1,13 +1,13 @@
 ghost use Rattle.std.specs.Prelude.{◌≡◌, [], ◌∷◌, Ok, IfOk, IfErr, map};
 ghost use Rattle.std.specs.Option.{ok_or};
-ghost use Rattle.grb_script.specs.Names.{found};
+ghost use Rattle.grb_script.specs.Names.{name_found};
 ghost use Rattle.grb_script.specs.Form.{form_of, matrix_form, vector_form, dup_form, whole_form, placed_form, set_form, build_form};
 ghost use Rattle.grb_script.specs.Reading.{reading, set_at, remove_at, get_at, resize_to, IsReading, IsWhyUnread};
 
 use crate::fault::{FaultKind, Unread};
+use crate::indices::{Indices, indices_and_value_of, indices_of};
 use crate::keyword::{Keyword, Placed, Whole};
 use crate::names::{Names, Sort};
-use crate::place::{Place, place_and_value_of, place_of};
 use crate::tuples::{matrix_tuples, values, vector_tuples};
 use crate::word;
 use grb_call::{MatrixTuples, VectorTuples};
@@ -116,7 +116,7 @@ pub enum Statement {
 
 /// The number and the sort of the name that a statement uses.
 fn used(name: &[u8], names: &Names) -> Result<(usize, Sort), FaultKind>
-    ensures { result ≡ ok_or (found names.now name.now) FaultKind.UnknownName }
+    ensures { result ≡ ok_or (name_found names.now name.now) FaultKind.UnknownName }
 {
     names.find(name).ok_or(FaultKind::UnknownName)
 }
@@ -197,39 +197,39 @@ fn whole(whole: Whole, name: &[u8], others: &[&[u8]], names: &Names) -> Result<S
     })
 }
 
-fn remove_at(name: usize, sort: Sort, place: Place) -> Result<Statement, FaultKind>
-    ensures { result ≡ remove_at name sort place }
+fn remove_at(name: usize, sort: Sort, indices: Indices) -> Result<Statement, FaultKind>
+    ensures { result ≡ remove_at name sort indices }
 {
-    match (sort, place) {
-        (Sort::Matrix, Place::Two(i, j)) => Ok(Statement::RemoveMatrix { name, i, j }),
-        (Sort::Vector, Place::One(i)) => Ok(Statement::RemoveVector { name, i }),
+    match (sort, indices) {
+        (Sort::Matrix, Indices::Two(i, j)) => Ok(Statement::RemoveMatrix { name, i, j }),
+        (Sort::Vector, Indices::One(i)) => Ok(Statement::RemoveVector { name, i }),
         _ => Err(FaultKind::WrongKind),
     }
 }
 
-fn get_at(name: usize, sort: Sort, place: Place) -> Result<Statement, FaultKind>
-    ensures { result ≡ get_at name sort place }
+fn get_at(name: usize, sort: Sort, indices: Indices) -> Result<Statement, FaultKind>
+    ensures { result ≡ get_at name sort indices }
 {
-    match (sort, place) {
-        (Sort::Matrix, Place::Two(i, j)) => Ok(Statement::GetMatrix { name, i, j }),
-        (Sort::Vector, Place::One(i)) => Ok(Statement::GetVector { name, i }),
+    match (sort, indices) {
+        (Sort::Matrix, Indices::Two(i, j)) => Ok(Statement::GetMatrix { name, i, j }),
+        (Sort::Vector, Indices::One(i)) => Ok(Statement::GetVector { name, i }),
         _ => Err(FaultKind::WrongKind),
     }
 }
 
-fn resize_to(name: usize, sort: Sort, place: Place) -> Result<Statement, FaultKind>
-    ensures { result ≡ resize_to name sort place }
+fn resize_to(name: usize, sort: Sort, indices: Indices) -> Result<Statement, FaultKind>
+    ensures { result ≡ resize_to name sort indices }
 {
-    match (sort, place) {
-        (Sort::Matrix, Place::Two(nrows, ncols)) => {
+    match (sort, indices) {
+        (Sort::Matrix, Indices::Two(nrows, ncols)) => {
             Ok(Statement::ResizeMatrix { name, nrows, ncols })
         }
-        (Sort::Vector, Place::One(size)) => Ok(Statement::ResizeVector { name, size }),
+        (Sort::Vector, Indices::One(size)) => Ok(Statement::ResizeVector { name, size }),
         _ => Err(FaultKind::WrongKind),
     }
 }
 
-/// `remove NAME PLACE`, `get NAME PLACE` or `resize NAME PLACE`.
+/// `remove NAME INDICES`, `get NAME INDICES` or `resize NAME INDICES`.
 fn placed(
     placed: Placed,
     name: &[u8],
@@ -238,32 +238,32 @@ fn placed(
 ) -> Result<Statement, FaultKind>
     ensures { result ≡ reading names.now (placed_form placed name.now (map (λ word. word.now) others.now)) }
 {
-    let place = place_of(others).ok_or(FaultKind::Statement)?;
+    let indices = indices_of(others).ok_or(FaultKind::Statement)?;
     let (name, sort) = used(name, names)?;
     match placed {
-        Placed::Remove => remove_at(name, sort, place),
-        Placed::Get => get_at(name, sort, place),
-        Placed::Resize => resize_to(name, sort, place),
+        Placed::Remove => remove_at(name, sort, indices),
+        Placed::Get => get_at(name, sort, indices),
+        Placed::Resize => resize_to(name, sort, indices),
     }
 }
 
-fn set_at(name: usize, sort: Sort, place: Place, value: Value) -> Result<Statement, FaultKind>
-    ensures { result ≡ set_at name sort place value }
+fn set_at(name: usize, sort: Sort, indices: Indices, value: Value) -> Result<Statement, FaultKind>
+    ensures { result ≡ set_at name sort indices value }
 {
-    match (sort, place) {
-        (Sort::Matrix, Place::Two(i, j)) => Ok(Statement::SetMatrix { name, i, j, value }),
-        (Sort::Vector, Place::One(i)) => Ok(Statement::SetVector { name, i, value }),
+    match (sort, indices) {
+        (Sort::Matrix, Indices::Two(i, j)) => Ok(Statement::SetMatrix { name, i, j, value }),
+        (Sort::Vector, Indices::One(i)) => Ok(Statement::SetVector { name, i, value }),
         _ => Err(FaultKind::WrongKind),
     }
 }
 
-/// `set NAME PLACE VALUE`.
+/// `set NAME INDICES VALUE`.
 fn set(name: &[u8], others: &[&[u8]], names: &Names) -> Result<Statement, FaultKind>
     ensures { result ≡ reading names.now (set_form name.now (map (λ word. word.now) others.now)) }
 {
-    let (place, value) = place_and_value_of(others).ok_or(FaultKind::Statement)?;
+    let (indices, value) = indices_and_value_of(others).ok_or(FaultKind::Statement)?;
     let (name, sort) = used(name, names)?;
-    set_at(name, sort, place, value)
+    set_at(name, sort, indices, value)
 }
 
 /// `build NAME MONOID ..`.

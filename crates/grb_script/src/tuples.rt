@@ -1,5 +1,5 @@
 ghost use Rattle.std.specs.Prelude.{◌≡◌, Some, IfOk, IfErr, map};
-ghost use Rattle.grb_script.specs.Form.{values_of};
+ghost use Rattle.grb_script.specs.Form.{values_in};
 ghost use Rattle.grb_script.specs.Reading.{vector_tuples, matrix_tuples};
 ghost use Rattle.grb_script.specs.Tuples.{IsWhyNot};
 
@@ -11,8 +11,8 @@ use std::alloc::{AllocError, Global};
 
 /// The values that the words are.
 pub fn values(alloc: Global, words: &[&[u8]]) -> Result<Vec<Value>, Unread>
-    ensures read { IfOk result (λ values. values_of (map (λ word. word.now) words.now) ≡ Some values.items) }
-    ensures fault { IfErr result (IsWhyNot (values_of (map (λ word. word.now) words.now)) FaultKind.Statement) }
+    ensures read { IfOk result (λ values. values_in (map (λ word. word.now) words.now) ≡ Some values.items) }
+    ensures fault { IfErr result (IsWhyNot (values_in (map (λ word. word.now) words.now)) FaultKind.Statement) }
 {
     let mut values = Vec::new(alloc);
     for word in words {

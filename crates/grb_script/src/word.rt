@@ -1,6 +1,6 @@
 ghost use Rattle.std.specs.Prelude.{◌≡◌};
 ghost use Rattle.std.specs.List.{list_all};
-ghost use Rattle.grb_script.specs.Word.{is_digit, is_name_byte, is_name, is_numeral, number_of, value_of, domain_of, monoid_of, keyword_of};
+ghost use Rattle.grb_script.specs.Word.{is_digit, is_name_byte, is_name, is_numeral, numeral_value, value_of, domain_of, monoid_of, keyword_of};
 
 use crate::keyword::{Keyword, Placed, Whole};
 use grb_core::{Domain, Monoid, Value};
@@ -47,7 +47,7 @@ fn is_numeral(word: &[u8]) -> bool
 
 /// The number that the word is, if it is one: decimal digits without a leading zero, at most 2^64 - 1.
 pub fn number(word: &[u8]) -> Option<u64>
-    ensures { result ≡ number_of word.now }
+    ensures { result ≡ numeral_value word.now }
 {
     if !is_numeral(word) {
         return None;

@@ -1,5 +1,5 @@
-pub mod Places
 pub mod Inside
 pub mod Building
 pub mod Built
-pub mod Rows
+pub mod Fresh
+pub mod MatrixHeld

@@ -1,4 +1,4 @@
 pub mod Build
+pub mod Held
 pub mod Matrix
-pub mod Row
 pub mod Vector

@@ -6,10 +6,14 @@
 #![tactic(auto)]
 
 mod iter;
+mod made;
 mod matrix;
-mod sorted;
+#[cfg(test)]
+mod same_as_list;
+mod tuples;
 mod vector;
 
-pub use iter::{Entries, Row, VectorEntries};
+pub use grb_rows::FlatRows;
+pub use iter::{Entries, EntriesByIndex, Row};
 pub use matrix::SparseMatrix;
 pub use vector::SparseVector;

@@ -1,45 +1,52 @@
-ghost use Rattle.std.specs.Prelude.{◌≡◌, ◌+◌, ◌<◌, [], true, false, All, OnOk, OnErr, IfOk};
+ghost use Rattle.std.specs.Prelude.{◌≡◌, ◌+◌, ◌<◌, ◌≤◌, [], true, false, All, OnOk, OnErr, IfOk};
 ghost use Rattle.std.specs.FinMap.{find, put};
 ghost use Rattle.grb_core.specs.Value.{value_domain};
 ghost use Rattle.grb_core.specs.Entries.{cell_cmp, cells_of, nvals_of, without_entry, built_from};
 ghost use Rattle.grb_core.specs.Monoid.{monoid_domain};
-ghost use Rattle.grb_sparse.specs.Row.{row_of};
+ghost use Rattle.grb_core.specs.Results.{row_of};
+ghost use Rattle.grb_rows.specs.Cells.{decoded};
 ghost use Rattle.grb_core.specs.Contents.{IsDimension, IsMatrix, edited_matrix, resized_matrix};
 
 use crate::iter::{Entries, Row};
-use crate::sorted;
+use crate::tuples;
 use grb_core::{Domain, Monoid, Value};
+use grb_rows::{FlatRows, Pending, code, held};
 use std::alloc::{AllocError, Global};
 use std::marker::Model;
 
 /// A sparse matrix: a domain, a number of rows and of columns, each from 1 to 4,294,967,295, and the stored entries, each at a
 /// row and a column, both from 0 on.
 ///
-/// It keeps its allocator. `reserved` is how many more calls of `set` and `remove` it holds memory for, and `assembled` whether no
-/// such change waits to be put in order.
+/// It keeps its allocator. `reserved` is how many more calls of `set` and `remove` it holds memory for, `assembled` whether no
+/// such change waits to be put in order, and `pending` how many pending tuples and pending removals it keeps.
 ///
 /// Source: GraphBLAS C API 2.0, "Matrices".
 #[derive(Drop)]
 pub struct SparseMatrix {
-    domain: Domain,
-    nrows: u64,
-    ncols: u64,
-    list: Vec<((u64, u64), Value)>,
-    assembled: bool,
-    pending: u64,
+    pub(crate) nrows: u64,
+    pub(crate) ncols: u64,
+    /// The entries as they were last assembled.
+    pub(crate) lists: FlatRows,
+    /// Which of them are marked as deleted; empty until a place for a change is reserved.
+    pub(crate) deleted: Vec<bool>,
+    /// What was set and removed since then at other cells.
+    pub(crate) pending: Pending,
+    pub(crate) nvals: u64,
+    pub(crate) assembled: bool,
 }
 
 impl Model for SparseMatrix {
-    ghost use Rattle.std.specs.Prelude.{◌+◌, ◌≤◌};
-    ghost use Rattle.std.specs.Vec.{vec_len, vec_capacity};
-    ghost use Rattle.grb_core.specs.Contents.{IsMatrix};
+    ghost use Rattle.std.specs.Prelude.{length};
+    ghost use Rattle.grb_rows.specs.Cells.{decoded};
+    ghost use Rattle.grb_rows.specs.Held.{stored, IsMarked};
+    ghost use Rattle.grb_sparse.specs.Held.{IsMatrixHeld};
     ghost use Rattle.grb_sparse.specs.Matrix.{SparseMatrixView};
 
     ghost Value = { SparseMatrixView };
 
-    ghost view = { λ v. record { matrix = record { domain = v.domain; nrows = v.nrows; ncols = v.ncols; entries = v.list.items }; assembled = v.assembled; reserved = v.pending } };
+    ghost view = { λ v. record { matrix = record { domain = v.lists.domain; nrows = v.nrows; ncols = v.ncols; entries = decoded (stored v.lists v.deleted.items v.pending.changes) }; assembled = v.assembled; reserved = v.pending.reserved; pending = length v.pending.changes } };
 
-    ghost invariant = { λ v. IsMatrix (record { domain = v.domain; nrows = v.nrows; ncols = v.ncols; entries = v.list.items }) × (vec_len v.list + v.pending ≤ vec_capacity v.list) };
+    ghost invariant = { λ v. IsMatrixHeld v.nrows v.ncols v.lists v.deleted.items v.pending.changes v.nvals v.assembled × IsMarked v.lists v.deleted.items v.pending.reserved };
 }
 
 impl SparseMatrix {
@@ -49,15 +56,16 @@ impl SparseMatrix {
     pub fn new(alloc: Global, domain: Domain, nrows: u64, ncols: u64) -> SparseMatrix
         requires rows { IsDimension nrows }
         requires columns { IsDimension ncols }
-        ensures { result ≡ record { matrix = record { domain = domain; nrows = nrows; ncols = ncols; entries = [] }; assembled = true; reserved = 0 } }
+        ensures { result ≡ record { matrix = record { domain = domain; nrows = nrows; ncols = ncols; entries = [] }; assembled = true; reserved = 0; pending = 0 } }
     {
         SparseMatrix {
-            domain,
             nrows,
             ncols,
-            list: Vec::new(alloc),
+            lists: FlatRows::new(alloc, domain),
+            deleted: Vec::new(alloc),
+            pending: Pending::new(alloc),
+            nvals: 0,
             assembled: true,
-            pending: 0,
         }
     }
 
@@ -65,7 +73,7 @@ impl SparseMatrix {
     pub fn domain(&self) -> Domain
         ensures { result ≡ self.now.matrix.domain }
     {
-        self.domain
+        self.lists.domain()
     }
 
     /// The number of rows and the number of columns. The clause `whole` says what holds of every matrix. Takes no memory.
@@ -91,7 +99,7 @@ impl SparseMatrix {
     pub fn nvals(&self) -> u64
         ensures { result ≡ nvals_of self.now.matrix.entries }
     {
-        self.list.len() as u64
+        self.nvals
     }
 
     /// The value stored in row `i` and column `j`, if there is one; at a place that is not within the dimensions there is none.
@@ -101,29 +109,51 @@ impl SparseMatrix {
     pub fn get(&self, i: u64, j: u64) -> Option<Value>
         ensures { result ≡ find cell_cmp (i, j) self.now.matrix.entries }
     {
-        sorted::look_up(&self.list, (i, j))
+        if i >= self.nrows {
+            return None;
+        }
+        if j >= self.ncols {
+            return None;
+        }
+        held::look_up(&self.lists, &self.deleted, &self.pending, code(i, j))
     }
 
     /// Makes places for `n` calls of `set` or `remove` from now on, in place of those made before. `AllocError` where memory is
     /// refused, and then nothing changes.
     ///
-    /// The list grows by std's amortized `reserve`, so that `reserve_pending(1)` before each of n calls of `set` copies O(n)
-    /// entries in all.
+    /// It makes room for as many pending tuples and removals, and a deleted mark for each entry, where there are none yet. Room grows by
+    /// std's amortized `reserve`, so that `reserve_pending(1)` before each of n calls of `set` copies O(n) of them in all.
     ///
     /// Source: own.
     pub fn reserve_pending(&mut self, n: u64) -> Result<(), AllocError>
         ensures matrix { self.new.matrix ≡ self.old.matrix }
         ensures assembled { self.new.assembled ≡ self.old.assembled }
         ensures ok { OnOk result (self.new.reserved ≡ n) }
+        ensures pending { self.new.pending ≡ self.old.pending }
         ensures err { OnErr result (self.new ≡ self.old) }
     {
-        self.list.reserve(n as usize)?;
-        self.pending = n;
+        if self.deleted.is_empty() {
+            let deleted = held::unmarked(self.lists.allocator(), self.lists.len())?;
+            self.pending.reserve(n)?;
+            self.deleted = deleted;
+            return Ok(());
+        }
+        self.pending.reserve(n)?;
         Ok(())
     }
 
+    /// How many pending tuples and pending removals it keeps. Takes no memory.
+    ///
+    /// Source: own.
+    pub fn pending(&self) -> u64
+        ensures pending { result ≡ self.now.pending }
+        ensures assembled { self.now.assembled ≡ true → result ≡ 0 }
+    {
+        self.pending.len() as u64
+    }
+
     /// Stores `value` in row `i` and column `j`, in place of what was stored there.
-    /// Takes no memory, and uses up one reserved place. A new entry moves those after it by one place.
+    /// Takes no memory, and uses up one reserved place.
     ///
     /// Source: GraphBLAS C API 2.0, `GrB_Matrix_setElement`.
     pub fn set(&mut self, i: u64, j: u64, value: Value)
@@ -134,10 +164,20 @@ impl SparseMatrix {
         ensures matrix { self.new.matrix ≡ edited_matrix (put cell_cmp (i, j) value) self.old.matrix }
         ensures assembled { self.new.assembled ≡ false }
         ensures reserved { self.new.reserved + 1 ≡ self.old.reserved }
+        ensures not_fewer { self.old.pending ≤ self.new.pending }
+        ensures one_more { self.new.pending ≤ self.old.pending + 1 }
     {
-        sorted::store(&mut self.list, (i, j), value);
+        tuples::read(value);
+        let stood = held::store(
+            &mut self.lists,
+            &mut self.deleted,
+            &mut self.pending,
+            self.nrows * 0x1_0000_0000,
+            code(i, j),
+            value,
+        );
+        self.nvals = held::counted(self.nvals, stood, true);
         self.assembled = false;
-        self.pending -= 1;
     }
 
     /// Takes away the entry in row `i` and column `j`, if there is one. Takes no memory, and uses up one reserved place.
@@ -150,10 +190,18 @@ impl SparseMatrix {
         ensures matrix { self.new.matrix ≡ edited_matrix (without_entry cell_cmp (i, j)) self.old.matrix }
         ensures assembled { self.new.assembled ≡ false }
         ensures reserved { self.new.reserved + 1 ≡ self.old.reserved }
+        ensures not_fewer { self.old.pending ≤ self.new.pending }
+        ensures one_more { self.new.pending ≤ self.old.pending + 1 }
     {
-        sorted::erase(&mut self.list, (i, j));
+        let stood = held::erase(
+            &self.lists,
+            &mut self.deleted,
+            &mut self.pending,
+            self.nrows * 0x1_0000_0000,
+            code(i, j),
+        );
+        self.nvals = held::counted(self.nvals, stood, false);
         self.assembled = false;
-        self.pending -= 1;
     }
 
     /// Takes away all entries and reserved places. Takes no memory.
@@ -163,10 +211,13 @@ impl SparseMatrix {
         ensures matrix { self.new.matrix ≡ edited_matrix (λ _. []) self.old.matrix }
         ensures assembled { self.new.assembled ≡ true }
         ensures reserved { self.new.reserved ≡ 0 }
+        ensures pending { self.new.pending ≡ 0 }
     {
-        self.list.clear();
+        self.lists = FlatRows::new(self.lists.allocator(), self.lists.domain());
+        self.deleted.clear();
+        self.pending.clear();
+        self.nvals = 0;
         self.assembled = true;
-        self.pending = 0;
     }
 
     /// Gives it other dimensions. Entries at places that are not within them are gone for good. `AllocError` where memory is
@@ -179,13 +230,18 @@ impl SparseMatrix {
         ensures matrix { OnOk result (self.new.matrix ≡ resized_matrix nrows ncols self.old.matrix) }
         ensures assembled { OnOk result (self.new.assembled ≡ self.old.assembled) }
         ensures reserved { OnOk result (self.new.reserved ≡ 0) }
+        ensures pending { OnOk result (self.new.pending ≡ 0) }
         ensures err { OnErr result (self.new ≡ self.old) }
     {
-        self.list
-            .retain(|entry| entry.0.0 < nrows && entry.0.1 < ncols);
+        let whole = held::merged(&self.lists, &self.deleted, &self.pending)?;
+        let lists = whole.within(nrows, ncols)?;
+        let deleted = Vec::new(lists.allocator());
+        self.nvals = lists.len() as u64;
+        self.lists = lists;
+        self.deleted = deleted;
+        self.pending.clear();
         self.nrows = nrows;
         self.ncols = ncols;
-        self.pending = 0;
         Ok(())
     }
 
@@ -196,14 +252,19 @@ impl SparseMatrix {
         ensures matrix { IfOk result (λ copy. copy.matrix ≡ self.now.matrix) }
         ensures assembled { IfOk result (λ copy. copy.assembled ≡ self.now.assembled) }
         ensures reserved { IfOk result (λ copy. copy.reserved ≡ 0) }
+        ensures pending { IfOk result (λ copy. copy.pending ≡ 0) }
     {
+        let copy = held::merged(&self.lists, &self.deleted, &self.pending)?;
+        let alloc = copy.allocator();
+        let deleted = Vec::new(alloc);
         Ok(SparseMatrix {
-            domain: self.domain,
             nrows: self.nrows,
             ncols: self.ncols,
-            list: sorted::copied(&self.list)?,
+            lists: copy,
+            deleted,
+            pending: Pending::new(alloc),
+            nvals: self.nvals,
             assembled: self.assembled,
-            pending: 0,
         })
     }
 
@@ -220,27 +281,44 @@ impl SparseMatrix {
         ensures matrix { OnOk result (self.new.matrix ≡ edited_matrix (λ _. built_from cell_cmp dup (cells_of tuples.now)) self.old.matrix) }
         ensures assembled { OnOk result (self.new.assembled ≡ true) }
         ensures reserved { OnOk result (self.new.reserved ≡ 0) }
+        ensures pending { OnOk result (self.new.pending ≡ 0) }
         ensures err { OnErr result (self.new ≡ self.old) }
     {
-        let alloc = *self.list.allocator();
-        self.list = sorted::build(alloc, cells(alloc, tuples)?, dup)?;
+        let alloc = self.lists.allocator();
+        let built = tuples::build(alloc, cells(alloc, tuples)?, dup)?;
+        let lists = FlatRows::from_cells(alloc, self.lists.domain(), &built)?;
+        let unmarked = Vec::new(alloc);
+        self.nvals = lists.len() as u64;
+        self.lists = lists;
+        self.deleted = unmarked;
+        self.pending.clear();
         self.assembled = true;
-        self.pending = 0;
         Ok(())
     }
 
-    /// Puts the changes that wait in order, and gives up the reserved places. `AllocError` where memory is refused, and then
-    /// nothing changes.
+    /// Merges the pending tuples and removals with the entries, drops what is marked as deleted, and gives up the reserved places.
+    /// `AllocError` where memory is refused, and then nothing changes. With n entries and p changes it takes time `O(n + p log p)`. Where
+    /// nothing waits it does none of this and takes no memory.
     ///
     /// Source: GraphBLAS C API 2.0, `GrB_wait`.
     pub fn assemble(&mut self) -> Result<(), AllocError>
         ensures matrix { OnOk result (self.new.matrix ≡ self.old.matrix) }
         ensures assembled { OnOk result (self.new.assembled ≡ true) }
         ensures reserved { OnOk result (self.new.reserved ≡ 0) }
+        ensures pending { OnOk result (self.new.pending ≡ 0) }
         ensures err { OnErr result (self.new ≡ self.old) }
     {
+        if self.assembled {
+            self.deleted.clear();
+            self.pending.clear();
+            return Ok(());
+        }
+        let lists = held::merged(&self.lists, &self.deleted, &self.pending)?;
+        let deleted = Vec::new(lists.allocator());
+        self.lists = lists;
+        self.deleted = deleted;
+        self.pending.clear();
         self.assembled = true;
-        self.pending = 0;
         Ok(())
     }
 
@@ -252,19 +330,31 @@ impl SparseMatrix {
         ensures entries { result ≡ self.now.matrix.entries }
         ensures whole { IsMatrix self.now.matrix }
     {
-        Entries::over(&self.list)
+        Entries::over(&self.lists)
     }
 
-    /// The stored entries of row `i`, by column. Takes no memory.
+    /// The stored entries as flat lists, row by row, for kernels: of assembled matrices alone. Nothing is copied.
+    ///
+    /// Source: own.
+    pub fn lists(&self) -> &FlatRows
+        requires assembled { self.now.assembled ≡ true }
+        ensures entries { decoded result.now.entries ≡ self.now.matrix.entries }
+        ensures domain { result.now.domain ≡ self.now.matrix.domain }
+        ensures columns { All (λ e. e.0.1 < self.now.matrix.ncols) (decoded result.now.entries) }
+        ensures whole { IsMatrix self.now.matrix }
+    {
+        &self.lists
+    }
+
+    /// The stored entries of row `i`, by column; none, where it is not below the number of rows. Takes no memory.
     ///
     /// Source: own.
     pub fn row(&self, i: u64) -> Row<'_>
         requires assembled { self.now.assembled ≡ true }
-        requires in_range { i < self.now.matrix.nrows }
         ensures row { result ≡ row_of i self.now.matrix.entries }
         ensures whole { IsMatrix self.now.matrix }
     {
-        Row::over(sorted::row(&self.list, i))
+        Row::over(&self.lists, i)
     }
 }
 
@@ -308,6 +398,89 @@ mod tests {
             ((0, 4_294_967_294), Value::Uint64(4)),
         ];
         assert!(rt; seen.as_slice() == want.as_slice());
+        Ok(())
+    }
+
+    fn seen(alloc: Global, a: &SparseMatrix) -> Result<Vec<((u64, u64), Value)>, AllocError> {
+        let mut seen = Vec::new(alloc);
+        if a.is_assembled() {
+            for entry in a.entries() {
+                seen.push(entry)?;
+            }
+        }
+        Ok(seen)
+    }
+
+    #[test]
+    fn pending_tuples_and_removals_are_counted_until_assembled(
+        rt: HostRuntime,
+    ) -> Result<(), Fail> {
+        let mut a = SparseMatrix::new(rt.alloc(), Domain::Uint64, 3, 3);
+        a.reserve_pending(4)?;
+        a.set(2, 2, Value::Uint64(8));
+        a.set(2, 2, Value::Uint64(9));
+        a.remove(2, 2);
+        a.set(2, 2, Value::Uint64(0));
+        assert_eq!(rt;
+            (a.get(2, 2), a.nvals(), a.pending()),
+            (Some(Value::Uint64(0)), 1, 4)
+        );
+        a.assemble()?;
+        assert_eq!(rt;
+            (a.get(2, 2), a.nvals(), a.pending()),
+            (Some(Value::Uint64(0)), 1, 0)
+        );
+        a.reserve_pending(2)?;
+        a.remove(2, 2);
+        a.set(0, 1, Value::Uint64(4));
+        assert_eq!(rt; (a.nvals(), a.pending()), (1, 1));
+        a.resize(2, 2)?;
+        a.assemble()?;
+        let seen = seen(rt.alloc(), &a)?;
+        assert!(rt; seen.as_slice() == [((0, 1), Value::Uint64(4))].as_slice());
+        Ok(())
+    }
+
+    #[test]
+    fn the_last_row_and_column_hold_entries(rt: HostRuntime) -> Result<(), Fail> {
+        let mut a = SparseMatrix::new(rt.alloc(), Domain::Bool, 4_294_967_295, 4_294_967_295);
+        a.reserve_pending(3)?;
+        a.set(4_294_967_294, 4_294_967_294, Value::Bool(false));
+        a.set(4_294_967_294, 0, Value::Bool(true));
+        a.set(0, 4_294_967_294, Value::Bool(true));
+        a.assemble()?;
+        let before = seen(rt.alloc(), &a)?;
+        let want = [
+            ((0, 4_294_967_294), Value::Bool(true)),
+            ((4_294_967_294, 0), Value::Bool(true)),
+            ((4_294_967_294, 4_294_967_294), Value::Bool(false)),
+        ];
+        assert!(rt; before.as_slice() == want.as_slice());
+        a.resize(4_294_967_295, 4_294_967_294)?;
+        let after = seen(rt.alloc(), &a)?;
+        assert!(rt; after.as_slice() == [((4_294_967_294, 0), Value::Bool(true))].as_slice());
+        Ok(())
+    }
+
+    #[test]
+    fn kernels_are_lent_whole_lists_and_single_rows(rt: HostRuntime) -> Result<(), Fail> {
+        let mut a = SparseMatrix::new(rt.alloc(), Domain::Uint64, 9, 9);
+        let tuples = [
+            (7, 3, Value::Uint64(30)),
+            (2, 8, Value::Uint64(20)),
+            (2, 0, Value::Uint64(10)),
+        ];
+        a.build(&tuples, Monoid::Plus)?;
+        let lists = a.lists();
+        assert!(rt; lists.rows() == [2, 7].as_slice() && lists.starts() == [0, 2].as_slice());
+        assert!(rt; lists.columns() == [0, 8, 3].as_slice());
+        assert!(rt; lists.numbers() == [10, 20, 30].as_slice());
+        for k in 0..lists.rows().len() {
+            let columns = lists.row_columns(k);
+            let numbers = lists.row_numbers(k);
+            assert_eq!(rt; columns.len(), numbers.len());
+            assert!(rt; k == 0 || (columns == [3].as_slice() && numbers == [30].as_slice()));
+        }
         Ok(())
     }
 

@@ -1,43 +1,48 @@
-ghost use Rattle.std.specs.Prelude.{◌≡◌, ◌+◌, ◌<◌, [], true, false, All, OnOk, OnErr, IfOk};
+ghost use Rattle.std.specs.Prelude.{◌≡◌, ◌+◌, ◌-◌, ◌<◌, ◌≤◌, ◌^◌, [], true, false, if◌then◌else◌, map, All, OnOk, OnErr, IfOk};
 ghost use Rattle.std.specs.Ordering.{nat_cmp};
 ghost use Rattle.std.specs.FinMap.{find, put};
 ghost use Rattle.grb_core.specs.Value.{value_domain};
-ghost use Rattle.grb_core.specs.Entries.{nvals_of, without_entry, built_from};
+ghost use Rattle.grb_core.specs.Entries.{nvals_of, values_of, without_entry, built_from};
 ghost use Rattle.grb_core.specs.Monoid.{monoid_domain};
 ghost use Rattle.grb_core.specs.Contents.{IsDimension, IsVector, edited_vector, resized_vector};
 
-use crate::iter::VectorEntries;
-use crate::sorted;
+use crate::iter::EntriesByIndex;
+use crate::tuples;
 use grb_core::{Domain, Monoid, Value};
+use grb_rows::{FlatRows, Pending, held};
 use std::alloc::{AllocError, Global};
 use std::marker::Model;
 
-/// A sparse vector: a domain, a size from 1 to 4,294,967,295, and the stored entries, each at an index from 0 on below the size.
+/// A sparse vector: a domain, a size from 1 to 4,294,967,295, and the stored entries, each at an index from 0 on.
 ///
-/// It keeps its allocator. `reserved` is how many more calls of `set` and `remove` it holds memory for, and `assembled` whether no
-/// such change waits to be put in order.
+/// It keeps its allocator. `reserved` is how many more calls of `set` and `remove` it holds memory for, `assembled` whether no
+/// such change waits to be put in order, and `pending` how many pending tuples and pending removals it keeps.
 ///
 /// Source: GraphBLAS C API 2.0, "Vectors".
 #[derive(Drop)]
 pub struct SparseVector {
-    domain: Domain,
-    size: u64,
-    list: Vec<(u64, Value)>,
-    assembled: bool,
-    pending: u64,
+    pub(crate) size: u64,
+    /// The entries as they were last assembled.
+    pub(crate) row: FlatRows,
+    /// Which of them are marked as deleted; empty until a place for a change is reserved.
+    pub(crate) deleted: Vec<bool>,
+    /// What was set and removed since then at other indices.
+    pub(crate) pending: Pending,
+    pub(crate) nvals: u64,
+    pub(crate) assembled: bool,
 }
 
 impl Model for SparseVector {
-    ghost use Rattle.std.specs.Prelude.{◌+◌, ◌≤◌};
-    ghost use Rattle.std.specs.Vec.{vec_len, vec_capacity};
-    ghost use Rattle.grb_core.specs.Contents.{IsVector};
+    ghost use Rattle.std.specs.Prelude.{length};
     ghost use Rattle.grb_sparse.specs.Vector.{SparseVectorView};
+    ghost use Rattle.grb_rows.specs.Held.{stored, IsMarked};
+    ghost use Rattle.grb_sparse.specs.Held.{IsHeld};
 
     ghost Value = { SparseVectorView };
 
-    ghost view = { λ v. record { vector = record { domain = v.domain; size = v.size; entries = v.list.items }; assembled = v.assembled; reserved = v.pending } };
+    ghost view = { λ v. record { vector = record { domain = v.row.domain; size = v.size; entries = stored v.row v.deleted.items v.pending.changes }; assembled = v.assembled; reserved = v.pending.reserved; pending = length v.pending.changes } };
 
-    ghost invariant = { λ v. IsVector (record { domain = v.domain; size = v.size; entries = v.list.items }) × (vec_len v.list + v.pending ≤ vec_capacity v.list) };
+    ghost invariant = { λ v. IsHeld v.size v.row v.deleted.items v.pending.changes v.nvals v.assembled × IsMarked v.row v.deleted.items v.pending.reserved };
 }
 
 impl SparseVector {
@@ -46,14 +51,15 @@ impl SparseVector {
     /// Source: GraphBLAS C API 2.0, `GrB_Vector_new`.
     pub fn new(alloc: Global, domain: Domain, size: u64) -> SparseVector
         requires dimension { IsDimension size }
-        ensures { result ≡ record { vector = record { domain = domain; size = size; entries = [] }; assembled = true; reserved = 0 } }
+        ensures { result ≡ record { vector = record { domain = domain; size = size; entries = [] }; assembled = true; reserved = 0; pending = 0 } }
     {
         SparseVector {
-            domain,
             size,
-            list: Vec::new(alloc),
+            row: FlatRows::new(alloc, domain),
+            deleted: Vec::new(alloc),
+            pending: Pending::new(alloc),
+            nvals: 0,
             assembled: true,
-            pending: 0,
         }
     }
 
@@ -61,7 +67,7 @@ impl SparseVector {
     pub fn domain(&self) -> Domain
         ensures { result ≡ self.now.vector.domain }
     {
-        self.domain
+        self.row.domain()
     }
 
     /// The size. The clause `whole` says what holds of every vector. Takes no memory.
@@ -87,7 +93,7 @@ impl SparseVector {
     pub fn nvals(&self) -> u64
         ensures { result ≡ nvals_of self.now.vector.entries }
     {
-        self.list.len() as u64
+        self.nvals
     }
 
     /// The value stored at `index`, if there is one; at an index that is not below the size there is none. Takes no memory.
@@ -96,29 +102,79 @@ impl SparseVector {
     pub fn get(&self, index: u64) -> Option<Value>
         ensures { result ≡ find nat_cmp index self.now.vector.entries }
     {
-        sorted::look_up(&self.list, index)
+        held::look_up(&self.row, &self.deleted, &self.pending, index)
     }
 
     /// Makes places for `n` calls of `set` or `remove` from now on, in place of those made before. `AllocError` where memory is
     /// refused, and then nothing changes.
     ///
-    /// The list grows by std's amortized `reserve`, so that `reserve_pending(1)` before each of n calls of `set` copies O(n)
-    /// entries in all.
+    /// It makes room for as many pending tuples and removals, and a deleted mark for each entry, where there are none yet. Room grows by
+    /// std's amortized `reserve`, so that `reserve_pending(1)` before each of n calls of `set` copies O(n) of them in all.
     ///
     /// Source: own.
     pub fn reserve_pending(&mut self, n: u64) -> Result<(), AllocError>
         ensures vector { self.new.vector ≡ self.old.vector }
         ensures assembled { self.new.assembled ≡ self.old.assembled }
         ensures ok { OnOk result (self.new.reserved ≡ n) }
+        ensures pending { self.new.pending ≡ self.old.pending }
         ensures err { OnErr result (self.new ≡ self.old) }
     {
-        self.list.reserve(n as usize)?;
-        self.pending = n;
+        if self.deleted.is_empty() {
+            let deleted = held::unmarked(self.row.allocator(), self.row.len())?;
+            self.pending.reserve(n)?;
+            self.deleted = deleted;
+            return Ok(());
+        }
+        self.pending.reserve(n)?;
         Ok(())
     }
 
+    /// How many pending tuples and pending removals it keeps. Takes no memory.
+    ///
+    /// Source: own.
+    pub fn pending(&self) -> u64
+        ensures pending { result ≡ self.now.pending }
+        ensures assembled { self.now.assembled ≡ true → result ≡ 0 }
+    {
+        self.pending.len() as u64
+    }
+
+    /// The indices of the stored entries, in rising order: of an assembled vector alone. Nothing is copied.
+    ///
+    /// Source: own.
+    pub fn indices(&self) -> &[u32]
+        requires assembled { self.now.assembled ≡ true }
+        ensures indices { result.now ≡ map (λ e. e.0) self.now.vector.entries }
+        ensures below { All (λ i. i < self.now.vector.size) result.now }
+        ensures whole { IsVector self.now.vector }
+    {
+        self.row.columns()
+    }
+
+    /// The stored values of a vector of the domain `Bool`, in the order of their indices: of an assembled vector alone. Nothing is copied.
+    ///
+    /// Source: own.
+    pub fn bools(&self) -> &[bool]
+        requires assembled { self.now.assembled ≡ true }
+        requires domain { self.now.vector.domain ≡ Domain.Bool }
+        ensures { map (λ b. Value.Bool b) result.now ≡ values_of self.now.vector.entries }
+    {
+        self.row.bools()
+    }
+
+    /// The stored values of a vector of the domain `Uint64`, in the order of their indices: of an assembled vector alone. Nothing is copied.
+    ///
+    /// Source: own.
+    pub fn numbers(&self) -> &[u64]
+        requires assembled { self.now.assembled ≡ true }
+        requires domain { self.now.vector.domain ≡ Domain.Uint64 }
+        ensures { map (λ n. Value.Uint64 n) result.now ≡ values_of self.now.vector.entries }
+    {
+        self.row.numbers()
+    }
+
     /// Stores `value` at `index`, in place of what was stored there.
-    /// Takes no memory, and uses up one reserved place. A new entry moves those after it by one place.
+    /// Takes no memory, and uses up one reserved place.
     ///
     /// Source: GraphBLAS C API 2.0, `GrB_Vector_setElement`.
     pub fn set(&mut self, index: u64, value: Value)
@@ -128,10 +184,20 @@ impl SparseVector {
         ensures vector { self.new.vector ≡ edited_vector (put nat_cmp index value) self.old.vector }
         ensures assembled { self.new.assembled ≡ false }
         ensures reserved { self.new.reserved + 1 ≡ self.old.reserved }
+        ensures not_fewer { self.old.pending ≤ self.new.pending }
+        ensures one_more { self.new.pending ≤ self.old.pending + 1 }
     {
-        sorted::store(&mut self.list, index, value);
+        tuples::read(value);
+        let stood = held::store(
+            &mut self.row,
+            &mut self.deleted,
+            &mut self.pending,
+            self.size,
+            index,
+            value,
+        );
+        self.nvals = held::counted(self.nvals, stood, true);
         self.assembled = false;
-        self.pending -= 1;
     }
 
     /// Takes away the entry at `index`, if there is one. Takes no memory, and uses up one reserved place.
@@ -143,10 +209,18 @@ impl SparseVector {
         ensures vector { self.new.vector ≡ edited_vector (without_entry nat_cmp index) self.old.vector }
         ensures assembled { self.new.assembled ≡ false }
         ensures reserved { self.new.reserved + 1 ≡ self.old.reserved }
+        ensures not_fewer { self.old.pending ≤ self.new.pending }
+        ensures one_more { self.new.pending ≤ self.old.pending + 1 }
     {
-        sorted::erase(&mut self.list, index);
+        let stood = held::erase(
+            &self.row,
+            &mut self.deleted,
+            &mut self.pending,
+            self.size,
+            index,
+        );
+        self.nvals = held::counted(self.nvals, stood, false);
         self.assembled = false;
-        self.pending -= 1;
     }
 
     /// Takes away all entries and reserved places. Takes no memory.
@@ -156,10 +230,13 @@ impl SparseVector {
         ensures vector { self.new.vector ≡ edited_vector (λ _. []) self.old.vector }
         ensures assembled { self.new.assembled ≡ true }
         ensures reserved { self.new.reserved ≡ 0 }
+        ensures pending { self.new.pending ≡ 0 }
     {
-        self.list.clear();
+        self.row = FlatRows::new(self.row.allocator(), self.row.domain());
+        self.deleted.clear();
+        self.pending.clear();
+        self.nvals = 0;
         self.assembled = true;
-        self.pending = 0;
     }
 
     /// Gives it another size. Entries at indices that are not below the new size are gone for good. `AllocError` where memory is
@@ -171,11 +248,17 @@ impl SparseVector {
         ensures vector { OnOk result (self.new.vector ≡ resized_vector size self.old.vector) }
         ensures assembled { OnOk result (self.new.assembled ≡ self.old.assembled) }
         ensures reserved { OnOk result (self.new.reserved ≡ 0) }
+        ensures pending { OnOk result (self.new.pending ≡ 0) }
         ensures err { OnErr result (self.new ≡ self.old) }
     {
-        self.list.retain(|entry| entry.0 < size);
+        let whole = held::merged(&self.row, &self.deleted, &self.pending)?;
+        let row = whole.within(1, size)?;
+        let deleted = Vec::new(row.allocator());
+        self.nvals = row.len() as u64;
+        self.row = row;
+        self.deleted = deleted;
+        self.pending.clear();
         self.size = size;
-        self.pending = 0;
         Ok(())
     }
 
@@ -186,13 +269,18 @@ impl SparseVector {
         ensures vector { IfOk result (λ copy. copy.vector ≡ self.now.vector) }
         ensures assembled { IfOk result (λ copy. copy.assembled ≡ self.now.assembled) }
         ensures reserved { IfOk result (λ copy. copy.reserved ≡ 0) }
+        ensures pending { IfOk result (λ copy. copy.pending ≡ 0) }
     {
+        let copy = held::merged(&self.row, &self.deleted, &self.pending)?;
+        let alloc = copy.allocator();
+        let deleted = Vec::new(alloc);
         Ok(SparseVector {
-            domain: self.domain,
             size: self.size,
-            list: sorted::copied(&self.list)?,
+            row: copy,
+            deleted,
+            pending: Pending::new(alloc),
+            nvals: self.nvals,
             assembled: self.assembled,
-            pending: 0,
         })
     }
 
@@ -208,41 +296,58 @@ impl SparseVector {
         ensures vector { OnOk result (self.new.vector ≡ edited_vector (λ _. built_from nat_cmp dup tuples.now) self.old.vector) }
         ensures assembled { OnOk result (self.new.assembled ≡ true) }
         ensures reserved { OnOk result (self.new.reserved ≡ 0) }
+        ensures pending { OnOk result (self.new.pending ≡ 0) }
         ensures err { OnErr result (self.new ≡ self.old) }
     {
-        let alloc = *self.list.allocator();
+        let alloc = self.row.allocator();
         let mut copy = Vec::new(alloc);
         copy.extend_from_slice(tuples)?;
-        self.list = sorted::build(alloc, copy, dup)?;
+        let built = tuples::build(alloc, copy, dup)?;
+        let row = FlatRows::from_entries(alloc, self.row.domain(), &built)?;
+        let unmarked = Vec::new(alloc);
+        self.nvals = row.len() as u64;
+        self.row = row;
+        self.deleted = unmarked;
+        self.pending.clear();
         self.assembled = true;
-        self.pending = 0;
         Ok(())
     }
 
-    /// Puts the changes that wait in order, and gives up the reserved places. `AllocError` where memory is refused, and then
-    /// nothing changes.
+    /// Merges the pending tuples and removals with the entries, drops what is marked as deleted, and gives up the reserved places.
+    /// `AllocError` where memory is refused, and then nothing changes. With n entries and p changes it takes time `O(n + p log p)`. Where
+    /// nothing waits it does none of this and takes no memory.
     ///
     /// Source: GraphBLAS C API 2.0, `GrB_wait`.
     pub fn assemble(&mut self) -> Result<(), AllocError>
         ensures vector { OnOk result (self.new.vector ≡ self.old.vector) }
         ensures assembled { OnOk result (self.new.assembled ≡ true) }
         ensures reserved { OnOk result (self.new.reserved ≡ 0) }
+        ensures pending { OnOk result (self.new.pending ≡ 0) }
         ensures err { OnErr result (self.new ≡ self.old) }
     {
+        if self.assembled {
+            self.deleted.clear();
+            self.pending.clear();
+            return Ok(());
+        }
+        let row = held::merged(&self.row, &self.deleted, &self.pending)?;
+        let deleted = Vec::new(row.allocator());
+        self.row = row;
+        self.deleted = deleted;
+        self.pending.clear();
         self.assembled = true;
-        self.pending = 0;
         Ok(())
     }
 
     /// The stored entries, in rising order of their indices. Takes no memory.
     ///
     /// Source: GraphBLAS C API 2.0, `GrB_Vector_extractTuples`.
-    pub fn entries(&self) -> VectorEntries<'_>
+    pub fn entries(&self) -> EntriesByIndex<'_>
         requires assembled { self.now.assembled ≡ true }
         ensures entries { result ≡ self.now.vector.entries }
         ensures whole { IsVector self.now.vector }
     {
-        VectorEntries::over(&self.list)
+        EntriesByIndex::over(&self.row)
     }
 }
 
@@ -267,6 +372,39 @@ mod tests {
         assert!(rt; v.is_assembled() && v.nvals() == 1);
         v.clear();
         assert!(rt; v.nvals() == 0 && v.dims() == 4_294_967_295);
+        Ok(())
+    }
+
+    #[test]
+    fn pending_tuples_and_removals_are_counted_until_assembled(
+        rt: HostRuntime,
+    ) -> Result<(), Fail> {
+        let mut v = SparseVector::new(rt.alloc(), Domain::Uint64, 9);
+        v.reserve_pending(4)?;
+        v.set(8, Value::Uint64(8));
+        v.set(8, Value::Uint64(9));
+        v.remove(8);
+        v.set(8, Value::Uint64(0));
+        assert_eq!(rt;
+            (v.get(8), v.nvals(), v.pending()),
+            (Some(Value::Uint64(0)), 1, 4)
+        );
+        v.assemble()?;
+        assert_eq!(rt;
+            (v.get(8), v.nvals(), v.pending()),
+            (Some(Value::Uint64(0)), 1, 0)
+        );
+        v.reserve_pending(2)?;
+        v.remove(8);
+        v.set(1, Value::Uint64(4));
+        assert_eq!(rt; (v.nvals(), v.pending()), (1, 1));
+        v.resize(5)?;
+        v.assemble()?;
+        let mut seen = Vec::new(rt.alloc());
+        for (index, value) in v.entries() {
+            seen.push((index, value))?;
+        }
+        assert!(rt; seen.as_slice() == [(1, Value::Uint64(4))].as_slice());
         Ok(())
     }
 

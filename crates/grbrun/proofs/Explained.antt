@@ -47,10 +47,10 @@ IsAnswer-grounded room old new h c (Ok reply) within shown grounds =
 IsAnswer-grounded room old new h c (Err OrderFull) within shown grounds =
     full (refused (store_of h) c) (enters c) (length h == room) _ grounds.unrefused grounds.enters (eq-eqb _ _ grounds.full)
 IsAnswer-grounded room old new h c (Err OutOfMemory) within shown grounds =
-    record { by_shapes = grounds.by_shapes; no_size = grounds.no_size; room_left = grounds.room_left; unsettled = grounds.unsettled }
+    grounds.may
 IsAnswer-grounded room old new h c (Err Panic) within shown (inl unshown) = absurd (shown unshown)
 IsAnswer-grounded room old new h c (Err Panic) within shown (inr untaken) =
-    record { unrefused = untaken.unrefused; enters = untaken.enters; room_left = untaken.room_left }
+    untaken.may
 IsAnswer-grounded room old new h c (Err x) within shown grounds = refused_anyway (refused (store_of h) c) (enters c) (length h == room) _ x grounds.answered
 
 -- a call of the one pass of a context: its answer, and what the pass knows

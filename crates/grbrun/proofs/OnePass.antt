@@ -6,7 +6,7 @@ use Rattle.grb_order.specs.View.{fresh}
 use Rattle.grb_context.specs.Known.{Knowing, AreNew}
 
 abbrev pub new_pass : TableId → Knowing
-new_pass order = record { order = order; view = fresh 0 1; shown = [] }
+new_pass order = record { order = order; view = fresh 0 1; shown = []; steps = 0 }
 
 same_some : (o : Option Knowing) (p q : Knowing) → o ≡ Some p → o ≡ Some q → p ≡ q
 same_some o p q e f = cc

@@ -10,12 +10,10 @@ use Rattle.grb_call.specs.declared.call.Call.{Call}
 use Rattle.grb_call.specs.declared.ids.Object.{Object}
 use Rattle.grb_call.specs.declared.reply.Reply.{Reply}
 use Rattle.grb_call.specs.declared.reply.Reply.TheVariants as reply
-use Rattle.grb_call.specs.Kinds.{enters, is_build}
-use Rattle.grb_call.specs.Refused.{refused_by_shapes}
-use Rattle.grb_call.specs.Store.{shapes_of}
+use Rattle.grb_call.specs.Kinds.{enters}
 use Rattle.grb_call.specs.After.{refused, answer}
 use Rattle.grb_call.specs.History.{History, store_of}
-use Rattle.grb_context.specs.Explains.{Answer, history_after, is_entry_read, is_size}
+use Rattle.grb_context.specs.Explains.{Answer, MayLackMemory, MayLackRecord, history_after}
 use Rattle.grb_script.specs.declared.statement.Statement.{Statement}
 use Rattle.grb_script.specs.Script.{statements_of}
 use Rattle.grbrun.specs.Objects.{call_of, made_sort, objects_after}
@@ -35,20 +33,6 @@ answers_in room objects h (s ∷ more) =
     let c = call_of objects s in
     let a = answer_in room h c in
     a ∷ answers_in room (objects_after objects (made_sort s) a) (history_after 0 c a h) more
-
--- memory may be refused in place of an answer: not in place of a refusal by shapes, nor to a call for dimensions, nor in place of a full
--- order unless the call is a build, nor where no entry was made
-pub record MayLackMemory (room : ℕ) (h : History) (c : Call) : Type 0 where
-  pub by_shapes : refused_by_shapes (shapes_of (store_of h)) c ≡ None
-  pub no_size : is_size c ≡ false
-  pub room_left : IsTrue (enters c) → is_build c ≡ false → length h < room
-  pub unsettled : IsTrue (is_entry_read c) → 0 < length h
-
--- a record may be refused in place of an answer: only to a call that would be entered
-pub record MayLackRecord (room : ℕ) (h : History) (c : Call) : Type 0 where
-  pub unrefused : refused (store_of h) c ≡ None
-  pub enters : IsTrue (enters c)
-  pub room_left : length h < room
 
 -- the answer to a call behind these calls; memory or a record may be refused in place of it
 abbrev pub IsAnswer : ℕ → History → Call → Answer → Type 0

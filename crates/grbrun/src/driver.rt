@@ -24,8 +24,7 @@ use std::thread::Threads;
 const MAIN: u32 = 0;
 
 /// Makes the call of a statement, and keeps what its name stands for.
-fn answer_to<R: Wait>(
-    rt: &R,
+fn answer_to(
     context: &Context,
     pass: &mut Pass,
     objects: &mut Vec<Object>,
@@ -40,7 +39,7 @@ fn answer_to<R: Wait>(
     ensures objects { IfOk result (λ answer. objects.new.items ≡ objects_after objects.old.items (made_sort statement) answer) }
 {
     let made = made_sort(&statement);
-    let answer = context.call(rt, pass, call_of(objects, statement));
+    let answer = context.call(pass, call_of(objects, statement));
     keep_object(objects, made, &answer)?;
     Ok(answer)
 }
@@ -58,8 +57,7 @@ fn open_store(alloc: Global, room: u32) -> Result<(Context, Pass), AllocError>
 }
 
 /// The answers to these statements, one behind another, by the one pass of a store, which knows no call yet.
-fn answers_by<R: Wait, G: Gate>(
-    rt: &R,
+fn answers_by<G: Gate>(
     alloc: Global,
     context: &Context,
     pass: &mut Pass,
@@ -78,15 +76,14 @@ fn answers_by<R: Wait, G: Gate>(
     for statement in statements {
         number += 1;
         gate.before(MAIN, number);
-        answers.push(answer_to(rt, context, pass, &mut objects, statement)?)?;
+        answers.push(answer_to(context, pass, &mut objects, statement)?)?;
         gate.after(MAIN, number);
     }
     Ok(answers)
 }
 
 /// The answers to these statements, one behind another, in a new store with room for so many calls.
-fn answers_to<R: Wait, G: Gate>(
-    rt: &R,
+fn answers_to<G: Gate>(
     alloc: Global,
     room: u32,
     statements: Vec<Statement>,
@@ -97,12 +94,11 @@ fn answers_to<R: Wait, G: Gate>(
     ensures { IfOk result (λ answers. IsRun room [] [] statements.items answers.items) }
 {
     let (context, mut pass) = open_store(alloc, room)?;
-    answers_by(rt, alloc, &context, &mut pass, statements, gate)
+    answers_by(alloc, &context, &mut pass, statements, gate)
 }
 
 /// Runs the main section, which is the whole script.
-fn run_main<R: Wait, S: Source, W: Sink, G: Gate>(
-    rt: &R,
+fn run_main<S: Source, W: Sink, G: Gate>(
     alloc: Global,
     room: u32,
     source: &mut S,
@@ -121,7 +117,7 @@ fn run_main<R: Wait, S: Source, W: Sink, G: Gate>(
 {
     let text = source.script()?;
     let statements = read_script(alloc, &text)?;
-    let answers = answers_to(rt, alloc, room, statements, gate)?;
+    let answers = answers_to(alloc, room, statements, gate)?;
     let lines = text_of(alloc, &answers)?;
     put_all(sink, lines.as_bytes())?;
     Ok(())
@@ -132,7 +128,7 @@ fn run_main<R: Wait, S: Source, W: Sink, G: Gate>(
 /// All memory is taken before the first byte is put: where it is refused outside of the calls nothing is written. A call for which it
 /// is refused is answered so, in its line. The gate is called round each statement, as section 0.
 pub fn run_script<R: Threads + Wait + Sync, S: Source, W: Sink, G: Gate + Sync>(
-    rt: &R,
+    _rt: &R,
     alloc: Global,
     room: u32,
     source: &mut S,
@@ -149,5 +145,5 @@ pub fn run_script<R: Threads + Wait + Sync, S: Source, W: Sink, G: Gate + Sync>(
     ensures script_stays { S.script_bytes source.new ≡ S.script_bytes source.old }
     ensures files_stay { (path : List ℕ) → S.file_bytes source.new path ≡ S.file_bytes source.old path }
 {
-    run_main(rt, alloc, room, source, sink, gate)
+    run_main(alloc, room, source, sink, gate)
 }

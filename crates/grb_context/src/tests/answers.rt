@@ -7,7 +7,6 @@ use crate::tests::rows::{Answer, Asked, open_two, run};
 use grb_call::{Call, MatrixId, Reply, VectorId};
 use grb_core::{Domain, Refusal, Value};
 use std::alloc::AllocError;
-use std::sync::Wait;
 
 const FIRST: VectorId = VectorId(0);
 
@@ -338,18 +337,17 @@ fn passes_are_numbered_in_turn(rt: HostRuntime) -> Result<(), AllocError> {
 }
 
 /// Makes a call as a value.
-fn call_once<R: Wait>(rt: &R, context: &Context, pass: &mut Pass, call: Call) -> Answer
+fn call_once(context: &Context, pass: &mut Pass, call: Call) -> Answer
     requires { IsPassOf context.now pass.old }
     ensures { IsPassOf context.now pass.new }
 {
-    context.call(rt, pass, call)
+    context.call(pass, call)
 }
 
 #[test]
 fn a_call_is_made_as_a_value(rt: HostRuntime) -> Result<(), AllocError> {
     let (context, mut p, _) = open_two(&rt, rt.alloc(), 8)?;
     let made = call_once(
-        &rt,
         &context,
         &mut p,
         Call::NewVector {
@@ -361,7 +359,7 @@ fn a_call_is_made_as_a_value(rt: HostRuntime) -> Result<(), AllocError> {
         return Err(AllocError);
     }
     assert_eq!(rt; made, Ok(Reply::MadeVector(FIRST)));
-    let size = call_once(&rt, &context, &mut p, Call::SizeVector { v: FIRST });
+    let size = call_once(&context, &mut p, Call::SizeVector { v: FIRST });
     assert_eq!(rt; size, Ok(Reply::Size(2)));
     Ok(())
 }

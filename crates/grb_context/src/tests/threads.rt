@@ -14,12 +14,12 @@ use std::thread::{Threads, map_vec};
 const FIRST: VectorId = VectorId(0);
 
 /// Sets a hundred entries of the pass's own.
-fn set_hundred<R: Wait>(rt: &R, context: &Context, mut pass: Pass)
+fn set_hundred(context: &Context, mut pass: Pass)
     requires { IsPassOf context.now pass }
 {
     let from = u64::from(pass.number()) * 100;
     for i in from..from + 100 {
-        let _ = context.set_vector(rt, &mut pass, FIRST, i, Value::Uint64(i));
+        let _ = context.set_vector(&mut pass, FIRST, i, Value::Uint64(i));
     }
 }
 
@@ -27,9 +27,9 @@ fn set_hundred<R: Wait>(rt: &R, context: &Context, mut pass: Pass)
 fn set_by_two<R: Abort + Threads + Wait + Sync>(rt: &R, alloc: Global) -> Result<(), AllocError> {
     let (context, mut passes) = Context::open(alloc, 201, 3)?;
     let mut last = next_pass(rt, &context, &mut passes);
-    let made = context.new_vector(rt, &mut last, Domain::Uint64, 200);
+    let made = context.new_vector(&mut last, Domain::Uint64, 200);
     assert_eq!(rt; made, Ok(Reply::MadeVector(FIRST)));
-    map_vec(rt, passes, &|pass| set_hundred(rt, &context, pass))?;
+    map_vec(rt, passes, &|pass| set_hundred(&context, pass))?;
     let nvals = context.nvals_vector(&mut last, FIRST);
     assert_eq!(rt; nvals, Ok(Reply::Count(200)));
     assert_eq!(rt; last.known(), 201);
@@ -44,13 +44,47 @@ fn two_threads_set_all_their_entries(rt: HostRuntime) -> Result<(), Fail> {
     Ok(())
 }
 
+/// Sets the entry at the pass's number, once both threads are there, and counts the entries once both have set theirs.
+fn set_and_count<R: Wait>(rt: &R, all: &Barrier, context: &Context, mut pass: Pass) -> Answer
+    requires { IsPassOf context.now pass }
+{
+    let number = u64::from(pass.number());
+    all.wait(rt);
+    let _ = context.set_vector(&mut pass, FIRST, number, Value::Uint64(number));
+    all.wait(rt);
+    context.nvals_vector(&mut pass, FIRST)
+}
+
+/// Two threads put a record each, and both are shown both.
+fn put_by_two<R: Abort + Threads + Wait + Sync>(rt: &R, alloc: Global) -> Result<(), AllocError> {
+    let (context, mut passes) = Context::open(alloc, 3, 3)?;
+    let mut last = next_pass(rt, &context, &mut passes);
+    let made = context.new_vector(&mut last, Domain::Uint64, 2);
+    assert_eq!(rt; made, Ok(Reply::MadeVector(FIRST)));
+    let all = Barrier::new(2);
+    let counts = map_vec(rt, passes, &|pass| set_and_count(rt, &all, &context, pass))?;
+    assert_eq!(rt; counts.len(), 2);
+    for count in &counts {
+        assert_eq!(rt; *count, Ok(Reply::Count(2)));
+    }
+    Ok(())
+}
+
+#[test]
+fn two_threads_that_put_at_one_moment_are_shown_both_records(rt: HostRuntime) -> Result<(), Fail> {
+    for _ in 0..1000 {
+        put_by_two(&rt, rt.alloc())?;
+    }
+    Ok(())
+}
+
 /// Sets the first entry to the pass's number, once all threads are there.
 fn set_own<R: Wait>(rt: &R, all: &Barrier, context: &Context, mut pass: Pass) -> Answer
     requires { IsPassOf context.now pass }
 {
     all.wait(rt);
     let number = u64::from(pass.number());
-    context.set_vector(rt, &mut pass, FIRST, 0, Value::Uint64(number))
+    context.set_vector(&mut pass, FIRST, 0, Value::Uint64(number))
 }
 
 /// Where the one call stands that was entered. The others had this answer.
@@ -73,7 +107,7 @@ fn winner_of(rt: &impl Abort, answers: &[Answer], refused: Answer) -> u64 {
 fn race<R: Abort + Threads + Wait + Sync>(rt: &R, alloc: Global) -> Result<(), AllocError> {
     let (context, mut passes) = Context::open(alloc, 2, 5)?;
     let mut last = next_pass(rt, &context, &mut passes);
-    let made = context.new_vector(rt, &mut last, Domain::Uint64, 1);
+    let made = context.new_vector(&mut last, Domain::Uint64, 1);
     assert_eq!(rt; made, Ok(Reply::MadeVector(FIRST)));
     let all = Barrier::new(4);
     let answers = map_vec(rt, passes, &|pass| set_own(rt, &all, &context, pass))?;
@@ -108,7 +142,7 @@ fn build_own<R: Wait>(
         return Err(Refusal::OutOfMemory);
     };
     let tuples = VectorTuples::from_vec(list);
-    context.build_vector(rt, &mut pass, FIRST, tuples, Monoid::Plus)
+    context.build_vector(&mut pass, FIRST, tuples, Monoid::Plus)
 }
 
 /// Four threads build one vector, which is empty before.
@@ -118,7 +152,7 @@ fn race_of_builds<R: Abort + Threads + Wait + Sync>(
 ) -> Result<(), AllocError> {
     let (context, mut passes) = Context::open(alloc, 8, 5)?;
     let mut last = next_pass(rt, &context, &mut passes);
-    let made = context.new_vector(rt, &mut last, Domain::Uint64, 1);
+    let made = context.new_vector(&mut last, Domain::Uint64, 1);
     assert_eq!(rt; made, Ok(Reply::MadeVector(FIRST)));
     let all = Barrier::new(4);
     let answers = map_vec(

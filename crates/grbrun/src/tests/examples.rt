@@ -173,6 +173,12 @@ fn statements_on_matrices_and_vectors_print_their_lines(rt: HostRuntime) -> Resu
             "vector v uint64 3\nbuild v plus 3 1\nbuild v plus 2 1\nremove v 3\nremove v 2\n",
             "ok\nGrB_INDEX_OUT_OF_BOUNDS\nOrderFull\nGrB_INVALID_INDEX\nOrderFull\n",
         ),
+        // the text of examples/matrices.grb, and the lines of examples/matrices.out
+        (
+            4096,
+            "# a matrix from a list, its copy, and what a resize forgets\nmatrix A uint64 3 3\nbuild A plus 0 1 2 1 2 5 0 1 3\nget A 0 1\ndup B A\nresize A 2 2\nresize A 3 3\nget A 1 2\nget B 1 2\nnvals A\nsize A\nremove B 1 2\nnvals B\n",
+            "ok\nok\nvalue 5\nok\nok\nok\nnone\nvalue 5\ncount 1\nsize 3 3\nok\ncount 1\n",
+        ),
     ];
     for (room, script, lines) in rows {
         let mut source = source_of(rt.alloc(), script);

@@ -2,4 +2,4 @@ use Rattle.grb_context.specs.Known.{IsPassOf}
 use Rattle.grb_bench.proofs.sets.set_indices.Given as goal
 
 abbrev pub invariant-loop-i : goal.invariant-loop-i
-invariant-loop-i g l = IsPassOf l.context l.pass
+invariant-loop-i l = IsPassOf l.context l.pass

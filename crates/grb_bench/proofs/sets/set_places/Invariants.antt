@@ -2,4 +2,4 @@ use Rattle.grb_context.specs.Known.{IsPassOf}
 use Rattle.grb_bench.proofs.sets.set_places.Given as goal
 
 abbrev pub invariant-loop-place : goal.invariant-loop-place
-invariant-loop-place g l = IsPassOf l.context l.pass
+invariant-loop-place l = IsPassOf l.context l.pass

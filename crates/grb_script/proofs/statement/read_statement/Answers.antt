@@ -2,7 +2,7 @@ use Rattle.std.proofs.Common.{◌∙◌, get_or, ap, sym, rules, arith}
 use Rattle.grb_script.specs.Reading.{reading, names_behind}
 use Rattle.grb_script.specs.declared.keyword.Keyword.TheVariants as keyword
 use Rattle.grb_script.proofs.FormLemmas.{others_of, form_of-words, reading-short, names_behind-whole, names_behind-placed, names_behind-set}
-use Rattle.grb_script.proofs.PlaceLemmas.{no_word}
+use Rattle.grb_script.proofs.IndicesLemmas.{no_word}
 use Rattle.grb_script.proofs.statement.read_statement.Goals as goal
 
 pub returns-in_default-clause-fault : goal.returns-in_default-clause-fault

@@ -8,17 +8,17 @@ use Rattle.grbrun.proofs.Explained.{explained}
 use Rattle.grbrun.proofs.driver.answer_to.Goals as goal
 
 pub returns-clause-answer : goal.returns-clause-answer
-returns-clause-answer g c =
+returns-clause-answer c =
     subst (λ call. IsAnswer (room_of c.args.context.now.order) (known c.args.pass.now) call c.call-answer.result)
     (c.call_of.ensures ∙ ap (λ objects. call_of objects c.args.statement) c.deref.ensures.value)
-    (explained c.args.context.now c.args.pass.now c.call-answer.new.pass _ _ c.requires.alone c.call-answer.ensures.known c.call-answer.ensures.explains).0
+    (explained c.args.context.now c.args.pass.now c.call-answer.new.pass _ _ c.requires.alone c.call-answer.ensures.knows c.call-answer.ensures.explains).0
 
 pub returns-clause-known : goal.returns-clause-known
-returns-clause-known g c =
+returns-clause-known c =
     subst (λ call. known c.call-answer.new.pass ≡ history_after 0 call c.call-answer.result (known c.args.pass.now))
     (c.call_of.ensures ∙ ap (λ objects. call_of objects c.args.statement) c.deref.ensures.value)
-    (explained c.args.context.now c.args.pass.now c.call-answer.new.pass _ _ c.requires.alone c.call-answer.ensures.known c.call-answer.ensures.explains).1
+    (explained c.args.context.now c.args.pass.now c.call-answer.new.pass _ _ c.requires.alone c.call-answer.ensures.knows c.call-answer.ensures.explains).1
 
 pub returns-clause-alone : goal.returns-clause-alone
-returns-clause-alone g c =
-    (explained c.args.context.now c.args.pass.now c.call-answer.new.pass _ _ c.requires.alone c.call-answer.ensures.known c.call-answer.ensures.explains).2
+returns-clause-alone c =
+    (explained c.args.context.now c.args.pass.now c.call-answer.new.pass _ _ c.requires.alone c.call-answer.ensures.knows c.call-answer.ensures.explains).2

@@ -1,12 +1,13 @@
-use Rattle.std.proofs.Common.{◌≡◌, ◌<◌, ◌-◌, ◌^◌, length}
+use Rattle.std.proofs.Common.{◌≡◌, ◌+◌, ◌<◌, ◌≤◌, ◌-◌, ◌^◌, length}
 use Rattle.grb_order.specs.Order.{room_of}
 use Rattle.grb_records.specs.Token.{IsOf}
 use Rattle.grb_context.specs.Known.{IsPassOf}
+use Rattle.grb_context.specs.Counting.{Counts}
 use Rattle.grb_context.specs.Learning.{IsReady, Learns}
 use Rattle.grb_context.proofs.context.Context.enter_record.Given as goal
 
 abbrev pub invariant-tries : goal.invariant-tries
-invariant-tries g l = record {
+invariant-tries l = record {
   pass : IsPassOf l.self l.pass;
   learns : Learns l.fn.pass l.pass;
   of : IsOf l.self.records l.token;
@@ -14,7 +15,10 @@ invariant-tries g l = record {
   index : l.token.index < 2 ^ 48;
   call : l.token.call ≡ l.fn.call;
   ready : IsReady (room_of l.self.order) l.fn.pass l.pass l.fn.call;
+  small : room_of l.self.order ≤ 4096;
+  counts : Counts l.fn.pass l.pass;
+  looks : length l.pass.view.looks + length l.fn.pass.view.words ≤ length l.fn.pass.view.looks + length l.pass.view.words + 1;
 }
 
 abbrev pub decreases-tries : goal.decreases-tries
-decreases-tries g l = room_of l.self.order - length l.pass.view.words
+decreases-tries l = room_of l.self.order - length l.pass.view.words

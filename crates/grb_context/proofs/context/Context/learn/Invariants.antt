@@ -1,6 +1,7 @@
 use Rattle.std.proofs.Common.{◌≡◌, ◌-◌, length}
 use Rattle.grb_order.specs.Order.{room_of}
 use Rattle.grb_context.specs.Known.{IsPassOf}
+use Rattle.grb_context.specs.Counting.{Counts}
 use Rattle.grb_context.specs.Learning.{Learns}
 use Rattle.grb_context.proofs.context.Context.learn.Given as goal
 
@@ -9,6 +10,7 @@ invariant-words l = record {
   pass : IsPassOf l.self l.reader;
   looks : l.reader.view.looks ≡ l.initial.reader.view.looks;
   learns : Learns l.initial.reader l.reader;
+  counts : Counts l.initial.reader l.reader;
 }
 
 abbrev pub decreases-words : goal.decreases-words

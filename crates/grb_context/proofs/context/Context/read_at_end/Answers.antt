@@ -1,11 +1,13 @@
-use Rattle.std.proofs.Common.{subst, sym, ◌∙◌}
+use Rattle.std.proofs.Common.{subst, sym, ap, ◌∙◌}
 use Rattle.std.specs.Prelude.{Err}
 use Rattle.std.proofs.lemmas.Result.{err_from_is_err_and}
 use Rattle.grb_order.specs.Order.{room_of}
 use Rattle.grb_context.specs.Known.{Knowing}
+use Rattle.grb_context.specs.Counting.{CountsCall}
 use Rattle.grb_context.specs.Explains.{Answer, ExplainsCall, IsCaughtUp, ground_of}
 use Rattle.grb_context.specs.Learning.{IsRefused}
 use Rattle.grb_context.proofs.Answering.{refused_by_check, explains_refused, explains_evaluated, known_evaluated}
+use Rattle.grb_context.proofs.Counted.{counts_looked}
 use Rattle.grb_context.proofs.context.Context.read_at_end.Goals as goal
 
 refused_check : (c : goal.After-from_residual-in_err-check) → IsRefused (room_of c.args.self.now.order) c.pass.inside.reader c.learn.new.reader c.args.call.now c.in_err-check.field-0.0
@@ -33,3 +35,12 @@ returns-clause-caught_up c =
     let room = room_of c.args.self.now.order in let new = c.reply.new.self in let call = c.args.call.now in
     subst (λ (r : Answer). IsCaughtUp (ground_of r) new) (sym c.or.ensures)
     (known_evaluated room c.pass.inside.reader c.learn.new.reader new c.in_ok-learn.field-0 call c.in_ok-check.field-0 c.in_ok-learn.ensures.finds c.reply.ensures.same c.reply.result)
+
+pub returns-in_err-learn-clause-counts : goal.returns-in_err-learn-clause-counts
+returns-in_err-learn-clause-counts c = (subst (λ (old : Knowing). CountsCall old c.learn.new.reader) c.pass.view_is (counts_looked c.pass.inside.reader c.learn.new.reader c.learn.ensures.learns c.learn.ensures.counts (ap (λ (p : Knowing). p.steps) c.pass.view_is ∙ c.requires.begun) c.learn.ensures.few))
+
+pub returns-in_err-check-clause-counts : goal.returns-in_err-check-clause-counts
+returns-in_err-check-clause-counts c = (subst (λ (old : Knowing). CountsCall old c.learn.new.reader) c.pass.view_is (counts_looked c.pass.inside.reader c.learn.new.reader c.learn.ensures.learns c.learn.ensures.counts (ap (λ (p : Knowing). p.steps) c.pass.view_is ∙ c.requires.begun) c.learn.ensures.few))
+
+pub returns-clause-counts : goal.returns-clause-counts
+returns-clause-counts c = subst (λ (p : Knowing). CountsCall c.args.pass.now p) (sym c.reply.ensures.same) (subst (λ (old : Knowing). CountsCall old c.learn.new.reader) c.pass.view_is (counts_looked c.pass.inside.reader c.learn.new.reader c.learn.ensures.learns c.learn.ensures.counts (ap (λ (p : Knowing). p.steps) c.pass.view_is ∙ c.requires.begun) c.learn.ensures.few))

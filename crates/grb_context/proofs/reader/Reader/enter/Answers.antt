@@ -1,6 +1,6 @@
 use Rattle.std.proofs.Common.{◌≡◌, length, subst, sym, ap, ◌∙◌}
 use Rattle.grb_order.specs.Word.{order_word}
-use Rattle.grb_order.specs.View.{enters}
+use Rattle.grb_order.specs.View.{enters_word}
 use Rattle.grb_context.specs.Known.{Knowing}
 use Rattle.grb_context.proofs.Kept.{kept_won, kept_lost, kept_order, sound_order, steady}
 use Rattle.grb_context.proofs.reader.Reader.enter.Goals as goal
@@ -15,7 +15,7 @@ invariant_of-self c =
     (subst (λ (p : Knowing). length p.shown ≡ length p.view.words) back c.requires.shown)
     (subst (λ (p : Knowing). token.pass ≡ p.view.number) back c.requires.pass)
     c.requires.index
-    (c.in-Won.ensures.entered.0 ∙ ap (λ n. enters place.view (order_word place.view.number n)) index)
+    (c.in-Won.ensures.entered.0 ∙ ap (λ n. enters_word place.view (order_word place.view.number n)) index)
     (sound_order _ _ _ same c.enter.ensures.sound)
     c.requires.call c.push_reserved.ensures.items c.push_reserved.ensures.capacity c.absorb.ensures.objects c.absorb.ensures.room)
 
@@ -27,7 +27,7 @@ invariant_of-self-in-Lost c =
     kept_order _ _ _ _ _ _ _ _ same (kept_lost _ _ _ _ _ _ _ c.self.invariant c.in-Lost.field-0 _ lost.0 lost.1 (sound_order _ _ _ same c.enter.ensures.sound))
 
 pub returns-in-Won-clause-steady : goal.returns-in-Won-clause-steady
-returns-in-Won-clause-steady c = steady _ _ _ _ _ _ (invariant_of-self c)
+returns-in-Won-clause-steady c = steady _ _ _ _ _ _ (invariant_of-self c) _
 
 pub returns-in-Lost-clause-steady : goal.returns-in-Lost-clause-steady
-returns-in-Lost-clause-steady c = steady _ _ _ _ _ _ (invariant_of-self-in-Lost c)
+returns-in-Lost-clause-steady c = steady _ _ _ _ _ _ (invariant_of-self-in-Lost c) _

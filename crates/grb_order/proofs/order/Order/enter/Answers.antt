@@ -4,7 +4,7 @@ use prog.Atomic.{either}
 use Rattle.atomic_table.specs.Table.{step, Allows}
 use Rattle.grb_order.specs.Rule.{Orderly}
 use Rattle.grb_order.specs.Word.{order_word}
-use Rattle.grb_order.specs.View.{LookedLast, enters}
+use Rattle.grb_order.specs.View.{LookedLast, enters_word}
 use Rattle.grb_order.specs.Steps.{tried, seen}
 use Rattle.grb_order.specs.declared.rule.Standing.{Standing}
 use Rattle.grb_order.proofs.Steps.{tries}
@@ -42,7 +42,7 @@ invariant_of-place c =
     let own : c.order_word-own.result ≡ order_word v.view.number c.args.index = c.order_word-own.ensures ∙ ap (λ n. order_word n c.args.index) p.number_is in
     moved _ _ _ _ _ _ _ _ _ (ap (λ z. z.words) t.0)
     (c.push_reserved.ensures.items ∙ ap (λ o. c.place.inside.words.items ++ o ∷ []) own) c.push_reserved.ensures.capacity
-    (ap (λ m. m.0) (t.2.0 c.if-found-eq0.true ∙ ap (λ o. seen c.place.inside.seat.me (enters v.view o)) own)) (seated_enters _ _ _ _ v p near c.args.index c.requires.index)
+    (ap (λ m. m.0) (t.2.0 c.if-found-eq0.true ∙ ap (λ o. seen c.place.inside.seat.me (enters_word v.view o)) own)) (seated_enters _ _ _ _ v p near c.args.index c.requires.index)
 
 pub push_reserved-requires-2 : goal.push_reserved-requires-2
 push_reserved-requires-2 c =

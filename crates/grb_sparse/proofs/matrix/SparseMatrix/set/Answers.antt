@@ -1,15 +1,56 @@
-use Rattle.std.proofs.Common.{◌<◌, ◌≡◌, arith, subst, sym, ap, ◌∙◌}
+use Rattle.std.proofs.Common.{◌≡◌, ◌<◌, ◌≤◌, ◌+◌, ◌*◌, ◌^◌, ◌∙◌, ℕ, List, [], ◌∷◌, ◌++◌, length, get_or, ap, sym, subst, refl, arith, true, false, cond, Some, None, Option, IsTrue, inl, inr}
+use Rattle.std.specs.Prelude.{map, is_some, All}
+use Rattle.std.specs.Ordering.{nat_cmp}
+use Rattle.std.specs.FinMap.{find, put, is_sorted}
+use Rattle.std.proofs.lemmas.List.Elements.{All-map}
+use Rattle.grb_core.specs.declared.value.Value.{Value}
+use Rattle.grb_core.specs.declared.value.Value.TheVariants as value
 use Rattle.grb_core.specs.Value.{value_domain, IsValueOf}
+use Rattle.grb_core.specs.Monoid.{monoid_domain}
+use Rattle.grb_core.specs.Entries.{Cell, cell_cmp, cells_of, built_from, values_of, without_entry, restricted, VectorEntries, MatrixEntries}
+use Rattle.grb_core.specs.Contents.{Matrix, IsMatrix, edited_matrix, resized_matrix, is_cell_in}
+use Rattle.grb_core.proofs.Maps.{cell_cmp_total}
+use Rattle.grb_rows.specs.Pending.{Change, PendingView}
+use Rattle.grb_rows.specs.Held.{stored, IsLaid}
+use Rattle.grb_sparse.specs.Held.{IsMatrixHeld}
 use Rattle.grb_sparse.specs.Matrix.{SparseMatrixView}
-use Rattle.grb_sparse.proofs.Inside.{IsMatrix-put}
+use Rattle.grb_rows.specs.Cells.{code_of, cell_of, decoded, in_row}
+use Rattle.grb_rows.proofs.Places.{holds, passes}
+use Rattle.grb_sparse.proofs.Inside.{IsMatrix-put, IsMatrix-where, IsMatrix-resized}
+use Rattle.grb_sparse.proofs.Built.{IsMatrix-built}
+use Rattle.grb_sparse.proofs.Building.{All-built_from_keys, value_domain-is}
+use Rattle.grb_sparse.proofs.Fresh.{stored-fresh}
+use Rattle.grb_rows.proofs.CellCodes.{restricted-decoded, length-decoded}
+use Rattle.grb_sparse.proofs.MatrixHeld.{matrix_of, same_matrix, IsMatrix-same, numbers_ordered, matrix-assembled, matrix-held_fresh, few_cells, find-outside, find-cell, cells-changed, matrix-held_changed, row_of-numbers}
 use Rattle.grb_sparse.proofs.matrix.SparseMatrix.set.Goals as goal
+
+pub counted-self-inside-requires-clause-fits : goal.counted-self-inside-requires-clause-fits
+counted-self-inside-requires-clause-fits c =
+    let i = c.self.inside in
+    let held = c.self.invariant.0 in
+    let few = few_cells i.nrows i.ncols i.lists.domain (stored i.lists i.deleted.items i.pending.changes) held.matrix in
+    omega (arith, few, held.counted, held.matrix.nrows.fits)
 
 pub invariant_of-self : goal.invariant_of-self
 invariant_of-self c =
-    let positive : 0 < c.self.inside.pending = subst (λ (v : SparseMatrixView). 0 < v.reserved) (sym c.self.view_is) c.requires.reserved in
-    let row : c.args.i < c.self.inside.nrows = subst (λ (v : SparseMatrixView). c.args.i < v.matrix.nrows) (sym c.self.view_is) c.requires.row in
-    let column : c.args.j < c.self.inside.ncols = subst (λ (v : SparseMatrixView). c.args.j < v.matrix.ncols) (sym c.self.view_is) c.requires.column in
-    let same : value_domain c.args.value ≡ c.self.inside.domain = c.requires.same_domain ∙ sym (ap (λ (v : SparseMatrixView). v.matrix.domain) c.self.view_is) in (
-      rw c.store.ensures.items (IsMatrix-put _ c.args.i c.args.j c.args.value c.self.invariant.0 row column (subst (λ d. IsValueOf d c.args.value) same c.store.ensures.of_domain)),
-      omega (arith, c.self.invariant.1, c.store.ensures.len, c.store.ensures.capacity),
+    let i = c.self.inside in
+    let held = c.self.invariant.0 in
+    let row : c.args.i < i.nrows = subst (λ (v : SparseMatrixView). c.args.i < v.matrix.nrows) (sym c.self.view_is) c.requires.row in
+    let column : c.args.j < i.ncols = subst (λ (v : SparseMatrixView). c.args.j < v.matrix.ncols) (sym c.self.view_is) c.requires.column in
+    let same : value_domain c.args.value ≡ i.lists.domain = c.requires.same_domain ∙ sym (ap (λ (v : SparseMatrixView). v.matrix.domain) c.self.view_is) in
+    let stood = c.store-stood.ensures.stood in (
+      matrix-held_changed i.nrows i.ncols i.lists i.deleted.items i.pending.changes i.nvals i.assembled held c.store-stood.new.row c.store-stood.new.deleted.items c.store-stood.new.pending.changes c.store-stood.ensures.laid c.store-stood.ensures.domain
+          c.code.result c.args.i c.args.j c.code.ensures row column (Some c.args.value) c.store-stood.ensures.found
+          (subst (λ d. IsValueOf d c.args.value) same c.read.ensures) c.counted-self-inside.result (ap (λ b. c.counted-self-inside.result + cond b 1 0) (sym stood) ∙ c.counted-self-inside.ensures),
+      λ l. c.store-stood.ensures.marked,
     )
+
+pub returns-clause-matrix : goal.returns-clause-matrix
+returns-clause-matrix c =
+    let i = c.self.inside in
+    let row : c.args.i < i.nrows = subst (λ (v : SparseMatrixView). c.args.i < v.matrix.nrows) (sym c.self.view_is) c.requires.row in
+    let column : c.args.j < i.ncols = subst (λ (v : SparseMatrixView). c.args.j < v.matrix.ncols) (sym c.self.view_is) c.requires.column in
+    same_matrix c.store-stood.new.row.domain i.lists.domain i.nrows i.ncols _ _ c.store-stood.ensures.domain
+    (cells-changed i.nrows i.ncols i.lists i.deleted.items i.pending.changes i.nvals i.assembled c.self.invariant.0 c.store-stood.new.row c.store-stood.new.deleted.items c.store-stood.new.pending.changes c.store-stood.ensures.laid c.store-stood.ensures.domain
+    c.code.result c.args.i c.args.j c.code.ensures row column (Some c.args.value) c.store-stood.ensures.found)
+    ∙ ap (λ (v : SparseMatrixView). edited_matrix (put cell_cmp (c.args.i, c.args.j) c.args.value) v.matrix) c.self.view_is

@@ -4,4 +4,4 @@ use Rattle.grb_sparse.specs.Vector.{SparseVectorView}
 use Rattle.grb_sparse.proofs.vector.SparseVector.dims.Goals as goal
 
 pub returns-clause-whole : goal.returns-clause-whole
-returns-clause-whole c = subst (λ (v : SparseVectorView). IsVector v.vector) c.self.view_is c.self.invariant.0
+returns-clause-whole c = subst (λ (v : SparseVectorView). IsVector v.vector) c.self.view_is c.self.invariant.0.vector

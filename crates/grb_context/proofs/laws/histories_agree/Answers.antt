@@ -1,0 +1,5 @@
+use Rattle.grb_context.proofs.Agreeing.{histories}
+use Rattle.grb_context.proofs.laws.histories_agree.Goals as goal
+
+pub returns : goal.returns
+returns c = histories c.places_agree.ensures

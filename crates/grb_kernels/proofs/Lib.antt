@@ -1,0 +1,4 @@
+pub mod Fronts
+pub mod Lists
+pub mod Merges
+pub mod Outputs

@@ -1,0 +1,22 @@
+//! Operations over entries in rising order of their indices, as lists of indices and of values of one Rust type.
+//!
+//! One unit is a list of entries: an `EntrySlice` lends one, an `EntryList` owns one. A kernel is generic in the operator, is proved
+//! once, and is chosen once a call. What a kernel makes is the map that the definition says, exactly. Where memory is refused nothing
+//! was written. Nothing here knows of objects, dimensions, stores or calls.
+#![tactic(auto)]
+
+mod list;
+mod merging;
+mod operators;
+mod pairing;
+mod rules;
+mod scalar;
+mod writing;
+
+pub use list::{EntryList, EntrySlice};
+pub use merging::{Rule, merge, merged};
+pub use operators::Operator;
+pub use pairing::{Paired, Pairing};
+pub use rules::{Both, ByMask, Either, Over};
+pub use scalar::Scalar;
+pub use writing::{MaskReading, write, write_masked};

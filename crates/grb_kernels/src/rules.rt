@@ -1,0 +1,142 @@
+//! The rules by which two maps are made into one.
+ghost use Rattle.std.specs.Prelude.{◌≡◌, refl, Option, Some, None, true, false};
+ghost use Rattle.std.specs.Option.{option_or};
+ghost use Rattle.grb_core.specs.declared.value.Value.{Value};
+ghost use Rattle.grb_core.specs.Operator.{value_of_op};
+ghost use Rattle.grb_core.specs.Written.{either_value, both_values};
+ghost use Rattle.grb_kernels.specs.Masked.{by_mask, by_mask-none};
+
+use crate::merging::Rule;
+use crate::operators::Operator;
+use crate::scalar::{Scalar, chosen};
+use std::marker::PhantomData;
+
+/// The operator's value where both maps store one, else the one value: eWiseAdd, and the accumulator.
+#[derive(Drop)]
+pub struct Either<O> {
+    pub op: PhantomData<O>,
+}
+
+impl<T: Scalar, O: Operator<T>> Rule<T, T> for Either<O> {
+    ghost gives = { λ rule. either_value (value_of_op O.op) };
+
+    fn left(&self, x: T) -> (T, bool) {
+        (x, true)
+    }
+
+    fn right(&self, y: T) -> (T, bool) {
+        (y, true)
+    }
+
+    fn pick(&self, x: T, here: bool, y: T, there: bool) -> (T, bool) {
+        let both = O::apply(x, y);
+        let first = chosen(there, both, x);
+        (chosen(here, first, y), here | there)
+    }
+
+    fn keeps_left(&self) -> bool {
+        true
+    }
+
+    fn keeps_right(&self) -> bool {
+        true
+    }
+
+    ghost none = { λ rule. refl };
+}
+
+/// The operator's value where both maps store one: eWiseMult.
+#[derive(Drop)]
+pub struct Both<O> {
+    pub op: PhantomData<O>,
+}
+
+impl<T: Scalar, O: Operator<T>> Rule<T, T> for Both<O> {
+    ghost gives = { λ rule. both_values (value_of_op O.op) };
+
+    fn left(&self, x: T) -> (T, bool) {
+        (x, false)
+    }
+
+    fn right(&self, y: T) -> (T, bool) {
+        (y, false)
+    }
+
+    fn pick(&self, x: T, here: bool, y: T, there: bool) -> (T, bool) {
+        (O::apply(x, y), here & there)
+    }
+
+    fn keeps_left(&self) -> bool {
+        false
+    }
+
+    fn keeps_right(&self) -> bool {
+        false
+    }
+
+    ghost none = { λ rule. refl };
+}
+
+/// The first map's value, else the second's.
+#[derive(Drop)]
+pub struct Over;
+
+impl<T: Scalar> Rule<T, T> for Over {
+    ghost gives = { λ rule. option_or };
+
+    fn left(&self, x: T) -> (T, bool) {
+        (x, true)
+    }
+
+    fn right(&self, y: T) -> (T, bool) {
+        (y, true)
+    }
+
+    fn pick(&self, x: T, here: bool, y: T, there: bool) -> (T, bool) {
+        (chosen(here, x, y), here | there)
+    }
+
+    fn keeps_left(&self) -> bool {
+        true
+    }
+
+    fn keeps_right(&self) -> bool {
+        true
+    }
+
+    ghost none = { λ rule. refl };
+}
+
+/// The first map's values where the second, a mask, lets the index in; or, with `wanted` false, where it does not.
+#[derive(Drop)]
+pub struct ByMask {
+    pub structure: bool,
+    pub wanted: bool,
+}
+
+impl<T: Scalar, M: Scalar> Rule<T, M> for ByMask {
+    ghost gives = { λ rule. by_mask rule.structure rule.wanted };
+
+    fn left(&self, x: T) -> (T, bool) {
+        (x, !self.wanted)
+    }
+
+    fn right(&self, _y: M) -> (T, bool) {
+        (T::any(), false)
+    }
+
+    fn pick(&self, x: T, here: bool, y: M, there: bool) -> (T, bool) {
+        let lets_in = there & (self.structure | y.is_true());
+        (x, here & (lets_in == self.wanted))
+    }
+
+    fn keeps_left(&self) -> bool {
+        !self.wanted
+    }
+
+    fn keeps_right(&self) -> bool {
+        false
+    }
+
+    ghost none = { λ rule. by_mask-none rule.structure rule.wanted None };
+}

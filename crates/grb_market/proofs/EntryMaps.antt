@@ -1,0 +1,271 @@
+-- Lists of entries, the maps that they make, and the entries on the other side of the diagonal.
+use Rattle.std.proofs.Common.{not, ◌≡◌, ◌≢◌, ℕ, zero, suc, length, get_or, eqb, ltb, arith, Bool, true, false, ◌||◌, if◌then◌else◌, cond, List, [], ◌∷◌, ◌++◌, map, Option, Some, None, is_some, refl, sym, ap, ◌∙◌}
+use Rattle.std.specs.declared.cmp.Ordering.{Ordering}
+use Rattle.std.specs.declared.cmp.Ordering.TheVariants.{Less, Equal, Greater}
+use Rattle.std.specs.BTreeMap.{insert_entry}
+use Rattle.std.specs.Prelude.{◌&&◌}
+use Rattle.std.specs.Option.{option_or}
+use Rattle.std.specs.List.{list_any, AllByRecursion}
+use Rattle.std.specs.FinMap.{find, put, is_sorted}
+use Rattle.std.specs.FinMap.Entries.{by_order, find-put, is_sorted-put, same_entries}
+use Rattle.std.specs.Ordering.{eq_by_cmp, is_eq, is_lt, match_ordering, ordering_then, ordering_reverse}
+use lib.Dec.{T}
+use Rattle.grb_core.specs.declared.value.Value.{Value}
+use Rattle.std.proofs.lemmas.List.{length-map}
+use Rattle.grb_core.specs.Entries.{Cell, cell_cmp, cells_of, MatrixEntries, map_from}
+use Rattle.grb_core.specs.Laws.{set_all}
+use Rattle.std.specs.Prelude.{IsTrue}
+use Rattle.grb_rows.proofs.Places.{passes, holds}
+use Rattle.grb_core.proofs.Maps.{cell_cmp_total, cell_cmp-IsAntisymmetric, find-append_maps, find-map_from, find-tied_below, is_sorted-map_from}
+use Rattle.grb_market.specs.declared.head.Head.{Head}
+use Rattle.grb_market.specs.Spells.{mirrored, written_out}
+use Rattle.grb_market.specs.Gathered.{comes_before, is_behind}
+
+-- std's insertion into a tree is that of a finite map
+pub insert_entry-put : {K X : Type 0} (R : K → K → Ordering) (k : K) (v : X) (es : List (K × X)) → insert_entry R es k v ≡ put R k v es
+insert_entry-put R k v [] = refl
+insert_entry-put R k v (e ∷ es) = by (insert_entry-put R k v es) (R k e.0)
+  where
+    by : insert_entry R es k v ≡ put R k v es → (o : Ordering) → match_ordering o ((k, v) ∷ e ∷ es) ((e.0, v) ∷ es) (e ∷ insert_entry R es k v) ≡ by_order o ((k, v) ∷ e ∷ es) ((e.0, v) ∷ es) (e ∷ put R k v es)
+    by r Less = refl
+    by r Equal = refl
+    by r Greater = ap (λ l. e ∷ l) r
+
+-- maps in order that have the same at each place are one
+pub same_map : (es fs : MatrixEntries) → T (is_sorted cell_cmp es) → T (is_sorted cell_cmp fs) → ((q : Cell) → find cell_cmp q es ≡ find cell_cmp q fs) → es ≡ fs
+same_map es fs g h is = same_entries cell_cmp cell_cmp_total cell_cmp-IsAntisymmetric es fs g h is
+
+-- places that tie are one, and where they do not a place is another
+pub tied_cells : (p q : Cell) → eq_by_cmp cell_cmp p q ≡ true → p ≡ q
+tied_cells p q h = by (cell_cmp p q) refl h
+  where
+    by : (o : Ordering) → cell_cmp p q ≡ o → is_eq o ≡ true → p ≡ q
+    by Less e h = cc
+    by Equal e h = cell_cmp-IsAntisymmetric p q e
+    by Greater e h = cc
+
+pub same_cell : (p : Cell) → cell_cmp p p ≡ Equal
+same_cell p = by (cell_cmp p p) (cell_cmp_total.antisymm p p)
+  where
+    by : (o : Ordering) → o ≡ ordering_reverse o → o ≡ Equal
+    by Less e = cc
+    by Equal e = refl
+    by Greater e = cc
+
+pub same_place : (p : Cell) → eq_by_cmp cell_cmp p p ≡ true
+same_place p = ap is_eq (same_cell p)
+
+pub apart_cells : (p q : Cell) → p ≢ q → eq_by_cmp cell_cmp p q ≡ false
+apart_cells p q h = by (eq_by_cmp cell_cmp p q) refl
+  where
+    by : (b : Bool) → eq_by_cmp cell_cmp p q ≡ b → b ≡ false
+    by true e = absurd (h (tied_cells p q e))
+    by false e = refl
+
+-- a list in which no place stands twice
+abbrev pub Apart : MatrixEntries → Type 0
+Apart [] = Unit {0}
+Apart (e ∷ es) = (find cell_cmp e.0 es ≡ None) × Apart es
+
+first : (a b : Bool) → T (a && b) → T a
+first true b p = tt
+first false b p = absurd p
+
+second : (a b : Bool) → T (a && b) → T b
+second true b p = p
+second false b p = absurd p
+
+pub Apart-sorted : (es : MatrixEntries) → T (is_sorted cell_cmp es) → Apart es
+Apart-sorted [] h = tt
+Apart-sorted (e ∷ es) h = (find-tied_below cell_cmp cell_cmp_total e.0 e.0 es (first _ _ h) (same_cell e.0), Apart-sorted es (second _ _ h))
+
+-- one entry more, at another place
+pub map_from-push : (es : MatrixEntries) (e : Cell × Value) → find cell_cmp e.0 (map_from cell_cmp es) ≡ None → put cell_cmp e.0 e.1 (map_from cell_cmp es) ≡ map_from cell_cmp (es ++ e ∷ [])
+map_from-push es e h =
+    same_map _ _ (is_sorted-put cell_cmp cell_cmp_total e.0 e.1 _ (is_sorted-map_from cell_cmp cell_cmp_total es)) (is_sorted-map_from cell_cmp cell_cmp_total (es ++ e ∷ []))
+    (λ q. find-put cell_cmp cell_cmp_total q e.0 e.1 (map_from cell_cmp es)
+    ∙ ap (λ o. cond (eq_by_cmp cell_cmp q e.0) (Some e.1) o) (find-map_from cell_cmp cell_cmp_total q es)
+    ∙ by q (eq_by_cmp cell_cmp q e.0) refl (find cell_cmp q es) refl
+    ∙ sym (find-append_maps cell_cmp q es (e ∷ []))
+    ∙ sym (find-map_from cell_cmp cell_cmp_total q (es ++ e ∷ [])))
+  where
+    by : (q : Cell) (b : Bool) → eq_by_cmp cell_cmp q e.0 ≡ b → (o : Option Value) → find cell_cmp q es ≡ o → cond b (Some e.1) o ≡ option_or o (cond b (Some e.1) None)
+    by q true t None is = refl
+    by q true t (Some v) is =
+        let here : find cell_cmp q es ≡ None = ap (λ p. find cell_cmp p es) (tied_cells q e.0 t) ∙ sym (find-map_from cell_cmp cell_cmp_total e.0 es) ∙ h in
+        cc
+    by q false t None is = refl
+    by q false t (Some v) is = refl
+
+-- the map has an entry where the list has one
+is_some-found : (q : Cell) (es : MatrixEntries) → is_some (find cell_cmp q es) ≡ list_any (λ e. eq_by_cmp cell_cmp q e.0) es
+is_some-found q [] = refl
+is_some-found q (e ∷ es) = by (eq_by_cmp cell_cmp q e.0) (is_some-found q es)
+  where
+    by : (b : Bool) → is_some (find cell_cmp q es) ≡ list_any (λ e. eq_by_cmp cell_cmp q e.0) es → is_some (cond b (Some e.1) (find cell_cmp q es)) ≡ (b || list_any (λ e. eq_by_cmp cell_cmp q e.0) es)
+    by true r = refl
+    by false r = r
+
+pub is_some-map_from : (q : Cell) (es : MatrixEntries) → is_some (find cell_cmp q (map_from cell_cmp es)) ≡ list_any (λ e. eq_by_cmp cell_cmp q e.0) es
+is_some-map_from q es = ap is_some (find-map_from cell_cmp cell_cmp_total q es) ∙ is_some-found q es
+
+-- each of these entries is set in turn
+pub find-set_all : (q : Cell) (m es : MatrixEntries) → Apart es → find cell_cmp q (set_all cell_cmp m es) ≡ option_or (find cell_cmp q es) (find cell_cmp q m)
+find-set_all q m [] h = refl
+find-set_all q m (e ∷ es) h =
+    find-set_all q (put cell_cmp e.0 e.1 m) es h.1
+    ∙ ap (option_or (find cell_cmp q es)) (find-put cell_cmp cell_cmp_total q e.0 e.1 m)
+    ∙ by (eq_by_cmp cell_cmp q e.0) refl (find cell_cmp q es) refl
+  where
+    by : (b : Bool) → eq_by_cmp cell_cmp q e.0 ≡ b → (o : Option Value) → find cell_cmp q es ≡ o → option_or o (cond b (Some e.1) (find cell_cmp q m)) ≡ option_or (cond b (Some e.1) o) (find cell_cmp q m)
+    by true t None is = refl
+    by true t (Some v) is = let here : find cell_cmp q es ≡ None = ap (λ p. find cell_cmp p es) (tied_cells q e.0 t) ∙ h.0 in cc
+    by false t None is = refl
+    by false t (Some v) is = refl
+
+pub is_sorted-set_all : (m es : MatrixEntries) → T (is_sorted cell_cmp m) → T (is_sorted cell_cmp (set_all cell_cmp m es))
+is_sorted-set_all m [] h = h
+is_sorted-set_all m (e ∷ es) h = is_sorted-set_all (put cell_cmp e.0 e.1 m) es (is_sorted-put cell_cmp cell_cmp_total e.0 e.1 m h)
+
+-- the other side of the diagonal
+abbrev pub swapped : Cell → Cell
+swapped q = (q.1, q.0)
+
+swapped_ties : (p q : Cell) → eq_by_cmp cell_cmp p (swapped q) ≡ eq_by_cmp cell_cmp (swapped p) q
+swapped_ties p q = by (eq_by_cmp cell_cmp p (swapped q)) refl (eq_by_cmp cell_cmp (swapped p) q) refl
+  where
+    by : (a : Bool) → eq_by_cmp cell_cmp p (swapped q) ≡ a → (b : Bool) → eq_by_cmp cell_cmp (swapped p) q ≡ b → a ≡ b
+    by true e true f = refl
+    by false e false f = refl
+    by true e false f = let t = same_place q in let is = ap swapped (tied_cells p (swapped q) e) in sym (ap (λ p. eq_by_cmp cell_cmp p q) is ∙ t) ∙ f
+    by false e true f = let t = same_place p in let is = ap swapped (tied_cells (swapped p) q f) in sym e ∙ ap (λ q. eq_by_cmp cell_cmp p q) (sym is) ∙ t
+
+pub find-mirrored : (q : Cell) (es : MatrixEntries) → find cell_cmp q (map mirrored es) ≡ find cell_cmp (swapped q) es
+find-mirrored q [] = refl
+find-mirrored q (e ∷ es) = (λ j. cond (swapped_ties q e.0 j) (Some e.1) (find-mirrored q es j))
+
+pub Apart-mirrored : (es : MatrixEntries) → Apart es → Apart (map mirrored es)
+Apart-mirrored [] h = tt
+Apart-mirrored (e ∷ es) h = (find-mirrored (swapped e.0) es ∙ h.0, Apart-mirrored es h.1)
+
+-- what a symmetric matrix has at a place
+find-both : (q : Cell) (es : MatrixEntries) → find cell_cmp q (es ++ map mirrored es) ≡ option_or (find cell_cmp q es) (find cell_cmp (swapped q) es)
+find-both q es = find-append_maps cell_cmp q es (map mirrored es) ∙ ap (option_or (find cell_cmp q es)) (find-mirrored q es)
+
+or_none : (o : Option Value) → option_or o None ≡ o
+or_none None = refl
+or_none (Some v) = refl
+
+-- the other side is set first, and then each entry itself
+pub set_both : (es : MatrixEntries) → T (is_sorted cell_cmp es) → set_all cell_cmp (set_all cell_cmp [] (map mirrored es)) es ≡ map_from cell_cmp (es ++ map mirrored es)
+set_both es h =
+    let apart = Apart-sorted es h in
+    same_map _ _ (is_sorted-set_all _ es (is_sorted-set_all [] (map mirrored es) tt)) (is_sorted-map_from cell_cmp cell_cmp_total (es ++ map mirrored es))
+    (λ q. find-set_all q (set_all cell_cmp [] (map mirrored es)) es apart
+    ∙ ap (option_or (find cell_cmp q es)) (find-set_all q [] (map mirrored es) (Apart-mirrored es apart) ∙ or_none _ ∙ find-mirrored q es)
+    ∙ sym (find-both q es) ∙ sym (find-map_from cell_cmp cell_cmp_total q (es ++ map mirrored es)))
+
+-- a map in order is the map of its entries
+pub map_from-sorted : (es : MatrixEntries) → T (is_sorted cell_cmp es) → map_from cell_cmp es ≡ es
+map_from-sorted es h = same_map _ _ (is_sorted-map_from cell_cmp cell_cmp_total es) h (λ q. find-map_from cell_cmp cell_cmp_total q es)
+
+-- the entries of a map are written out as those of its list
+map_from-both : (es : MatrixEntries) → map_from cell_cmp (map_from cell_cmp es ++ map mirrored (map_from cell_cmp es)) ≡ map_from cell_cmp (es ++ map mirrored es)
+map_from-both es =
+    same_map _ _ (is_sorted-map_from cell_cmp cell_cmp_total (map_from cell_cmp es ++ map mirrored (map_from cell_cmp es))) (is_sorted-map_from cell_cmp cell_cmp_total (es ++ map mirrored es))
+    (λ q. find-map_from cell_cmp cell_cmp_total q (map_from cell_cmp es ++ map mirrored (map_from cell_cmp es)) ∙ find-both q (map_from cell_cmp es)
+    ∙ (λ j. option_or (find-map_from cell_cmp cell_cmp_total q es j) (find-map_from cell_cmp cell_cmp_total (swapped q) es j))
+    ∙ sym (find-both q es) ∙ sym (find-map_from cell_cmp cell_cmp_total q (es ++ map mirrored es)))
+
+pub written_out-map_from : (h : Head) (es : MatrixEntries) → map_from cell_cmp (written_out h (map_from cell_cmp es)) ≡ map_from cell_cmp (written_out h es)
+written_out-map_from h es = by h.is_symmetric
+  where
+    by : (b : Bool) → map_from cell_cmp (if b then map_from cell_cmp es ++ map mirrored (map_from cell_cmp es) else map_from cell_cmp es) ≡ map_from cell_cmp (if b then es ++ map mirrored es else es)
+    by true = map_from-both es
+    by false = map_from-sorted (map_from cell_cmp es) (is_sorted-map_from cell_cmp cell_cmp_total es)
+
+when_not : (b : Bool) → not b ≡ true → b ≡ false
+when_not true h = cc
+when_not false h = refl
+
+unless_not : (b : Bool) → not b ≡ false → b ≡ true
+unless_not true h = refl
+unless_not false h = cc
+
+-- a matrix that is not symmetric is as it stands
+pub written_out-general : (h : Head) (es : MatrixEntries) → not h.is_symmetric ≡ true → T (is_sorted cell_cmp es) → es ≡ map_from cell_cmp (written_out h es)
+written_out-general h es g s = sym (ap (λ b. map_from cell_cmp (if b then es ++ map mirrored es else es)) (when_not h.is_symmetric g) ∙ map_from-sorted es s)
+
+-- and a symmetric one has both sides
+pub written_out-symmetric : (h : Head) (es : MatrixEntries) → not h.is_symmetric ≡ false → T (is_sorted cell_cmp es) → set_all cell_cmp (set_all cell_cmp [] (map mirrored es)) es ≡ map_from cell_cmp (written_out h es)
+written_out-symmetric h es g s = set_both es s ∙ sym (ap (λ b. map_from cell_cmp (if b then es ++ map mirrored es else es)) (unless_not h.is_symmetric g))
+
+pub sorted-map_from : (es : MatrixEntries) → IsTrue (is_sorted cell_cmp (map_from cell_cmp es))
+sorted-map_from es = passes _ (is_sorted-map_from cell_cmp cell_cmp_total es)
+
+-- entries that come in order
+
+less_of : (p q : Cell) → comes_before p q ≡ true → cell_cmp p q ≡ Less
+less_of p q h = by (ltb p.0 q.0) (eqb p.0 q.0) (ltb p.1 q.1) (eqb p.1 q.1) h
+  where
+    by : (a b c d : Bool) → (a || (b && c)) ≡ true → ordering_then (cond a Less (cond b Equal Greater)) (cond c Less (cond d Equal Greater)) ≡ Less
+    by true b c d h = refl
+    by false true true d h = refl
+    by false true false d h = cc
+    by false false c d h = cc
+
+less_holds : (o : Ordering) → T (is_lt o) → o ≡ Less
+less_holds Less h = refl
+less_holds Equal h = absurd h
+less_holds Greater h = absurd h
+
+all_below : (cell : Cell) (es : MatrixEntries) → T (is_sorted cell_cmp es) → is_behind cell es ≡ true → AllByRecursion (λ e. cell_cmp e.0 cell ≡ Less) es
+all_below cell [] s h = tt
+all_below cell (e ∷ []) s h = (less_of e.0 cell h, tt)
+all_below cell (e ∷ f ∷ es) s h =
+    let rest = all_below cell (f ∷ es) (second _ _ s) h in
+    let here = less_holds (cell_cmp e.0 f.0) (first _ _ (first _ _ s)) in
+    (cell_cmp_total.trans e.0 f.0 cell here rest.0, rest)
+
+greater_of : (p q : Cell) → cell_cmp p q ≡ Less → cell_cmp q p ≡ Greater
+greater_of p q h = cell_cmp_total.antisymm q p ∙ ap ordering_reverse h
+
+put_last : (cell : Cell) (v : Value) (es : MatrixEntries) → AllByRecursion (λ e. cell_cmp e.0 cell ≡ Less) es → put cell_cmp cell v es ≡ es ++ (cell, v) ∷ []
+put_last cell v [] a = refl
+put_last cell v (e ∷ es) a =
+    ap (λ o. by_order o ((cell, v) ∷ e ∷ es) ((e.0, v) ∷ es) (e ∷ put cell_cmp cell v es)) (greater_of e.0 cell a.0) ∙ ap (λ l. e ∷ l) (put_last cell v es a.1)
+
+find_last : (cell : Cell) (es : MatrixEntries) → AllByRecursion (λ e. cell_cmp e.0 cell ≡ Less) es → find cell_cmp cell es ≡ None
+find_last cell [] a = refl
+find_last cell (e ∷ es) a = ap (λ o. cond (is_eq o) (Some e.1) (find cell_cmp cell es)) (greater_of e.0 cell a.0) ∙ find_last cell es a.1
+
+pub put_behind : (cell : Cell) (v : Value) (es : MatrixEntries) → IsTrue (is_sorted cell_cmp es) → is_behind cell es ≡ true → put cell_cmp cell v es ≡ es ++ (cell, v) ∷ []
+put_behind cell v es s h = put_last cell v es (all_below cell es (holds s) h)
+
+pub find_behind : (cell : Cell) (es : MatrixEntries) → IsTrue (is_sorted cell_cmp es) → is_behind cell es ≡ true → find cell_cmp cell es ≡ None
+find_behind cell es s h = find_last cell es (all_below cell es (holds s) h)
+
+-- each set in turn, entries in order are the map
+pub set_all-sorted : (es : MatrixEntries) → IsTrue (is_sorted cell_cmp es) → set_all cell_cmp [] es ≡ es
+set_all-sorted es s =
+    same_map _ _ (is_sorted-set_all [] es tt) (holds s) (λ q. find-set_all q [] es (Apart-sorted es (holds s)) ∙ or_none (find cell_cmp q es))
+
+-- the last entry decides
+pub is_behind-last : (cell : Cell) (es : MatrixEntries) (k : ℕ) (d : Cell × Value) → suc k ≡ length es → comes_before (get_or es k d).0 cell ≡ is_behind cell es
+is_behind-last cell [] k d h = absurd (omega arith)
+is_behind-last cell (e ∷ []) zero d h = refl
+is_behind-last cell (e ∷ []) (suc k) d h = absurd (omega arith)
+is_behind-last cell (e ∷ f ∷ es) zero d h = absurd (omega arith)
+is_behind-last cell (e ∷ f ∷ es) (suc k) d h = is_behind-last cell (f ∷ es) k d (omega arith)
+
+length-cells_of : (tuples : List (ℕ × ℕ × Value)) → length (cells_of tuples) ≡ length tuples
+length-cells_of tuples = length-map tuples (λ e. ((e.0, e.1), e.2))
+
+get_or-cells_of : (tuples : List (ℕ × ℕ × Value)) (k : ℕ) (d : ℕ × ℕ × Value) → get_or (cells_of tuples) k ((d.0, d.1), d.2) ≡ (((get_or tuples k d).0, (get_or tuples k d).1), (get_or tuples k d).2)
+get_or-cells_of [] k d = refl
+get_or-cells_of (e ∷ tuples) zero d = refl
+get_or-cells_of (e ∷ tuples) (suc k) d = get_or-cells_of tuples k d
+
+pub is_behind-tuples : (cell : Cell) (tuples : List (ℕ × ℕ × Value)) (k : ℕ) (d : ℕ × ℕ × Value) → suc k ≡ length tuples → comes_before ((get_or tuples k d).0, (get_or tuples k d).1) cell ≡ is_behind cell (cells_of tuples)
+is_behind-tuples cell tuples k d h =
+    ap (λ e. comes_before e.0 cell) (sym (get_or-cells_of tuples k d)) ∙ is_behind-last cell (cells_of tuples) k ((d.0, d.1), d.2) (h ∙ sym (length-cells_of tuples))

@@ -1,0 +1,12 @@
+pub mod ListLemmas
+pub mod EntryMaps
+pub mod ReadingLemmas
+pub mod MarketLemmas
+pub mod SpellsLemmas
+pub mod WholeLemmas
+pub mod NextLineLemmas
+pub mod NumberLemmas
+pub mod Taken
+pub mod WrittenLemmas
+pub mod CanonicalLemmas
+pub mod FrontLemmas

@@ -1,0 +1,7 @@
+use Rattle.std.proofs.Common.{◌≡◌}
+use Rattle.std.specs.List.{list_any}
+use Rattle.grb_market.specs.Canonical.{is_false}
+use Rattle.grb_market.proofs.writing.stores_false.Given as goal
+
+abbrev pub invariant-loop-value : goal.invariant-loop-value
+invariant-loop-value l = list_any (λ e. is_false e.1) l.matrix.matrix.entries ≡ list_any (λ e. is_false e.1) l.value-iterator

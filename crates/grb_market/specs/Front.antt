@@ -1,0 +1,38 @@
+-- The numbers of a line, one behind another.
+use Rattle.std.specs.Prelude.{◌≡◌, ℕ, ◌<◌, Bool, true, false, if◌then◌else◌, List, [], ◌∷◌, ◌++◌, length, Option, Some, None}
+use Rattle.std.specs.List.{list_all}
+use Rattle.std.specs.Option.{option_map}
+use Rattle.grb_market.specs.Numbers.{is_digit, is_blank, begins_blank, ends_blank, words_of, Number, number_of, numbers_from}
+
+-- a digit stands first
+abbrev pub begins_digit : List ℕ → Bool
+begins_digit [] = false
+begins_digit (b ∷ bytes) = is_digit b
+
+-- the numbers of a text that stands behind a number
+abbrev pub behind : List ℕ → Option (List Number)
+behind bytes = if ends_blank bytes then None else numbers_from (words_of bytes)
+
+-- a number, and then these
+abbrev pub before : Number → Option (List Number) → Option (List Number)
+before n numbers = option_map (λ ns. n ∷ ns) numbers
+
+abbrev pub has_number : Option (List Number) → Bool
+has_number (Some (n ∷ ns)) = true
+has_number _ = false
+
+-- the text begins with the digits of this number, and `rest` is behind them
+pub record IsNumberFront (text : List ℕ) (n : Number) (rest : List ℕ) : Type 0 where
+  pub digits : List ℕ
+  pub are : text ≡ digits ++ rest
+  pub long : 0 < length digits
+  pub all : list_all is_digit digits ≡ true
+  pub number : n ≡ number_of digits
+  pub ends : begins_digit rest ≡ false
+
+-- the text begins with blanks, and `rest` is behind them
+pub record IsBlankFront (text rest : List ℕ) : Type 0 where
+  pub blanks : List ℕ
+  pub are : text ≡ blanks ++ rest
+  pub all : list_all is_blank blanks ≡ true
+  pub ends : begins_blank rest ≡ false

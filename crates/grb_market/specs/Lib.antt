@@ -1,0 +1,13 @@
+pub mod Line
+pub mod Numbers
+pub mod Front
+pub mod Reading
+pub mod Fault
+pub mod Spells
+pub mod Stands
+pub mod Laws
+pub mod Loaded
+pub mod Sink
+pub mod Canonical
+pub mod Written
+pub mod Gathered

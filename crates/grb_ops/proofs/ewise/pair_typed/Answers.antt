@@ -1,0 +1,28 @@
+use Rattle.std.proofs.Common.{◌≡◌, ◌∙◌, ℕ, sym, ap, subst}
+use Rattle.std.specs.Prelude.{Some, None}
+use Rattle.std.specs.Ordering.{nat_cmp}
+use Rattle.grb_core.specs.Operator.{op_domain, value_of_op}
+use Rattle.grb_core.specs.Entries.{VectorEntries}
+use Rattle.grb_core.specs.Contents.{IsVector, edited_vector}
+use Rattle.grb_core.specs.Mask.{is_inside}
+use Rattle.grb_core.specs.Written.{AccumulatesIn, accumulated, pointwise, written}
+use Rattle.grb_kernels.specs.declared.pairing.Pairing.TheVariants.{Union}
+use Rattle.grb_kernels.specs.Typed.{entries_of}
+use Rattle.grb_kernels.specs.Pairing.{paired}
+use Rattle.grb_sparse.specs.Vector.{SparseVectorView}
+use Rattle.grb_ops.proofs.Whole.{vector_of, paired_whole, written_whole, whole-same, same_vector, unmasked, unchanged, emptied}
+use Rattle.grb_ops.proofs.ewise.pair_typed.Goals as goal
+
+pub returns-clause-whole : goal.returns-clause-whole
+returns-clause-whole g c =
+    let u = c.args.u.now.vector in
+    let v = c.args.v.now.vector in
+    let tv = g.T.Scalar.value in
+    let f = paired c.args.pairing (value_of_op c.args.op) in
+    let made = entries_of tv c.in_ok-entries.entries.indices.items c.in_ok-entries.entries.values.items in
+    let is : made ≡ pointwise nat_cmp f u.entries v.entries =
+    c.in_ok-entries.ensures
+    ∙ ap (λ (m : VectorEntries). pointwise nat_cmp f m (entries_of tv c.lend-2.result.indices.now c.lend-2.result.values.now)) c.lend.ensures.entries
+    ∙ ap (λ (m : VectorEntries). pointwise nat_cmp f u.entries m) c.lend-2.ensures.entries in
+    whole-same g.T.Scalar.domain u.size made (pointwise nat_cmp f u.entries v.entries) is
+    (paired_whole c.args.pairing c.args.op g.T.Scalar.domain u v c.lend.ensures.whole c.lend-2.ensures.whole c.requires.domain c.requires.u_domain c.requires.v_domain c.requires.sizes)

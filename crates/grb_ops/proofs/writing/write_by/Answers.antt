@@ -1,0 +1,32 @@
+use Rattle.std.proofs.Common.{◌≡◌, ◌∙◌, ℕ, sym, ap, subst}
+use Rattle.std.specs.Prelude.{Some, None}
+use Rattle.std.specs.Ordering.{nat_cmp}
+use Rattle.grb_core.specs.Operator.{op_domain, value_of_op}
+use Rattle.grb_core.specs.Entries.{VectorEntries}
+use Rattle.grb_core.specs.Contents.{IsVector, edited_vector}
+use Rattle.grb_core.specs.Mask.{is_inside}
+use Rattle.grb_core.specs.Written.{AccumulatesIn, accumulated, pointwise, written}
+use Rattle.grb_kernels.specs.declared.pairing.Pairing.TheVariants.{Union}
+use Rattle.grb_kernels.specs.Typed.{entries_of}
+use Rattle.grb_kernels.specs.Pairing.{paired}
+use Rattle.grb_sparse.specs.Vector.{SparseVectorView}
+use Rattle.grb_ops.proofs.Whole.{vector_of, paired_whole, written_whole, whole-same, same_vector, unmasked, unchanged, emptied}
+use Rattle.grb_ops.proofs.writing.write_by.Goals as goal
+
+pub returns-clause-whole : goal.returns-clause-whole
+returns-clause-whole g c =
+    let w = c.args.output.now.vector in
+    let t = c.args.computed.now.vector in
+    let tv = g.T.Scalar.value in
+    let d = c.args.descriptor in
+    let old = entries_of tv c.lend-2.result.indices.now c.lend-2.result.values.now in
+    let new = entries_of tv c.lend-3.result.indices.now c.lend-3.result.values.now in
+    let mask = c.args.mask.now.vector.entries in
+    let made = entries_of tv c.in_ok-entries.entries.indices.items c.in_ok-entries.entries.values.items in
+    let is : made ≡ written nat_cmp (is_inside nat_cmp d.structure d.comp (Some mask)) d.replace c.args.accum w.entries t.entries =
+    c.in_ok-entries.ensures
+    ∙ ap (λ (m : VectorEntries). written nat_cmp (is_inside nat_cmp d.structure d.comp (Some m)) d.replace c.args.accum old new) c.lend.ensures.entries
+    ∙ ap (λ (m : VectorEntries). written nat_cmp (is_inside nat_cmp d.structure d.comp (Some mask)) d.replace c.args.accum m new) c.lend-2.ensures.entries
+    ∙ ap (λ (m : VectorEntries). written nat_cmp (is_inside nat_cmp d.structure d.comp (Some mask)) d.replace c.args.accum w.entries m) c.lend-3.ensures.entries in
+    whole-same g.T.Scalar.domain w.size made (written nat_cmp (is_inside nat_cmp d.structure d.comp (Some mask)) d.replace c.args.accum w.entries t.entries) is
+    (written_whole (is_inside nat_cmp d.structure d.comp (Some mask)) d.replace c.args.accum g.T.Scalar.domain w t c.lend-2.ensures.whole c.lend-3.ensures.whole c.requires.output_domain c.requires.computed_domain c.requires.sizes c.requires.accum_domain)

@@ -1,0 +1,3 @@
+mod Accepted
+mod Applied
+mod Objects

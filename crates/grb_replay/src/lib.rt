@@ -1,0 +1,13 @@
+//! The store that a list of calls leaves, evaluated.
+//!
+//! A `State` holds the matrices and vectors that the calls made, with their entries. One unit is one call: `apply` makes of the
+//! store what the call makes of it, and nothing of it where the call is refused; `reply` and `refused_build` read it. All places
+//! for objects to come are reserved where a state is opened. Nothing here knows of passes, of an order, or of which calls there
+//! are: the caller brings them, one after another.
+#![tactic(auto)]
+
+mod matrices;
+mod state;
+mod vectors;
+
+pub use state::State;

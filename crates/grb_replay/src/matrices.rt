@@ -1,0 +1,106 @@
+ghost use Rattle.std.specs.Prelude.{◌≡◌, ◌<◌, [], ◌∷◌, ◌++◌, OnOk, OnErr, IfOk, IfSome, slice_set, vec_len, vec_capacity};
+ghost use Rattle.std.specs.Option.{option_map};
+ghost use Rattle.grb_call.specs.Output.{matrix_after, matrix_left};
+ghost use Rattle.grb_call.specs.Shapes.{object_at};
+ghost use Rattle.grb_replay.specs.Fits.{FitsMatrix};
+ghost use Rattle.grb_replay.specs.State.{stored_matrix, stored_matrices};
+
+use grb_call::{Call, MatrixId};
+use grb_sparse::SparseMatrix;
+use std::alloc::AllocError;
+
+/// Changes the matrix as the call says. `AllocError` where memory is refused; then its entries are as before.
+fn change_matrix(matrix: &mut SparseMatrix, call: &Call) -> Result<(), AllocError>
+    requires fits { FitsMatrix call.now matrix.old.matrix }
+    ensures ok { OnOk result (matrix.new.matrix ≡ matrix_after call.now matrix.old.matrix) }
+    ensures err { OnErr result (matrix.new.matrix ≡ matrix.old.matrix) }
+{
+    match call {
+        Call::SetMatrix { i, j, value, .. } => {
+            matrix.reserve_pending(1)?;
+            matrix.set(*i, *j, *value);
+            Ok(())
+        }
+        Call::RemoveMatrix { i, j, .. } => {
+            matrix.reserve_pending(1)?;
+            matrix.remove(*i, *j);
+            Ok(())
+        }
+        Call::ClearMatrix { .. } => {
+            matrix.clear();
+            Ok(())
+        }
+        Call::ResizeMatrix { nrows, ncols, .. } => matrix.resize(*nrows, *ncols),
+        Call::BuildMatrix { tuples, dup, .. } => matrix.build(tuples.as_slice(), *dup),
+        _ => Ok(()),
+    }
+}
+
+/// Changes or ends the matrix of this place, if there is one, as the call says. `AllocError` where memory is refused.
+fn change_place(place: &mut Option<SparseMatrix>, call: &Call) -> Result<(), AllocError>
+    requires fits { IfSome (option_map stored_matrix place.old) (FitsMatrix call.now) }
+    ensures ok { OnOk result (option_map stored_matrix place.new ≡ matrix_left call.now (option_map stored_matrix place.old)) }
+    ensures err { OnErr result (option_map stored_matrix place.new ≡ option_map stored_matrix place.old) }
+{
+    if let Call::FreeMatrix { .. } = call {
+        *place = None;
+        return Ok(());
+    }
+    match place {
+        Some(matrix) => change_matrix(matrix, call),
+        None => Ok(()),
+    }
+}
+
+/// Changes or ends the matrix with this number, if it is there, as the call says. `AllocError` where memory is refused; then its
+/// entries are as before.
+pub(crate) fn edit_matrix(
+    matrices: &mut Vec<Option<SparseMatrix>>,
+    a: MatrixId,
+    call: &Call,
+) -> Result<(), AllocError>
+    requires fits { IfSome (object_at (stored_matrices matrices.old.items) a.0) (FitsMatrix call.now) }
+    ensures ok { OnOk result (stored_matrices matrices.new.items ≡ slice_set (stored_matrices matrices.old.items) a.0 (matrix_left call.now (object_at (stored_matrices matrices.old.items) a.0))) }
+    ensures err { OnErr result (stored_matrices matrices.new.items ≡ stored_matrices matrices.old.items) }
+    ensures capacity { vec_capacity matrices.new ≡ vec_capacity matrices.old }
+{
+    match matrices.get_mut(a.0 as usize) {
+        Some(place) => change_place(place, call),
+        None => Ok(()),
+    }
+}
+
+/// A clone of the matrix with this number, if it is there. `AllocError` where memory is refused.
+fn clone_matrix(
+    matrices: &[Option<SparseMatrix>],
+    a: MatrixId,
+) -> Result<Option<SparseMatrix>, AllocError>
+    ensures { IfOk result (λ copy. option_map stored_matrix copy ≡ object_at (stored_matrices matrices.now) a.0) }
+{
+    match matrix_of(matrices, a) {
+        Some(matrix) => Ok(Some(matrix.try_clone()?)),
+        None => Ok(None),
+    }
+}
+
+/// Makes one more matrix, equal to the one with this number. `AllocError` where memory is refused.
+pub(crate) fn dup_matrix(
+    matrices: &mut Vec<Option<SparseMatrix>>,
+    a: MatrixId,
+) -> Result<(), AllocError>
+    requires { vec_len matrices.old < vec_capacity matrices.old }
+    ensures ok { OnOk result (stored_matrices matrices.new.items ≡ stored_matrices matrices.old.items ++ object_at (stored_matrices matrices.old.items) a.0 ∷ []) }
+    ensures err { OnErr result (matrices.new.items ≡ matrices.old.items) }
+    ensures capacity { vec_capacity matrices.new ≡ vec_capacity matrices.old }
+{
+    let copy = clone_matrix(matrices, a)?;
+    matrices.push_reserved(copy);
+    Ok(())
+}
+
+/// The matrix with this number, if it was made and not freed. Takes no memory.
+pub(crate) fn matrix_of(matrices: &[Option<SparseMatrix>], a: MatrixId) -> Option<&SparseMatrix>
+    ensures { option_map (λ x. x.now.matrix) result ≡ object_at (stored_matrices matrices.now) a.0 }
+{
+    matrices.get(a.0 as usize)?.as_ref()
+}

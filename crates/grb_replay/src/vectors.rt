@@ -1,0 +1,106 @@
+ghost use Rattle.std.specs.Prelude.{◌≡◌, ◌<◌, [], ◌∷◌, ◌++◌, OnOk, OnErr, IfOk, IfSome, slice_set, vec_len, vec_capacity};
+ghost use Rattle.std.specs.Option.{option_map};
+ghost use Rattle.grb_call.specs.Output.{vector_after, vector_left};
+ghost use Rattle.grb_call.specs.Shapes.{object_at};
+ghost use Rattle.grb_replay.specs.Fits.{FitsVector};
+ghost use Rattle.grb_replay.specs.State.{stored_vector, stored_vectors};
+
+use grb_call::{Call, VectorId};
+use grb_sparse::SparseVector;
+use std::alloc::AllocError;
+
+/// Changes the vector as the call says. `AllocError` where memory is refused; then its entries are as before.
+fn change_vector(vector: &mut SparseVector, call: &Call) -> Result<(), AllocError>
+    requires fits { FitsVector call.now vector.old.vector }
+    ensures ok { OnOk result (vector.new.vector ≡ vector_after call.now vector.old.vector) }
+    ensures err { OnErr result (vector.new.vector ≡ vector.old.vector) }
+{
+    match call {
+        Call::SetVector { i, value, .. } => {
+            vector.reserve_pending(1)?;
+            vector.set(*i, *value);
+            Ok(())
+        }
+        Call::RemoveVector { i, .. } => {
+            vector.reserve_pending(1)?;
+            vector.remove(*i);
+            Ok(())
+        }
+        Call::ClearVector { .. } => {
+            vector.clear();
+            Ok(())
+        }
+        Call::ResizeVector { size, .. } => vector.resize(*size),
+        Call::BuildVector { tuples, dup, .. } => vector.build(tuples.as_slice(), *dup),
+        _ => Ok(()),
+    }
+}
+
+/// Changes or ends the vector of this place, if there is one, as the call says. `AllocError` where memory is refused.
+fn change_place(place: &mut Option<SparseVector>, call: &Call) -> Result<(), AllocError>
+    requires fits { IfSome (option_map stored_vector place.old) (FitsVector call.now) }
+    ensures ok { OnOk result (option_map stored_vector place.new ≡ vector_left call.now (option_map stored_vector place.old)) }
+    ensures err { OnErr result (option_map stored_vector place.new ≡ option_map stored_vector place.old) }
+{
+    if let Call::FreeVector { .. } = call {
+        *place = None;
+        return Ok(());
+    }
+    match place {
+        Some(vector) => change_vector(vector, call),
+        None => Ok(()),
+    }
+}
+
+/// Changes or ends the vector with this number, if it is there, as the call says. `AllocError` where memory is refused; then its
+/// entries are as before.
+pub(crate) fn edit_vector(
+    vectors: &mut Vec<Option<SparseVector>>,
+    v: VectorId,
+    call: &Call,
+) -> Result<(), AllocError>
+    requires fits { IfSome (object_at (stored_vectors vectors.old.items) v.0) (FitsVector call.now) }
+    ensures ok { OnOk result (stored_vectors vectors.new.items ≡ slice_set (stored_vectors vectors.old.items) v.0 (vector_left call.now (object_at (stored_vectors vectors.old.items) v.0))) }
+    ensures err { OnErr result (stored_vectors vectors.new.items ≡ stored_vectors vectors.old.items) }
+    ensures capacity { vec_capacity vectors.new ≡ vec_capacity vectors.old }
+{
+    match vectors.get_mut(v.0 as usize) {
+        Some(place) => change_place(place, call),
+        None => Ok(()),
+    }
+}
+
+/// A clone of the vector with this number, if it is there. `AllocError` where memory is refused.
+fn clone_vector(
+    vectors: &[Option<SparseVector>],
+    v: VectorId,
+) -> Result<Option<SparseVector>, AllocError>
+    ensures { IfOk result (λ copy. option_map stored_vector copy ≡ object_at (stored_vectors vectors.now) v.0) }
+{
+    match vector_of(vectors, v) {
+        Some(vector) => Ok(Some(vector.try_clone()?)),
+        None => Ok(None),
+    }
+}
+
+/// Makes one more vector, equal to the one with this number. `AllocError` where memory is refused.
+pub(crate) fn dup_vector(
+    vectors: &mut Vec<Option<SparseVector>>,
+    v: VectorId,
+) -> Result<(), AllocError>
+    requires { vec_len vectors.old < vec_capacity vectors.old }
+    ensures ok { OnOk result (stored_vectors vectors.new.items ≡ stored_vectors vectors.old.items ++ object_at (stored_vectors vectors.old.items) v.0 ∷ []) }
+    ensures err { OnErr result (vectors.new.items ≡ vectors.old.items) }
+    ensures capacity { vec_capacity vectors.new ≡ vec_capacity vectors.old }
+{
+    let copy = clone_vector(vectors, v)?;
+    vectors.push_reserved(copy);
+    Ok(())
+}
+
+/// The vector with this number, if it was made and not freed. Takes no memory.
+pub(crate) fn vector_of(vectors: &[Option<SparseVector>], v: VectorId) -> Option<&SparseVector>
+    ensures { option_map (λ x. x.now.vector) result ≡ object_at (stored_vectors vectors.now) v.0 }
+{
+    vectors.get(v.0 as usize)?.as_ref()
+}

@@ -1,0 +1,293 @@
+-- Entries as flat lists: indices, values and marks, place by place.
+use Rattle.std.proofs.Common.{◌≡◌, ℕ, zero, suc, ◌+◌, ◌<◌, ◌≤◌, Bool, true, false, not, cond, nat_eq, List, [], ◌∷◌, ◌++◌, length, get_or, set, take, Some, None, Option, refl, sym, ap, subst, ◌∙◌, arith}
+use Rattle.std.specs.Prelude.{◌&&◌, map}
+use Rattle.std.specs.List.{AllByRecursion}
+use Rattle.std.specs.declared.cmp.Ordering.{Ordering}
+use Rattle.std.specs.declared.cmp.Ordering.TheVariants.{Less, Equal, Greater}
+use Rattle.std.specs.Ordering.{nat_cmp, is_eq, is_lt, eq_by_cmp}
+use Rattle.std.specs.Cmp.{nat_cmp_total, ranked}
+use Rattle.std.specs.FinMap.{find, is_sorted, nat_cmp-IsAntisymmetric}
+use Rattle.std.specs.FinMap.Entries.{below_all}
+use Rattle.std.proofs.lemmas.Bool.{cases_lt}
+use Rattle.std.proofs.Common.{inl, inr}
+use Rattle.std.proofs.lemmas.List.{length_push, length-set, length-take}
+use Rattle.std.specs.Prelude.{min}
+use Rattle.std.proofs.lemmas.Bool.Decides.{nat_tests}
+use lib.Dec.{T}
+use Rattle.grb_core.specs.declared.value.Value.{Value}
+use Rattle.grb_core.specs.Entries.{VectorEntries}
+use Rattle.grb_rows.specs.Stored.{paired, kept}
+use Rattle.grb_rows.proofs.Places.{first, second, below_at}
+use Rattle.grb_rows.proofs.Changes.{eq_cmp}
+
+both : (a b : Bool) → T a → T b → T (a && b)
+both true b p q = q
+both false b p q = absurd p
+
+pub length-paired : (ks : List ℕ) (vs : List Value) → length vs ≡ length ks → length (paired ks vs) ≡ length ks
+length-paired [] vs h = refl
+length-paired (k ∷ ks) [] h = absurd (omega arith)
+length-paired (k ∷ ks) (v ∷ vs) h = ap suc (length-paired ks vs (omega arith))
+
+pub get_or-paired : (ks : List ℕ) (vs : List Value) (i k : ℕ) (v : Value) → length vs ≡ length ks → i < length ks → get_or (paired ks vs) i (k, v) ≡ (get_or ks i k, get_or vs i v)
+get_or-paired [] vs i k v h l = absurd (omega arith)
+get_or-paired (x ∷ ks) [] i k v h l = absurd (omega arith)
+get_or-paired (x ∷ ks) (y ∷ vs) zero k v h l = refl
+get_or-paired (x ∷ ks) (y ∷ vs) (suc i) k v h l = get_or-paired ks vs i k v (omega arith) (omega arith)
+
+pub paired-set : (ks : List ℕ) (vs : List Value) (i k : ℕ) (v : Value) → length vs ≡ length ks → i < length ks → paired ks (set vs i v) ≡ set (paired ks vs) i (get_or ks i k, v)
+paired-set [] vs i k v h l = absurd (omega arith)
+paired-set (x ∷ ks) [] i k v h l = absurd (omega arith)
+paired-set (x ∷ ks) (y ∷ vs) zero k v h l = refl
+paired-set (x ∷ ks) (y ∷ vs) (suc i) k v h l = ap (λ (s : VectorEntries). (x, y) ∷ s) (paired-set ks vs i k v (omega arith) (omega arith))
+
+pub paired-push : (ks : List ℕ) (vs : List Value) (k : ℕ) (v : Value) → length vs ≡ length ks → paired (ks ++ k ∷ []) (vs ++ v ∷ []) ≡ paired ks vs ++ (k, v) ∷ []
+paired-push [] [] k v h = refl
+paired-push [] (y ∷ vs) k v h = absurd (omega arith)
+paired-push (x ∷ ks) [] k v h = absurd (omega arith)
+paired-push (x ∷ ks) (y ∷ vs) k v h = ap (λ (s : VectorEntries). (x, y) ∷ s) (paired-push ks vs k v (omega arith))
+
+pub take-paired : (n : ℕ) (ks : List ℕ) (vs : List Value) → length vs ≡ length ks → paired (take n ks) (take n vs) ≡ take n (paired ks vs)
+take-paired zero ks vs h = refl
+take-paired (suc n) [] vs h = refl
+take-paired (suc n) (x ∷ ks) [] h = absurd (omega arith)
+take-paired (suc n) (x ∷ ks) (y ∷ vs) h = ap (λ (s : VectorEntries). (x, y) ∷ s) (take-paired n ks vs (omega arith))
+
+pub keys-paired : (ks : List ℕ) (vs : List Value) → length vs ≡ length ks → map (λ (e : ℕ × Value). e.0) (paired ks vs) ≡ ks
+keys-paired [] vs h = refl
+keys-paired (k ∷ ks) [] h = absurd (omega arith)
+keys-paired (k ∷ ks) (v ∷ vs) h = ap (λ (s : List ℕ). k ∷ s) (keys-paired ks vs (omega arith))
+
+pub values-paired : (ks : List ℕ) (vs : List Value) → length vs ≡ length ks → map (λ (e : ℕ × Value). e.1) (paired ks vs) ≡ vs
+values-paired [] [] h = refl
+values-paired [] (v ∷ vs) h = absurd (omega arith)
+values-paired (k ∷ ks) [] h = absurd (omega arith)
+values-paired (k ∷ ks) (v ∷ vs) h = ap (λ (s : List Value). v ∷ s) (values-paired ks vs (omega arith))
+
+-- places rise
+pub rises : (m : VectorEntries) (d : ℕ × Value) → T (is_sorted nat_cmp m) → (i j : ℕ) → i < j → j < length m → (get_or m i d).0 < (get_or m j d).0
+rises [] d h i j l n = absurd (omega arith)
+rises (e ∷ m) d h zero zero l n = absurd (omega arith)
+rises (e ∷ m) d h zero (suc j) l n = ranked e.0 (get_or m j d).0 Less (sym (below_at nat_cmp_total e.0 m j d (first _ _ h) (omega arith)))
+rises (e ∷ m) d h (suc i) zero l n = absurd (omega arith)
+rises (e ∷ m) d h (suc i) (suc j) l n = rises m d (second _ _ h) i j (omega arith) (omega arith)
+
+none_below : (x : ℕ) (m : VectorEntries) → T (below_all nat_cmp x m) → find nat_cmp x m ≡ None
+none_below x [] h = refl
+none_below x (e ∷ m) h =
+    elim (nat_cmp x e.0) as (λ r. T (is_lt r && below_all nat_cmp x m) → cond (is_eq r) (Some e.1) (find nat_cmp x m) ≡ None) [
+      | Less ↦ λ g. none_below x m g
+      | Equal ↦ λ g. absurd g
+      | Greater ↦ λ g. absurd g
+    ] h
+
+below-kept : (x : ℕ) (m : VectorEntries) (ds : List Bool) → T (below_all nat_cmp x m) → T (below_all nat_cmp x (kept m ds))
+below-kept x [] ds h = tt
+below-kept x (e ∷ m) [] h = h
+below-kept x (e ∷ m) (true ∷ ds) h = below-kept x m ds (second _ _ h)
+below-kept x (e ∷ m) (false ∷ ds) h = both _ _ (first _ _ h) (below-kept x m ds (second _ _ h))
+
+pub is_sorted-kept : (m : VectorEntries) (ds : List Bool) → T (is_sorted nat_cmp m) → T (is_sorted nat_cmp (kept m ds))
+is_sorted-kept [] ds h = tt
+is_sorted-kept (e ∷ m) [] h = h
+is_sorted-kept (e ∷ m) (true ∷ ds) h = is_sorted-kept m ds (second _ _ h)
+is_sorted-kept (e ∷ m) (false ∷ ds) h = both _ _ (below-kept e.0 m ds (first _ _ h)) (is_sorted-kept m ds (second _ _ h))
+
+pub length-kept_le : (m : VectorEntries) (ds : List Bool) → length (kept m ds) ≤ length m
+length-kept_le [] ds = omega arith
+length-kept_le (e ∷ m) [] = omega arith
+length-kept_le (e ∷ m) (true ∷ ds) = omega (arith, length-kept_le m ds)
+length-kept_le (e ∷ m) (false ∷ ds) = omega (arith, length-kept_le m ds)
+
+-- where no place is marked, all are kept
+pub none_set : (ds : List Bool) → ds ≡ [] → AllByRecursion (λ d. d ≡ false) ds
+none_set ds is = subst (AllByRecursion (λ d. d ≡ false)) (sym is) tt
+
+pub kept-unmarked : (m : VectorEntries) (ds : List Bool) → AllByRecursion (λ d. d ≡ false) ds → kept m ds ≡ m
+kept-unmarked [] ds h = refl
+kept-unmarked (e ∷ m) [] h = refl
+kept-unmarked (e ∷ m) (true ∷ ds) h = absurd (subst T h.0 tt)
+kept-unmarked (e ∷ m) (false ∷ ds) h = ap (λ (s : VectorEntries). e ∷ s) (kept-unmarked m ds h.1)
+
+-- at an index that stands nowhere nothing is kept
+pub find-kept_none : (q : ℕ) (m : VectorEntries) (ds : List Bool) → find nat_cmp q m ≡ None → find nat_cmp q (kept m ds) ≡ None
+find-kept_none q [] ds h = refl
+find-kept_none q (e ∷ m) [] h = h
+find-kept_none q (e ∷ m) (d ∷ ds) h =
+    elim (eq_by_cmp nat_cmp q e.0) as (λ b. eq_by_cmp nat_cmp q e.0 ≡ b → cond b (Some e.1) (find nat_cmp q m) ≡ None → find nat_cmp q (cond d (kept m ds) (e ∷ kept m ds)) ≡ None) [
+      | true ↦ λ t g. absurd (not_none e.1 g)
+      | false ↦ λ t g. elim d as (λ b. find nat_cmp q (cond b (kept m ds) (e ∷ kept m ds)) ≡ None) [
+        | true ↦ find-kept_none q m ds g
+        | false ↦ ap (λ b. cond b (Some e.1) (find nat_cmp q (kept m ds))) t ∙ find-kept_none q m ds g
+      ]
+    ] refl h
+  where
+    not_none : (v : Value) → ◌≡◌ {A = Option Value} (Some v) None → ⊥
+    not_none v e = cc
+
+itself : (k : ℕ) → eq_by_cmp nat_cmp k k ≡ true
+itself k = grind (arith, nat_tests)
+
+other : (a b : ℕ) → a < b → eq_by_cmp nat_cmp b a ≡ false
+other a b l = grind (arith, nat_tests)
+
+-- at one that stands at place i, what it has there
+find-place : (m : VectorEntries) (i : ℕ) (d : ℕ × Value) → T (is_sorted nat_cmp m) → i < length m → find nat_cmp (get_or m i d).0 m ≡ Some (get_or m i d).1
+find-place [] i d h l = absurd (omega arith)
+find-place (e ∷ m) zero d h l = ap (λ b. cond b (Some e.1) (find nat_cmp e.0 m)) (itself e.0)
+find-place (e ∷ m) (suc i) d h l =
+    ap (λ b. cond b (Some e.1) (find nat_cmp (get_or m i d).0 m)) (other e.0 (get_or m i d).0 (rises (e ∷ m) d h 0 (suc i) (omega arith) l))
+    ∙ find-place m i d (second _ _ h) (omega arith)
+
+-- the same among those that are kept, if it is not marked
+pub find-kept : (m : VectorEntries) (ds : List Bool) (i : ℕ) (d : ℕ × Value) → T (is_sorted nat_cmp m) → i < length m
+    → find nat_cmp (get_or m i d).0 (kept m ds) ≡ cond (get_or ds i false) None (Some (get_or m i d).1)
+find-kept [] ds i d h l = absurd (omega arith)
+find-kept (e ∷ m) [] i d h l = find-place (e ∷ m) i d h l
+find-kept (e ∷ m) (true ∷ ds) zero d h l = none_below e.0 (kept m ds) (below-kept e.0 m ds (first _ _ h))
+find-kept (e ∷ m) (false ∷ ds) zero d h l = ap (λ b. cond b (Some e.1) (find nat_cmp e.0 (kept m ds))) (itself e.0)
+find-kept (e ∷ m) (true ∷ ds) (suc i) d h l = find-kept m ds i d (second _ _ h) (omega arith)
+find-kept (e ∷ m) (false ∷ ds) (suc i) d h l =
+    ap (λ b. cond b (Some e.1) (find nat_cmp (get_or m i d).0 (kept m ds))) (other e.0 (get_or m i d).0 (rises (e ∷ m) d h 0 (suc i) (omega arith) l))
+    ∙ find-kept m ds i d (second _ _ h) (omega arith)
+
+here : (b t x : Bool) (n w s : Option Value) → (t ≡ true → n ≡ None) → cond b n (cond t s n) ≡ cond t (cond b None s) (cond x n (cond t w n))
+here true true x n w s h = h refl
+here true false true n w s h = refl
+here true false false n w s h = refl
+here false true x n w s h = refl
+here false false true n w s h = refl
+here false false false n w s h = refl
+
+there : (x t u : Bool) (a s w : Option Value) → (t ≡ true → u ≡ true → ⊥) → cond x (cond u s a) (cond t w (cond u s a)) ≡ cond u s (cond x a (cond t w a))
+there true t true a s w h = refl
+there true t false a s w h = refl
+there false true true a s w h = absurd (h refl refl)
+there false true false a s w h = refl
+there false false true a s w h = refl
+there false false false a s w h = refl
+
+find-cond : (q : ℕ) (b : Bool) (e : ℕ × Value) (m : VectorEntries) → find nat_cmp q (cond b m (e ∷ m)) ≡ cond b (find nat_cmp q m) (cond (nat_eq q e.0) (Some e.1) (find nat_cmp q m))
+find-cond q true e m = refl
+find-cond q false e m = ap (λ b. cond b (Some e.1) (find nat_cmp q m)) (eq_cmp q e.0)
+
+is_it : (q k : ℕ) → nat_eq q k ≡ true → q ≡ k
+is_it q k h = grind (arith, nat_tests)
+
+-- a value and a mark written at one place
+pub find-kept_set : (q : ℕ) (m : VectorEntries) (ds : List Bool) (i : ℕ) (d : ℕ × Value) (v : Value) (b : Bool) → T (is_sorted nat_cmp m) → i < length m → i < length ds
+    → find nat_cmp q (kept (set m i ((get_or m i d).0, v)) (set ds i b)) ≡ cond (nat_eq q (get_or m i d).0) (cond b None (Some v)) (find nat_cmp q (kept m ds))
+find-kept_set q [] ds i d v b h l n = absurd (omega arith)
+find-kept_set q (e ∷ m) [] i d v b h l n = absurd (omega arith)
+find-kept_set q (e ∷ m) (x ∷ ds) zero d v b h l n =
+    find-cond q b (e.0, v) (kept m ds)
+    ∙ here b (nat_eq q e.0) x (find nat_cmp q (kept m ds)) (Some e.1) (Some v) (λ t. ap (λ k. find nat_cmp k (kept m ds)) (is_it q e.0 t) ∙ none_below e.0 (kept m ds) (below-kept e.0 m ds (first _ _ h)))
+    ∙ ap (cond (nat_eq q e.0) (cond b None (Some v))) (sym (find-cond q x e (kept m ds)))
+find-kept_set q (e ∷ m) (x ∷ ds) (suc i) d v b h l n =
+    let above : e.0 < (get_or m i d).0 = rises (e ∷ m) d h 0 (suc i) (omega arith) l in
+    find-cond q x e (kept (set m i ((get_or m i d).0, v)) (set ds i b))
+    ∙ ap (λ w. cond x w (cond (nat_eq q e.0) (Some e.1) w)) (find-kept_set q m ds i d v b (second _ _ h) (omega arith) (omega arith))
+    ∙ there x (nat_eq q e.0) (nat_eq q (get_or m i d).0) (find nat_cmp q (kept m ds)) (cond b None (Some v)) (Some e.1) (λ t u. apart q e.0 (get_or m i d).0 above t u)
+    ∙ ap (cond (nat_eq q (get_or m i d).0) (cond b None (Some v))) (sym (find-cond q x e (kept m ds)))
+  where
+    apart : (q a b : ℕ) → a < b → nat_eq q a ≡ true → nat_eq q b ≡ true → ⊥
+    apart q a b l t u = let s = is_it q a t in let r = is_it q b u in absurd (omega (arith, s, r))
+
+-- an index that stands at no place is not found
+pub find-nowhere : (q : ℕ) (ks : List ℕ) (vs : List Value) → ((k : ℕ) → k < length ks → get_or ks k 0 ≡ q → ⊥) → find nat_cmp q (paired ks vs) ≡ None
+find-nowhere q [] vs h = refl
+find-nowhere q (k ∷ ks) [] h = refl
+find-nowhere q (k ∷ ks) (v ∷ vs) h =
+    ap (λ b. cond b (Some v) (find nat_cmp q (paired ks vs))) (differs q k (h 0 (omega arith)))
+    ∙ find-nowhere q ks vs (λ i l. h (suc i) (omega arith))
+  where
+    differs : (q k : ℕ) → (k ≡ q → ⊥) → eq_by_cmp nat_cmp q k ≡ false
+    differs q k h = grind (arith, nat_tests)
+
+-- the indices alone rise
+pub indices_rise : (ks : List ℕ) (vs : List Value) → length vs ≡ length ks → T (is_sorted nat_cmp (paired ks vs)) → (i j : ℕ) → i ≤ j → j < length ks → get_or ks i 0 ≤ get_or ks j 0
+indices_rise [] vs n h i j l m = absurd (omega arith)
+indices_rise (k ∷ ks) [] n h i j l m = absurd (omega arith)
+indices_rise (k ∷ ks) (v ∷ vs) n h zero zero l m = omega arith
+indices_rise (k ∷ ks) (v ∷ vs) n h zero (suc j) l m =
+    let long = length-paired (k ∷ ks) (v ∷ vs) n in
+    let above = rises (paired (k ∷ ks) (v ∷ vs)) (0, v) h 0 (suc j) (omega arith) (omega (arith, long)) in
+    let is = get_or-paired ks vs j 0 v (omega arith) (omega arith) in
+    subst (λ (e : ℕ × Value). k ≤ e.0) is (omega (arith, above))
+indices_rise (k ∷ ks) (v ∷ vs) n h (suc i) zero l m = absurd (omega arith)
+indices_rise (k ∷ ks) (v ∷ vs) n h (suc i) (suc j) l m = indices_rise ks vs (omega arith) (second _ _ h) i j (omega arith) (omega arith)
+
+-- one more entry above all others
+below_end : (x k : ℕ) (v : Value) (m : VectorEntries) → x < k → T (below_all nat_cmp x m) → T (below_all nat_cmp x (m ++ (k, v) ∷ []))
+below_end x k v [] l h = both _ _ (less x k l) tt
+  where
+    less : (a b : ℕ) → a < b → T (is_lt (nat_cmp a b))
+    less a b l = subst T (sym (is a b l)) tt
+      where
+        is : (a b : ℕ) → a < b → is_lt (nat_cmp a b) ≡ true
+        is a b l = grind (arith, nat_tests)
+below_end x k v (e ∷ m) l h = both _ _ (first _ _ h) (below_end x k v m l (second _ _ h))
+
+pub is_sorted-end : (k : ℕ) (v : Value) (m : VectorEntries) → AllByRecursion (λ e. e.0 < k) m → T (is_sorted nat_cmp m) → T (is_sorted nat_cmp (m ++ (k, v) ∷ []))
+is_sorted-end k v [] a h = tt
+is_sorted-end k v (e ∷ m) a h = both _ _ (below_end e.0 k v m a.0 (first _ _ h)) (is_sorted-end k v m a.1 (second _ _ h))
+
+pub is_sorted-same_keys : (m : VectorEntries) (i : ℕ) (d : ℕ × Value) (v : Value) → T (is_sorted nat_cmp m) → T (is_sorted nat_cmp (set m i ((get_or m i d).0, v)))
+is_sorted-same_keys [] i d v h = tt
+is_sorted-same_keys (e ∷ m) zero d v h = h
+is_sorted-same_keys (e ∷ m) (suc i) d v h = both _ _ (same_below e.0 m i d v (first _ _ h)) (is_sorted-same_keys m i d v (second _ _ h))
+  where
+    same_below : (x : ℕ) (m : VectorEntries) (i : ℕ) (d : ℕ × Value) (v : Value) → T (below_all nat_cmp x m) → T (below_all nat_cmp x (set m i ((get_or m i d).0, v)))
+    same_below x [] i d v h = tt
+    same_below x (e ∷ m) zero d v h = h
+    same_below x (e ∷ m) (suc i) d v h = both _ _ (first _ _ h) (same_below x m i d v (second _ _ h))
+
+module _ (ks : List ℕ) (vs : List Value) (same : length vs ≡ length ks) where
+  -- after a push on each list
+  module _ (k : ℕ) (v : Value) (ls : List ℕ) (ws : List Value) (is : ls ≡ ks ++ k ∷ []) (are : ws ≡ vs ++ v ∷ []) where
+    pub length-pushed : length ws ≡ length ls
+    length-pushed = let a = ap length is ∙ length_push ks k in let b = ap length are ∙ length_push vs v in omega (arith, a, b)
+
+    pub entries-pushed : paired ls ws ≡ paired ks vs ++ (k, v) ∷ []
+    entries-pushed = ap (λ (x : List ℕ). paired x ws) is ∙ ap (paired (ks ++ k ∷ [])) are ∙ paired-push ks vs k v same
+
+    pub is_sorted-pushed : AllByRecursion (λ e. e.0 < k) (paired ks vs) → T (is_sorted nat_cmp (paired ks vs)) → T (is_sorted nat_cmp (paired ls ws))
+    is_sorted-pushed a h = subst (λ m. T (is_sorted nat_cmp m)) (sym entries-pushed) (is_sorted-end k v (paired ks vs) a h)
+
+  -- after a write among the values
+  module _ (i : ℕ) (v : Value) (ws : List Value) (are : ws ≡ set vs i v) (inside : i < length ks) where
+    pub length-written : length ws ≡ length ks
+    length-written = ap length are ∙ length-set vs i v ∙ same
+
+    pub entries-written : (d : ℕ × Value) → paired ks ws ≡ set (paired ks vs) i ((get_or (paired ks vs) i d).0, v)
+    entries-written d =
+        ap (paired ks) are ∙ paired-set ks vs i d.0 v same inside
+        ∙ ap (λ (e : ℕ × Value). set (paired ks vs) i (e.0, v)) (sym (get_or-paired ks vs i d.0 d.1 same inside))
+
+    pub is_sorted-written : T (is_sorted nat_cmp (paired ks vs)) → T (is_sorted nat_cmp (paired ks ws))
+    is_sorted-written h = subst (λ m. T (is_sorted nat_cmp m)) (sym (entries-written (0, v))) (is_sorted-same_keys (paired ks vs) i (0, v) v h)
+
+pub not_there : (at k x y : ℕ) → (k < at → y < x) → (at ≤ k → x < y) → y ≡ x → ⊥
+not_there at k x y f g e = elim (cases_lt k at) [ inl l ↦ let s = f l in absurd (omega arith) | inr l ↦ let s = g l in absurd (omega arith) ]
+
+is_sorted-take : (n : ℕ) (m : VectorEntries) → T (is_sorted nat_cmp m) → T (is_sorted nat_cmp (take n m))
+is_sorted-take zero m h = tt
+is_sorted-take (suc n) [] h = tt
+is_sorted-take (suc n) (e ∷ m) h = both _ _ (below_take e.0 n m (first _ _ h)) (is_sorted-take n m (second _ _ h))
+  where
+    below_take : (x n : ℕ) (m : VectorEntries) → T (below_all nat_cmp x m) → T (below_all nat_cmp x (take n m))
+    below_take x zero m h = tt
+    below_take x (suc n) [] h = tt
+    below_take x (suc n) (e ∷ m) h = both _ _ (first _ _ h) (below_take x n m (second _ _ h))
+
+-- both lists cut at one length
+module _ (ks : List ℕ) (vs : List Value) (same : length vs ≡ length ks) (n : ℕ) (ls : List ℕ) (ws : List Value) (is : ls ≡ take n ks) (are : ws ≡ take n vs) where
+  pub length-cut : length ws ≡ length ls
+  length-cut =
+      let a = ap length is ∙ length-take n ks in let b = ap length are ∙ length-take n vs in b ∙ ap (min n) same ∙ sym a
+
+  pub entries-cut : paired ls ws ≡ take n (paired ks vs)
+  entries-cut = ap (λ (x : List ℕ). paired x ws) is ∙ ap (paired (take n ks)) are ∙ take-paired n ks vs same
+
+  pub is_sorted-cut : T (is_sorted nat_cmp (paired ks vs)) → T (is_sorted nat_cmp (paired ls ws))
+  is_sorted-cut h = subst (λ m. T (is_sorted nat_cmp m)) (sym entries-cut) (is_sorted-take n (paired ks vs) h)

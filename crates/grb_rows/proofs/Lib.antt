@@ -1,0 +1,11 @@
+pub mod Places
+pub mod Changes
+pub mod FlatLists
+pub mod Ends
+pub mod Merging
+pub mod LaidOut
+pub mod CellCodes
+pub mod FlatCells
+pub mod Cut
+pub mod CellLists
+pub mod OneRow

@@ -1,0 +1,87 @@
+use Rattle.std.proofs.Common.{zero, suc, refl, sym, ap, subst, ◌∙◌, arith, get_or, take, drop, rules, ◌≡◌, ◌+◌, ◌-◌, ◌*◌, ◌/◌, ◌%◌, ◌<◌, ◌≤◌, ◌^◌, ◌++◌, ℕ, [], ◌∷◌, None, length, map, All, IfOk, IfSome, IfNone, IsTrue, slice_set, slice_index_or, slice_index, Bool, true, false, nat_eq, nat_lt, List, bit_and, bit_or, Fits, w8, w32, w64, Bor, MutBor}
+use Rattle.std.specs.List.{AllByRecursion}
+use Rattle.std.specs.Ordering.{nat_cmp}
+use Rattle.std.specs.FinMap.{find, is_sorted}
+use Rattle.std.specs.Vec.{vec_len, vec_capacity}
+use Rattle.grb_core.specs.declared.value.Value.{Value as Stored}
+use Rattle.grb_core.specs.Value.{value_domain}
+use Rattle.grb_core.specs.Entries.{restricted, values_of}
+use Rattle.grb_core.specs.Contents.{is_cell_in}
+use Rattle.grb_rows.specs.Cells.{row_at, codes_of, cell_of, IsFlat}
+use Rattle.grb_rows.specs.Values.{values_list}
+use Rattle.grb_rows.specs.Stored.{RowView, paired}
+use Rattle.grb_rows.proofs.Places.{holds, passes}
+use Rattle.grb_rows.proofs.FlatLists.{length-paired, get_or-paired, indices_rise, length-pushed, entries-pushed, is_sorted-pushed}
+use Rattle.std.proofs.lemmas.List.{get_or_default, length_push}
+use Rattle.grb_rows.proofs.FlatCells.{length-codes, code_at, row_at-at, codes-begun, part-at, part-length, split_some, split_upto, split_above, rising, in_span, cell_found, no_row, no_column, columns_rise, same_row, new_before, new_here, new_flat}
+use Rattle.grb_rows.proofs.flat.FlatRows.push_reserved.Goals as goal
+use Rattle.grb_core.specs.declared.value.Value.TheVariants as value
+
+below_each : (k : ℕ) (d : ℕ × Stored) (x : ℕ) (m : List (ℕ × Stored)) → AllByRecursion (λ e. e.0 < x) m → k < length m → (get_or m k d).0 < x
+below_each k d x [] h l = absurd (omega arith)
+below_each zero d x (e ∷ m) h l = h.0
+below_each (suc k) d x (e ∷ m) h l = below_each k d x m h.1 (omega arith)
+
+pub begin_row-requires-clause-above : goal.begin_row-requires-clause-above
+begin_row-requires-clause-above c =
+    let i = c.self.inside in
+    let rows = i.rows.items in
+    let starts = i.starts.items in
+    let columns = i.columns.items in
+    let vs = values_list i.values in
+    let same = c.self.invariant.0 in
+    let flat = c.self.invariant.2 in
+    let ks = codes_of rows starts columns in
+    let codes = length-codes rows starts columns flat in
+    let long = length-paired ks vs same in
+    let above : AllByRecursion (λ e. e.0 < c.args.index) (paired ks vs) = subst (λ (r : RowView). AllByRecursion (λ e. e.0 < c.args.index) r.entries) (sym c.self.view_is) c.requires.above in
+    λ l.
+    let last : length columns - 1 < length columns = omega (arith, l) in
+    let inside : length columns - 1 < length ks = omega (arith, last, codes) in
+    let is = ap (λ (e : ℕ × Stored). e.0) (get_or-paired ks vs (length columns - 1) 0 (value.Bool false) same inside) in
+    let low = below_each (length columns - 1) (0, value.Bool false) c.args.index (paired ks vs) above (omega (arith, inside, long)) in
+    let code = code_at rows starts columns flat (length columns - 1) last in
+    omega (arith, is, low, code)
+
+pub invariant_of-self : goal.invariant_of-self
+invariant_of-self c =
+    let i = c.self.inside in
+    let rows = i.rows.items in
+    let starts = i.starts.items in
+    let columns = i.columns.items in
+    let vs = values_list i.values in
+    let same = c.self.invariant.0 in
+    let flat = c.self.invariant.2 in
+    let ks = codes_of rows starts columns in
+    let codes = length-codes rows starts columns flat in
+    let long = length-paired ks vs same in
+    let j = c.args.index % 4294967296 in
+    let whole : c.args.index / 4294967296 * 4294967296 + j ≡ c.args.index = omega arith in
+    let above = subst (λ (r : RowView). AllByRecursion (λ e. e.0 < c.args.index) r.entries) (sym c.self.view_is) c.requires.above in
+    let new : codes_of c.begin_row.new.rows.items c.begin_row.new.starts.items c.push_reserved.new.self.items ≡ ks ++ c.args.index ∷ [] =
+    codes-begun rows starts columns flat c.begin_row.new.rows.items c.begin_row.new.starts.items c.push_reserved.new.self.items j c.push_reserved.ensures.items c.begin_row.ensures.before
+    ∙ ap (λ x. ks ++ (x * 4294967296 + j) ∷ []) c.begin_row.ensures.here ∙ ap (λ x. ks ++ x ∷ []) whole in (
+      length-pushed ks vs same c.args.index c.args.value _ _ new c.push_reserved-2.ensures.list,
+      passes _ (is_sorted-pushed ks vs same c.args.index c.args.value _ _ new c.push_reserved-2.ensures.list above (holds c.self.invariant.1)),
+      subst (λ (x : List ℕ). IsFlat c.begin_row.new.rows.items c.begin_row.new.starts.items x) (sym c.push_reserved.ensures.items) (c.begin_row.ensures.flat j (omega arith)),
+    )
+
+pub returns-clause-entries : goal.returns-clause-entries
+returns-clause-entries c =
+    let i = c.self.inside in
+    let rows = i.rows.items in
+    let starts = i.starts.items in
+    let columns = i.columns.items in
+    let vs = values_list i.values in
+    let same = c.self.invariant.0 in
+    let flat = c.self.invariant.2 in
+    let ks = codes_of rows starts columns in
+    let codes = length-codes rows starts columns flat in
+    let long = length-paired ks vs same in
+    let j = c.args.index % 4294967296 in
+    let whole : c.args.index / 4294967296 * 4294967296 + j ≡ c.args.index = omega arith in
+    let new : codes_of c.begin_row.new.rows.items c.begin_row.new.starts.items c.push_reserved.new.self.items ≡ ks ++ c.args.index ∷ [] =
+    codes-begun rows starts columns flat c.begin_row.new.rows.items c.begin_row.new.starts.items c.push_reserved.new.self.items j c.push_reserved.ensures.items c.begin_row.ensures.before
+    ∙ ap (λ x. ks ++ (x * 4294967296 + j) ∷ []) c.begin_row.ensures.here ∙ ap (λ x. ks ++ x ∷ []) whole in
+    entries-pushed ks vs same c.args.index c.args.value _ _ new c.push_reserved-2.ensures.list
+    ∙ ap (λ (r : RowView). r.entries ++ (c.args.index, c.args.value) ∷ []) c.self.view_is

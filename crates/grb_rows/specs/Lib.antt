@@ -1,0 +1,5 @@
+pub mod Cells
+pub mod Held
+pub mod Pending
+pub mod Stored
+pub mod Values

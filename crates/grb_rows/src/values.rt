@@ -1,0 +1,139 @@
+//! The values of one object, in a list of their domain's type.
+ghost use Rattle.std.specs.Prelude.{◌≡◌, ◌+◌, ◌<◌, ◌≤◌, ◌++◌, [], ◌∷◌, length, take, slice_set, slice_index_or, IfOk};
+ghost use Rattle.grb_core.specs.Value.{value_domain};
+ghost use Rattle.grb_rows.specs.Values.{values_list, values_domain, values_len, values_capacity};
+
+use grb_core::{Domain, Value};
+use std::alloc::{AllocError, Global};
+
+/// The truth value of a value of the domain `Bool`.
+fn bool_of(value: Value) -> bool
+    requires { value_domain value ≡ Domain.Bool }
+    ensures { value ≡ Value.Bool result }
+{
+    match value {
+        Value::Bool(value) => value,
+        Value::Uint64(_) => unreachable!(),
+    }
+}
+
+/// The number of a value of the domain `Uint64`.
+fn number_of(value: Value) -> u64
+    requires { value_domain value ≡ Domain.Uint64 }
+    ensures { value ≡ Value.Uint64 result }
+{
+    match value {
+        Value::Uint64(value) => value,
+        Value::Bool(_) => unreachable!(),
+    }
+}
+
+/// The values of one domain, in order.
+#[derive(Drop)]
+pub(crate) enum Values {
+    Bool(Vec<bool>),
+    Uint64(Vec<u64>),
+}
+
+impl Values {
+    /// No values. Takes no memory.
+    pub(crate) fn new(alloc: Global, domain: Domain) -> Values
+        ensures list { values_list result ≡ [] }
+        ensures domain { values_domain result ≡ domain }
+    {
+        match domain {
+            Domain::Bool => Values::Bool(Vec::new(alloc)),
+            Domain::Uint64 => Values::Uint64(Vec::new(alloc)),
+        }
+    }
+
+    /// No values, and memory for `room`.
+    pub(crate) fn with_capacity(
+        alloc: Global,
+        domain: Domain,
+        room: usize,
+    ) -> Result<Values, AllocError>
+        ensures list { IfOk result (λ values. values_list values ≡ []) }
+        ensures domain { IfOk result (λ values. values_domain values ≡ domain) }
+        ensures len { IfOk result (λ values. values_len values ≡ 0) }
+        ensures room { IfOk result (λ values. values_capacity values ≡ room) }
+    {
+        match domain {
+            Domain::Bool => {
+                let bools = Vec::with_capacity(alloc, room)?;
+                Ok(Values::Bool(bools))
+            }
+            Domain::Uint64 => {
+                let numbers = Vec::with_capacity(alloc, room)?;
+                Ok(Values::Uint64(numbers))
+            }
+        }
+    }
+
+    /// The domain of the values.
+    pub(crate) fn domain(&self) -> Domain
+        ensures { result ≡ values_domain self.now }
+    {
+        match self {
+            Values::Bool(_) => Domain::Bool,
+            Values::Uint64(_) => Domain::Uint64,
+        }
+    }
+
+    /// The value at a place.
+    pub(crate) fn get(&self, at: usize) -> Value
+        requires { at < length (values_list self.now) }
+        ensures value { result ≡ slice_index_or (values_list self.now) at result }
+        ensures domain { value_domain result ≡ values_domain self.now }
+    {
+        match self {
+            Values::Bool(bools) => Value::Bool(bools[at]),
+            Values::Uint64(numbers) => Value::Uint64(numbers[at]),
+        }
+    }
+
+    /// Writes a value over the one at a place.
+    pub(crate) fn set(&mut self, at: usize, value: Value)
+        requires at { at < length (values_list self.old) }
+        requires domain { value_domain value ≡ values_domain self.old }
+        ensures list { values_list self.new ≡ slice_set (values_list self.old) at value }
+        ensures domain { values_domain self.new ≡ values_domain self.old }
+    {
+        match self {
+            Values::Bool(bools) => {
+                bools[at] = bool_of(value);
+                return;
+            }
+            Values::Uint64(numbers) => {
+                numbers[at] = number_of(value);
+                return;
+            }
+        }
+    }
+
+    /// One more value at the end.
+    pub(crate) fn push_reserved(&mut self, value: Value)
+        requires room { values_len self.old < values_capacity self.old }
+        requires domain { value_domain value ≡ values_domain self.old }
+        ensures list { values_list self.new ≡ values_list self.old ++ value ∷ [] }
+        ensures domain { values_domain self.new ≡ values_domain self.old }
+        ensures len { values_len self.new ≡ values_len self.old + 1 }
+        ensures capacity { values_capacity self.new ≡ values_capacity self.old }
+    {
+        match self {
+            Values::Bool(bools) => bools.push_reserved(bool_of(value)),
+            Values::Uint64(numbers) => numbers.push_reserved(number_of(value)),
+        }
+    }
+
+    /// Leaves the first `len` values.
+    pub(crate) fn truncate(&mut self, len: usize)
+        ensures list { values_list self.new ≡ take len (values_list self.old) }
+        ensures domain { values_domain self.new ≡ values_domain self.old }
+    {
+        match self {
+            Values::Bool(bools) => bools.truncate(len),
+            Values::Uint64(numbers) => numbers.truncate(len),
+        }
+    }
+}

@@ -1,0 +1,40 @@
+use Rattle.std.proofs.Common.{◌≡◌, ◌<◌, ◌≤◌, ◌+◌, ◌*◌, ◌^◌, ◌∙◌, ℕ, List, [], ◌∷◌, ◌++◌, length, get_or, ap, sym, subst, refl, arith, true, false, cond, Some, None, Option, IsTrue, inl, inr}
+use Rattle.std.specs.Prelude.{map, is_some, All}
+use Rattle.std.specs.Ordering.{nat_cmp}
+use Rattle.std.specs.FinMap.{find, put, is_sorted}
+use Rattle.std.proofs.lemmas.List.Elements.{All-map}
+use Rattle.grb_core.specs.declared.value.Value.{Value}
+use Rattle.grb_core.specs.declared.value.Value.TheVariants as value
+use Rattle.grb_core.specs.Value.{value_domain, IsValueOf}
+use Rattle.grb_core.specs.Monoid.{monoid_domain}
+use Rattle.grb_core.specs.Entries.{Cell, cell_cmp, cells_of, built_from, values_of, without_entry, restricted, VectorEntries, MatrixEntries}
+use Rattle.grb_core.specs.Contents.{Matrix, IsMatrix, edited_matrix, resized_matrix, is_cell_in}
+use Rattle.grb_core.proofs.Maps.{cell_cmp_total}
+use Rattle.grb_rows.specs.Pending.{Change, PendingView}
+use Rattle.grb_rows.specs.Held.{stored, IsLaid}
+use Rattle.grb_sparse.specs.Held.{IsMatrixHeld}
+use Rattle.grb_sparse.specs.Matrix.{SparseMatrixView}
+use Rattle.grb_rows.specs.Cells.{code_of, cell_of, decoded, in_row}
+use Rattle.grb_rows.proofs.Places.{holds, passes}
+use Rattle.grb_sparse.proofs.Inside.{IsMatrix-put, IsMatrix-where, IsMatrix-resized}
+use Rattle.grb_sparse.proofs.Built.{IsMatrix-built}
+use Rattle.grb_sparse.proofs.Building.{All-built_from_keys, value_domain-is}
+use Rattle.grb_sparse.proofs.Fresh.{stored-fresh}
+use Rattle.grb_rows.proofs.CellCodes.{restricted-decoded, length-decoded}
+use Rattle.grb_sparse.proofs.MatrixHeld.{matrix_of, same_matrix, IsMatrix-same, numbers_ordered, matrix-assembled, matrix-held_fresh, few_cells, find-outside, find-cell, cells-changed, matrix-held_changed, row_of-numbers}
+use Rattle.grb_sparse.proofs.matrix.SparseMatrix.lists.Goals as goal
+
+pub returns-clause-entries : goal.returns-clause-entries
+returns-clause-entries c =
+    let i = c.self.inside in
+    let is = ap (λ (v : SparseMatrixView). v.assembled) c.self.view_is ∙ c.requires.assembled in
+    ap decoded (sym (matrix-assembled i.nrows i.ncols i.lists i.deleted.items i.pending.changes i.nvals i.assembled c.self.invariant.0 is))
+    ∙ ap (λ (v : SparseMatrixView). v.matrix.entries) c.self.view_is
+
+pub returns-clause-columns : goal.returns-clause-columns
+returns-clause-columns c =
+    let i = c.self.inside in
+    let is = ap (λ (v : SparseMatrixView). v.assembled) c.self.view_is ∙ c.requires.assembled in
+    let same : decoded i.lists.entries ≡ c.args.self.now.matrix.entries = ap decoded (sym (matrix-assembled i.nrows i.ncols i.lists i.deleted.items i.pending.changes i.nvals i.assembled c.self.invariant.0 is)) ∙ ap (λ (v : SparseMatrixView). v.matrix.entries) c.self.view_is in
+    let whole : IsMatrix c.args.self.now.matrix = subst (λ (v : SparseMatrixView). IsMatrix v.matrix) c.self.view_is c.self.invariant.0.matrix in
+    subst (λ (m : MatrixEntries). All (λ e. e.0.1 < c.args.self.now.matrix.ncols) m) (sym same) (λ k d l. (whole.within k d l).1)
