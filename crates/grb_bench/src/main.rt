@@ -6,6 +6,7 @@
 mod build;
 mod fill;
 mod look;
+mod market;
 mod numbers;
 mod objects;
 mod open;
@@ -23,5 +24,6 @@ fn main(rt: HostRuntime) -> Result<(), Fail> {
     build::run(&rt)?;
     sets::run(&rt)?;
     objects::run(&rt)?;
+    market::run(&rt)?;
     Ok(())
 }

@@ -1,15 +1,24 @@
 -- The object that a call changes, its output, and what the call makes of it: GraphBLAS C API 2.0, the methods of "Matrix methods"
--- and "Vector methods".
+-- and "Vector methods", and "Operations". Inputs, mask and old output are those of the store before the call, so that one object may
+-- be all of them.
 use Rattle.std.specs.Prelude.{[], Option, Some, None}
 use Rattle.std.specs.Option.{option_map}
 use Rattle.std.specs.Ordering.{nat_cmp}
 use Rattle.std.specs.FinMap.{put}
-use Rattle.grb_core.specs.Entries.{cell_cmp, cells_of, without_entry, built_from}
+use Rattle.grb_core.specs.declared.operator.BinaryOp.{BinaryOp}
+use Rattle.grb_core.specs.Entries.{cell_cmp, MatrixEntries, VectorEntries, cells_of, without_entry, built_from}
+use Rattle.grb_core.specs.Mask.{is_inside}
+use Rattle.grb_core.specs.Written.{written}
+use Rattle.grb_core.specs.Results.{ewise_add, ewise_mult}
 use Rattle.grb_core.specs.Contents.{Matrix, Vector, edited_matrix, edited_vector, resized_matrix, resized_vector}
 use Rattle.grb_call.specs.declared.call.Call.{Call}
 use Rattle.grb_call.specs.declared.call.Call.TheVariants as call
+use Rattle.grb_call.specs.declared.descriptor.Descriptor.{Descriptor}
+use Rattle.grb_call.specs.declared.ids.MatrixId.{MatrixId}
+use Rattle.grb_call.specs.declared.ids.VectorId.{VectorId}
 use Rattle.grb_call.specs.declared.ids.Object.{Object}
 use Rattle.grb_call.specs.declared.ids.Object.TheVariants as object
+use Rattle.grb_call.specs.Store.{Store, matrix_entries, vector_entries}
 
 -- the object that the call changes, of those that were made before it
 abbrev pub output_of : Call → Option Object
@@ -35,31 +44,57 @@ output_of (call.DupMatrix a) = None
 output_of (call.DupVector v) = None
 output_of (call.BuildMatrix a tuples dup) = Some (object.Matrix a)
 output_of (call.BuildVector v tuples dup) = Some (object.Vector v)
+output_of (call.EwiseAddMatrix c mask accum op a b d) = Some (object.Matrix c)
+output_of (call.EwiseAddVector w mask accum op u v d) = Some (object.Vector w)
+output_of (call.EwiseMultMatrix c mask accum op a b d) = Some (object.Matrix c)
+output_of (call.EwiseMultVector w mask accum op u v d) = Some (object.Vector w)
 
--- the matrix that the call leaves of the one that it changes and does not end
-abbrev pub matrix_after : Call → Matrix → Matrix
-matrix_after (call.SetMatrix a i j value) m = edited_matrix (put cell_cmp (i, j) value) m
-matrix_after (call.RemoveMatrix a i j) m = edited_matrix (without_entry cell_cmp (i, j)) m
-matrix_after (call.ClearMatrix a) m = edited_matrix (λ _. []) m
-matrix_after (call.ResizeMatrix a nrows ncols) m = resized_matrix nrows ncols m
-matrix_after (call.BuildMatrix a tuples dup) m = edited_matrix (λ _. built_from cell_cmp dup (cells_of tuples)) m
-matrix_after _ m = m
+-- the matrix with the result of an operation written into it, by mask, accumulator and descriptor
+abbrev pub written_matrix : Store → Option MatrixId → Option BinaryOp → Descriptor → MatrixEntries → Matrix → Matrix
+written_matrix s mask accum d computed m =
+    edited_matrix (λ old. written cell_cmp (is_inside cell_cmp d.structure d.comp (option_map (matrix_entries s) mask)) d.replace accum old computed) m
 
--- the vector that the call leaves of the one that it changes and does not end
-abbrev pub vector_after : Call → Vector → Vector
-vector_after (call.SetVector v i value) x = edited_vector (put nat_cmp i value) x
-vector_after (call.RemoveVector v i) x = edited_vector (without_entry nat_cmp i) x
-vector_after (call.ClearVector v) x = edited_vector (λ _. []) x
-vector_after (call.ResizeVector v size) x = resized_vector size x
-vector_after (call.BuildVector v tuples dup) x = edited_vector (λ _. built_from nat_cmp dup tuples) x
-vector_after _ x = x
+-- the same of a vector
+abbrev pub written_vector : Store → Option VectorId → Option BinaryOp → Descriptor → VectorEntries → Vector → Vector
+written_vector s mask accum d computed x =
+    edited_vector (λ old. written nat_cmp (is_inside nat_cmp d.structure d.comp (option_map (vector_entries s) mask)) d.replace accum old computed) x
+
+-- the matrix that the call leaves, in this store, of the one that it changes and does not end
+abbrev pub matrix_after : Store → Call → Matrix → Matrix
+matrix_after s (call.SetMatrix a i j value) m = edited_matrix (put cell_cmp (i, j) value) m
+matrix_after s (call.RemoveMatrix a i j) m = edited_matrix (without_entry cell_cmp (i, j)) m
+matrix_after s (call.ClearMatrix a) m = edited_matrix (λ _. []) m
+matrix_after s (call.ResizeMatrix a nrows ncols) m = resized_matrix nrows ncols m
+matrix_after s (call.BuildMatrix a tuples dup) m = edited_matrix (λ _. built_from cell_cmp dup (cells_of tuples)) m
+matrix_after s (call.EwiseAddMatrix c mask accum op a b d) m =
+    written_matrix s mask accum d (ewise_add cell_cmp op (matrix_entries s a) (matrix_entries s b)) m
+matrix_after s (call.EwiseMultMatrix c mask accum op a b d) m =
+    written_matrix s mask accum d (ewise_mult cell_cmp op (matrix_entries s a) (matrix_entries s b)) m
+matrix_after s (call.EwiseAddVector w mask accum op u v d) m = m
+matrix_after s (call.EwiseMultVector w mask accum op u v d) m = m
+matrix_after s _ m = m
+
+-- the vector that the call leaves, in this store, of the one that it changes and does not end
+abbrev pub vector_after : Store → Call → Vector → Vector
+vector_after s (call.SetVector v i value) x = edited_vector (put nat_cmp i value) x
+vector_after s (call.RemoveVector v i) x = edited_vector (without_entry nat_cmp i) x
+vector_after s (call.ClearVector v) x = edited_vector (λ _. []) x
+vector_after s (call.ResizeVector v size) x = resized_vector size x
+vector_after s (call.BuildVector v tuples dup) x = edited_vector (λ _. built_from nat_cmp dup tuples) x
+vector_after s (call.EwiseAddVector w mask accum op u v d) x =
+    written_vector s mask accum d (ewise_add nat_cmp op (vector_entries s u) (vector_entries s v)) x
+vector_after s (call.EwiseMultVector w mask accum op u v d) x =
+    written_vector s mask accum d (ewise_mult nat_cmp op (vector_entries s u) (vector_entries s v)) x
+vector_after s (call.EwiseAddMatrix c mask accum op a b d) x = x
+vector_after s (call.EwiseMultMatrix c mask accum op a b d) x = x
+vector_after s _ x = x
 
 -- what is left of the matrix that the call changes: nothing of one that it ends
-abbrev pub matrix_left : Call → Option Matrix → Option Matrix
-matrix_left (call.FreeMatrix a) m = None
-matrix_left c m = option_map (matrix_after c) m
+abbrev pub matrix_left : Store → Call → Option Matrix → Option Matrix
+matrix_left s (call.FreeMatrix a) m = None
+matrix_left s c m = option_map (matrix_after s c) m
 
 -- what is left of the vector that the call changes
-abbrev pub vector_left : Call → Option Vector → Option Vector
-vector_left (call.FreeVector v) x = None
-vector_left c x = option_map (vector_after c) x
+abbrev pub vector_left : Store → Call → Option Vector → Option Vector
+vector_left s (call.FreeVector v) x = None
+vector_left s c x = option_map (vector_after s c) x

@@ -39,7 +39,7 @@ length_known p all = length_spelled p.view.words p.shown (omega arith) ∙ all
 
 -- a refusal by a check rests on the store
 checked_ground : (p : Knowing) (c : Call) (r : Refusal) → check_of (shapes_of (store_of (known p))) c ≡ Err r → ground_of (Err r) ≡ ByStore
-checked_ground p c r e = by_check (λ (q : Refusal). ground_of (Err q) ≡ ByStore) r (shapes_of (store_of (known p))) c refl refl refl refl e
+checked_ground p c r e = by_check (λ (q : Refusal). ground_of (Err q) ≡ ByStore) r (shapes_of (store_of (known p))) c refl refl refl refl refl e
 
 -- a look that found the order's end is a point
 point_looked : (room : ℕ) (old new : Knowing) → length new.shown ≡ length new.view.words → GrewTo old.view.looks new.view.looks (length new.view.words) → IsAtPoint room old.view new.view (known new)

@@ -3,9 +3,9 @@ use Rattle.std.proofs.Common.{◌≡◌, ℕ, ◌+◌, ◌^◌, ◌<◌, ◌≤�
 use Rattle.std.specs.List.{All}
 use Rattle.std.proofs.lemmas.List.{drop_more, drop-append-le, drop_all, length_push, get_or_at}
 use Rattle.std.proofs.lemmas.Nat.{mod-mul-add}
-use Rattle.std.proofs.lemmas.List.Elements.{All-push, All-head, All-tail, All-nil, All-same}
+use Rattle.std.proofs.lemmas.List.Elements.{All-push, All-append, All-head, All-tail, All-nil, All-same}
 use Rattle.grb_order.specs.Word.{number_of, index_of, order_word, IsWord}
-use Rattle.grb_order.specs.View.{fresh, learns, finds_vacant, enters_word, IsOthers, IsSound}
+use Rattle.grb_order.specs.View.{fresh, learns, finds_vacant, enters_word, is_told, IsOthers, IsSound}
 use Rattle.grb_order.specs.Holding.{Holding, TableId}
 use Rattle.grb_order.specs.Steps.{Looks}
 use Rattle.grb_order.specs.declared.view.View.{View}
@@ -142,6 +142,25 @@ sound_fresh room v is number =
 -- a place of the same order
 pub kept_order : (number size : ℕ) (t t' : TableId) (v : View) (shown : List Shown) (capacity : ℕ) (shapes : RoomyShapes) → t' ≡ t → IsKept number size (placed t v) shown capacity shapes → IsKept number size (placed t' v) shown capacity shapes
 kept_order number size t t' v shown capacity shapes e k = subst (λ (y : TableId). IsKept number size (placed y v) shown capacity shapes) (sym e) k
+
+-- after the words of another place were told
+pub kept_told : (number size : ℕ) (t t' : TableId) (v w : View) (words : List ℕ) (shown : List Shown) (capacity : ℕ) (shapes : RoomyShapes) → IsKept number size (placed t v) shown capacity shapes
+    → t' ≡ t → w ≡ is_told v words → All (IsOthers v) (drop (length v.words) words) → IsSound t'.words w → IsKept number size (placed t' w) shown capacity shapes
+kept_told number size t t' v w words shown capacity shapes k same is others sound =
+    let more : List ℕ = drop (length v.words) words in
+    let new : IsKept number size (placed t (is_told v words)) shown capacity shapes = record {
+      number_is = k.number_is;
+      sound = subst (λ (y : TableId × View). IsSound y.0.words y.1) (λ i. (same i, is i)) sound;
+      few = omega (arith, length-append v.words more, k.few);
+      records = records_more v.words more shown k.records;
+      others = All-same (IsOthers v) (drop (length shown) (v.words ++ more)) (drop (length shown) v.words ++ more) (drop-append-le (length shown) v.words more k.few) (All-append (IsOthers v) (drop (length shown) v.words) more k.others others);
+      shapes_are = k.shapes_are ∙ ap (λ (h : History). shapes_of (store_of h)) (sym (spelled_more v.words more shown k.few));
+      room = k.room;
+      roomy = k.roomy;
+      room_is = k.room_is;
+      small = k.small;
+    } in
+    subst (λ (y : TableId × View). IsKept number size (placed y.0 y.1) shown capacity shapes) (λ i. (sym same i, sym is i)) new
 
 pub sound_order : (t t' : TableId) (v : View) → t' ≡ t → IsSound t'.words v → IsSound t.words v
 sound_order t t' v e s = subst (λ (y : TableId). IsSound y.words v) e s

@@ -6,6 +6,7 @@ mod Counted
 mod Evaluated
 mod Kept
 mod Learnt
+mod Meeting
 mod Opening
 mod Owning
 mod Promised

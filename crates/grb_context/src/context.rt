@@ -71,6 +71,7 @@ impl Context {
     /// asks for it again.
     ///
     /// Source: GraphBLAS C API 2.0, "Execution modes"; Herlihy, "Wait-free synchronization", 1991.
+    #[inline(always)]
     pub fn call(&self, pass: &mut Pass, call: Call) -> Result<Reply, Refusal>
         requires pass { IsPassOf self.now pass.old }
         ensures { Answered self.now pass.old pass.new call result }

@@ -16,6 +16,7 @@ use grb_core::Refusal;
 impl Context {
     /// Learns the order to its end, and checks there a call that enters. Takes memory for a build alone, whose object is evaluated, and
     /// does not wait.
+    #[inline(always)]
     fn ready(&self, pass: &mut Pass, call: &Call) -> Result<(), Refusal>
         requires pass { IsPassOf self.now pass.old }
         requires enters { enters call.now ≡ true }
@@ -37,6 +38,7 @@ impl Context {
     }
 
     /// Puts the record of a call and enters it. After a lost try the call is checked again, with the words learnt since.
+    #[inline(always)]
     fn enter_record(&self, pass: &mut Pass, call: Call) -> Result<Reply, Refusal>
         requires pass { IsPassOf self.now pass.old }
         requires enters { enters call ≡ true }
@@ -61,6 +63,7 @@ impl Context {
     }
 
     /// Enters a call that changes the store, after all that were entered before it.
+    #[inline(always)]
     pub(crate) fn enter(&self, pass: &mut Pass, call: Call) -> Result<Reply, Refusal>
         requires pass { IsPassOf self.now pass.old }
         requires enters { enters call ≡ true }

@@ -12,6 +12,7 @@ ghost use Rattle.grb_context.specs.Counting.{Counts};
 ghost use Rattle.grb_context.specs.Learning.{Enters, IsSteady};
 ghost use Rattle.grb_context.specs.Reading.{IsBuildChecked, IsChecked, IsPass};
 
+use crate::back_off::BackOff;
 use crate::reader::Reader;
 use crate::row::Row;
 use grb_call::{Call, Kind, Reply};
@@ -31,6 +32,8 @@ pub struct Pass {
     evaluated: usize,
     // Where its own records go.
     row: Row,
+    // How long it holds back after a lost try.
+    back_off: BackOff,
 }
 
 impl Model for Pass {
@@ -82,6 +85,7 @@ impl Pass {
             state: State::open(alloc, room)?,
             evaluated: 0,
             row: Row::open(room),
+            back_off: BackOff::new(),
         })
     }
 
@@ -128,6 +132,7 @@ impl Pass {
     }
 
     /// Puts the call as the next record of the pass, as [`Row::put`] does.
+    #[inline(always)]
     pub(crate) fn put(&mut self, records: &Records, call: Call) -> Result<Token, Refusal>
         ensures same { self.new ≡ self.old }
         ensures put { IfOk result (λ token. (token.pass ≡ self.old.view.number) × (token.call ≡ call)) }
@@ -167,6 +172,7 @@ impl Pass {
     }
 
     /// Whether the call is refused after all known ones, and why; a build evaluates them. `OutOfMemory` where memory is refused to that.
+    #[inline(always)]
     pub(crate) fn check(&mut self, records: &Records, call: &Call) -> Result<(), Refusal>
         requires records { All (IsOf records.now) self.old.shown }
         ensures checked { IsChecked (store_of (known self.old)) call.now result }
@@ -210,7 +216,8 @@ impl Pass {
         }
     }
 
-    /// Enters the record of a call after all known ones, in one atomic step. The token comes back where another pass was first.
+    /// Enters the record of a call after all known ones, in one atomic step. The token comes back where another pass was first; the
+    /// pass has then held back for a while, so that the other runs on.
     pub(crate) fn enter(&mut self, order: &Order, token: Token, call: &Call) -> Option<Token>
         requires order { self.old.order ≡ order.now }
         requires looked { LookedLast self.old.view }
@@ -224,6 +231,8 @@ impl Pass {
         ensures steady { IsSteady self.new }
         ensures counts { Counts self.old self.new }
     {
-        self.reader.enter(order, token, call)
+        let back = self.reader.enter(order, token, call);
+        self.back_off.tried(back.is_some());
+        back
     }
 }

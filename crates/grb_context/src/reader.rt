@@ -1,6 +1,6 @@
 ghost use Rattle.std.specs.Prelude.{◌≡◌, ◌<◌, ◌≤◌, ◌+◌, ◌^◌, true, [], ◌∷◌, ◌++◌, length, All, Some, slice_get, slice_index, MatchOption, IfOk};
-ghost use Rattle.grb_order.specs.Word.{number_of, index_of};
-ghost use Rattle.grb_order.specs.View.{fresh, LookedLast};
+ghost use Rattle.grb_order.specs.Word.{number_of, index_of, StartsWith};
+ghost use Rattle.grb_order.specs.View.{fresh, is_told, LookedLast};
 ghost use Rattle.grb_order.specs.Order.{room_of};
 ghost use Rattle.grb_order.specs.Steps.{Looks};
 ghost use Rattle.grb_records.specs.Token.{IsOf};
@@ -12,6 +12,7 @@ ghost use Rattle.grb_call.specs.History.{calls_of, store_of};
 ghost use Rattle.grb_context.specs.Known.{known};
 ghost use Rattle.grb_context.specs.Learning.{Enters, IsNextUnshown, IsSteady};
 ghost use Rattle.grb_context.specs.Counting.{Counts, look_steps};
+ghost use Rattle.grb_context.specs.Meeting.{SharesCallAt};
 
 use grb_call::{Call, Kind, MatrixId, Reply, Shapes, VectorId, check};
 use grb_core::Refusal;
@@ -173,6 +174,39 @@ impl Reader {
         let look = order.look(&mut self.place);
         self.steps += steps_of_look(look);
         look
+    }
+
+    /// Learns the words of the other that it has not learnt, in one atomic step each. Nothing of the other changes.
+    pub(crate) fn tell(&mut self, order: &Order, other: &mut Reader)
+        requires order { self.old.order ≡ order.now }
+        requires other { other.old.order ≡ order.now }
+        requires begun { self.old.steps ≡ 0 }
+        ensures order { self.new.order ≡ self.old.order }
+        ensures shown { self.new.shown ≡ self.old.shown }
+        ensures told { self.new.view ≡ is_told self.old.view other.old.view.words }
+        ensures words { StartsWith self.new.view.words other.old.view.words }
+        ensures other { other.new ≡ other.old }
+        ensures steady { IsSteady self.new }
+        ensures steady_other { IsSteady other.old }
+        ensures few { length self.old.shown ≤ length self.old.view.words }
+        ensures steps { self.new.steps + length self.old.view.words ≡ length self.new.view.words }
+    {
+        let before = self.words();
+        order.tell(&mut self.place, &mut other.place);
+        self.steps = self.words() - before;
+    }
+
+    /// Where both have a token of one record at this place, it has one call. Changes neither.
+    pub(crate) fn compare(&mut self, records: &Records, other: &mut Reader, at: usize)
+        requires mine { at < length self.old.shown }
+        requires theirs { at < length other.old.shown }
+        requires of { All (IsOf records.now) self.old.shown }
+        requires of_other { All (IsOf records.now) other.old.shown }
+        ensures call { SharesCallAt self.old.shown other.old.shown at }
+        ensures same { self.new ≡ self.old }
+        ensures other { other.new ≡ other.old }
+    {
+        records.same(&mut self.tokens[at], &mut other.tokens[at]);
     }
 
     /// What becomes of the call after all known ones, or its refusal.

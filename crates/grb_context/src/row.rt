@@ -24,6 +24,7 @@ impl Row {
     /// Puts the call into the next cell of the row, which is the one of this pass. `OutOfMemory` where memory for the record is refused:
     /// the cell is as before, and is next again. `Panic` where the cell did not take it: that cell is spent, as a cell with a record is.
     /// Takes memory for the record alone, and does not wait.
+    #[inline(always)]
     pub(crate) fn put(&mut self, records: &Records, pass: u32, call: Call) -> Result<Token, Refusal>
         ensures put { IfOk result (λ token. (token.pass ≡ pass) × (token.index ≡ self.old.next) × (token.call ≡ call)) }
         ensures of { IfOk result (IsOf records.now) }

@@ -9,3 +9,4 @@ pub mod Made
 pub mod Gridded
 pub mod ResultLaws
 pub mod ResultRows
+pub mod Dimensions

@@ -1,6 +1,6 @@
 -- Vectors and matrices: GraphBLAS C API 2.0, "Vectors" and "Matrices", where a vector is a domain, a size and a set of (index, value)
 -- pairs, and a matrix a domain, two dimensions and a set of (row, column, value) tuples.
-use Rattle.std.specs.Prelude.{ℕ, ◌<◌, ◌≤◌, ◌^◌, ◌&&◌, nat_lt, Bool, IsTrue, All}
+use Rattle.std.specs.Prelude.{ℕ, ◌<◌, ◌^◌, ◌&&◌, nat_lt, Bool, IsTrue, All}
 use Rattle.std.specs.Ordering.{nat_cmp}
 use Rattle.std.specs.FinMap.{is_sorted}
 use Rattle.grb_core.specs.declared.domain.Domain.{Domain}
@@ -19,9 +19,11 @@ pub record Matrix : Type 0 where
   pub entries : MatrixEntries
 
 -- a dimension is 1 to 4,294,967,295 (own; the standard leaves the upper bound to the implementation)
-pub record IsDimension (n : ℕ) : Type 0 where
-  pub positive : 1 ≤ n
-  pub fits : n < 2 ^ 32
+abbrev pub is_dimension : ℕ → Bool
+is_dimension n = nat_lt 0 n && nat_lt n (2 ^ 32)
+
+abbrev pub IsDimension : ℕ → Type 0
+IsDimension n = IsTrue (is_dimension n)
 
 -- a vector whose entries are in order, within its size and of its domain
 pub record IsVector (v : Vector) : Type 0 where

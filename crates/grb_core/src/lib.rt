@@ -1,11 +1,12 @@
-//! The values that matrices and vectors store, their domains, operators, monoids and semirings, and the names of what a call is
-//! refused for.
+//! The values that matrices and vectors store, their domains, operators, monoids and semirings, the range of their dimensions, and
+//! the names of what a call is refused for.
 //!
 //! The mathematics that every layer speaks in stands in `specs/`: a matrix or a vector is a domain, dimensions and a finite map from
 //! places to values, and each method and operation is an operation on such maps. Nothing here takes memory, and nothing here knows of stores,
 //! calls or threads.
 #![tactic(auto)]
 
+mod dimension;
 mod domain;
 mod laws;
 mod monoid;
@@ -14,6 +15,7 @@ mod refusal;
 mod semiring;
 mod value;
 
+pub use dimension::is_dimension;
 pub use domain::Domain;
 pub use laws::{
     build_is_sets, build_stores_folds, builds_in_any_order, complement_parts,

@@ -7,7 +7,7 @@
 
 mod list;
 mod merging;
-mod operators;
+pub mod operators;
 mod pairing;
 mod rules;
 mod scalar;
@@ -15,7 +15,10 @@ mod writing;
 
 pub use list::{EntryList, EntrySlice};
 pub use merging::{Rule, merge, merged};
-pub use operators::Operator;
+pub use operators::{
+    First, FirstBool, Land, Lor, Lxnor, Lxor, Max, Min, Minus, Operator, Plus, Second, SecondBool,
+    Times,
+};
 pub use pairing::{Paired, Pairing};
 pub use rules::{Both, ByMask, Either, Over};
 pub use scalar::Scalar;

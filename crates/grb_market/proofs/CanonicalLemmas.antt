@@ -25,6 +25,7 @@ use Rattle.grb_core.specs.declared.value.Value.TheVariants as value
 use Rattle.grb_core.specs.Value.{IsValueOf}
 use Rattle.grb_core.specs.Entries.{Cell, cell_cmp, MatrixEntries}
 use Rattle.grb_core.specs.Contents.{Matrix, IsDimension}
+use Rattle.grb_core.proofs.Dimensions.{dimension-fits}
 use Rattle.grb_core.specs.Laws.{HavePlacesApart}
 use Rattle.grb_core.proofs.Maps.{cell_cmp_total}
 use Rattle.grb_rows.proofs.Places.{holds, below_at, first, second}
@@ -220,8 +221,8 @@ entry_small : (m : Matrix) (e : Cell × Value) → IsDimension m.nrows → IsDim
 entry_small m e r c p =
     let row = p.row in
     let column = p.column in
-    let nrows = r.fits in
-    let ncols = c.fits in
+    let nrows = dimension-fits m.nrows r in
+    let ncols = dimension-fits m.ncols c in
     All-cons (λ n. n < 2 ^ 64) (e.0.0 + 1) ((e.0.1 + 1) ∷ value_stated e.1) (omega arith) (All-cons (λ n. n < 2 ^ 64) (e.0.1 + 1) (value_stated e.1) (omega arith) (value_numbers m.domain e.1 p.value))
 
 module _ (m : Matrix) (r : IsDimension m.nrows) (c : IsDimension m.ncols) where
@@ -275,8 +276,8 @@ entries_fit r c (e ∷ f ∷ es) k lr lc s w h m =
 pub canonical_texts_spell : CanonicalTextsSpell
 canonical_texts_spell m is none =
     let plain = plain_all m m.entries is.within is.of_domain none in
-    let rows = is.nrows.fits in
-    let columns = is.ncols.fits in
+    let rows = dimension-fits m.nrows is.nrows in
+    let columns = dimension-fits m.ncols is.ncols in
     let fit = entries_fit m.nrows m.ncols m.entries 0 (omega arith) (omega arith) (holds is.ordered) is.within (from_zero m.entries) (omega arith) in
     let size_small : All (λ n. n < 2 ^ 64) (m.nrows ∷ m.ncols ∷ length m.entries ∷ []) =
     All-cons (λ n. n < 2 ^ 64) m.nrows (m.ncols ∷ length m.entries ∷ []) (omega arith) (All-cons (λ n. n < 2 ^ 64) m.ncols (length m.entries ∷ []) (omega arith) (All-cons (λ n. n < 2 ^ 64) (length m.entries) [] (omega arith) (All-nil (λ n. n < 2 ^ 64)))) in

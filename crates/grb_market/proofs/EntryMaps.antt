@@ -19,7 +19,6 @@ use Rattle.grb_rows.proofs.Places.{passes, holds}
 use Rattle.grb_core.proofs.Maps.{cell_cmp_total, cell_cmp-IsAntisymmetric, find-append_maps, find-map_from, find-tied_below, is_sorted-map_from}
 use Rattle.grb_market.specs.declared.head.Head.{Head}
 use Rattle.grb_market.specs.Spells.{mirrored, written_out}
-use Rattle.grb_market.specs.Gathered.{comes_before, is_behind}
 
 -- std's insertion into a tree is that of a finite map
 pub insert_entry-put : {K X : Type 0} (R : K → K → Ordering) (k : K) (v : X) (es : List (K × X)) → insert_entry R es k v ≡ put R k v es
@@ -202,70 +201,3 @@ written_out-symmetric h es g s = set_both es s ∙ sym (ap (λ b. map_from cell_
 
 pub sorted-map_from : (es : MatrixEntries) → IsTrue (is_sorted cell_cmp (map_from cell_cmp es))
 sorted-map_from es = passes _ (is_sorted-map_from cell_cmp cell_cmp_total es)
-
--- entries that come in order
-
-less_of : (p q : Cell) → comes_before p q ≡ true → cell_cmp p q ≡ Less
-less_of p q h = by (ltb p.0 q.0) (eqb p.0 q.0) (ltb p.1 q.1) (eqb p.1 q.1) h
-  where
-    by : (a b c d : Bool) → (a || (b && c)) ≡ true → ordering_then (cond a Less (cond b Equal Greater)) (cond c Less (cond d Equal Greater)) ≡ Less
-    by true b c d h = refl
-    by false true true d h = refl
-    by false true false d h = cc
-    by false false c d h = cc
-
-less_holds : (o : Ordering) → T (is_lt o) → o ≡ Less
-less_holds Less h = refl
-less_holds Equal h = absurd h
-less_holds Greater h = absurd h
-
-all_below : (cell : Cell) (es : MatrixEntries) → T (is_sorted cell_cmp es) → is_behind cell es ≡ true → AllByRecursion (λ e. cell_cmp e.0 cell ≡ Less) es
-all_below cell [] s h = tt
-all_below cell (e ∷ []) s h = (less_of e.0 cell h, tt)
-all_below cell (e ∷ f ∷ es) s h =
-    let rest = all_below cell (f ∷ es) (second _ _ s) h in
-    let here = less_holds (cell_cmp e.0 f.0) (first _ _ (first _ _ s)) in
-    (cell_cmp_total.trans e.0 f.0 cell here rest.0, rest)
-
-greater_of : (p q : Cell) → cell_cmp p q ≡ Less → cell_cmp q p ≡ Greater
-greater_of p q h = cell_cmp_total.antisymm q p ∙ ap ordering_reverse h
-
-put_last : (cell : Cell) (v : Value) (es : MatrixEntries) → AllByRecursion (λ e. cell_cmp e.0 cell ≡ Less) es → put cell_cmp cell v es ≡ es ++ (cell, v) ∷ []
-put_last cell v [] a = refl
-put_last cell v (e ∷ es) a =
-    ap (λ o. by_order o ((cell, v) ∷ e ∷ es) ((e.0, v) ∷ es) (e ∷ put cell_cmp cell v es)) (greater_of e.0 cell a.0) ∙ ap (λ l. e ∷ l) (put_last cell v es a.1)
-
-find_last : (cell : Cell) (es : MatrixEntries) → AllByRecursion (λ e. cell_cmp e.0 cell ≡ Less) es → find cell_cmp cell es ≡ None
-find_last cell [] a = refl
-find_last cell (e ∷ es) a = ap (λ o. cond (is_eq o) (Some e.1) (find cell_cmp cell es)) (greater_of e.0 cell a.0) ∙ find_last cell es a.1
-
-pub put_behind : (cell : Cell) (v : Value) (es : MatrixEntries) → IsTrue (is_sorted cell_cmp es) → is_behind cell es ≡ true → put cell_cmp cell v es ≡ es ++ (cell, v) ∷ []
-put_behind cell v es s h = put_last cell v es (all_below cell es (holds s) h)
-
-pub find_behind : (cell : Cell) (es : MatrixEntries) → IsTrue (is_sorted cell_cmp es) → is_behind cell es ≡ true → find cell_cmp cell es ≡ None
-find_behind cell es s h = find_last cell es (all_below cell es (holds s) h)
-
--- each set in turn, entries in order are the map
-pub set_all-sorted : (es : MatrixEntries) → IsTrue (is_sorted cell_cmp es) → set_all cell_cmp [] es ≡ es
-set_all-sorted es s =
-    same_map _ _ (is_sorted-set_all [] es tt) (holds s) (λ q. find-set_all q [] es (Apart-sorted es (holds s)) ∙ or_none (find cell_cmp q es))
-
--- the last entry decides
-pub is_behind-last : (cell : Cell) (es : MatrixEntries) (k : ℕ) (d : Cell × Value) → suc k ≡ length es → comes_before (get_or es k d).0 cell ≡ is_behind cell es
-is_behind-last cell [] k d h = absurd (omega arith)
-is_behind-last cell (e ∷ []) zero d h = refl
-is_behind-last cell (e ∷ []) (suc k) d h = absurd (omega arith)
-is_behind-last cell (e ∷ f ∷ es) zero d h = absurd (omega arith)
-is_behind-last cell (e ∷ f ∷ es) (suc k) d h = is_behind-last cell (f ∷ es) k d (omega arith)
-
-length-cells_of : (tuples : List (ℕ × ℕ × Value)) → length (cells_of tuples) ≡ length tuples
-length-cells_of tuples = length-map tuples (λ e. ((e.0, e.1), e.2))
-
-get_or-cells_of : (tuples : List (ℕ × ℕ × Value)) (k : ℕ) (d : ℕ × ℕ × Value) → get_or (cells_of tuples) k ((d.0, d.1), d.2) ≡ (((get_or tuples k d).0, (get_or tuples k d).1), (get_or tuples k d).2)
-get_or-cells_of [] k d = refl
-get_or-cells_of (e ∷ tuples) zero d = refl
-get_or-cells_of (e ∷ tuples) (suc k) d = get_or-cells_of tuples k d
-
-pub is_behind-tuples : (cell : Cell) (tuples : List (ℕ × ℕ × Value)) (k : ℕ) (d : ℕ × ℕ × Value) → suc k ≡ length tuples → comes_before ((get_or tuples k d).0, (get_or tuples k d).1) cell ≡ is_behind cell (cells_of tuples)
-is_behind-tuples cell tuples k d h =
-    ap (λ e. comes_before e.0 cell) (sym (get_or-cells_of tuples k d)) ∙ is_behind-last cell (cells_of tuples) k ((d.0, d.1), d.2) (h ∙ sym (length-cells_of tuples))

@@ -1,5 +1,6 @@
 pub mod ListLemmas
 pub mod EntryMaps
+pub mod ApartLemmas
 pub mod ReadingLemmas
 pub mod MarketLemmas
 pub mod SpellsLemmas

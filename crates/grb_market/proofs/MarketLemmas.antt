@@ -1,7 +1,6 @@
 -- The first fault and the matrix of a text, line by line.
-use Rattle.std.proofs.Common.{◌≡◌, ℕ, ◌+◌, ◌<◌, ltb, Bool, true, false, if◌then◌else◌, List, [], ◌∷◌, ◌++◌, length, Option, Some, None, Ok, Err, is_some, refl, sym, ap, subst, ◌∙◌, append_assoc, append-nil, length-append, arith}
+use Rattle.std.proofs.Common.{◌≡◌, ℕ, ◌+◌, ◌<◌, ◌≤◌, ltb, eqb, not, map, Bool, true, false, if◌then◌else◌, List, [], ◌∷◌, ◌++◌, length, Option, Some, None, Ok, Err, is_some, refl, sym, ap, subst, ◌∙◌, append_assoc, append-nil, length-append, arith}
 use Rattle.std.specs.declared.result.Result.{Result}
-use Rattle.std.specs.FinMap.{put, find}
 use Rattle.std.specs.Option.{option_map, option_map_or, option_to_list}
 use Rattle.std.specs.Result.{result_ok, result_err}
 use Rattle.std.proofs.lemmas.Bool.Decides.{nat_tests}
@@ -17,7 +16,9 @@ use Rattle.grb_market.specs.declared.head.Size.{Size}
 use Rattle.grb_market.specs.Line.{Line, ended, unended, lines_of, is_comment}
 use Rattle.grb_market.specs.Reading.{head_of, size_of, entry_of}
 use Rattle.grb_market.specs.Fault.{Stage, AtHeader, AtSize, AtEntry, Lost, behind_comments, stage_behind_size, stage_behind_header, stage_with, stage_of, entries_on, stands_in, repeated, bytes_fault, missing_at, fault_at, first_fault, market_fault, IsWhyLineUnread, IsWhyUnread}
-use Rattle.grb_market.proofs.EntryMaps.{map_from-push, is_some-map_from}
+use Rattle.std.proofs.lemmas.List.{length-map, map-append}
+use Rattle.grb_market.specs.Gathered.{has_place, count_apart, are_apart, AreSpelled, wrong_at, IsAtEnd, AreGathered, AreAllGathered}
+use Rattle.grb_market.proofs.ApartLemmas.{apart_all, apart_fewer}
 use Rattle.grb_market.specs.Stands.{Stands, StandsBehind, IsRead}
 
 -- what one line more leaves to be read
@@ -99,75 +100,238 @@ entries_on-push h s (line ∷ lines) bytes e is =
     ap (λ es. option_to_list (result_ok (entry_of h s line.bytes)) ++ es) (entries_on-push h s lines bytes e is)
     ∙ sym (append_assoc (option_to_list (result_ok (entry_of h s line.bytes))) (entries_on h s lines) (e ∷ []))
 
-none_here_of : (o : Option Value) → is_some o ≡ false → o ≡ None
-none_here_of None h = refl
-none_here_of (Some v) h = cc
+-- behind lines that spell entries
+
+-- a line where another entry is to come
+fault_in : (h : Head) (s : Size) (earlier : List Line) (bytes : List ℕ) → length earlier < s.count → bytes_fault (AtEntry h s earlier) bytes ≡ repeated h s earlier (entry_of h s bytes)
+fault_in h s earlier bytes l =
+    let more : ltb (length earlier) s.count ≡ true = grind (arith, nat_tests) in
+    ap (λ b. if b then repeated h s earlier (entry_of h s bytes) else Some TooMany) more
+
+module _ (text : List ℕ) (h : Head) (s : Size) where
+  -- such lines follow, behind some that are read
+  record Follow (number : ℕ) (before earlier : List Line) (lines : List (List ℕ)) (more : List Line) (es : MatrixEntries) : Type 0 where
+    pub fault : first_fault number before (map ended lines ++ more) ≡ market_fault text
+    pub behind : stage_of before ≡ AtEntry h s earlier
+    pub spelled : AreSpelled h s lines es
+    pub count : length earlier + length lines ≤ s.count
+
+  follow_next : (number : ℕ) (before earlier : List Line) (bytes : List ℕ) (lines : List (List ℕ)) (more : List Line) (e : Cell × Value) (es : MatrixEntries) → Follow number before earlier (bytes ∷ lines) more (e ∷ es)
+      → has_place (entries_on h s earlier) e.0 ≡ false → Follow (number + 1) (before ++ ended bytes ∷ []) (earlier ++ ended bytes ∷ []) lines more es
+  follow_next number before earlier bytes lines more e es now apart =
+      let counted = now.count in
+      let room : length earlier < s.count = omega (arith, counted) in
+      let none : bytes_fault (stage_of before) bytes ≡ None =
+      ap (λ st. bytes_fault st bytes) now.behind ∙ fault_in h s earlier bytes room ∙ ap (repeated h s earlier) now.spelled.0 ∙ ap (λ b. if b then Some Repeated else None) apart in
+      record {
+        fault = sym (ap (λ o. option_map_or (λ k. Some (fault_at number k)) o (first_fault (number + 1) (before ++ ended bytes ∷ []) (map ended lines ++ more))) none) ∙ now.fault;
+        behind = stage_of-push before bytes ∙ ap (λ st. advanced st bytes) now.behind;
+        spelled = now.spelled.1;
+        count = let long = length-append earlier (ended bytes ∷ []) in omega (arith, counted, long);
+      }
+
+  -- where their places are apart they have no fault
+  follow_all : (number : ℕ) (before earlier : List Line) (lines : List (List ℕ)) (more : List Line) (es done : MatrixEntries) → Follow number before earlier lines more es → entries_on h s earlier ≡ done → count_apart done es ≡ length es
+      → (first_fault (number + length es) (before ++ map ended lines) more ≡ market_fault text) × (stage_of (before ++ map ended lines) ≡ AtEntry h s (earlier ++ map ended lines))
+      × (entries_on h s (earlier ++ map ended lines) ≡ done ++ es) × (length lines ≡ length es)
+  follow_all number before earlier [] more [] done now are apart =
+      let here : number + 0 ≡ number = omega arith in (
+        (λ j. first_fault (here j) (append-nil before j) more) ∙ now.fault,
+        ap stage_of (append-nil before) ∙ now.behind ∙ ap (AtEntry h s) (sym (append-nil earlier)),
+        ap (entries_on h s) (append-nil earlier) ∙ are ∙ sym (append-nil done),
+        refl,
+      )
+  follow_all number before earlier [] more (e ∷ es) done now are apart = absurd now.spelled
+  follow_all number before earlier (bytes ∷ lines) more [] done now are apart = absurd now.spelled
+  follow_all number before earlier (bytes ∷ lines) more (e ∷ es) done now are apart =
+      by (λ next made all. follow_all (number + 1) (before ++ ended bytes ∷ []) (earlier ++ ended bytes ∷ []) lines more es (done ++ e ∷ []) next made all) (has_place done e.0) refl apart
+    where
+      by : (Follow (number + 1) (before ++ ended bytes ∷ []) (earlier ++ ended bytes ∷ []) lines more es → entries_on h s (earlier ++ ended bytes ∷ []) ≡ done ++ e ∷ [] → count_apart (done ++ e ∷ []) es ≡ length es
+          → (first_fault (number + 1 + length es) ((before ++ ended bytes ∷ []) ++ map ended lines) more ≡ market_fault text) × (stage_of ((before ++ ended bytes ∷ []) ++ map ended lines) ≡ AtEntry h s ((earlier ++ ended bytes ∷ []) ++ map ended lines))
+          × (entries_on h s ((earlier ++ ended bytes ∷ []) ++ map ended lines) ≡ (done ++ e ∷ []) ++ es) × (length lines ≡ length es))
+          → (b : Bool) → has_place done e.0 ≡ b → (if b then 0 else count_apart (done ++ e ∷ []) es + 1) ≡ length (e ∷ es)
+          → (first_fault (number + length (e ∷ es)) (before ++ map ended (bytes ∷ lines)) more ≡ market_fault text) × (stage_of (before ++ map ended (bytes ∷ lines)) ≡ AtEntry h s (earlier ++ map ended (bytes ∷ lines)))
+          × (entries_on h s (earlier ++ map ended (bytes ∷ lines)) ≡ done ++ e ∷ es) × (length (bytes ∷ lines) ≡ length (e ∷ es))
+      by r true t c = absurd (omega (arith, c))
+      by r false t c =
+          let next = follow_next number before earlier bytes lines more e es now (ap (λ m. has_place m e.0) are ∙ t) in
+          let made = entries_on-push h s earlier bytes e now.spelled.0 ∙ ap (λ m. m ++ e ∷ []) are in
+          let rest = r next made (omega (arith, c)) in
+          let long = rest.3 in
+          let numbers : number + length (e ∷ es) ≡ number + 1 + length es = omega arith in
+          let b = append_assoc before (ended bytes ∷ []) (map ended lines) in
+          let d = append_assoc earlier (ended bytes ∷ []) (map ended lines) in (
+            (λ j. first_fault (numbers j) (sym b j) more) ∙ rest.0,
+            ap stage_of (sym b) ∙ rest.1 ∙ ap (AtEntry h s) d,
+            ap (entries_on h s) (sym d) ∙ rest.2 ∙ append_assoc done (e ∷ []) es,
+            omega (arith, long),
+          )
+
+  -- else the first that repeats a place is the first fault
+  follow_repeated : (number : ℕ) (before earlier : List Line) (lines : List (List ℕ)) (more : List Line) (es done : MatrixEntries) → Follow number before earlier lines more es → entries_on h s earlier ≡ done → count_apart done es < length es
+      → market_fault text ≡ Some (fault_at (number + count_apart done es) Repeated)
+  follow_repeated number before earlier [] more [] done now are apart = absurd (omega (arith, apart))
+  follow_repeated number before earlier [] more (e ∷ es) done now are apart = absurd now.spelled
+  follow_repeated number before earlier (bytes ∷ lines) more [] done now are apart = absurd now.spelled
+  follow_repeated number before earlier (bytes ∷ lines) more (e ∷ es) done now are apart =
+      by (λ next made fewer. follow_repeated (number + 1) (before ++ ended bytes ∷ []) (earlier ++ ended bytes ∷ []) lines more es (done ++ e ∷ []) next made fewer) (has_place done e.0) refl apart
+    where
+      by : (Follow (number + 1) (before ++ ended bytes ∷ []) (earlier ++ ended bytes ∷ []) lines more es → entries_on h s (earlier ++ ended bytes ∷ []) ≡ done ++ e ∷ [] → count_apart (done ++ e ∷ []) es < length es
+          → market_fault text ≡ Some (fault_at (number + 1 + count_apart (done ++ e ∷ []) es) Repeated))
+          → (b : Bool) → has_place done e.0 ≡ b → (if b then 0 else count_apart (done ++ e ∷ []) es + 1) < length (e ∷ es)
+          → market_fault text ≡ Some (fault_at (number + (if b then 0 else count_apart (done ++ e ∷ []) es + 1)) Repeated)
+      by r true t c =
+          let counted = now.count in
+          let room : length earlier < s.count = omega (arith, counted) in
+          let here : number ≡ number + 0 = omega arith in
+          let told : bytes_fault (stage_of before) bytes ≡ Some Repeated =
+          ap (λ st. bytes_fault st bytes) now.behind ∙ fault_in h s earlier bytes room ∙ ap (repeated h s earlier) now.spelled.0 ∙ ap (λ b. if b then Some Repeated else None) (ap (λ m. has_place m e.0) are ∙ t) in
+          sym now.fault ∙ ap (λ o. option_map_or (λ k. Some (fault_at number k)) o (first_fault (number + 1) (before ++ ended bytes ∷ []) (map ended lines ++ more))) told ∙ ap (λ n. Some (fault_at n Repeated)) here
+      by r false t c =
+          let next = follow_next number before earlier bytes lines more e es now (ap (λ m. has_place m e.0) are ∙ t) in
+          let made = entries_on-push h s earlier bytes e now.spelled.0 ∙ ap (λ m. m ++ e ∷ []) are in
+          let numbers : number + 1 + count_apart (done ++ e ∷ []) es ≡ number + (count_apart (done ++ e ∷ []) es + 1) = omega arith in
+          r next made (omega (arith, c))
+          ∙ ap (λ n. Some (fault_at n Repeated)) numbers
+
+  module _ (number : ℕ) (behind : List ℕ) (now : Stands text (AtEntry h s []) number behind) (es : MatrixEntries) where
+    follow : (left : ℕ) (rest : List ℕ) (p : AreGathered h s behind es left rest) → Follow number now.before [] p.lines (lines_of rest) es
+    follow left rest p = let counted = p.count in record { fault = sym (ap (first_fault number now.before) p.whole) ∙ now.fault; behind = now.behind; spelled = p.spelled; count = omega (arith, counted) }
+
+    -- entries at places apart are read
+    pub stands_behind : (left : ℕ) (rest : List ℕ) → AreGathered h s behind es left rest → are_apart es ≡ true → StandsBehind text h s (number + length es) left rest (map_from cell_cmp es)
+    stands_behind left rest p apart =
+        let all = follow_all number now.before [] p.lines (lines_of rest) es [] (follow left rest p) refl (apart_all es apart) in
+        let counted = p.count in
+        let long = length-map p.lines ended in
+        record {
+          lines = map ended p.lines;
+          stands = record { before = now.before ++ map ended p.lines; whole = now.whole ∙ ap (λ l. now.before ++ l) p.whole ∙ sym (append_assoc now.before (map ended p.lines) (lines_of rest)); fault = all.0; behind = all.1 };
+          count = omega (arith, counted, long);
+          entries = ap (map_from cell_cmp) (sym all.2);
+        }
+
+    -- others have the fault of the first line that repeats a place
+    pub repeated_fault : (wrong : Option FaultKind) → AreAllGathered h s behind es wrong → are_apart es ≡ false → market_fault text ≡ Some (fault_at (number + count_apart [] es) Repeated)
+    repeated_fault wrong p apart = follow_repeated number now.before [] p.front.lines (lines_of p.rest) es [] (follow p.left p.rest p.front) refl (apart_fewer es apart)
 
 module _ (text : List ℕ) (h : Head) (s : Size) (number left : ℕ) (rest : List ℕ) (m : MatrixEntries) (now : StandsBehind text h s number left rest m) where
-  -- the pair stood in an earlier line where the map has it
-  pub stood : (q : Cell) → is_some (find cell_cmp q m) ≡ stands_in h s now.lines q
-  stood q = ap (λ m. is_some (find cell_cmp q m)) now.entries ∙ is_some-map_from q (entries_on h s now.lines)
-
-  -- a line where another entry is to come
-  fault_in : (bytes : List ℕ) → 0 < left → bytes_fault (AtEntry h s now.lines) bytes ≡ repeated h s now.lines (entry_of h s bytes)
-  fault_in bytes some =
-      let count = now.count in
-      let more : ltb (length now.lines) s.count ≡ true = grind (arith, nat_tests) in
-      ap (λ b. if b then repeated h s now.lines (entry_of h s bytes) else Some TooMany) more
-
   full : left ≡ 0 → ltb (length now.lines) s.count ≡ false
   full none = let count = now.count in grind (arith, nat_tests)
 
-  -- its own fault
-  pub entry_fault : (bytes : List ℕ) (more : List Line) (kind : FaultKind) → lines_of rest ≡ ended bytes ∷ more → 0 < left → result_err (entry_of h s bytes) ≡ Some kind → market_fault text ≡ Some (fault_at number kind)
-  entry_fault bytes more kind are some e = fault_here text (AtEntry h s now.lines) number rest now.stands bytes more kind are (fault_in bytes some ∙ own (entry_of h s bytes) e)
+  open_still : not (eqb left 0) ≡ true → length now.lines < s.count
+  open_still some = let count = now.count in grind (arith, nat_tests)
+
+  -- what is wrong with a line by itself is its fault
+  wrong_line : (bytes : List ℕ) (b : Bool) (more : List Line) (kind : FaultKind) → lines_of rest ≡ record { bytes = bytes; is_ended = b } ∷ more → (c : Bool) → eqb left 0 ≡ c
+      → (if b then (if c then Some TooMany else result_err (entry_of h s bytes)) else Some UnendedLine) ≡ Some kind → market_fault text ≡ Some (fault_at number kind)
+  wrong_line bytes false more kind are c is w = fault_unended text (AtEntry h s now.lines) number rest now.stands bytes more are ∙ ap (option_map (fault_at number)) w
+  wrong_line bytes true more kind are true is w =
+      let none : left ≡ 0 = grind (arith, nat_tests) in
+      fault_here text (AtEntry h s now.lines) number rest now.stands bytes more kind are (ap (λ b. if b then repeated h s now.lines (entry_of h s bytes) else Some TooMany) (full none) ∙ w)
+  wrong_line bytes true more kind are false is w =
+      fault_here text (AtEntry h s now.lines) number rest now.stands bytes more kind are (fault_in h s now.lines bytes (open_still (ap not is)) ∙ own (entry_of h s bytes) w)
     where
       own : (r : Result (Cell × Value) FaultKind) → result_err r ≡ Some kind → repeated h s now.lines r ≡ Some kind
       own (Ok e) f = cc
       own (Err k) f = f
 
-  -- its pair stood before
-  pub repeated_fault : (bytes : List ℕ) (more : List Line) (e : Cell × Value) → lines_of rest ≡ ended bytes ∷ more → 0 < left → entry_of h s bytes ≡ Ok e → is_some (find cell_cmp e.0 m) ≡ true → market_fault text ≡ Some (fault_at number Repeated)
-  repeated_fault bytes more e are some is there =
-      fault_here text (AtEntry h s now.lines) number rest now.stands bytes more Repeated are
-      (fault_in bytes some ∙ ap (repeated h s now.lines) is ∙ ap (λ b. if b then Some Repeated else None) (sym (stood e.0) ∙ there))
+  wrong_lines : (lines : List Line) (kind : FaultKind) → lines_of rest ≡ lines → wrong_at h s left lines ≡ Some kind → market_fault text ≡ Some (fault_at number kind)
+  wrong_lines [] kind are w =
+      fault_missing text (AtEntry h s now.lines) number rest now.stands kind are (ap (λ b. if b then Some TooFew else None) (missing (eqb left 0) refl w) ∙ few (eqb left 0) w)
+    where
+      missing : (c : Bool) → eqb left 0 ≡ c → (if c then None else Some TooFew) ≡ Some kind → ltb (length now.lines) s.count ≡ true
+      missing true is f = cc
+      missing false is f = let room = open_still (ap not is) in grind (arith, nat_tests)
 
-  -- a line too many
-  pub many_fault : (bytes : List ℕ) (more : List Line) → lines_of rest ≡ ended bytes ∷ more → left ≡ 0 → market_fault text ≡ Some (fault_at number TooMany)
-  many_fault bytes more are none =
-      fault_here text (AtEntry h s now.lines) number rest now.stands bytes more TooMany are
-      (ap (λ b. if b then repeated h s now.lines (entry_of h s bytes) else Some TooMany) (full none))
+      few : (c : Bool) → (if c then None else Some TooFew) ≡ Some kind → Some TooFew ≡ Some kind
+      few true f = cc
+      few false f = f
+  wrong_lines (line ∷ more) kind are w = wrong_line line.bytes line.is_ended more kind are (eqb left 0) refl w
 
-  -- a line that is missing
-  pub few_fault : length rest ≡ 0 → 0 < left → market_fault text ≡ Some (fault_at number TooFew)
-  few_fault empty some =
-      let count = now.count in
-      let more : ltb (length now.lines) s.count ≡ true = grind (arith, nat_tests) in
-      fault_missing text (AtEntry h s now.lines) number rest now.stands TooFew (lines_of-nothing rest empty) (ap (λ b. if b then Some TooFew else None) more)
+  pub wrong_fault : (kind : FaultKind) → wrong_at h s left (lines_of rest) ≡ Some kind → market_fault text ≡ Some (fault_at number kind)
+  wrong_fault kind w = wrong_lines (lines_of rest) kind refl w
 
   -- the text ends behind the last entry line
-  pub is_read : length rest ≡ 0 → left ≡ 0 → IsRead text h s m
-  is_read empty none = record {
-    lines = now.lines;
-    faultless = no_fault text (AtEntry h s now.lines) number rest now.stands (lines_of-nothing rest empty) (ap (λ b. if b then Some TooFew else None) (full none));
-    behind = stage_at_end text (AtEntry h s now.lines) number rest now.stands (lines_of-nothing rest empty);
-    entries = now.entries;
-  }
-
-  -- one entry line more
-  pub next_entry : (bytes after : List ℕ) (e : Cell × Value) (less : ℕ) (more : MatrixEntries) → lines_of rest ≡ ended bytes ∷ lines_of after → less + 1 ≡ left → entry_of h s bytes ≡ Ok e → is_some (find cell_cmp e.0 m) ≡ false → more ≡ put cell_cmp e.0 e.1 m
-      → StandsBehind text h s (number + 1) less after more
-  next_entry bytes after e less more are one is absent made =
-      let count = now.count in
+  pub is_read : lines_of rest ≡ [] → wrong_at h s left (lines_of rest) ≡ None → IsRead text h s m
+  is_read empty w =
+      let none : left ≡ 0 = by (eqb left 0) refl (sym (ap (wrong_at h s left) empty) ∙ w) in
       record {
-        lines = now.lines ++ ended bytes ∷ [];
-        stands = next text (AtEntry h s now.lines) number rest now.stands bytes after are
-            (fault_in bytes (omega arith) ∙ ap (repeated h s now.lines) is ∙ ap (λ b. if b then Some Repeated else None) (sym (stood e.0) ∙ absent));
-        count = omega (arith, length-append now.lines (ended bytes ∷ []));
-        entries =
-            made ∙ ap (put cell_cmp e.0 e.1) now.entries
-            ∙ map_from-push (entries_on h s now.lines) e (none_here_of (find cell_cmp e.0 (map_from cell_cmp (entries_on h s now.lines))) (ap (λ m. is_some (find cell_cmp e.0 m)) (sym now.entries) ∙ absent))
-            ∙ sym (ap (map_from cell_cmp) (entries_on-push h s now.lines bytes e is));
+        lines = now.lines;
+        faultless = no_fault text (AtEntry h s now.lines) number rest now.stands empty (ap (λ b. if b then Some TooFew else None) (full none));
+        behind = stage_at_end text (AtEntry h s now.lines) number rest now.stands empty;
+        entries = now.entries;
+      }
+    where
+      by : (c : Bool) → eqb left 0 ≡ c → (if c then None else Some TooFew) ≡ None → left ≡ 0
+      by true is f = grind (arith, nat_tests)
+      by false is f = cc
+
+-- the entries that are gathered are the same each time
+module _ (h : Head) (s : Size) where
+  ended_early : (line : List ℕ) (e : Cell × Value) (left : ℕ) (lines more : List Line) (wrong : Option FaultKind) → lines ≡ ended line ∷ more → entry_of h s line ≡ Ok e → 0 < left → wrong_at h s left lines ≡ wrong → IsAtEnd lines wrong → ⊥
+  ended_early line e left lines more None are is some w end = cc
+  ended_early line e left lines more (Some kind) are is some w end =
+      let more : eqb left 0 ≡ false = grind (arith, nat_tests) in
+      let nothing : wrong_at h s left lines ≡ None = ap (wrong_at h s left) are ∙ (λ j. if more j then Some TooMany else result_err (is j)) in
+      let no : None ≡ Some kind = sym nothing ∙ w in cc
+
+  abbrev bytes_first : List Line → List ℕ
+  bytes_first [] = []
+  bytes_first (line ∷ lines) = line.bytes
+
+  abbrev behind_first_line : List Line → List Line
+  behind_first_line [] = []
+  behind_first_line (line ∷ lines) = lines
+
+  same_lines : (us vs : List (List ℕ)) (es fs : MatrixEntries) (l m : ℕ) (ls ms : List Line) (w v : Option FaultKind) → map ended us ++ ls ≡ map ended vs ++ ms → AreSpelled h s us es → AreSpelled h s vs fs → length us + l ≡ length vs + m
+      → wrong_at h s l ls ≡ w → IsAtEnd ls w → wrong_at h s m ms ≡ v → IsAtEnd ms v → es ≡ fs
+  same_lines [] [] [] [] l m ls ms w v are p q n wl el wm em = refl
+  same_lines [] [] (e ∷ es) fs l m ls ms w v are p q n wl el wm em = absurd p
+  same_lines [] [] [] (f ∷ fs) l m ls ms w v are p q n wl el wm em = absurd q
+  same_lines [] (b ∷ vs) es [] l m ls ms w v are p q n wl el wm em = absurd q
+  same_lines [] (b ∷ vs) es (f ∷ fs) l m ls ms w v are p q n wl el wm em = absurd (ended_early b f l ls (map ended vs ++ ms) w are q.0 (omega (arith, n)) wl el)
+  same_lines (a ∷ us) [] [] fs l m ls ms w v are p q n wl el wm em = absurd p
+  same_lines (a ∷ us) [] (e ∷ es) fs l m ls ms w v are p q n wl el wm em = absurd (ended_early a e m ms (map ended us ++ ls) v (sym are) p.0 (omega (arith, n)) wm em)
+  same_lines (a ∷ us) (b ∷ vs) [] fs l m ls ms w v are p q n wl el wm em = absurd p
+  same_lines (a ∷ us) (b ∷ vs) (e ∷ es) [] l m ls ms w v are p q n wl el wm em = absurd q
+  same_lines (a ∷ us) (b ∷ vs) (e ∷ es) (f ∷ fs) l m ls ms w v are p q n wl el wm em =
+      let one : Ok e ≡ Ok f = sym p.0 ∙ ap (entry_of h s) (ap bytes_first are) ∙ q.0 in
+      let first : e ≡ f = cc in
+      let rest = same_lines us vs es fs l m ls ms w v (ap behind_first_line are) p.1 q.1 (omega (arith, n)) wl el wm em in
+      λ j. first j ∷ rest j
+
+  pub same_gathered : (behind : List ℕ) (es fs : MatrixEntries) (w v : Option FaultKind) → AreAllGathered h s behind es w → AreAllGathered h s behind fs v → es ≡ fs
+  same_gathered behind es fs w v p q =
+      let one = p.front.count in
+      let two = q.front.count in
+      same_lines p.front.lines q.front.lines es fs p.left q.left (lines_of p.rest) (lines_of q.rest) w v (sym p.front.whole ∙ q.front.whole) p.front.spelled q.front.spelled (omega (arith, one, two)) p.is_wrong p.ends q.is_wrong q.ends
+
+  -- none yet
+  pub gathered_none : (behind : List ℕ) (es : MatrixEntries) → es ≡ [] → AreGathered h s behind es s.count behind
+  gathered_none behind [] none = record { lines = []; whole = refl; spelled = tt; count = omega arith; short = omega arith }
+  gathered_none behind (e ∷ es) none = cc
+
+  spelled-push : (lines : List (List ℕ)) (es : MatrixEntries) (line : List ℕ) (e : Cell × Value) → AreSpelled h s lines es → entry_of h s line ≡ Ok e → AreSpelled h s (lines ++ line ∷ []) (es ++ e ∷ [])
+  spelled-push [] [] line e p is = (is, tt)
+  spelled-push [] (f ∷ es) line e p is = absurd p
+  spelled-push (l ∷ lines) [] line e p is = absurd p
+  spelled-push (l ∷ lines) (f ∷ es) line e p is = (p.0, spelled-push lines es line e p.1 is)
+
+  -- one more
+  pub gathered_next : (behind : List ℕ) (es fs : MatrixEntries) (left less : ℕ) (rest line after : List ℕ) (e : Cell × Value) → AreGathered h s behind es left rest → lines_of rest ≡ ended line ∷ lines_of after → length after < length rest → less + 1 ≡ left
+      → entry_of h s line ≡ Ok e → fs ≡ es ++ e ∷ [] → AreGathered h s behind fs less after
+  gathered_next behind es fs left less rest line after e p are shorter one is made =
+      let counted = p.count in
+      let short = p.short in
+      let long = length-append p.lines (line ∷ []) in
+      let more = ap length made ∙ length-append es (e ∷ []) in
+      record {
+        lines = p.lines ++ line ∷ [];
+        whole = p.whole ∙ ap (λ l. map ended p.lines ++ l) are ∙ sym (append_assoc (map ended p.lines) (ended line ∷ []) (lines_of after)) ∙ ap (λ l. l ++ lines_of after) (sym (map-append ended p.lines (line ∷ [])));
+        spelled = subst (AreSpelled h s (p.lines ++ line ∷ [])) (sym made) (spelled-push p.lines es line e p.spelled is);
+        count = omega (arith, counted, long, one);
+        short = omega (arith, short, more, shorter);
       }
 
 -- the first line is a header
@@ -202,10 +366,6 @@ module _ (text : List ℕ) (h : Head) (number : ℕ) (rest : List ℕ) (now : St
 pub line_unread : (text : List ℕ) (number : ℕ) (found : Option FaultKind) (e : ReadError) → ((kind : FaultKind) → found ≡ Some kind → market_fault text ≡ Some (fault_at number kind)) → IsWhyLineUnread number found e → IsWhyUnread text e
 line_unread text number found (read.Fault f) w h = w f.kind h.1 ∙ (λ j. Some (record { line = sym h.0 j; kind = f.kind }))
 line_unread text number found read.OutOfMemory w h = tt
-
--- behind the size line no entry line stands yet
-pub at_entries : (text : List ℕ) (h : Head) (s : Size) (number : ℕ) (rest : List ℕ) (m : MatrixEntries) → m ≡ [] → Stands text (AtEntry h s []) number rest → StandsBehind text h s number s.count rest m
-at_entries text h s number rest m empty now = record { lines = []; stands = now; count = omega arith; entries = empty }
 
 -- the entries are reached
 abbrev pub is_at_entries : Stage → Bool

@@ -8,24 +8,18 @@ use Rattle.grb_core.specs.declared.domain.Domain.TheVariants as domain
 use Rattle.grb_core.specs.declared.value.Value.{Value}
 use Rattle.grb_core.specs.declared.value.Value.TheVariants as value
 use Rattle.grb_core.specs.Entries.{Cell}
-use Rattle.grb_core.specs.Contents.{IsDimension}
+use Rattle.grb_core.specs.Contents.{is_dimension, IsDimension}
 use Rattle.grb_market.specs.declared.fault.FaultKind.TheVariants as kind
 use Rattle.grb_market.specs.declared.head.Head.{Head}
 use Rattle.grb_market.specs.declared.head.Size.{Size}
 use Rattle.grb_market.specs.Numbers.{Number, numbers_of}
-use Rattle.grb_market.specs.Reading.{is_dimension, size_from, size_with, size_of, is_in, entry_at, entry_from, entry_with, entry_of}
+use Rattle.grb_market.specs.Reading.{size_from, size_with, size_of, is_in, entry_at, entry_from, entry_with, entry_of}
 use Rattle.grb_market.specs.Spells.{SpellsSize, value_stated, IsStated, SpellsEntry}
 
 -- both tests pass
 both_pass : (a b : Bool) → (a && b) ≡ true → (a ≡ true) × (b ≡ true)
 both_pass true b h = (refl, h)
 both_pass false b h = cc
-
-dimension : (n : ℕ) → is_dimension n ≡ true → IsDimension n
-dimension n h = let p = both_pass (leb 1 n) (leb n 4294967295) h in record { positive = grind (arith, nat_tests, p.0); fits = grind (arith, nat_tests, p.1) }
-
-is_dimension-is : (n : ℕ) → IsDimension n → is_dimension n ≡ true
-is_dimension-is n h = let l = h.positive in let m = h.fits in grind (arith, nat_tests)
 
 within : (most n : ℕ) → is_in most n ≡ true → (1 ≤ n) × (n ≤ most)
 within most n h = let p = both_pass (leb 1 n) (leb n most) h in (grind (arith, nat_tests, p.0), grind (arith, nat_tests, p.1))
@@ -45,7 +39,7 @@ module _ (h : Head) where
 
   size_from-is : (s : Size) → IsDimension s.nrows → IsDimension s.ncols → (h.is_symmetric ≡ true → s.nrows ≡ s.ncols) → size_from h s.nrows s.ncols s.count ≡ Ok s
   size_from-is s r c q =
-      (λ j. if not (is_dimension-is s.nrows r j && is_dimension-is s.ncols c j) then Err kind.Dimension else (if h.is_symmetric && not (eqb s.nrows s.ncols) then Err kind.NotSquare else Ok s))
+      (λ j. if not (r j && c j) then Err kind.Dimension else (if h.is_symmetric && not (eqb s.nrows s.ncols) then Err kind.NotSquare else Ok s))
       ∙ ap (λ b. if b then Err kind.NotSquare else Ok s) (square_test s.nrows s.ncols h.is_symmetric q)
 
   pub size_of-is : (bytes : List ℕ) (s : Size) → SpellsSize h bytes s → size_of h bytes ≡ Ok s
@@ -62,7 +56,7 @@ module _ (h : Head) where
   size_made r c n s true false d q e =
       let same : ◌≡◌ {A = Size} (record { nrows = r; ncols = c; count = n }) s = cc in
       let p = both_pass (is_dimension r) (is_dimension c) d in
-      subst (SizeFrom r c n) same (refl, refl, refl, dimension r p.0, dimension c p.1, square_fact r c h.is_symmetric q)
+      subst (SizeFrom r c n) same (refl, refl, refl, p.0, p.1, square_fact r c h.is_symmetric q)
 
   size_numbers : (bytes : List ℕ) (s : Size) (ns : Option (List Number)) → numbers_of bytes ≡ ns → size_with h ns ≡ Ok s → SpellsSize h bytes s
   size_numbers bytes s (Some (Some r ∷ Some c ∷ Some n ∷ [])) is e =

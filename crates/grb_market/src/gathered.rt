@@ -1,83 +1,13 @@
-ghost use Rattle.std.specs.Prelude.{◌≡◌, [], ◌∷◌, ◌++◌, map, IfOk, OnOk, is_some, IsTrue};
+ghost use Rattle.std.specs.Prelude.{◌≡◌, [], ◌∷◌, ◌++◌, map, true, IfOk, OnOk, is_some};
 ghost use Rattle.std.specs.FinMap.{find, put, is_sorted};
-ghost use Rattle.grb_core.specs.Entries.{cell_cmp, cells_of};
+ghost use Rattle.grb_core.specs.Entries.{cell_cmp, cells_of, map_from};
 ghost use Rattle.grb_core.specs.Laws.{set_all};
 ghost use Rattle.grb_market.specs.Spells.{mirrored};
-ghost use Rattle.grb_market.specs.Gathered.{comes_before, is_behind};
+ghost use Rattle.grb_market.specs.Gathered.{comes_before, count_apart, are_apart};
 
 use grb_core::Value;
 use std::alloc::{AllocError, Global};
 use std::collections::BTreeMap;
-use std::marker::Model;
-
-/// Entries, each place once. It is seen as their list in order of their places.
-///
-/// While each entry comes behind the last they are a list, and from the first that does not they are a map.
-#[derive(Drop)]
-pub(crate) struct Gathered {
-    rising: Vec<(u64, u64, Value)>,
-    mixed: Option<BTreeMap<(u64, u64), Value>>,
-}
-
-impl Model for Gathered {
-    ghost use Rattle.std.specs.Prelude.{List, ℕ};
-    ghost use Rattle.std.specs.Option.{option_map_or};
-    ghost use Rattle.grb_core.specs.declared.value.Value.{Value as StoredValue};
-    ghost use Rattle.grb_core.specs.Entries.{cells_of};
-
-    ghost Value = { List ((ℕ × ℕ) × StoredValue) };
-
-    ghost view = { λ s. option_map_or (λ m. m.entries) s.mixed (cells_of s.rising.items) };
-}
-
-impl Gathered {
-    /// No entries yet. Takes no memory.
-    pub(crate) fn new(alloc: Global) -> Gathered
-        ensures { result ≡ [] }
-    {
-        Gathered {
-            rising: Vec::new(alloc),
-            mixed: None,
-        }
-    }
-
-    /// Stores an entry, and tells whether its place had one before.
-    pub(crate) fn insert(
-        &mut self,
-        alloc: Global,
-        cell: (u64, u64),
-        value: Value,
-    ) -> Result<bool, AllocError>
-        requires { IsTrue (is_sorted cell_cmp self.old) }
-        ensures stored { OnOk result (self.new ≡ put cell_cmp cell value self.old) }
-        ensures stood { IfOk result (λ stood. stood ≡ is_some (find cell_cmp cell self.old)) }
-    {
-        match &mut self.mixed {
-            Some(mixed) => return store(mixed, cell, value),
-            None => {}
-        }
-        if is_behind(&self.rising, cell) {
-            append(&mut self.rising, cell, value)?;
-            return Ok(false);
-        }
-        let mut mixed = BTreeMap::new(alloc);
-        store_all(&mut mixed, &self.rising)?;
-        let stood = store(&mut mixed, cell, value)?;
-        self.mixed = Some(mixed);
-        Ok(stood)
-    }
-
-    /// The entries in rising order. It takes no memory where they came so.
-    pub(crate) fn into_tuples(self, alloc: Global) -> Result<Vec<(u64, u64, Value)>, AllocError>
-        ensures { IfOk result (λ tuples. cells_of tuples.items ≡ self) }
-    {
-        let Gathered { rising, mixed } = self;
-        match mixed {
-            Some(mixed) => tuples(alloc, &mixed),
-            None => Ok(rising),
-        }
-    }
-}
 
 /// Whether a place comes before another, by row and in a row by column.
 fn comes_before(p: (u64, u64), q: (u64, u64)) -> bool
@@ -86,18 +16,37 @@ fn comes_before(p: (u64, u64), q: (u64, u64)) -> bool
     p.0 < q.0 || (p.0 == q.0 && p.1 < q.1)
 }
 
-/// Whether the place is behind the last of these entries.
-fn is_behind(tuples: &[(u64, u64, Value)], cell: (u64, u64)) -> bool
-    ensures { result ≡ is_behind cell (cells_of tuples.now) }
+/// Whether each place comes before the next.
+fn is_rising(tuples: &[(u64, u64, Value)]) -> bool
+    ensures { result ≡ is_sorted cell_cmp (cells_of tuples.now) }
 {
-    match tuples {
-        [] => true,
-        [.., last] => comes_before((last.0, last.1), cell),
+    let [first, rest @ ..] = tuples else {
+        return true;
+    };
+    let mut last = *first;
+    'rest: for tuple in rest {
+        if !comes_before((last.0, last.1), (tuple.0, tuple.1)) {
+            return false;
+        }
+        last = *tuple;
     }
+    true
+}
+
+/// Puts the tuples in rising order of their places, and tells whether no two of them have one place. Tuples that rise take no memory.
+pub(crate) fn put_in_order(tuples: &mut Vec<(u64, u64, Value)>) -> Result<bool, AllocError>
+    ensures apart { IfOk result (λ apart. apart ≡ are_apart (cells_of tuples.old.items)) }
+    ensures ordered { IfOk result (λ apart. apart ≡ true → cells_of tuples.new.items ≡ map_from cell_cmp (cells_of tuples.old.items)) }
+{
+    if is_rising(tuples) {
+        return Ok(true);
+    }
+    tuples.sort_by_key(|tuple| (tuple.0, tuple.1))?;
+    Ok(is_rising(tuples))
 }
 
 /// Appends an entry.
-fn append(
+pub(crate) fn append(
     tuples: &mut Vec<(u64, u64, Value)>,
     cell: (u64, u64),
     value: Value,
@@ -107,6 +56,21 @@ fn append(
     tuples
         .push((cell.0, cell.1, value))
         .map_err(AllocError::from)
+}
+
+/// How many of the tuples come before the first whose place an earlier one has.
+pub(crate) fn count_apart(alloc: Global, tuples: &[(u64, u64, Value)]) -> Result<usize, AllocError>
+    ensures { IfOk result (λ count. count ≡ count_apart [] (cells_of tuples.now)) }
+{
+    let mut earlier = BTreeMap::new(alloc);
+    let mut count: usize = 0;
+    for (i, j, value) in tuples {
+        if store(&mut earlier, (*i, *j), *value)? {
+            return Ok(count);
+        }
+        count += 1;
+    }
+    Ok(count)
 }
 
 /// Stores an entry, and tells whether its place had one before.

@@ -1,11 +1,11 @@
 ghost use Rattle.std.specs.Prelude.{◌≡◌, ◌<◌, [], ◌∷◌, Some, IfOk};
 ghost use Rattle.grb_core.specs.declared.domain.Domain.TheVariants as domain;
 ghost use Rattle.grb_core.specs.Contents.{IsDimension};
-ghost use Rattle.grb_market.specs.Reading.{head_of, size_from, size_with, size_of, entry_from, entry_of, is_dimension, is_in};
+ghost use Rattle.grb_market.specs.Reading.{head_of, size_from, size_with, size_of, entry_from, entry_of, is_in};
 
 use crate::fault::FaultKind;
 use crate::numbers::{three_numbers, two_numbers};
-use grb_core::{Domain, Value};
+use grb_core::{Domain, Value, is_dimension};
 
 /// What the first line of a file says.
 #[derive(Clone, Copy, Debug, PartialEq, Eq)]
@@ -46,12 +46,6 @@ pub fn head_of(line: &[u8]) -> Option<Head>
         domain,
         is_symmetric,
     })
-}
-
-fn is_dimension(n: u64) -> bool
-    ensures { result ≡ is_dimension n }
-{
-    1 <= n && n <= 4_294_967_295
 }
 
 fn size_from(head: Head, nrows: u64, ncols: u64, count: u64) -> Result<Size, FaultKind>

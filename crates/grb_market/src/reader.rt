@@ -1,20 +1,21 @@
-ghost use Rattle.std.specs.Prelude.{◌≡◌, ◌+◌, ◌<◌, ◌≤◌, [], length, map, None, Some, IfOk, IfErr, OnOk, is_some, not, List, ℕ, IsTrue, Ok};
-ghost use Rattle.std.specs.FinMap.{find, put, is_sorted};
+ghost use Rattle.std.specs.Prelude.{◌≡◌, ◌+◌, ◌<◌, ◌≤◌, [], length, Some, IfOk, IfErr, IsTrue, Ok};
+ghost use Rattle.std.specs.FinMap.{is_sorted};
 ghost use Rattle.std.specs.Result.{result_err};
 ghost use Rattle.grb_core.specs.Contents.{IsDimension};
 ghost use Rattle.grb_core.specs.Entries.{cell_cmp, cells_of};
 ghost use Rattle.grb_market.specs.declared.fault.ReadError.TheVariants as read;
-ghost use Rattle.grb_market.specs.Reading.{size_of, entry_of};
+ghost use Rattle.grb_market.specs.Reading.{size_of};
 ghost use Rattle.grb_core.specs.Contents.{IsMatrix};
 ghost use Rattle.grb_core.specs.Entries.{map_from};
-ghost use Rattle.grb_core.specs.Laws.{set_all};
-ghost use Rattle.grb_market.specs.Fault.{AtSize, AtEntry, fault_at, IsWhyLineUnread, IsWhyUnread};
-ghost use Rattle.grb_market.specs.Spells.{Spells, mirrored, written_out};
+ghost use Rattle.grb_market.specs.Fault.{AtSize, AtEntry, fault_at, market_fault, IsWhyLineUnread, IsWhyUnread};
+ghost use Rattle.grb_market.specs.declared.fault.FaultKind.TheVariants.{Repeated};
+ghost use Rattle.grb_market.specs.Spells.{Spells, written_out};
 ghost use Rattle.grb_market.specs.Loaded.{matrix_loaded};
 ghost use Rattle.grb_market.specs.Stands.{Stands, IsRead};
+ghost use Rattle.grb_market.specs.Gathered.{AreAllGathered, IsTwice};
 
 use crate::fault::{FaultKind, MarketFault, ReadError};
-use crate::gathered::{Gathered, store_all, store_mirrored, tuples};
+use crate::gathered::{append, count_apart, put_in_order, store_all, store_mirrored, tuples};
 use crate::head::{Head, Size, entry_of, head_of, size_of};
 use crate::line::{is_comment, next_line};
 use crate::loaded::{Loaded, Tuples};
@@ -37,24 +38,6 @@ fn read_size_line(number: u64, head: Head, line: &[u8]) -> Result<Size, ReadErro
 {
     match size_of(head, line) {
         Ok(size) => Ok(size),
-        Err(kind) => Err(fault(number, kind)),
-    }
-}
-
-/// The entry that the line of this number spells.
-fn read_entry_line(
-    number: u64,
-    head: Head,
-    size: Size,
-    line: &[u8],
-) -> Result<((u64, u64), Value), ReadError>
-    ensures read { IfOk result (λ e. entry_of head size line.now ≡ Ok e) }
-    ensures row { IfOk result (λ e. e.0.0 < size.nrows) }
-    ensures column { IfOk result (λ e. e.0.1 < size.ncols) }
-    ensures fault { IfErr result (IsWhyLineUnread number (result_err (entry_of head size line.now))) }
-{
-    match entry_of(head, size, line) {
-        Ok(entry) => Ok(entry),
         Err(kind) => Err(fault(number, kind)),
     }
 }
@@ -90,6 +73,58 @@ fn read_size<'a>(
     Err(fault(number, FaultKind::SizeLine))
 }
 
+/// The entries of the lines behind the size line, in the order of their lines, up to the first line that is wrong by itself, and what
+/// is wrong with it.
+fn gather(
+    alloc: Global,
+    head: Head,
+    size: Size,
+    behind: &[u8],
+) -> Result<(Vec<(u64, u64, Value)>, Option<FaultKind>), AllocError>
+    ensures { IfOk result (λ p. AreAllGathered head size behind.now (cells_of p.0.items) p.1) }
+{
+    let mut tuples = Vec::new(alloc);
+    let mut rest = behind;
+    let mut left = size.count;
+    while !rest.is_empty() {
+        let Some((line, after)) = next_line(rest) else {
+            return Ok((tuples, Some(FaultKind::UnendedLine)));
+        };
+        if left == 0 {
+            return Ok((tuples, Some(FaultKind::TooMany)));
+        }
+        match entry_of(head, size, line) {
+            Ok((cell, value)) => append(&mut tuples, cell, value)?,
+            Err(kind) => return Ok((tuples, Some(kind))),
+        }
+        rest = after;
+        left -= 1;
+    }
+    if left > 0 {
+        return Ok((tuples, Some(FaultKind::TooFew)));
+    }
+    Ok((tuples, None))
+}
+
+/// The number of the first line whose place an earlier one has. The lines are read again, since what was read of them was put in order.
+fn repeated_line(
+    alloc: Global,
+    text: &[u8],
+    head: Head,
+    size: Size,
+    first: u64,
+    behind: &[u8],
+) -> Result<u64, AllocError>
+    requires stands { Stands text.now (AtEntry head size []) first behind.now }
+    requires numbered { first + length behind.now ≤ length text.now + 1 }
+    requires twice { IsTwice head size behind.now }
+    ensures { IfOk result (λ number. market_fault text.now ≡ Some (fault_at number Repeated)) }
+{
+    let (tuples, _) = gather(alloc, head, size, behind)?;
+    let count = count_apart(alloc, &tuples)?;
+    Ok(first + count as u64)
+}
+
 /// The entries of the lines behind the size line, as they are stored.
 fn read_entries(
     alloc: Global,
@@ -104,30 +139,16 @@ fn read_entries(
     ensures read { IfOk result (λ tuples. IsRead text.now head size (cells_of tuples.items)) }
     ensures fault { IfErr result (IsWhyUnread text.now) }
 {
-    let mut entries = Gathered::new(alloc);
-    let mut rest = behind;
-    let mut number = first;
-    let mut left = size.count;
-    while !rest.is_empty() {
-        let Some((line, after)) = next_line(rest) else {
-            return Err(fault(number, FaultKind::UnendedLine));
-        };
-        if left == 0 {
-            return Err(fault(number, FaultKind::TooMany));
-        }
-        let (cell, value) = read_entry_line(number, head, size, line)?;
-        let stood = entries.insert(alloc, cell, value)?;
-        if stood {
-            return Err(fault(number, FaultKind::Repeated));
-        }
-        rest = after;
-        number += 1;
-        left -= 1;
+    let (mut tuples, wrong) = gather(alloc, head, size, behind)?;
+    let count = tuples.len() as u64;
+    if !put_in_order(&mut tuples)? {
+        let number = repeated_line(alloc, text, head, size, first, behind)?;
+        return Err(fault(number, FaultKind::Repeated));
     }
-    if left > 0 {
-        return Err(fault(number, FaultKind::TooFew));
+    match wrong {
+        Some(kind) => Err(fault(first + count, kind)),
+        None => Ok(tuples),
     }
-    Ok(entries.into_tuples(alloc)?)
 }
 
 /// The entries of the whole matrix, in rising order.

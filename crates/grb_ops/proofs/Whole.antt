@@ -1,6 +1,6 @@
 -- What an operation makes of whole vectors is a whole vector; and what is written where there is no mask.
-use Rattle.std.proofs.Common.{◌≡◌, ℕ, ◌<◌, Bool, true, false, List, [], refl, sym, ap, subst, ◌∙◌}
-use Rattle.std.specs.Prelude.{IsTrue, not, Option, Some, None}
+use Rattle.std.proofs.Common.{◌≡◌, ℕ, Bool, true, false, List, [], refl, sym, ap, subst, ◌∙◌}
+use Rattle.std.specs.Prelude.{IsTrue, not, Option, None}
 use Rattle.std.specs.Ordering.{nat_cmp}
 use Rattle.std.specs.declared.cmp.Ordering.{Ordering}
 use Rattle.std.specs.Cmp.{IsTotalOrder, nat_cmp_total}
@@ -13,7 +13,7 @@ use Rattle.grb_core.specs.Operator.{op_domain, value_of_op}
 use Rattle.grb_core.specs.Entries.{VectorEntries}
 use Rattle.grb_core.specs.Contents.{Vector, IsVector, IsDimension}
 use Rattle.grb_core.specs.Mask.{is_inside}
-use Rattle.grb_core.specs.Written.{AccumulatesIn, accumulated, masked, pointwise, written}
+use Rattle.grb_core.specs.Written.{AccumulatesIn, masked, pointwise, written}
 use Rattle.grb_core.specs.ResultLaws.{IsBelow, AreEntries}
 use Rattle.grb_core.proofs.Maps.{same_entries_at}
 use Rattle.grb_core.proofs.Written.{find-masked, is_sorted-masked}

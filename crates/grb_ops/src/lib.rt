@@ -6,8 +6,16 @@
 #![tactic(auto)]
 
 mod ewise;
+mod ewise_matrix;
+mod rows;
+#[cfg(test)]
+mod tests;
 mod typed;
+mod typed_matrix;
 mod writing;
+mod writing_matrix;
 
 pub use ewise::{ewise_add_vector, ewise_mult_vector};
+pub use ewise_matrix::{ewise_add_matrix, ewise_mult_matrix};
 pub use writing::write_masked_vector;
+pub use writing_matrix::write_masked_matrix;

@@ -1,20 +1,21 @@
 -- What ties the parts of a place stays so at each step.
-use Rattle.std.proofs.Common.{◌≡◌, ◌≢◌, ℕ, zero, suc, ◌+◌, ◌^◌, ◌<◌, ◌≤◌, List, [], ◌∷◌, ◌++◌, length, sym, refl, ap, ◌∙◌, subst, arith, length-append}
+use Rattle.std.proofs.Common.{◌≡◌, ◌≢◌, ℕ, zero, suc, ◌+◌, ◌^◌, ◌<◌, ◌≤◌, List, [], ◌∷◌, ◌++◌, length, get_or, drop, append_assoc, sym, refl, ap, ◌∙◌, subst, arith, length-append}
 use mathlib.Core.Logic.{dite}
-use native.Mathlib.Decide.{ℕ_discrete}
+use native.Mathlib.Decide.{ℕ_discrete, dec_le}
 use Rattle.std.specs.Prelude.{Some, slice_get}
 use Rattle.std.specs.List.{All}
 use Rattle.atomic_table.specs.Seated.{TableId}
 use Rattle.grb_order.specs.Holding.{Holding}
 use Rattle.grb_order.specs.Order.{AreFresh}
 use Rattle.grb_order.specs.Steps.{placed}
-use Rattle.std.proofs.lemmas.List.{get_or_at}
+use Rattle.std.proofs.lemmas.List.{get_or_at, append-nil, drop_all, drop_more, length_push}
+use Rattle.std.proofs.lemmas.List.Prefix.{front_rest}
 use Rattle.std.proofs.lemmas.List.Elements.{All-push, All-nil}
-use Rattle.grb_order.specs.Word.{order_word, IsWord}
-use Rattle.grb_order.specs.View.{fresh, learns, finds_vacant, enters_word, IsOthers, IsSound, LookedLast}
+use Rattle.grb_order.specs.Word.{order_word, IsWord, StartsWith}
+use Rattle.grb_order.specs.View.{fresh, learns, finds_vacant, enters_word, is_told, IsOthers, IsSound, LookedLast}
 use Rattle.grb_order.specs.Place.{IsSeated}
 use Rattle.grb_order.specs.declared.view.View.{View}
-use Rattle.grb_order.specs.declared.rule.Standing.{Standing}
+use Rattle.grb_order.specs.declared.standing.Standing.{Standing}
 use Rattle.grb_order.proofs.Rows.{positions-others, positions-own, own_word}
 
 pub sound_learns : (room : ℕ) (v : View) (x : ℕ) → length v.words < room → IsSound room v → IsOthers v x → IsSound room (learns v x)
@@ -124,3 +125,32 @@ seated_fresh tag room capacity passes few small roomy = record {
   roomy = roomy;
   sound = record { number = few; few = omega arith; words = All-nil (IsWord passes); own = refl; looks = All-nil (λ n. n < room) };
 }
+
+under : (m n : ℕ) → ¬ (m ≤ n) → n ≤ m
+under m n more = omega arith
+
+abbrev with_words : View → List ℕ → View
+with_words v words = record v { words = words }
+
+-- a word that was told is learnt, and what is still to be told is less by it
+pub is_told-learns : (v : View) (words : List ℕ) (x : ℕ) → length v.words < length words → x ≡ get_or words (length v.words) 0 → is_told (learns v x) words ≡ is_told v words
+is_told-learns v words x lt is =
+    let n : ℕ = length v.words in
+    let all : (v.words ++ x ∷ []) ++ drop (length (v.words ++ x ∷ [])) words ≡ v.words ++ drop n words
+    = (λ k. (v.words ++ x ∷ []) ++ drop (length_push v.words x k) words) ∙ append_assoc v.words (x ∷ []) (drop (n + 1) words)
+    ∙ ap (λ (y : ℕ). v.words ++ y ∷ drop (n + 1) words) is ∙ ap (λ (l : List ℕ). v.words ++ l) (sym (drop_more words n 0 lt)) in
+    ap (λ (l : List ℕ). with_words v l) all
+
+-- nothing is left to be told
+pub is_told-all : (v : View) (words : List ℕ) → length words ≤ length v.words → is_told v words ≡ v
+is_told-all v words le = ap (λ (l : List ℕ). with_words v l) (ap (λ (l : List ℕ). v.words ++ l) (drop_all (length v.words) words le) ∙ append-nil v.words)
+
+pub known_told : (v : View) (words : List ℕ) → (length words ≤ length v.words → StartsWith v.words words) → (length v.words ≤ length words → StartsWith words v.words) → StartsWith (is_told v words).words words
+known_told v words long short =
+    dite (dec_le (length words) (length v.words))
+    (λ (le : length words ≤ length v.words).
+    let t : StartsWith v.words words = long le in
+    (t.0, ap (λ (l : List ℕ). v.words ++ l) (drop_all (length v.words) words le) ∙ append-nil v.words ∙ t.1))
+    (λ (more : ¬ (length words ≤ length v.words)).
+    let t : StartsWith words v.words = short (under (length words) (length v.words) more) in
+    ([], ap (λ (l : List ℕ). v.words ++ l) (front_rest words v.words t.0 t.1) ∙ sym t.1 ∙ sym (append-nil words)))

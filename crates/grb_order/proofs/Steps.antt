@@ -7,17 +7,17 @@ use native.Mathlib.Decide.{ℕ_discrete}
 use lib.ListN.{get_elem?}
 use Rattle.std.proofs.lemmas.List.{set-get_or, append-nil, length-replicate}
 use Rattle.std.proofs.lemmas.List.Elements.{All-push, All-weaker, All-nil}
-use Rattle.atomic_table.specs.Table.{State, Act, Valid, stepped, carried_after, step, keeps, Allows, Splits, opening}
-use Rattle.atomic_table.proofs.Lists.{at_set, set_else, at_longer, at_last, exchanged}
+use Rattle.atomic_table.specs.Table.{State, Act, Valid, stepped, carried_after, step, keeps, Allows, Splits, Joins, opening}
+use Rattle.atomic_table.proofs.Lists.{at_set, set_else, set_again, at_longer, at_last, exchanged}
 use Rattle.grb_order.specs.Word.{order_word, number_of, IsWord, positions, StartsWith}
 use Rattle.grb_order.specs.View.{learns, finds_vacant, enters_word, IsOthers}
 use Rattle.grb_order.specs.Rule.{IsPlaced, Fits, Orderly}
-use Rattle.grb_order.specs.Steps.{Sat, dealing, placed, looked, tried}
+use Rattle.grb_order.specs.Steps.{Sat, dealing, placed, noted, joined, spent, looked, tried, compared, heard}
 use Rattle.grb_order.specs.declared.rule.Size.{Size}
-use Rattle.grb_order.specs.declared.rule.Standing.{Standing}
-use Rattle.grb_order.specs.declared.rule.Role.{Role}
-use Rattle.grb_order.specs.declared.rule.Role.TheVariants.{Dealer, Placed}
-use Rattle.grb_order.proofs.Rows.{positions-others, positions-own, positions-absent, own_word, next_vacant, next_word, last_word, others_word, starts_more, fill}
+use Rattle.grb_order.specs.declared.standing.Standing.{Standing}
+use Rattle.grb_order.specs.declared.standing.Role.{Role}
+use Rattle.grb_order.specs.declared.standing.Role.TheVariants.{Dealer, Placed, Note, Spent}
+use Rattle.grb_order.proofs.Rows.{positions-others, positions-own, positions-absent, own_word, next_vacant, next_word, last_word, others_word, starts_more, shorter, fill, told_word, not_vacant}
 
 abbrev Row : Type 0
 Row = State (Unit {0}) Standing
@@ -35,6 +35,9 @@ at_end [] a b zero e = inr (refl, some-injective a b e)
 at_end [] a b (suc j) e = absurd (some-ne-none b (sym e))
 at_end (x ∷ xs) a b zero e = inl e
 at_end (x ∷ xs) a b (suc j) e = ⊎_elim inl (λ t. inr (ap suc t.0, t.1)) (at_end xs a b j e)
+
+note_apart : Note ≢ Placed
+note_apart e = cc
 
 dealer_apart : Dealer ≢ Placed
 dealer_apart e = cc
@@ -103,7 +106,7 @@ module _ (size : Size) (s : Row) (h : Orderly size s) where
       let few : h.dealt ≤ size.passes = h.few in let all : v.view.passes ≡ size.passes = p.passes in let below : number_of x < h.dealt = word.1 in
       let near : number_of x < v.view.passes = omega arith in (
         changes id v (record v { view = learns v.view x }) at role refl
-            record { number = p.number; passes = p.passes; seat = p.seat; words = starts; own = p.own; learnt = positions-others v.view.number x words other ∙ p.learnt }
+            record { number = p.number; passes = p.passes; seat = p.seat; words = starts; told = p.told; own = p.own; learnt = positions-others v.view.number x words other ∙ p.learnt }
             (set s.words n x) (set-get_or s.words n 0),
         ((word.0, near), other),
       )
@@ -117,7 +120,7 @@ looks size slots id n me role here = subst (λ (k : ℕ). Allows (Orderly size) 
       keeps,
       tt,
       changes size s h id v (record v { view = finds_vacant v.view }) at role refl
-          record { number = p.number; passes = p.passes; seat = p.seat; words = p.words; own = p.own; learnt = p.learnt }
+          record { number = p.number; passes = p.passes; seat = p.seat; words = p.words; told = p.told; own = p.own; learnt = p.learnt }
           (set s.words k (get_or s.words k 0)) (set-get_or s.words k 0),
       ((λ _. refl), (λ ne. absurd (ne is))),
     ))
@@ -125,8 +128,28 @@ looks size slots id n me role here = subst (λ (k : ℕ). Allows (Orderly size) 
     let t = learns_next size s h id v at role ne in
     (record v { view = learns v.view (get_or s.words k 0) }, keeps, tt, t.0, ((λ is. absurd (ne is)), (λ _. (refl, t.1))))))
 
+-- a load of a word that the note has finds that word
+pub hears : (size : Size) (slots id n : ℕ) (me : Sat) → me.0.role ≡ Placed → length me.0.view.words ≡ n → n < length me.0.told → Allows (Orderly size) slots id me n (λ x. x) (heard (step slots n 0 0 none) me)
+hears size slots id n me role here told = subst (λ (k : ℕ). k < length me.0.told → Allows (Orderly size) slots id me k (λ x. x) (heard (step slots k 0 0 none) me)) here (λ lt s h wide at small.
+    let v : Standing = me.0 in let k : ℕ = length v.view.words in let p = is_placed size s h id v at role in
+    let found : get_or s.words k 0 ≡ get_or v.told k 0 = ap (λ (l : List ℕ). get_or l k 0) h.row ∙ told_word h.dealt h.vacant k h.entered v.told p.told lt in
+    let some_word : get_or v.told k 0 ≢ 0 = not_vacant h.dealt k h.entered v.told p.told h.words lt in
+    let t = learns_next size s h id v at role (λ is. some_word (sym found ∙ is)) in
+    (record v { view = learns v.view (get_or s.words k 0) }, keeps, tt, t.0, ((refl, t.1), found))) told
+
+-- what was learnt and what was told begin the same row
+pub compares : (size : Size) (slots id : ℕ) (me : Sat) → me.0.role ≡ Placed → Allows (Orderly size) slots id me 0 (λ x. x) (compared (step slots 0 0 0 none) me)
+compares size slots id me role s h wide at small =
+    let v : Standing = me.0 in let p = is_placed size s h id v at role in (
+      v,
+      keeps,
+      tt,
+      changes size s h id v v at role refl p (set s.words 0 (get_or s.words 0 0)) (set-get_or s.words 0 0),
+      (refl, shorter h.entered v.view.words v.told p.words p.told, shorter h.entered v.told v.view.words p.told p.words),
+    )
+
 module _ (entered : List ℕ) (dealt dealer : ℕ) (seat_of : ℕ → ℕ) (passes x : ℕ) where
-  -- another seat stays as it was when a place enters a word
+  -- another seat stays as it was when a place enters_word a word
   grows_beside : (j : ℕ) (u : Standing) → ((number : ℕ) → seat_of number ≡ j → number_of x ≢ number) → (r : Role)
       → Fits passes entered dealt dealer seat_of j u r → Fits passes (entered ++ x ∷ []) dealt dealer seat_of j u r
   grows_beside j u other Dealer t = t
@@ -135,11 +158,14 @@ module _ (entered : List ℕ) (dealt dealer : ℕ) (seat_of : ℕ → ℕ) (pass
     passes = t.passes;
     seat = t.seat;
     words = starts_more entered u.view.words x t.words;
+    told = starts_more entered u.told x t.told;
     own = positions-others u.view.number x entered (other u.view.number t.seat) ∙ t.own;
     learnt = t.learnt;
   }
+  grows_beside j u other Note t = starts_more entered u.view.words x t
+  grows_beside j u other Spent t = tt
 
--- a place enters its word behind all words of the row
+-- a place enters_word its word behind all words of the row
 enters_next : (size : Size) (s : Row) (h : Orderly size s) (id index : ℕ) (v : Standing) → get_elem? s.views id ≡ some v → v.role ≡ Placed → index < 2 ^ 48
     → length v.view.words < size.room → get_or s.words (length v.view.words) 0 ≡ 0
     → Orderly size record { words = set s.words (length v.view.words) (order_word v.view.number index); homes = s.homes; views = set s.views id (record v { view = enters_word v.view (order_word v.view.number index) }) }
@@ -161,6 +187,7 @@ enters_next size s h id index v at role small room is =
       passes = p.passes;
       seat = p.seat;
       words = ([], ap (λ (l : List ℕ). l ++ x ∷ []) all ∙ sym (append-nil (words ++ x ∷ [])));
+      told = starts_more h.entered v.told x p.told;
       own = own_more;
       learnt = sym (ap (λ (l : List ℕ). positions v.view.number (l ++ x ∷ [])) all) ∙ own_more;
     } in record {
@@ -194,6 +221,60 @@ tries size slots id n index me role here few room =
     let t = learns_next size s h id v at role ne in
     (record v { view = learns v.view found }, keeps, tt, t.0, ((λ is. absurd (ne is)), (λ _. (refl, t.1)))))) room
 
+-- a seat comes that is no place
+comes : (size : Size) (s : Row) (h : Orderly size s) (u : Standing) → Fits size.passes h.entered h.dealt h.dealer h.seat_of (length s.views) u u.role
+    → Orderly size record { words = s.words; homes = s.homes; views = s.views ++ u ∷ [] }
+comes size s h u fits = record {
+  entered = h.entered;
+  vacant = h.vacant;
+  dealt = h.dealt;
+  dealer = h.dealer;
+  seat_of = h.seat_of;
+  row = h.row;
+  wide = h.wide;
+  few = h.few;
+  words = h.words;
+  each = λ j y e. ⊎_elim (h.each j y)
+      (λ (t : (j ≡ length s.views) × (u ≡ y)). subst (λ (z : ℕ × Standing). Fits size.passes h.entered h.dealt h.dealer h.seat_of z.0 z.1 z.1.role) (λ k. (sym t.0 k, t.1 k)) fits)
+      (at_end s.views u y j e);
+  placed = λ number below. let p = h.placed number below in (p.0, at_longer s.views (u ∷ []) (h.seat_of number) p.0 p.1, p.2, p.3);
+}
+
+pub writes : (size : Size) (id : ℕ) (v : Standing) → v.role ≡ Placed → Splits (Orderly size) id v v (noted v)
+writes size id v role s h at =
+    let p = is_placed size s h id v at role in
+    subst (λ (l : List Standing). Orderly size record { words = s.words; homes = s.homes; views = l ++ noted v ∷ [] }) (sym (set_again s.views id v at)) (comes size s h (noted v) p.words)
+
+-- a note is spent
+ends : (size : Size) (s : Row) (h : Orderly size s) (id : ℕ) (v : Standing) → get_elem? s.views id ≡ some v → v.role ≡ Note
+    → Orderly size record { words = s.words; homes = s.homes; views = set s.views id spent }
+ends size s h id v at role = record {
+  entered = h.entered;
+  vacant = h.vacant;
+  dealt = h.dealt;
+  dealer = h.dealer;
+  seat_of = h.seat_of;
+  row = h.row;
+  wide = h.wide;
+  few = h.few;
+  words = h.words;
+  each = λ j u e. ⊎_elim
+      (λ (x : (j ≡ id) × (spent ≡ u)). subst (λ (y : Standing). Fits size.passes h.entered h.dealt h.dealer h.seat_of j y y.role) x.1 tt)
+      (λ (x : (j ≢ id) × (get_elem? s.views j ≡ some u)). h.each j u x.1)
+      (at_set s.views id j spent u e);
+  placed = λ number below. let p = h.placed number below in
+      let other : h.seat_of number ≢ id = λ e. let same : v ≡ p.0 = one_at s.views id (h.seat_of number) v p.0 at p.1 e in note_apart (sym role ∙ ap (λ (u : Standing). u.role) same ∙ p.2) in
+      (p.0, set_else s.views id (h.seat_of number) spent other ∙ p.1, p.2, p.3);
+}
+
+pub reads : (size : Size) (id other : ℕ) (v w : Standing) → v.role ≡ Placed → w.role ≡ Note → Joins (Orderly size) id v other w (joined v w) spent
+reads size id other v w role note s h at apart there =
+    let p = is_placed size s h id v at role in
+    let there' : get_elem? s.views other ≡ some w = sym (set_else s.views id other (joined v w) apart) ∙ there in
+    let words : StartsWith h.entered w.view.words = subst (Fits size.passes h.entered h.dealt h.dealer h.seat_of other w) note (h.each other w there') in
+    let told = changes size s h id v (joined v w) at role refl record { number = p.number; passes = p.passes; seat = p.seat; words = p.words; told = words; own = p.own; learnt = p.learnt } s.words refl in
+    ends size record { words = s.words; homes = s.homes; views = set s.views id (joined v w) } told other w there note
+
 -- another seat stays as it was when the dealer deals a place
 deals_beside : (passes : ℕ) (entered : List ℕ) (dealt' dealer seat j : ℕ) (seat_of : ℕ → ℕ) (u : Standing) → j ≢ dealer → (r : Role)
     → Fits passes entered dealt' dealer seat_of j u r → Fits passes entered (dealt' + 1) dealer (λ k. cond (eqb k dealt') seat (seat_of k)) j u r
@@ -206,9 +287,12 @@ deals_beside passes entered dealt' dealer seat j seat_of u other Placed t =
       passes = t.passes;
       seat = ap (λ (b : Bool). cond b seat (seat_of u.view.number)) (ne_eqb u.view.number dealt' old) ∙ t.seat;
       words = t.words;
+      told = t.told;
       own = t.own;
       learnt = t.learnt;
     }
+deals_beside passes entered dealt' dealer seat j seat_of u other Note t = t
+deals_beside passes entered dealt' dealer seat j seat_of u other Spent t = tt
 
 word_below_more : (dealt' x : ℕ) → IsWord dealt' x → IsWord (dealt' + 1) x
 word_below_more dealt' x word = let below : number_of x < dealt' = word.1 in let more : number_of x < dealt' + 1 = below_more (number_of x) dealt' below in (word.0, more)
@@ -224,6 +308,7 @@ deals size id number few s h at =
       passes = refl;
       seat = ap (λ (b : Bool). cond b (length vs) (h.seat_of number)) (eq-eqb number h.dealt mine.1);
       words = (h.entered, refl);
+      told = (h.entered, refl);
       own = positions-absent number h.dealt 0 h.entered (omega (arith, mine.1)) h.words;
       learnt = refl;
     } in record {

@@ -7,8 +7,8 @@ use Rattle.grb_order.specs.Word.{number_of, StartsWith}
 use Rattle.grb_order.specs.Rule.{Orderly}
 use Rattle.grb_order.specs.declared.rule.Size.{Size}
 use Rattle.grb_order.specs.declared.view.View.{View}
-use Rattle.grb_order.specs.declared.rule.Standing.{Standing}
-use Rattle.grb_order.specs.declared.rule.Role.TheVariants.{Placed}
+use Rattle.grb_order.specs.declared.standing.Standing.{Standing}
+use Rattle.grb_order.specs.declared.standing.Role.TheVariants.{Placed}
 
 abbrev pub Row : Type 0
 Row = State (Unit {0}) Standing

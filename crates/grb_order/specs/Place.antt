@@ -2,8 +2,8 @@
 use Rattle.std.specs.Prelude.{◌≡◌, ℕ, ◌≤◌, List, vec_capacity}
 use Rattle.grb_order.specs.View.{IsSound}
 use Rattle.grb_order.specs.Holding.{Holding}
-use Rattle.grb_order.specs.declared.rule.Standing.{Standing}
-use Rattle.grb_order.specs.declared.rule.Role.TheVariants.{Placed}
+use Rattle.grb_order.specs.declared.standing.Standing.{Standing}
+use Rattle.grb_order.specs.declared.standing.Role.TheVariants.{Placed}
 use Rattle.grb_order.specs.declared.place.Place.TheInside.{Inside}
 
 abbrev pub holding : Inside → Holding

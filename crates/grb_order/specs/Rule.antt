@@ -5,16 +5,18 @@ use lib.ListN.{get_elem?}
 use Rattle.atomic_table.specs.Table.{State}
 use Rattle.grb_order.specs.Word.{IsWord, positions, StartsWith}
 use Rattle.grb_order.specs.declared.rule.Size.{Size}
-use Rattle.grb_order.specs.declared.rule.Standing.{Standing}
-use Rattle.grb_order.specs.declared.rule.Role.{Role}
-use Rattle.grb_order.specs.declared.rule.Role.TheVariants.{Dealer, Placed}
+use Rattle.grb_order.specs.declared.standing.Standing.{Standing}
+use Rattle.grb_order.specs.declared.standing.Role.{Role}
+use Rattle.grb_order.specs.declared.standing.Role.TheVariants.{Dealer, Placed, Note, Spent}
 
--- a place: its words begin the words entered, and the words of its number are at just its own positions, all of them learnt
+-- a place: its words begin the words entered, and so do those of the last note that it took in; the words of its number are at just
+-- its own positions, all of them learnt
 pub record IsPlaced (size : ℕ) (entered : List ℕ) (dealt : ℕ) (seat_of : ℕ → ℕ) (at : ℕ) (v : Standing) : Type 0 where
   pub number : v.view.number < dealt
   pub passes : v.view.passes ≡ size
   pub seat : seat_of v.view.number ≡ at
   pub words : StartsWith entered v.view.words
+  pub told : StartsWith entered v.told
   pub own : positions v.view.number entered ≡ v.view.own
   pub learnt : positions v.view.number v.view.words ≡ v.view.own
 
@@ -22,6 +24,8 @@ module _ (passes : ℕ) (entered : List ℕ) (dealt dealer : ℕ) (seat_of : ℕ
   abbrev pub Fits : Role → Type 0
   Fits Dealer = (seat ≡ dealer) × (v.view.number ≡ dealt)
   Fits Placed = IsPlaced passes entered dealt seat_of seat v
+  Fits Note = StartsWith entered v.view.words
+  Fits Spent = Unit {0}
 
 -- the first `dealt` places have a seat each, and the dealer has those from there on
 pub record Orderly (size : Size) (s : State (Unit {0}) Standing) : Type 0 where

@@ -1,12 +1,13 @@
--- The two kinds of step on the row, both on the first word that the place has not learnt: what each tells, of the step, the seat
--- before, the number found and the seat after; and what the calls that make them answer.
-use Rattle.std.specs.Prelude.{◌≡◌, ◌≢◌, ℕ, ◌<◌, length}
+-- The steps on the row: a look and a try, both on the first word that the place has not learnt, and the loads by which a place is
+-- told what another has learnt: what each tells, of the step, the seat before, the number found and the seat after; and what the calls
+-- that make them answer.
+use Rattle.std.specs.Prelude.{◌≡◌, ◌≢◌, ℕ, ◌<◌, ◌≤◌, [], length, slice_index}
 use Rattle.atomic_table.specs.Table.{Me, Step}
-use Rattle.grb_order.specs.Word.{order_word}
+use Rattle.grb_order.specs.Word.{order_word, StartsWith}
 use Rattle.grb_order.specs.View.{fresh, learns, finds_vacant, enters_word, IsOthers}
 use Rattle.grb_order.specs.declared.view.View.{View}
-use Rattle.grb_order.specs.declared.rule.Standing.{Standing}
-use Rattle.grb_order.specs.declared.rule.Role.TheVariants.{Dealer, Placed}
+use Rattle.grb_order.specs.declared.standing.Standing.{Standing}
+use Rattle.grb_order.specs.declared.standing.Role.TheVariants.{Dealer, Placed, Note, Spent}
 use Rattle.grb_order.specs.declared.step.Look.{Look}
 use Rattle.grb_order.specs.declared.step.Look.TheVariants.{Next, Vacant, Full}
 use Rattle.grb_order.specs.declared.step.Entered.{Entered}
@@ -20,14 +21,26 @@ Play = Step (Unit {0}) → Sat → ℕ → Sat → Type 0
 
 -- the dealer before it deals the place of this number
 abbrev pub dealing : ℕ → ℕ → Standing
-dealing number passes = record { role = Dealer; view = fresh number passes }
+dealing number passes = record { role = Dealer; view = fresh number passes; told = [] }
 
 abbrev pub placed : ℕ → ℕ → Standing
-placed number passes = record { role = Placed; view = fresh number passes }
+placed number passes = record { role = Placed; view = fresh number passes; told = [] }
 
 -- the place that the dealer deals
 abbrev pub dealt : Standing → Standing
 dealt v = placed v.view.number v.view.passes
+
+-- a note of what a place has learnt
+abbrev pub noted : Standing → Standing
+noted v = record v { role = Note }
+
+-- a place that took a note in
+abbrev pub joined : Standing → Standing → Standing
+joined v note = record v { told = note.view.words }
+
+-- a note that was taken in
+abbrev pub spent : Standing
+spent = record { role = Spent; view = fresh 0 0; told = [] }
 
 -- the same seat with another view
 abbrev pub seen : Sat → View → Sat
@@ -43,6 +56,14 @@ looked st m found n = (found ≡ 0 → n ≡ seen m (finds_vacant m.0.view)) × 
 -- a compare-and-swap from 0: won, and the own word is entered; or lost to a word of another place, which is learnt
 abbrev pub tried : Play
 tried st m found n = (found ≡ 0 → n ≡ seen m (enters_word m.0.view st.second)) × (found ≢ 0 → LearnsWord m found n)
+
+-- a load after a note was taken in: of the words learnt and those of the note the shorter list begins the longer
+abbrev pub compared : Play
+compared st m found n = (n ≡ m) × (length m.0.told ≤ length m.0.view.words → StartsWith m.0.view.words m.0.told) × (length m.0.view.words ≤ length m.0.told → StartsWith m.0.told m.0.view.words)
+
+-- a load of a word that the note has: it is found, and learnt
+abbrev pub heard : Play
+heard st m found n = LearnsWord m found n × (found ≡ slice_index m.0.told st.word)
 
 -- a look at a row of `room` words, by the view before and after
 abbrev pub Looks : ℕ → View → Look → View → Type 0

@@ -1,5 +1,5 @@
 -- How one step changes the view of a place.
-use Rattle.std.specs.Prelude.{◌≡◌, ◌≢◌, ℕ, ◌<◌, ◌≤◌, List, [], ◌∷◌, ◌++◌, length, All}
+use Rattle.std.specs.Prelude.{◌≡◌, ◌≢◌, ℕ, ◌<◌, ◌≤◌, List, [], ◌∷◌, ◌++◌, length, All, drop}
 use Rattle.grb_order.specs.Word.{number_of, IsWord, positions}
 use Rattle.grb_order.specs.declared.view.View.{View}
 
@@ -18,6 +18,10 @@ finds_vacant v = record v { looks = v.looks ++ length v.words ∷ [] }
 -- its own word is entered after the words that it has learnt
 abbrev pub enters_word : View → ℕ → View
 enters_word v word = record v { words = v.words ++ word ∷ []; own = v.own ++ length v.words ∷ [] }
+
+-- it learns the words that another place has beyond its own
+abbrev pub is_told : View → List ℕ → View
+is_told v words = record v { words = v.words ++ drop (length v.words) words }
 
 -- another place entered the word
 abbrev pub IsOthers : View → ℕ → Type 0

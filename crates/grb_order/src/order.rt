@@ -3,7 +3,8 @@ ghost use Rattle.grb_order.specs.Steps.{dealing};
 ghost use Rattle.grb_order.specs.Order.{AreFresh};
 
 use crate::place::{Place, Seat};
-use crate::rule::{Deal, Rule, Size, Standing};
+use crate::rule::{Deal, Rule, Size};
+use crate::standing::Standing;
 use atomic_table::{Shared, Table};
 use std::alloc::{AllocError, Global};
 use std::marker::Model;

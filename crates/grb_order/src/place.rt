@@ -1,6 +1,6 @@
 ghost use Rattle.std.specs.Prelude.{◌≡◌};
 
-use crate::rule::Standing;
+use crate::standing::Standing;
 use std::marker::Model;
 
 pub type Seat = atomic_table::Seat<(), Standing>;

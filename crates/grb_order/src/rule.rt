@@ -1,29 +1,11 @@
 // The rule of the row, which holds between any two steps of any threads, and the steps that keep it. No value of these types but
 // `Size` is made.
 ghost use Rattle.std.specs.Prelude.{◌+◌};
-ghost use Rattle.std.specs.Borrow.{ftrue};
 ghost use Rattle.grb_order.specs.Rule.{Orderly};
-ghost use Rattle.grb_order.specs.Steps.{dealing, dealt, looked, tried};
+ghost use Rattle.grb_order.specs.Steps.{dealing, dealt, noted, joined, spent, looked, tried, compared, heard};
 
-use crate::view::View;
-use atomic_table::{Play, Split, TableRule};
-use std::marker::Model;
-
-pub enum Role {
-    // It deals the places out. Its number is that of the next one.
-    Dealer,
-    Placed,
-}
-
-// What the rule knows of each seat.
-pub struct Standing {
-    pub role: Role,
-    pub view: View,
-}
-
-impl Model for Standing {
-    ghost also_owns = { λ _. ftrue };
-}
+use crate::standing::Standing;
+use atomic_table::{Join, Play, Split, TableRule};
 
 // How many words the row has, and how many places there are.
 #[derive(Clone, Copy)]
@@ -49,6 +31,24 @@ impl Split<Standing> for Deal {
     ghost right = { dealt };
 }
 
+// Writes down what a place has learnt.
+pub struct Write;
+
+impl Split<Standing> for Write {
+    ghost left = { λ v. v };
+
+    ghost right = { noted };
+}
+
+// Takes a note in.
+pub struct Read;
+
+impl Join<Standing> for Read {
+    ghost both = { joined };
+
+    ghost spent = { spent };
+}
+
 // A load of the first word that the place has not learnt.
 pub struct Looking;
 
@@ -61,4 +61,18 @@ pub struct Entering;
 
 impl Play<(), Standing> for Entering {
     ghost then = { tried };
+}
+
+// A load that finds of the words learnt and those of the note that the shorter list begins the longer.
+pub struct Comparing;
+
+impl Play<(), Standing> for Comparing {
+    ghost then = { compared };
+}
+
+// A load of a word that the note has.
+pub struct Hearing;
+
+impl Play<(), Standing> for Hearing {
+    ghost then = { heard };
 }

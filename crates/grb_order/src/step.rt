@@ -1,10 +1,11 @@
-ghost use Rattle.std.specs.Prelude.{◌≡◌, ◌^◌, ◌<◌};
-ghost use Rattle.grb_order.specs.View.{IsSound, LookedLast};
+ghost use Rattle.std.specs.Prelude.{◌≡◌, ◌^◌, ◌<◌, All, drop, length};
+ghost use Rattle.grb_order.specs.Word.{StartsWith};
+ghost use Rattle.grb_order.specs.View.{is_told, IsOthers, IsSound, LookedLast};
 ghost use Rattle.grb_order.specs.Order.{room_of};
 
 use crate::order::Order;
 use crate::place::Place;
-use crate::rule::{Entering, Looking};
+use crate::rule::{Comparing, Entering, Hearing, Looking, Read, Write};
 use crate::word::order_word;
 
 /// What a look found after the words that the place had learnt.
@@ -70,5 +71,28 @@ impl Order {
         }
         place.words.push_reserved(found);
         Entered::Lost(found)
+    }
+
+    /// Tells the place all that the other has learnt: it goes by a note of the other's seat, and each word that the place had not learnt
+    /// is loaded once. Nothing of the other changes. Takes no memory.
+    pub fn tell(&self, place: &mut Place, other: &mut Place)
+        requires place { place.old.table_id ≡ self.now }
+        requires other { other.old.table_id ≡ self.now }
+        ensures order { place.new.table_id ≡ self.now }
+        ensures told { place.new.view ≡ is_told place.old.view other.old.view.words }
+        ensures known { StartsWith place.new.view.words other.old.view.words }
+        ensures others { All (IsOthers place.old.view) (drop (length place.old.view.words) other.old.view.words) }
+        ensures other { other.new ≡ other.old }
+        ensures sound { IsSound (room_of place.new.table_id) place.new.view }
+    {
+        let row = &self.table.shared;
+        let note = row.split_seat::<Write>(&mut other.seat);
+        row.join_seat::<Read>(&mut place.seat, note);
+        row.load::<Comparing>(&mut place.seat, 0);
+        while place.words.len() < other.words.len() {
+            let at = place.words.len();
+            let word = row.load::<Hearing>(&mut place.seat, at);
+            place.words.push_reserved(word);
+        }
     }
 }

@@ -78,6 +78,7 @@ impl Records {
     /// did not take the call since it has a record; `OutOfMemory` where memory for the record is refused, and then the cell is as
     /// before. Nothing else is refused; that a cell without a record takes one where there is memory, no contract says. Takes memory
     /// for the record alone, and does not wait.
+    #[inline(always)]
     pub fn put(&self, pass: u32, at: u64, call: Call) -> Result<Token, Refusal>
         ensures put { IfOk result (λ token. (token.pass ≡ pass) × (token.index ≡ at) × (token.call ≡ call)) }
         ensures of { IfOk result (IsOf self.now) }

@@ -1,3 +1,4 @@
 mod Accepted
 mod Applied
+mod Lent
 mod Objects

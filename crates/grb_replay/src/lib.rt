@@ -7,7 +7,10 @@
 #![tactic(auto)]
 
 mod matrices;
+mod matrix_operations;
+mod operations;
 mod state;
+mod vector_operations;
 mod vectors;
 
 pub use state::State;

@@ -1,8 +1,10 @@
-ghost use Rattle.std.specs.Prelude.{◌≡◌, ◌<◌, [], ◌∷◌, ◌++◌, OnOk, OnErr, IfOk, IfSome, slice_set, vec_len, vec_capacity};
+ghost use Rattle.std.specs.Prelude.{◌≡◌, ◌<◌, ℕ, [], ◌∷◌, ◌++◌, Some, true, is_some, OnOk, OnErr, IfOk, IfSome, slice_set, vec_len, vec_capacity};
 ghost use Rattle.std.specs.Option.{option_map};
 ghost use Rattle.grb_call.specs.Output.{matrix_after, matrix_left};
 ghost use Rattle.grb_call.specs.Shapes.{object_at};
+ghost use Rattle.grb_call.specs.Store.{empty_store};
 ghost use Rattle.grb_replay.specs.Fits.{FitsMatrix};
+ghost use Rattle.grb_replay.specs.Operation.{IsAssembledMatrix};
 ghost use Rattle.grb_replay.specs.State.{stored_matrix, stored_matrices};
 
 use grb_call::{Call, MatrixId};
@@ -12,7 +14,7 @@ use std::alloc::AllocError;
 /// Changes the matrix as the call says. `AllocError` where memory is refused; then its entries are as before.
 fn change_matrix(matrix: &mut SparseMatrix, call: &Call) -> Result<(), AllocError>
     requires fits { FitsMatrix call.now matrix.old.matrix }
-    ensures ok { OnOk result (matrix.new.matrix ≡ matrix_after call.now matrix.old.matrix) }
+    ensures ok { OnOk result (matrix.new.matrix ≡ matrix_after empty_store call.now matrix.old.matrix) }
     ensures err { OnErr result (matrix.new.matrix ≡ matrix.old.matrix) }
 {
     match call {
@@ -39,7 +41,7 @@ fn change_matrix(matrix: &mut SparseMatrix, call: &Call) -> Result<(), AllocErro
 /// Changes or ends the matrix of this place, if there is one, as the call says. `AllocError` where memory is refused.
 fn change_place(place: &mut Option<SparseMatrix>, call: &Call) -> Result<(), AllocError>
     requires fits { IfSome (option_map stored_matrix place.old) (FitsMatrix call.now) }
-    ensures ok { OnOk result (option_map stored_matrix place.new ≡ matrix_left call.now (option_map stored_matrix place.old)) }
+    ensures ok { OnOk result (option_map stored_matrix place.new ≡ matrix_left empty_store call.now (option_map stored_matrix place.old)) }
     ensures err { OnErr result (option_map stored_matrix place.new ≡ option_map stored_matrix place.old) }
 {
     if let Call::FreeMatrix { .. } = call {
@@ -60,7 +62,7 @@ pub(crate) fn edit_matrix(
     call: &Call,
 ) -> Result<(), AllocError>
     requires fits { IfSome (object_at (stored_matrices matrices.old.items) a.0) (FitsMatrix call.now) }
-    ensures ok { OnOk result (stored_matrices matrices.new.items ≡ slice_set (stored_matrices matrices.old.items) a.0 (matrix_left call.now (object_at (stored_matrices matrices.old.items) a.0))) }
+    ensures ok { OnOk result (stored_matrices matrices.new.items ≡ slice_set (stored_matrices matrices.old.items) a.0 (matrix_left empty_store call.now (object_at (stored_matrices matrices.old.items) a.0))) }
     ensures err { OnErr result (stored_matrices matrices.new.items ≡ stored_matrices matrices.old.items) }
     ensures capacity { vec_capacity matrices.new ≡ vec_capacity matrices.old }
 {
@@ -103,4 +105,68 @@ pub(crate) fn matrix_of(matrices: &[Option<SparseMatrix>], a: MatrixId) -> Optio
     ensures { option_map (λ x. x.now.matrix) result ≡ object_at (stored_matrices matrices.now) a.0 }
 {
     matrices.get(a.0 as usize)?.as_ref()
+}
+
+/// Assembles the matrix of this place, if there is one. `AllocError` where memory is refused; its entries are as before in any case.
+fn assemble_place(place: &mut Option<SparseMatrix>) -> Result<(), AllocError>
+    ensures same { option_map stored_matrix place.new ≡ option_map stored_matrix place.old }
+    ensures assembled { OnOk result (IfSome place.new (λ m. m.assembled ≡ true)) }
+    ensures kept { IfSome place.old (λ m. m.assembled ≡ true) → IfSome place.new (λ m. m.assembled ≡ true) }
+{
+    match place {
+        Some(matrix) => matrix.assemble(),
+        None => Ok(()),
+    }
+}
+
+/// Assembles the matrix with this number, if it is there. `AllocError` where memory is refused; its entries are as before in any
+/// case, and what was assembled stays so.
+pub(crate) fn assemble_matrix(
+    matrices: &mut Vec<Option<SparseMatrix>>,
+    a: MatrixId,
+) -> Result<(), AllocError>
+    ensures same { stored_matrices matrices.new.items ≡ stored_matrices matrices.old.items }
+    ensures assembled { OnOk result (IsAssembledMatrix matrices.new.items a.0) }
+    ensures kept { (n : ℕ) → IsAssembledMatrix matrices.old.items n → IsAssembledMatrix matrices.new.items n }
+    ensures capacity { vec_capacity matrices.new ≡ vec_capacity matrices.old }
+{
+    match matrices.get_mut(a.0 as usize) {
+        Some(place) => assemble_place(place),
+        None => Ok(()),
+    }
+}
+
+/// Puts the matrix in the place of the one with this number. Takes no memory.
+pub(crate) fn put_matrix(matrices: &mut Vec<Option<SparseMatrix>>, a: MatrixId, made: SparseMatrix)
+    ensures matrices { stored_matrices matrices.new.items ≡ slice_set (stored_matrices matrices.old.items) a.0 (Some made.matrix) }
+    ensures capacity { vec_capacity matrices.new ≡ vec_capacity matrices.old }
+{
+    if let Some(place) = matrices.get_mut(a.0 as usize) {
+        *place = Some(made);
+    }
+}
+
+/// The matrix with this number, which is there. Takes no memory.
+pub(crate) fn lent_matrix(matrices: &[Option<SparseMatrix>], a: MatrixId) -> &SparseMatrix
+    requires { is_some (object_at matrices.now a.0) ≡ true }
+    ensures { object_at matrices.now a.0 ≡ Some result.now }
+{
+    match matrices.get(a.0 as usize) {
+        Some(Some(matrix)) => matrix,
+        _ => unreachable!(),
+    }
+}
+
+/// The mask with this number, which is there, or none. Takes no memory.
+pub(crate) fn lent_matrix_mask(
+    matrices: &[Option<SparseMatrix>],
+    mask: Option<MatrixId>,
+) -> Option<&SparseMatrix>
+    requires { IfSome mask (λ a. is_some (object_at matrices.now a.0) ≡ true) }
+    ensures { option_map (λ m. Some m.now) result ≡ option_map (λ a. object_at matrices.now a.0) mask }
+{
+    match mask {
+        Some(a) => Some(lent_matrix(matrices, a)),
+        None => None,
+    }
 }

@@ -11,6 +11,7 @@ ghost use Rattle.grb_call.specs.After.{after, changed, get_reply, has_old_entrie
 ghost use Rattle.grb_replay.specs.State.{stored};
 
 use crate::matrices::{dup_matrix, edit_matrix, matrix_of};
+use crate::operations::{is_operation, operate};
 use crate::vectors::{dup_vector, edit_vector, vector_of};
 use grb_call::{Call, Kind, MatrixId, Object, Reply, Shapes, VectorId, check};
 use grb_core::{Refusal, Value};
@@ -87,6 +88,9 @@ fn change(
     ensures matrices { vec_capacity matrices.new ≡ vec_capacity matrices.old }
     ensures vectors { vec_capacity vectors.new ≡ vec_capacity vectors.old }
 {
+    if is_operation(call) {
+        return operate(matrices, vectors, call);
+    }
     match call.output() {
         Some(Object::Matrix(a)) => edit_matrix(matrices, a, call),
         Some(Object::Vector(v)) => edit_vector(vectors, v, call),
@@ -177,7 +181,8 @@ impl State {
         match check(&self.shapes, call) {
             Err(refusal) => Some(refusal),
             Ok(Kind::Build { in_bounds }) => self.refused_build(call, in_bounds),
-            Ok(Kind::Enters | Kind::Reads) => None,
+            Ok(Kind::Enters) => None,
+            Ok(Kind::Reads) => None,
         }
     }
 

@@ -160,6 +160,23 @@ module _ (rows starts columns : List ℕ) (flat : IsFlat rows starts columns) wh
         | inr t ↦ let up = flat.rise (k + 1) i (omega (arith, a, t)) b in omega (arith, e, next, up)
       ])
 
+  -- where a row ends before the end of all, the next one begins
+  pub row_after : (k : ℕ) → k < length rows → (end : ℕ) → end ≡ get_or starts (k + 1) (length columns) → end < length columns → (k + 1 < length rows) × (row_at end 0 rows starts ≡ get_or rows (k + 1) 0)
+  row_after k l end is m =
+      let same = flat.same in
+      elim (cases_lt (k + 1) (length starts)) [
+        | inl t ↦
+            let here : end ≡ get_or starts (k + 1) 0 = is ∙ get_or_default starts (k + 1) (length columns) 0 t in
+            let among : k + 1 < length rows = omega (arith, t, same) in
+            (among, row_at-at rows starts (k + 1) end 0 same among (omega (arith, here)) (λ i a b. let up = flat.rise (k + 1) i a b in omega (arith, here, up)))
+        | inr t ↦ let far : get_or starts (k + 1) (length columns) ≡ length columns = past starts (k + 1) (length columns) t in absurd (omega (arith, is, far, m))
+      ]
+    where
+      past : (xs : List ℕ) (i d : ℕ) → length xs ≤ i → get_or xs i d ≡ d
+      past [] i d h = refl
+      past (x ∷ xs) zero d h = absurd (omega arith)
+      past (x ∷ xs) (suc i) d h = past xs i d (omega arith)
+
   -- spans lie within, and are not empty
   pub span_inside : (k : ℕ) → k < length rows → (get_or starts k 0 < get_or starts (k + 1) (length columns)) × (get_or starts (k + 1) (length columns) ≤ length columns)
   span_inside k l =

@@ -9,3 +9,4 @@ pub mod FlatCells
 pub mod Cut
 pub mod CellLists
 pub mod OneRow
+pub mod Packing

@@ -1,5 +1,6 @@
 pub mod Cells
 pub mod Held
+pub mod Packed
 pub mod Pending
 pub mod Stored
 pub mod Values

@@ -6,10 +6,11 @@ ghost use Rattle.std.specs.FinMap.{find, is_sorted};
 ghost use Rattle.std.specs.Vec.{vec_len, vec_capacity};
 ghost use Rattle.grb_core.specs.declared.value.Value.{Value as Stored};
 ghost use Rattle.grb_core.specs.Value.{value_domain};
-ghost use Rattle.grb_core.specs.Entries.{cell_cmp, restricted, values_of};
+ghost use Rattle.grb_core.specs.Entries.{restricted, values_of};
 ghost use Rattle.grb_core.specs.Contents.{is_cell_in};
 ghost use Rattle.grb_core.specs.Results.{row_of};
 ghost use Rattle.grb_rows.specs.Cells.{row_at, codes_of, cell_of, decoded, in_row, IsFlat};
+ghost use Rattle.grb_rows.specs.Stored.{IsInRow};
 
 use crate::values::Values;
 use grb_core::{Domain, Value};
@@ -190,27 +191,6 @@ impl FlatRows {
         Ok(row)
     }
 
-    /// The entries at these cells.
-    pub fn from_cells(
-        alloc: Global,
-        domain: Domain,
-        cells: &[((u64, u64), Value)],
-    ) -> Result<FlatRows, AllocError>
-        requires ordered { IsTrue (is_sorted cell_cmp cells.now) }
-        requires rows { All (λ e. e.0.0 < 2 ^ 32) cells.now }
-        requires columns { All (λ e. e.0.1 < 2 ^ 32) cells.now }
-        requires of_domain { All (λ e. value_domain e.1 ≡ domain) cells.now }
-        ensures entries { IfOk result (λ new. decoded new.entries ≡ cells.now) }
-        ensures domain { IfOk result (λ new. new.domain ≡ domain) }
-    {
-        let mut new = FlatRows::with_capacity(alloc, domain, cells.len())?;
-        for entry in cells {
-            new.push_reserved(code(entry.0.0, entry.0.1), entry.1);
-        }
-        new.shrink();
-        Ok(new)
-    }
-
     /// Where the entries of row `i` start and where they end.
     pub fn span(&self, i: u64) -> (usize, usize)
         ensures { drop result.0 (take result.1 self.now.entries) ≡ filter (λ e. nat_eq (e.0 / 2 ^ 32) i) self.now.entries }
@@ -239,6 +219,7 @@ impl FlatRows {
         ensures list { result.now ≡ self.now.rows }
         ensures rise { (i j : ℕ) → i < j → j < length self.now.rows → slice_index self.now.rows i < slice_index self.now.rows j }
         ensures all { (i : ℕ) → ((k : ℕ) → k < length self.now.rows → slice_index self.now.rows k ≢ i) → row_of i (decoded self.now.entries) ≡ [] }
+        ensures first { 0 < length self.now.entries → IsInRow self.now 0 0 }
     {
         &self.rows
     }
@@ -280,6 +261,18 @@ impl FlatRows {
             Values::Uint64(numbers) => numbers,
             Values::Bool(_) => unreachable!(),
         }
+    }
+
+    /// Where the entries of the `k`th row end: there those of the next row begin, or it is the end of all.
+    pub fn row_end(&self, k: usize) -> usize
+        requires { k < length self.now.rows }
+        ensures within { result ≤ length self.now.entries }
+        ensures after { (at : ℕ) → at < length self.now.entries → IsInRow self.now k at → at < result }
+        ensures row { (at p : ℕ) → at < length self.now.entries → IsInRow self.now k at → at ≤ p → p < result → IsInRow self.now k p }
+        ensures next { result < length self.now.entries → IsInRow self.now (k + 1) result }
+    {
+        let (_start, end) = bounds(&self.rows, &self.starts, &self.columns, k);
+        end
     }
 
     /// The columns of the `k`th row that has entries, in rising order.
@@ -443,6 +436,7 @@ fn bounds(rows: &[u32], starts: &[usize], columns: &[u32], k: usize) -> (usize, 
     ensures outside { (p : ℕ) → p < length columns.now → row_at p 0 rows.now starts.now ≡ slice_index rows.now k → (result.0 ≤ p) × (p < result.1) }
     ensures order { result.0 < result.1 }
     ensures within { result.1 ≤ length columns.now }
+    ensures next { result.1 < length columns.now → (k + 1 < length rows.now) × (row_at result.1 0 rows.now starts.now ≡ slice_index rows.now (k + 1)) }
 {
     let start = starts[k];
     let end = end_of(starts, k, columns.len());

@@ -9,6 +9,7 @@ mod flat;
 pub mod held;
 mod made;
 mod merge;
+pub mod packed;
 mod pending;
 mod values;
 

@@ -9,6 +9,7 @@ ghost use Rattle.std.specs.List.{AllByRecursion};
 ghost use Rattle.std.specs.List.Sorted.{IsSortedByKey};
 ghost use Rattle.grb_rows.specs.Pending.{last_at, value_left, IsChangeIn};
 
+use crate::packed;
 use grb_core::Value;
 use std::alloc::{AllocError, Global};
 use std::collections::HashMap;
@@ -113,10 +114,9 @@ impl Pending {
         ensures found { IfOk result (λ last. (q : ℕ) → find nat_cmp q last.items ≡ last_at q self.now.changes) }
         ensures inside { IfOk result (λ last. (size : ℕ) (domain : D) → All (IsChangeIn size domain) self.now.changes → All (IsChangeIn size domain) last.items) }
     {
-        let mut changes = Vec::new(*self.changes.allocator());
-        changes.extend_from_slice(&self.changes)?;
-        changes.sort_by_key(|change| change.0)?;
-        last_of_each(*self.changes.allocator(), &changes)
+        let alloc = *self.changes.allocator();
+        let changes = packed::in_order(alloc, &self.changes)?;
+        last_of_each(alloc, &changes)
     }
 
     /// Takes away all changes and places.

@@ -1,9 +1,10 @@
 -- What form words have, and what a statement of it leaves of the names.
-use Rattle.std.proofs.Common.{◌≡◌, ℕ, ◌-◌, ◌≤◌, true, List, [], ◌∷◌, length, get_or, take, drop, Option, Some, None, Ok, Err, Bor, if◌then◌else◌, refl, sym, ap, ◌∙◌, arith}
+use Rattle.std.proofs.Common.{◌≡◌, ℕ, ◌-◌, ◌≤◌, Bool, true, false, List, [], ◌∷◌, length, get_or, take, drop, Option, Some, None, Ok, Err, Bor, if◌then◌else◌, refl, sym, ap, ◌∙◌, arith}
 use Rattle.std.proofs.lemmas.List.{take_all}
 use Rattle.std.specs.Option.{option_and_then, option_map, option_map_or, ok_or}
 use Rattle.grb_script.specs.declared.fault.FaultKind.{FaultKind}
 use Rattle.grb_script.specs.declared.fault.FaultKind.TheVariants.{Statement, UnknownName}
+use Rattle.grb_script.specs.declared.keyword.Ewise.{Ewise}
 use Rattle.grb_script.specs.declared.keyword.Keyword.{Keyword}
 use Rattle.grb_script.specs.declared.keyword.Placed.{Placed}
 use Rattle.grb_script.specs.declared.keyword.Placed.TheVariants.{Remove, Get, Resize}
@@ -14,8 +15,9 @@ use Rattle.grb_script.specs.declared.names.Sort.{Sort}
 use Rattle.grb_script.specs.declared.indices.Indices.{Indices}
 use Rattle.grb_script.specs.Line.{Word}
 use Rattle.grb_script.specs.Names.{Name, name_found}
-use Rattle.grb_script.specs.Word.{is_name, keyword_of, monoid_of}
-use Rattle.grb_script.specs.Form.{Form, SetForm, BuildForm, form_of_placed, indices_of, indices_and_value_of, values_in, matrix_form, vector_form, whole_form, placed_form, set_form, build_form, form_with, form_of}
+use Rattle.grb_script.specs.Options.{options_of}
+use Rattle.grb_script.specs.Word.{is_name, keyword_of, monoid_of, operator_of}
+use Rattle.grb_script.specs.Form.{Form, SetForm, BuildForm, EwiseForm, ewise_form, form_of_placed, indices_of, indices_and_value_of, values_in, matrix_form, vector_form, whole_form, placed_form, set_form, build_form, form_with, form_of}
 use Rattle.grb_script.specs.Reading.{reading, names_behind, set_at}
 use Rattle.grb_script.proofs.IndicesLemmas.{no_word}
 use Rattle.grb_script.proofs.TupleLemmas.{now_of}
@@ -63,6 +65,12 @@ module _ (names : List Name) where
   reading-vector_form name (a ∷ b ∷ []) h = absurd (h refl)
   reading-vector_form name (a ∷ b ∷ c ∷ more) h = refl
 
+  pub reading-ewise_form : (w : Ewise) (output : Word) (words : List (Bor (List ℕ))) → (3 ≤ length words → ⊥) → reading names (ewise_form w output (now_of words)) ≡ Err Statement
+  reading-ewise_form w output [] h = refl
+  reading-ewise_form w output (a ∷ []) h = refl
+  reading-ewise_form w output (a ∷ b ∷ []) h = refl
+  reading-ewise_form w output (a ∷ b ∷ c ∷ more) h = absurd (h (omega arith))
+
   -- what a `set` says
   pub reading-set_form : (name : Word) (others : List Word) (p : Indices) (x : Value) (r : Option (ℕ × Sort)) → Ok (p, x) ≡ ok_or (indices_and_value_of others) Statement
       → r ≡ name_found names name → option_map_or (λ n. set_at n.0 n.1 p x) r (Err UnknownName) ≡ reading names (set_form name others)
@@ -99,3 +107,17 @@ module _ (names : List Name) where
   names_behind-build name [] = refl
   names_behind-build name (monoid ∷ values) =
       kept-and_then (λ dup. option_map (BuildForm name dup) (values_in values)) (λ dup. kept-map (BuildForm name dup) (λ vs. refl) (values_in values)) (monoid_of monoid)
+
+  -- a form where a word is a name
+  kept-where : (b : Bool) (o : Option Form) → names_behind names o ≡ names → names_behind names (if b then o else None) ≡ names
+  kept-where true o h = h
+  kept-where false o h = refl
+
+  pub names_behind-ewise : (w : Ewise) (output : Word) (others : List Word) → names_behind names (ewise_form w output others) ≡ names
+  names_behind-ewise w output [] = refl
+  names_behind-ewise w output (left ∷ []) = refl
+  names_behind-ewise w output (left ∷ right ∷ []) = refl
+  names_behind-ewise w output (left ∷ right ∷ op ∷ options) =
+      kept-where (is_name left) _
+      (kept-where (is_name right) _
+      (kept-and_then (λ f. option_map (EwiseForm w output left right f) (options_of options)) (λ f. kept-map (EwiseForm w output left right f) (λ o. refl) (options_of options)) (operator_of op)))

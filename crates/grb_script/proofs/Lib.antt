@@ -5,6 +5,7 @@ pub mod NamesLemmas
 pub mod NextLineLemmas
 pub mod NumberLemmas
 pub mod IndicesLemmas
+pub mod OptionLemmas
 pub mod ScriptLemmas
 pub mod StatementCount
 pub mod TupleLemmas

@@ -1,7 +1,9 @@
 -- Worked rows: what the definitions of scripts say of small texts, by computing. Expected values are by hand.
 use Rattle.std.specs.Prelude.{◌≡◌, ℕ, List, [], ◌∷◌, ◌++◌, Some, None, refl, codes, true, false}
 use Rattle.grb_core.specs.declared.domain.Domain.TheVariants as domain
+use Rattle.grb_call.specs.declared.descriptor.Descriptor.{Descriptor}
 use Rattle.grb_core.specs.declared.monoid.Monoid.TheVariants as monoid
+use Rattle.grb_core.specs.declared.operator.BinaryOp.TheVariants as op
 use Rattle.grb_core.specs.declared.value.Value.TheVariants as value
 use Rattle.grb_script.specs.declared.fault.FaultKind.{FaultKind}
 use Rattle.grb_script.specs.declared.fault.FaultKind.TheVariants.{UnendedLine, BadByte, Section, Statement, NameTaken, UnknownName, WrongKind}
@@ -172,3 +174,46 @@ no_value = refl
 
 no_columns : IsFaulty (ended (codes "matrix A uint64 2")) 1 Statement
 no_columns = refl
+
+-- element-wise statements
+abbrev plain : Descriptor
+plain = record { structure = false; comp = false; replace = false }
+
+abbrev three : List ℕ
+three = ended (codes "vector c uint64 3") ++ ended (codes "vector a uint64 3") ++ ended (codes "matrix M uint64 3 3")
+
+abbrev sums : List ℕ
+sums = three ++ ended (codes "ewiseadd c a c plus") ++ ended (codes "ewisemult M M M first mask M accum minus") ++ ended (codes "ewiseadd c a a second mask c structure comp accum max replace")
+
+element_wise : (script_fault sums ≡ None) × (statements_of sums ≡ statement.Vector domain.Uint64 3 ∷ statement.Vector domain.Uint64 3 ∷ statement.Matrix domain.Uint64 3 3
+    ∷ statement.EwiseAdd (record { sort = sort.Vector; output = 0; mask = None; accum = None; op = op.Plus; left = 1; right = 0; descriptor = plain })
+    ∷ statement.EwiseMult (record { sort = sort.Matrix; output = 2; mask = Some 2; accum = Some op.Minus; op = op.First; left = 2; right = 2; descriptor = plain })
+    ∷ statement.EwiseAdd (record { sort = sort.Vector; output = 0; mask = Some 0; accum = Some op.Max; op = op.Second; left = 1; right = 1; descriptor = record { structure = true; comp = true; replace = true } }) ∷ [])
+element_wise = (refl, refl)
+
+options_out_of_order : IsFaulty (three ++ ended (codes "ewiseadd c a a plus comp structure")) 4 Statement
+options_out_of_order = refl
+
+option_twice : IsFaulty (three ++ ended (codes "ewiseadd c a a plus replace replace")) 4 Statement
+option_twice = refl
+
+mask_without_name : IsFaulty (three ++ ended (codes "ewiseadd c a a plus mask")) 4 Statement
+mask_without_name = refl
+
+mask_of_an_option : IsFaulty (three ++ ended (codes "ewiseadd c a a plus mask comp")) 4 UnknownName
+mask_of_an_option = refl
+
+no_operator : IsFaulty (three ++ ended (codes "ewiseadd c a a accum plus")) 4 Statement
+no_operator = refl
+
+unknown_mask_before_sorts : IsFaulty (three ++ ended (codes "ewiseadd c a M plus mask x")) 4 UnknownName
+unknown_mask_before_sorts = refl
+
+sorts_of_inputs : IsFaulty (three ++ ended (codes "ewiseadd c a M plus")) 4 WrongKind
+sorts_of_inputs = refl
+
+sort_of_output : IsFaulty (three ++ ended (codes "ewiseadd M a a plus")) 4 WrongKind
+sort_of_output = refl
+
+sort_of_mask : IsFaulty (three ++ ended (codes "ewisemult c a a plus mask M structure")) 4 WrongKind
+sort_of_mask = refl

@@ -3,7 +3,9 @@ use Rattle.std.specs.Prelude.{ℕ, if◌then◌else◌, List, [], ◌∷◌, Opt
 use Rattle.std.specs.Option.{option_and_then, option_map}
 use Rattle.grb_core.specs.declared.domain.Domain.{Domain}
 use Rattle.grb_core.specs.declared.monoid.Monoid.{Monoid}
+use Rattle.grb_core.specs.declared.operator.BinaryOp.{BinaryOp}
 use Rattle.grb_core.specs.declared.value.Value.{Value}
+use Rattle.grb_script.specs.declared.keyword.Ewise.{Ewise}
 use Rattle.grb_script.specs.declared.keyword.Keyword.{Keyword}
 use Rattle.grb_script.specs.declared.keyword.Keyword.TheVariants as keyword
 use Rattle.grb_script.specs.declared.keyword.Placed.{Placed}
@@ -13,10 +15,12 @@ use Rattle.grb_script.specs.declared.keyword.Whole.TheVariants as whole
 use Rattle.grb_script.specs.declared.indices.Indices.{Indices}
 use Rattle.grb_script.specs.declared.indices.Indices.TheVariants as indices
 use Rattle.grb_script.specs.Line.{Word, words_of, is_skipped, Line}
-use Rattle.grb_script.specs.Word.{is_name, numeral_value, domain_of, value_of, monoid_of, keyword_of}
+use Rattle.grb_script.specs.Options.{OptionWords, options_of}
+use Rattle.grb_script.specs.Word.{is_name, numeral_value, domain_of, value_of, monoid_of, operator_of, keyword_of}
 
 -- 'matrix NAME DOMAIN R C', 'vector NAME DOMAIN N', 'dup NAME NAME', 'free NAME', 'nvals NAME', 'size NAME', 'clear NAME',
--- 'remove NAME INDICES', 'get NAME INDICES', 'resize NAME INDICES', 'set NAME INDICES VALUE', 'build NAME MONOID ..'
+-- 'remove NAME INDICES', 'get NAME INDICES', 'resize NAME INDICES', 'set NAME INDICES VALUE', 'build NAME MONOID ..',
+-- 'ewiseadd NAME NAME NAME OP OPTIONS' and 'ewisemult NAME NAME NAME OP OPTIONS' with output, first input and second input
 pub data Form : Type 0 where
   MatrixForm : Word → Domain → ℕ → ℕ → Form
   VectorForm : Word → Domain → ℕ → Form
@@ -30,6 +34,7 @@ pub data Form : Type 0 where
   ResizeForm : Word → Indices → Form
   SetForm : Word → Indices → Value → Form
   BuildForm : Word → Monoid → List Value → Form
+  EwiseForm : Ewise → Word → Word → Word → BinaryOp → OptionWords → Form
 
 -- the form, where the word is a name
 abbrev pub where_name : Word → Option Form → Option Form
@@ -92,6 +97,11 @@ abbrev pub build_form : Word → List Word → Option Form
 build_form name [] = None
 build_form name (monoid ∷ values) = option_and_then (λ dup. option_map (BuildForm name dup) (values_in values)) (monoid_of monoid)
 
+abbrev pub ewise_form : Ewise → Word → List Word → Option Form
+ewise_form w output (left ∷ right ∷ op ∷ options) =
+    where_name left (where_name right (option_and_then (λ f. option_map (EwiseForm w output left right f) (options_of options)) (operator_of op)))
+ewise_form w output _ = None
+
 -- the form that a keyword, a name and the words behind them have, if they have one
 abbrev pub form_with : Keyword → Word → List Word → Option Form
 form_with keyword.Matrix name others = matrix_form name others
@@ -101,6 +111,7 @@ form_with (keyword.Whole w) name others = whole_form w name others
 form_with (keyword.Placed w) name others = placed_form w name others
 form_with keyword.Set name others = set_form name others
 form_with keyword.Build name others = build_form name others
+form_with (keyword.Ewise w) name others = ewise_form w name others
 
 -- the form that these words have, if they have one
 abbrev pub form_of : List Word → Option Form

@@ -1,6 +1,8 @@
 pub mod Form
+pub mod Laws
 pub mod Line
 pub mod Names
+pub mod Options
 pub mod Reading
 pub mod Script
 pub mod ScriptFault

@@ -1,10 +1,11 @@
 -- The names of a script (own): each stands for a matrix or a vector, and has as its number how many names were made before it.
-use Rattle.std.specs.Prelude.{ℕ, Bool, List, Option, is_some}
+use Rattle.std.specs.Prelude.{ℕ, Bool, true, false, List, Option, is_some}
 use Rattle.std.specs.List.{position_or_len}
 use Rattle.std.specs.Map.{lookup}
 use Rattle.std.specs.Option.{option_map}
 use Rattle.std.specs.Str.{bytes_eq}
 use Rattle.grb_script.specs.declared.names.Sort.{Sort}
+use Rattle.grb_script.specs.declared.names.Sort.TheVariants as sort
 use Rattle.grb_script.specs.Line.{Word}
 
 -- a name, and the sort of the object that it stands for
@@ -26,3 +27,9 @@ number_in names name = position_or_len (λ n. bytes_eq name n.0) names
 -- the number and the sort of a name, if it is one of these
 abbrev pub name_found : List Name → Word → Option (ℕ × Sort)
 name_found names name = option_map (λ sort. (number_in names name, sort)) (sort_of names name)
+
+-- whether both sorts are one
+abbrev pub same_sort : Sort → Sort → Bool
+same_sort sort.Matrix sort.Matrix = true
+same_sort sort.Vector sort.Vector = true
+same_sort _ _ = false

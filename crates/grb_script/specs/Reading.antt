@@ -1,14 +1,18 @@
 -- What a statement says where some names stand (own): the call that it makes, or the first of what is wrong with it: it has no form,
 -- it makes a name that stands, it uses one that does not, or one of another sort than its form asks for.
-use Rattle.std.specs.Prelude.{◌≡◌, ℕ, if◌then◌else◌, List, [], ◌∷◌, ◌++◌, Option, Some, None, Result, Ok, Err}
+use Rattle.std.specs.Prelude.{◌≡◌, ℕ, Bool, true, ◌&&◌, if◌then◌else◌, List, [], ◌∷◌, ◌++◌, Option, Some, None, Result, Ok, Err}
 use Rattle.std.specs.Option.{option_map, option_map_or}
 use Rattle.grb_core.specs.declared.monoid.Monoid.{Monoid}
+use Rattle.grb_core.specs.declared.operator.BinaryOp.{BinaryOp}
 use Rattle.grb_core.specs.declared.value.Value.{Value}
 use Rattle.grb_core.specs.declared.value.Value.TheVariants as value
+use Rattle.grb_script.specs.declared.ewise.Elementwise.{Elementwise}
 use Rattle.grb_script.specs.declared.fault.FaultKind.{FaultKind}
 use Rattle.grb_script.specs.declared.fault.FaultKind.TheVariants as kind
 use Rattle.grb_script.specs.declared.fault.Unread.{Unread}
 use Rattle.grb_script.specs.declared.fault.Unread.TheVariants as unread
+use Rattle.grb_script.specs.declared.keyword.Ewise.{Ewise}
+use Rattle.grb_script.specs.declared.keyword.Ewise.TheVariants as ewise
 use Rattle.grb_script.specs.declared.names.Sort.{Sort}
 use Rattle.grb_script.specs.declared.names.Sort.TheVariants as sort
 use Rattle.grb_script.specs.declared.indices.Indices.{Indices}
@@ -16,8 +20,9 @@ use Rattle.grb_script.specs.declared.indices.Indices.TheVariants as indices
 use Rattle.grb_script.specs.declared.statement.Statement.{Statement}
 use Rattle.grb_script.specs.declared.statement.Statement.TheVariants as statement
 use Rattle.grb_script.specs.Line.{Word}
-use Rattle.grb_script.specs.Names.{Name, sort_of, stands, name_found}
-use Rattle.grb_script.specs.Form.{Form, MatrixForm, VectorForm, DupForm, FreeForm, NvalsForm, SizeForm, ClearForm, RemoveForm, GetForm, ResizeForm, SetForm, BuildForm}
+use Rattle.grb_script.specs.Names.{Name, sort_of, stands, name_found, same_sort}
+use Rattle.grb_script.specs.Options.{OptionWords}
+use Rattle.grb_script.specs.Form.{Form, MatrixForm, VectorForm, DupForm, FreeForm, NvalsForm, SizeForm, ClearForm, RemoveForm, GetForm, ResizeForm, SetForm, BuildForm, EwiseForm}
 
 -- a statement by the number and the sort of its name, and by its indices: one number at a vector, two at a matrix
 abbrev pub set_at : ℕ → Sort → Indices → Value → Result Statement FaultKind
@@ -56,6 +61,31 @@ abbrev pub build_of : ℕ → Sort → Monoid → List Value → Result Statemen
 build_of n sort.Matrix dup values = option_map_or (λ tuples. Ok (statement.BuildMatrix n tuples dup)) (matrix_tuples values) (Err kind.WrongKind)
 build_of n sort.Vector dup values = option_map_or (λ tuples. Ok (statement.BuildVector n tuples dup)) (vector_tuples values) (Err kind.WrongKind)
 
+-- the element-wise statement of a keyword
+abbrev pub ewise_statement : Ewise → Elementwise → Statement
+ewise_statement ewise.Add e = statement.EwiseAdd e
+ewise_statement ewise.Mult e = statement.EwiseMult e
+
+-- whether the object of each of these names is of this sort: of both inputs, and of the mask where one is given
+abbrev pub are_of : Sort → ℕ × Sort → ℕ × Sort → Option (ℕ × Sort) → Bool
+are_of sort left right mask = same_sort sort left.1 && same_sort sort right.1 && option_map_or (λ m. same_sort sort m.1) mask true
+
+-- the same by the numbers and the sorts of its names, in the order output, first input, second input, mask
+abbrev pub ewise_on : Ewise → ℕ × Sort → ℕ × Sort → ℕ × Sort → Option (ℕ × Sort) → BinaryOp → OptionWords → Result Statement FaultKind
+ewise_on w output left right mask op o =
+    if are_of output.1 left right mask
+    then Ok (ewise_statement w (record {
+      sort = output.1;
+      output = output.0;
+      mask = option_map (λ m. m.0) mask;
+      accum = o.accum;
+      op = op;
+      left = left.0;
+      right = right.0;
+      descriptor = o.descriptor;
+    }))
+    else Err kind.WrongKind
+
 -- what a statement says that makes this name
 abbrev pub made : List Name → Word → Result Statement FaultKind → Result Statement FaultKind
 made names name says = if stands names name then Err kind.NameTaken else says
@@ -63,6 +93,20 @@ made names name says = if stands names name then Err kind.NameTaken else says
 -- what a statement says that uses this name
 abbrev pub used : List Name → Word → (ℕ → Sort → Result Statement FaultKind) → Result Statement FaultKind
 used names name says = option_map_or (λ n. says n.0 n.1) (name_found names name) (Err kind.UnknownName)
+
+-- the number and the sort of the name of a mask, where one is given
+abbrev pub mask_found : List Name → Option Word → Result (Option (ℕ × Sort)) FaultKind
+mask_found names None = Ok None
+mask_found names (Some name) = option_map_or (λ n. Ok (Some n)) (name_found names name) (Err kind.UnknownName)
+
+-- what follows from what was found, or that it was not
+abbrev pub where_found : {X : Type 0} → (X → Result Statement FaultKind) → Result X FaultKind → Result Statement FaultKind
+where_found says (Ok x) = says x
+where_found says (Err fault) = Err fault
+
+-- what a statement says that uses this name for its mask, where one is given
+abbrev pub masked : List Name → Option Word → (Option (ℕ × Sort) → Result Statement FaultKind) → Result Statement FaultKind
+masked names mask says = where_found says (mask_found names mask)
 
 -- what a statement of this form says
 abbrev pub saying : List Name → Form → Result Statement FaultKind
@@ -78,6 +122,8 @@ saying names (GetForm name p) = used names name (λ n sort. get_at n sort p)
 saying names (ResizeForm name p) = used names name (λ n sort. resize_to n sort p)
 saying names (SetForm name p x) = used names name (λ n sort. set_at n sort p x)
 saying names (BuildForm name dup values) = used names name (λ n sort. build_of n sort dup values)
+saying names (EwiseForm w output left right op o) =
+    used names output (λ n s. used names left (λ i t. used names right (λ j u. masked names o.mask (λ mask. ewise_on w (n, s) (i, t) (j, u) mask op o))))
 
 -- the same of words that may have no form
 abbrev pub reading : List Name → Option Form → Result Statement FaultKind

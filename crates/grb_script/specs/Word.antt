@@ -1,4 +1,4 @@
--- The classes of words: keywords, names, numbers, values, domains and monoids (own).
+-- The classes of words: keywords, names, numbers, values, domains, monoids and operators (own).
 use Rattle.std.specs.Prelude.{ℕ, ◌^◌, Bool, true, false, not, ◌==◌, ◌&&◌, ◌||◌, nat_le, nat_lt, if◌then◌else◌, List, [], ◌∷◌, length, Option, Some, None, codes}
 use Rattle.std.specs.List.{list_all}
 use Rattle.std.specs.Map.{lookup}
@@ -11,6 +11,9 @@ use Rattle.grb_core.specs.declared.value.Value.{Value}
 use Rattle.grb_core.specs.declared.value.Value.TheVariants as value
 use Rattle.grb_core.specs.declared.monoid.Monoid.{Monoid}
 use Rattle.grb_core.specs.declared.monoid.Monoid.TheVariants as monoid
+use Rattle.grb_core.specs.declared.operator.BinaryOp.{BinaryOp}
+use Rattle.grb_core.specs.declared.operator.BinaryOp.TheVariants as op
+use Rattle.grb_script.specs.declared.keyword.Ewise.TheVariants as ewise
 use Rattle.grb_script.specs.declared.keyword.Keyword.{Keyword}
 use Rattle.grb_script.specs.declared.keyword.Keyword.TheVariants as keyword
 use Rattle.grb_script.specs.declared.keyword.Placed.TheVariants as placed
@@ -62,6 +65,33 @@ monoids =
 abbrev pub monoid_of : Word → Option Monoid
 monoid_of word = lookup (bytes_eq word) monoids
 
+-- OP
+abbrev pub operators : List (Word × BinaryOp)
+operators =
+    (codes "lor", op.Lor) ∷ (codes "land", op.Land) ∷ (codes "lxor", op.Lxor) ∷ (codes "lxnor", op.Lxnor)
+    ∷ (codes "first_bool", op.FirstBool) ∷ (codes "second_bool", op.SecondBool)
+    ∷ (codes "plus", op.Plus) ∷ (codes "times", op.Times) ∷ (codes "min", op.Min) ∷ (codes "max", op.Max)
+    ∷ (codes "minus", op.Minus) ∷ (codes "first", op.First) ∷ (codes "second", op.Second) ∷ []
+
+abbrev pub operator_of : Word → Option BinaryOp
+operator_of word = lookup (bytes_eq word) operators
+
+-- the word of an operator
+abbrev pub operator_word : BinaryOp → Word
+operator_word op.Lor = codes "lor"
+operator_word op.Land = codes "land"
+operator_word op.Lxor = codes "lxor"
+operator_word op.Lxnor = codes "lxnor"
+operator_word op.FirstBool = codes "first_bool"
+operator_word op.SecondBool = codes "second_bool"
+operator_word op.Plus = codes "plus"
+operator_word op.Times = codes "times"
+operator_word op.Min = codes "min"
+operator_word op.Max = codes "max"
+operator_word op.Minus = codes "minus"
+operator_word op.First = codes "first"
+operator_word op.Second = codes "second"
+
 -- the first words of statements
 abbrev pub keywords : List (Word × Keyword)
 keywords =
@@ -69,7 +99,8 @@ keywords =
     ∷ (codes "free", keyword.Whole whole.Free) ∷ (codes "nvals", keyword.Whole whole.Nvals)
     ∷ (codes "size", keyword.Whole whole.Size) ∷ (codes "clear", keyword.Whole whole.Clear)
     ∷ (codes "remove", keyword.Placed placed.Remove) ∷ (codes "get", keyword.Placed placed.Get)
-    ∷ (codes "resize", keyword.Placed placed.Resize) ∷ (codes "set", keyword.Set) ∷ (codes "build", keyword.Build) ∷ []
+    ∷ (codes "resize", keyword.Placed placed.Resize) ∷ (codes "set", keyword.Set) ∷ (codes "build", keyword.Build)
+    ∷ (codes "ewiseadd", keyword.Ewise ewise.Add) ∷ (codes "ewisemult", keyword.Ewise ewise.Mult) ∷ []
 
 abbrev pub keyword_of : Word → Option Keyword
 keyword_of word = lookup (bytes_eq word) keywords

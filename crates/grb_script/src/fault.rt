@@ -26,7 +26,8 @@ pub enum FaultKind {
     /// The line uses a name that does not stand. A name that the line itself makes does not yet stand.
     #[error("unknown name")]
     UnknownName,
-    /// A name stands for an object of another sort than the form asks for, or the list of a `build` is no list of that sort's groups.
+    /// A name stands for an object of another sort than the form asks for, or than the output of an element-wise statement; or the list of
+    /// a `build` is no list of its object's groups.
     #[error("wrong kind")]
     WrongKind,
     /// The monoid and the operator of a semiring differ in domain. No script has it yet, since no statement takes a semiring.

@@ -15,6 +15,8 @@ pub enum Keyword {
     Set,
     /// `build NAME MONOID ..`.
     Build,
+    /// A keyword behind which the names of an output and of two inputs stand, an operator and options.
+    Ewise(Ewise),
 }
 
 /// The first word of a statement on a whole object.
@@ -39,4 +41,13 @@ pub enum Placed {
     Get,
     /// `resize NAME INDICES`, where the numbers tell the new size, or the new rows and columns.
     Resize,
+}
+
+/// The first word of an element-wise statement.
+#[derive(Clone, Copy, Debug, PartialEq, Eq)]
+pub enum Ewise {
+    /// `ewiseadd NAME NAME NAME OP OPTIONS`.
+    Add,
+    /// `ewisemult NAME NAME NAME OP OPTIONS`.
+    Mult,
 }

@@ -4,17 +4,22 @@
 //! determined by it and by the numbers of the objects that were made. Nothing here makes a call, and nothing here reads files or prints.
 #![tactic(auto)]
 
+mod ewise;
 mod fault;
 mod indices;
 mod keyword;
+mod laws;
 mod line;
 mod names;
+mod options;
 mod script;
 mod statement;
 mod tuples;
 mod word;
 
+pub use ewise::Elementwise;
 pub use fault::{FaultKind, ReadFault, ScriptFault};
+pub use laws::options_are_read_as_spelled;
 pub use names::Sort;
 pub use script::read_script;
 pub use statement::Statement;

@@ -4,6 +4,7 @@ ghost use Rattle.grb_script.specs.Names.{name_found};
 ghost use Rattle.grb_script.specs.Form.{form_of, matrix_form, vector_form, dup_form, whole_form, placed_form, set_form, build_form};
 ghost use Rattle.grb_script.specs.Reading.{reading, set_at, remove_at, get_at, resize_to, IsReading, IsWhyUnread};
 
+use crate::ewise::{Elementwise, ewise};
 use crate::fault::{FaultKind, Unread};
 use crate::indices::{Indices, indices_and_value_of, indices_of};
 use crate::keyword::{Keyword, Placed, Whole};
@@ -112,10 +113,14 @@ pub enum Statement {
         tuples: VectorTuples,
         dup: Monoid,
     },
+    /// `ewiseadd NAME NAME NAME OP OPTIONS`.
+    EwiseAdd(Elementwise),
+    /// `ewisemult NAME NAME NAME OP OPTIONS`.
+    EwiseMult(Elementwise),
 }
 
 /// The number and the sort of the name that a statement uses.
-fn used(name: &[u8], names: &Names) -> Result<(usize, Sort), FaultKind>
+pub fn used(name: &[u8], names: &Names) -> Result<(usize, Sort), FaultKind>
     ensures { result ≡ ok_or (name_found names.now name.now) FaultKind.UnknownName }
 {
     names.find(name).ok_or(FaultKind::UnknownName)
@@ -312,5 +317,6 @@ pub fn read_statement(
         Keyword::Placed(word) => Ok(placed(word, name, others, names)?),
         Keyword::Set => Ok(set(name, others, names)?),
         Keyword::Build => build(alloc, name, others, names),
+        Keyword::Ewise(word) => Ok(ewise(word, name, others, names)?),
     }
 }

@@ -1,9 +1,9 @@
 ghost use Rattle.std.specs.Prelude.{◌≡◌};
 ghost use Rattle.std.specs.List.{list_all};
-ghost use Rattle.grb_script.specs.Word.{is_digit, is_name_byte, is_name, is_numeral, numeral_value, value_of, domain_of, monoid_of, keyword_of};
+ghost use Rattle.grb_script.specs.Word.{is_digit, is_name_byte, is_name, is_numeral, numeral_value, value_of, domain_of, monoid_of, operator_of, keyword_of};
 
-use crate::keyword::{Keyword, Placed, Whole};
-use grb_core::{Domain, Monoid, Value};
+use crate::keyword::{Ewise, Keyword, Placed, Whole};
+use grb_core::{BinaryOp, Domain, Monoid, Value};
 
 fn is_name_byte(b: u8) -> bool
     ensures { result ≡ is_name_byte b }
@@ -103,6 +103,41 @@ pub fn monoid(word: &[u8]) -> Option<Monoid>
     }
 }
 
+/// The operator that the word names, if it names one.
+pub fn operator(word: &[u8]) -> Option<BinaryOp>
+    ensures { result ≡ operator_of word.now }
+{
+    if word == b"lor".as_slice() {
+        Some(BinaryOp::Lor)
+    } else if word == b"land".as_slice() {
+        Some(BinaryOp::Land)
+    } else if word == b"lxor".as_slice() {
+        Some(BinaryOp::Lxor)
+    } else if word == b"lxnor".as_slice() {
+        Some(BinaryOp::Lxnor)
+    } else if word == b"first_bool".as_slice() {
+        Some(BinaryOp::FirstBool)
+    } else if word == b"second_bool".as_slice() {
+        Some(BinaryOp::SecondBool)
+    } else if word == b"plus".as_slice() {
+        Some(BinaryOp::Plus)
+    } else if word == b"times".as_slice() {
+        Some(BinaryOp::Times)
+    } else if word == b"min".as_slice() {
+        Some(BinaryOp::Min)
+    } else if word == b"max".as_slice() {
+        Some(BinaryOp::Max)
+    } else if word == b"minus".as_slice() {
+        Some(BinaryOp::Minus)
+    } else if word == b"first".as_slice() {
+        Some(BinaryOp::First)
+    } else if word == b"second".as_slice() {
+        Some(BinaryOp::Second)
+    } else {
+        None
+    }
+}
+
 /// The keyword that the word is, if it is one.
 pub fn keyword(word: &[u8]) -> Option<Keyword>
     ensures { result ≡ keyword_of word.now }
@@ -131,6 +166,10 @@ pub fn keyword(word: &[u8]) -> Option<Keyword>
         Some(Keyword::Set)
     } else if word == b"build".as_slice() {
         Some(Keyword::Build)
+    } else if word == b"ewiseadd".as_slice() {
+        Some(Keyword::Ewise(Ewise::Add))
+    } else if word == b"ewisemult".as_slice() {
+        Some(Keyword::Ewise(Ewise::Mult))
     } else {
         None
     }

@@ -3,3 +3,4 @@ pub mod Building
 pub mod Built
 pub mod Fresh
 pub mod MatrixHeld
+pub mod Numbered

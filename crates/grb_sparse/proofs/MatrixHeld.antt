@@ -13,6 +13,7 @@ use Rattle.grb_core.specs.declared.value.Value.{Value}
 use Rattle.grb_core.specs.Value.{IsValueOf}
 use Rattle.grb_core.specs.Entries.{Cell, cell_cmp, VectorEntries, MatrixEntries, without_entry, restricted}
 use Rattle.grb_core.specs.Contents.{Matrix, IsMatrix, IsDimension, edited_matrix, is_cell_in}
+use Rattle.grb_core.proofs.Dimensions.{dimension-fits}
 use Rattle.grb_rows.specs.Pending.{Change, changed_at, changed, last_at, IsChangeIn}
 use Rattle.grb_rows.specs.Stored.{RowView, kept}
 use Rattle.grb_rows.specs.Held.{stored, IsLaid}
@@ -107,7 +108,7 @@ module _ (nrows ncols : ℕ) (row : RowView) (ds : List Bool) (cs : List Change)
     (found : (q : ℕ) → find nat_cmp q (stored new es fs) ≡ cond (nat_eq q k) c (find nat_cmp q (stored row ds cs))) where
   pub cells-changed : decoded (stored new es fs) ≡ cell_changed (i, j) c (decoded (stored row ds cs))
   cells-changed =
-      let small = held.matrix.ncols.fits in
+      let small = dimension-fits ncols held.matrix.ncols in
       ap decoded (is_change (stored row ds cs) (stored new es fs) k c (is_sorted-stored row ds cs (holds held.laid.ordered)) (is_sorted-stored new es fs (holds laid.ordered)) found)
       ∙ ap (λ x. decoded (changed_at x c (stored row ds cs))) is_code
       ∙ decoded-changed i j c (stored row ds cs) (omega (arith, column_in, small))

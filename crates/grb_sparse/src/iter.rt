@@ -1,6 +1,7 @@
-ghost use Rattle.std.specs.Prelude.{◌≡◌};
+ghost use Rattle.std.specs.Prelude.{◌≡◌, ◌/◌, ◌<◌, ◌^◌, ℕ, length, slice_index_or};
 ghost use Rattle.std.specs.Iterator.{YieldsFirst, item_count};
-ghost use Rattle.grb_rows.specs.Cells.{decoded};
+ghost use Rattle.grb_rows.specs.Cells.{cell_of, decoded};
+ghost use Rattle.grb_core.specs.declared.value.Value.{Value as Stored};
 ghost use Rattle.grb_core.specs.Results.{row_of};
 
 use grb_core::Value;
@@ -57,30 +58,48 @@ impl<'a> Iterator for EntriesByIndex<'a> {
 pub struct Entries<'a> {
     lists: &'a FlatRows,
     at: usize,
-    /// Among the rows, that of the entry before.
-    row: usize,
+    /// The row of the entries from `at` on up to `end`.
+    row: u64,
+    end: usize,
+    /// Among the rows, the one that begins at `end`.
+    next: usize,
 }
 
 impl<'a> Model for Entries<'a> {
     ghost use Rattle.std.specs.Prelude.{ℕ, List, drop};
     ghost use Rattle.grb_core.specs.declared.value.Value.{Value as Stored};
     ghost use Rattle.grb_rows.specs.Cells.{decoded};
+    ghost use Rattle.grb_sparse.specs.Walk.{IsWalk};
 
     ghost Value = { List ((ℕ × ℕ) × Stored) };
 
     ghost view = { λ s. decoded (drop s.at s.lists.now.entries) };
+
+    ghost invariant = { λ s. IsWalk s.lists.now s.at s.row s.end s.next };
 }
 
 impl<'a> Entries<'a> {
     pub(crate) fn over(lists: &'a FlatRows) -> Self
         ensures { result ≡ decoded lists.now.entries }
     {
+        let _first_of_rows = lists.rows();
         Entries {
             lists,
             at: 0,
             row: 0,
+            end: 0,
+            next: 0,
         }
     }
+}
+
+/// The entry at a place in a row.
+fn entry_at(lists: &FlatRows, row: u64, at: usize) -> ((u64, u64), Value)
+    requires inside { at < length lists.now.entries }
+    requires row { (d : ℕ × Stored) → (slice_index_or lists.now.entries at d).0 / 2 ^ 32 ≡ row }
+    ensures { (d : ℕ × Stored) → result ≡ (cell_of (slice_index_or lists.now.entries at d).0, (slice_index_or lists.now.entries at d).1) }
+{
+    ((row, lists.column_at(at)), lists.value_at(at))
 }
 
 impl<'a> Iterator for Entries<'a> {
@@ -93,15 +112,20 @@ impl<'a> Iterator for Entries<'a> {
     fn next(&mut self) -> Option<((u64, u64), Value)> {
         let lists = self.lists;
         let at = self.at;
+        if at < self.end {
+            self.at = at + 1;
+            return Some(entry_at(lists, self.row, at));
+        }
         if at >= lists.len() {
             return None;
         }
+        let k = self.next;
+        let row = lists.rows()[k] as u64;
+        self.row = row;
+        self.end = lists.row_end(k);
+        self.next = k + 1;
         self.at = at + 1;
-        let index = lists.index_at(at, &mut self.row);
-        Some((
-            (index / 0x1_0000_0000, index % 0x1_0000_0000),
-            lists.value_at(at),
-        ))
+        Some(entry_at(lists, row, at))
     }
 }
 

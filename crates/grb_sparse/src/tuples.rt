@@ -1,8 +1,8 @@
 //! Tuples of a place and a value, put in rising order of their places, the values of one place combined.
 ghost use Rattle.std.specs.Prelude.{◌≡◌, ◌+◌, ◌<◌, ◌≤◌, true, false, length, All, IsTrue, IfOk};
-ghost use Rattle.std.specs.Ordering.{is_gt};
+ghost use Rattle.std.specs.Ordering.{is_gt, nat_cmp};
 ghost use Rattle.std.specs.List.Sorted.{IsSortedByKey};
-ghost use Rattle.std.specs.FinMap.{find, put, is_sorted, IsAntisymmetric};
+ghost use Rattle.std.specs.FinMap.{find, put, is_sorted};
 ghost use Rattle.std.specs.Vec.{vec_len, vec_capacity};
 ghost use Rattle.grb_core.specs.Value.{value_domain, IsValueOf};
 ghost use Rattle.grb_core.specs.Monoid.{monoid_domain};
@@ -11,6 +11,7 @@ ghost use Rattle.grb_core.specs.Fold.{fold_of_some};
 ghost use Rattle.grb_sparse.specs.Build.{joined};
 
 use grb_core::{Monoid, Value, apply};
+use grb_rows::packed;
 use std::alloc::{AllocError, Global};
 use std::cmp::Ordering;
 
@@ -83,21 +84,19 @@ fn is_in_order<K: Ord + Copy>(tuples: &[(K, Value)]) -> bool
 
 /// The map of these tuples, with the values of one place combined. `AllocError` where memory is refused. Tuples that are in order are not
 /// sorted.
-pub(crate) fn build<K: Ord + Copy>(
+pub(crate) fn build(
     alloc: Global,
-    tuples: Vec<(K, Value)>,
+    tuples: &[(u64, Value)],
     dup: Monoid,
-) -> Result<Vec<(K, Value)>, AllocError>
-    requires same { IsAntisymmetric K.cmp }
-    requires of_domain { All (λ e. value_domain e.1 ≡ monoid_domain dup) tuples.items }
-    ensures items { IfOk result (λ built. built.items ≡ built_from K.cmp dup tuples.items) }
+) -> Result<Vec<(u64, Value)>, AllocError>
+    requires of_domain { All (λ e. value_domain e.1 ≡ monoid_domain dup) tuples.now }
+    ensures items { IfOk result (λ built. built.items ≡ built_from nat_cmp dup tuples.now) }
     ensures of_domain { IfOk result (λ built. All (λ e. IsValueOf (monoid_domain dup) e.1) built.items) }
-    ensures sorted { IfOk result (λ built. IsTrue (is_sorted K.cmp built.items)) }
+    ensures sorted { IfOk result (λ built. IsTrue (is_sorted nat_cmp built.items)) }
 {
-    let mut tuples = tuples;
-    if is_in_order(&tuples) {
-        return combine(alloc, &tuples, dup);
+    if is_in_order(tuples) {
+        return combine(alloc, tuples, dup);
     }
-    tuples.sort_by_key(|entry| entry.0)?;
-    combine(alloc, &tuples, dup)
+    let sorted = packed::in_order(alloc, tuples)?;
+    combine(alloc, &sorted, dup)
 }

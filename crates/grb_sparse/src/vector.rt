@@ -300,9 +300,7 @@ impl SparseVector {
         ensures err { OnErr result (self.new ≡ self.old) }
     {
         let alloc = self.row.allocator();
-        let mut copy = Vec::new(alloc);
-        copy.extend_from_slice(tuples)?;
-        let built = tuples::build(alloc, copy, dup)?;
+        let built = tuples::build(alloc, tuples, dup)?;
         let row = FlatRows::from_entries(alloc, self.row.domain(), &built)?;
         let unmarked = Vec::new(alloc);
         self.nvals = row.len() as u64;

@@ -6,5 +6,4 @@ pub mod Explained
 pub mod FileBytes
 pub mod OnePass
 pub mod Runs
-pub mod Taken
 pub mod Wrote

@@ -1,14 +1,18 @@
 -- What short scripts print, by computation.
 use Rattle.std.proofs.Common.{◌≡◌, refl, ℕ, List, [], ◌∷◌}
-use Rattle.std.specs.Prelude.{codes, true, false}
+use Rattle.std.specs.Prelude.{codes, true, false, Option, Some, None}
 use Rattle.std.specs.Fmt.{digits}
 use Rattle.std.specs.List.{flat_map}
 use Rattle.grb_core.specs.declared.domain.Domain.TheVariants as domain
 use Rattle.grb_core.specs.declared.value.Value.TheVariants as value
 use Rattle.grb_core.specs.declared.monoid.Monoid.TheVariants as monoid
+use Rattle.grb_core.specs.declared.operator.BinaryOp.{BinaryOp}
+use Rattle.grb_core.specs.declared.operator.BinaryOp.TheVariants as op
+use Rattle.grb_call.specs.declared.descriptor.Descriptor.{Descriptor}
+use Rattle.grb_script.specs.declared.ewise.Elementwise.{Elementwise}
 use Rattle.grb_script.specs.declared.names.Sort.TheVariants as sort
 use Rattle.grb_script.specs.declared.statement.Statement.{Statement}
-use Rattle.grb_script.specs.declared.statement.Statement.TheVariants.{Matrix, Vector, Dup, Free, Nvals, Size, Clear, SetMatrix, SetVector, RemoveVector, GetMatrix, GetVector, ResizeMatrix, BuildVector}
+use Rattle.grb_script.specs.declared.statement.Statement.TheVariants.{Matrix, Vector, Dup, Free, Nvals, Size, Clear, SetMatrix, SetVector, RemoveVector, GetMatrix, GetVector, ResizeMatrix, BuildVector, EwiseAdd, EwiseMult}
 use Rattle.grbrun.specs.Printed.{answers_in, reply_line}
 
 abbrev lines : ℕ → List Statement → List ℕ
@@ -78,3 +82,63 @@ a_copy : lines 4096
     ≡ codes "ok\nok\ncount 1\nok\nok\ncount 0\nvalue false\nok\nsize 3\n"
 unfolding digits
 a_copy = refl
+
+-- an element-wise statement on vectors: output, mask, accumulator, operator, inputs, and how mask and output are read
+abbrev on_vectors : ℕ → Option ℕ → Option BinaryOp → BinaryOp → ℕ → ℕ → Descriptor → Elementwise
+on_vectors output mask accum op left right d =
+    record { sort = sort.Vector; output = output; mask = mask; accum = accum; op = op; left = left; right = right; descriptor = d }
+
+abbrev plain : Descriptor
+plain = record { structure = false; comp = false; replace = false }
+
+-- a sum is modulo 2^64
+a_sum : lines 4096
+    (Vector domain.Uint64 1 ∷ Vector domain.Uint64 1 ∷ Vector domain.Uint64 1 ∷ SetVector 0 0 (value.Uint64 18446744073709551615) ∷ SetVector 1 0 (value.Uint64 1)
+    ∷ EwiseAdd (on_vectors 2 None None op.Plus 0 1 plain) ∷ GetVector 2 0 ∷ Nvals 2 sort.Vector ∷ [])
+    ≡ codes "ok\nok\nok\nok\nok\nok\nvalue 0\ncount 1\n"
+unfolding digits
+a_sum = refl
+
+-- a mask that stores 0 lets nothing through by value, and its place by structure
+a_mask : lines 4096
+    (Vector domain.Uint64 2 ∷ Vector domain.Uint64 2 ∷ Vector domain.Uint64 2 ∷ SetVector 1 0 (value.Uint64 0) ∷ SetVector 2 0 (value.Uint64 9)
+    ∷ EwiseAdd (on_vectors 0 (Some 1) None op.First 2 2 plain) ∷ Nvals 0 sort.Vector
+    ∷ EwiseAdd (on_vectors 0 (Some 1) None op.First 2 2 (record plain { structure = true })) ∷ GetVector 0 0 ∷ [])
+    ≡ codes "ok\nok\nok\nok\nok\nok\ncount 0\nok\nvalue 9\n"
+unfolding digits
+a_mask = refl
+
+-- nothing lies inside the complement of no mask: the old entries stay, and go with replace
+a_complement : lines 4096
+    (Vector domain.Uint64 2 ∷ SetVector 0 1 (value.Uint64 4) ∷ Vector domain.Uint64 2 ∷ SetVector 1 0 (value.Uint64 9)
+    ∷ EwiseAdd (on_vectors 0 None None op.First 1 1 (record plain { comp = true })) ∷ Nvals 0 sort.Vector
+    ∷ EwiseAdd (on_vectors 0 None None op.First 1 1 (record plain { comp = true; replace = true })) ∷ Nvals 0 sort.Vector ∷ [])
+    ≡ codes "ok\nok\nok\nok\nok\ncount 1\nok\ncount 0\n"
+unfolding digits
+a_complement = refl
+
+-- the intersection, accumulated: where one of both stores a value it is that one
+an_accumulator : lines 4096
+    (Vector domain.Uint64 3 ∷ Vector domain.Uint64 3 ∷ Vector domain.Uint64 3 ∷ BuildVector 0 ((0, value.Uint64 100) ∷ (2, value.Uint64 7) ∷ []) monoid.Plus
+    ∷ BuildVector 1 ((0, value.Uint64 2) ∷ (1, value.Uint64 3) ∷ []) monoid.Plus ∷ BuildVector 2 ((1, value.Uint64 4) ∷ (2, value.Uint64 5) ∷ []) monoid.Plus
+    ∷ EwiseMult (on_vectors 0 None (Some op.Minus) op.Times 1 2 plain) ∷ GetVector 0 0 ∷ GetVector 0 1 ∷ GetVector 0 2 ∷ Nvals 0 sort.Vector ∷ [])
+    ≡ codes "ok\nok\nok\nok\nok\nok\nok\nvalue 100\nvalue 12\nvalue 7\ncount 3\n"
+unfolding digits
+an_accumulator = refl
+
+-- output and inputs are one matrix
+an_alias : lines 4096
+    (Matrix domain.Uint64 1 1 ∷ SetMatrix 0 0 0 (value.Uint64 3)
+    ∷ EwiseAdd (record { sort = sort.Matrix; output = 0; mask = None; accum = None; op = op.Plus; left = 0; right = 0; descriptor = plain })
+    ∷ Dup 0 sort.Matrix ∷ SetMatrix 0 0 0 (value.Uint64 1) ∷ GetMatrix 1 0 0 ∷ GetMatrix 0 0 0 ∷ [])
+    ≡ codes "ok\nok\nok\nok\nok\nvalue 6\nvalue 1\n"
+unfolding digits
+an_alias = refl
+
+-- of several refusals the first is printed, and a mask may be of either domain
+refusals : lines 1
+    (Vector domain.Uint64 2 ∷ EwiseAdd (on_vectors 0 None None op.Lor 0 0 plain) ∷ EwiseAdd (on_vectors 0 (Some 1) None op.Lor 0 0 plain)
+    ∷ EwiseMult (on_vectors 0 None (Some op.Land) op.Plus 0 0 plain) ∷ EwiseMult (on_vectors 0 None None op.Plus 0 0 plain) ∷ [])
+    ≡ codes "ok\nGrB_DOMAIN_MISMATCH\nGrB_UNINITIALIZED_OBJECT\nGrB_DOMAIN_MISMATCH\nOrderFull\n"
+unfolding digits
+refusals = refl

@@ -4,5 +4,4 @@ pub mod Objects
 pub mod Printed
 pub mod Run
 pub mod RunFault
-pub mod Sink
 pub mod Source

@@ -1,7 +1,7 @@
 -- The objects that the names of a script stand for, and the call that a statement makes (own). The n-th name that a script makes stands
 -- for the object that its statement made.
 use Rattle.std.specs.Prelude.{ℕ, List, [], ◌∷◌, ◌++◌, slice_get, Option, Some, None, Ok}
-use Rattle.std.specs.Option.{option_map_or}
+use Rattle.std.specs.Option.{option_map, option_map_or}
 use Rattle.grb_call.specs.declared.call.Call.{Call}
 use Rattle.grb_call.specs.declared.call.Call.TheVariants as call
 use Rattle.grb_call.specs.declared.ids.MatrixId.{MatrixId}
@@ -10,6 +10,7 @@ use Rattle.grb_call.specs.declared.ids.Object.TheVariants as object
 use Rattle.grb_call.specs.declared.ids.VectorId.{VectorId}
 use Rattle.grb_call.specs.declared.reply.Reply.TheVariants as reply
 use Rattle.grb_context.specs.Explains.{Answer}
+use Rattle.grb_script.specs.declared.ewise.Elementwise.{Elementwise}
 use Rattle.grb_script.specs.declared.names.Sort.{Sort}
 use Rattle.grb_script.specs.declared.names.Sort.TheVariants as sort
 use Rattle.grb_script.specs.declared.statement.Statement.{Statement}
@@ -63,6 +64,26 @@ abbrev pub clear_call : List Object → ℕ → Sort → Call
 clear_call objects name sort.Matrix = call.ClearMatrix (matrix_named objects name)
 clear_call objects name sort.Vector = call.ClearVector (vector_named objects name)
 
+-- the object of the name of a mask, where one is given
+abbrev pub mask_matrix : List Object → Option ℕ → Option MatrixId
+mask_matrix objects mask = option_map (matrix_named objects) mask
+
+abbrev pub mask_vector : List Object → Option ℕ → Option VectorId
+mask_vector objects mask = option_map (vector_named objects) mask
+
+-- the calls of the element-wise statements, by the sort of all their objects
+abbrev pub ewise_add_call : List Object → Elementwise → Sort → Call
+ewise_add_call objects e sort.Matrix =
+    call.EwiseAddMatrix (matrix_named objects e.output) (mask_matrix objects e.mask) e.accum e.op (matrix_named objects e.left) (matrix_named objects e.right) e.descriptor
+ewise_add_call objects e sort.Vector =
+    call.EwiseAddVector (vector_named objects e.output) (mask_vector objects e.mask) e.accum e.op (vector_named objects e.left) (vector_named objects e.right) e.descriptor
+
+abbrev pub ewise_mult_call : List Object → Elementwise → Sort → Call
+ewise_mult_call objects e sort.Matrix =
+    call.EwiseMultMatrix (matrix_named objects e.output) (mask_matrix objects e.mask) e.accum e.op (matrix_named objects e.left) (matrix_named objects e.right) e.descriptor
+ewise_mult_call objects e sort.Vector =
+    call.EwiseMultVector (vector_named objects e.output) (mask_vector objects e.mask) e.accum e.op (vector_named objects e.left) (vector_named objects e.right) e.descriptor
+
 -- the call that a statement makes
 abbrev pub call_of : List Object → Statement → Call
 call_of objects (statement.Matrix domain nrows ncols) = call.NewMatrix domain nrows ncols
@@ -82,6 +103,8 @@ call_of objects (statement.ResizeMatrix name nrows ncols) = call.ResizeMatrix (m
 call_of objects (statement.ResizeVector name size) = call.ResizeVector (vector_named objects name) size
 call_of objects (statement.BuildMatrix name tuples dup) = call.BuildMatrix (matrix_named objects name) tuples dup
 call_of objects (statement.BuildVector name tuples dup) = call.BuildVector (vector_named objects name) tuples dup
+call_of objects (statement.EwiseAdd e) = ewise_add_call objects e e.sort
+call_of objects (statement.EwiseMult e) = ewise_mult_call objects e e.sort
 
 -- the sort of the object that a statement makes, if it makes one
 abbrev pub made_sort : Statement → Option Sort

@@ -10,7 +10,7 @@ use Rattle.grb_context.specs.Explains.{Answer}
 use Rattle.grb_script.specs.Script.{statements_of}
 use Rattle.grb_script.specs.ScriptFault.{script_fault}
 use Rattle.grbrun.specs.Printed.{IsRun, reply_line, Wrote}
-use Rattle.grbrun.specs.Sink.{AppendsBeginning}
+use Rattle.grb_market.specs.Sink.{AppendsBeginning}
 use Rattle.grbrun.specs.Source.{FaultCounts, counted, IsGiven}
 
 -- a script was given that has no fault, and the lines of its answers were written

@@ -2,8 +2,8 @@ ghost use Rattle.std.specs.Prelude.{◌≡◌};
 ghost use Rattle.grbrun.specs.declared.fault.RunFault.TheVariants as run;
 ghost use Rattle.grbrun.specs.RunFault.{source_run_fault, read_run_fault};
 
-use crate::sink::SinkFault;
 use crate::source::SourceFault;
+use grb_market::SinkFault;
 use grb_script::{FaultKind, ReadFault, ScriptFault};
 use std::alloc::AllocError;
 use thiserror::Error;

@@ -18,7 +18,6 @@ mod objects;
 mod output;
 mod reply_line;
 mod report;
-mod sink;
 mod source;
 #[cfg(test)]
 mod tests;

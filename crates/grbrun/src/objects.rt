@@ -1,9 +1,9 @@
 ghost use Rattle.std.specs.Prelude.{◌≡◌, OnOk};
-ghost use Rattle.grbrun.specs.Objects.{matrix_named, vector_named, new_object, made_sort, objects_after, dup_call, free_call, nvals_call, size_call, clear_call, call_of};
+ghost use Rattle.grbrun.specs.Objects.{matrix_named, vector_named, new_object, made_sort, objects_after, dup_call, free_call, nvals_call, size_call, clear_call, mask_matrix, mask_vector, ewise_add_call, ewise_mult_call, call_of};
 
 use crate::reply_line::Answer;
 use grb_call::{Call, MatrixId, Object, Reply, VectorId};
-use grb_script::{Sort, Statement};
+use grb_script::{Elementwise, Sort, Statement};
 use std::alloc::AllocError;
 
 /// What a name stands for whose matrix was not made: no matrix has this number, so a call of it is refused.
@@ -97,6 +97,76 @@ fn clear_call(objects: &[Object], name: usize, sort: Sort) -> Call
     }
 }
 
+/// The matrix of the name of a mask, where one is given.
+fn mask_matrix(objects: &[Object], mask: Option<usize>) -> Option<MatrixId>
+    ensures { result ≡ mask_matrix objects.now mask }
+{
+    match mask {
+        Some(name) => Some(matrix_named(objects, name)),
+        None => None,
+    }
+}
+
+/// The vector of the name of a mask, where one is given.
+fn mask_vector(objects: &[Object], mask: Option<usize>) -> Option<VectorId>
+    ensures { result ≡ mask_vector objects.now mask }
+{
+    match mask {
+        Some(name) => Some(vector_named(objects, name)),
+        None => None,
+    }
+}
+
+fn ewise_add_call(objects: &[Object], says: &Elementwise) -> Call
+    ensures { result ≡ ewise_add_call objects.now says.now says.now.sort }
+{
+    match says.sort {
+        Sort::Matrix => Call::EwiseAddMatrix {
+            c: matrix_named(objects, says.output),
+            mask: mask_matrix(objects, says.mask),
+            accum: says.accum,
+            op: says.op,
+            a: matrix_named(objects, says.left),
+            b: matrix_named(objects, says.right),
+            d: says.descriptor,
+        },
+        Sort::Vector => Call::EwiseAddVector {
+            w: vector_named(objects, says.output),
+            mask: mask_vector(objects, says.mask),
+            accum: says.accum,
+            op: says.op,
+            u: vector_named(objects, says.left),
+            v: vector_named(objects, says.right),
+            d: says.descriptor,
+        },
+    }
+}
+
+fn ewise_mult_call(objects: &[Object], says: &Elementwise) -> Call
+    ensures { result ≡ ewise_mult_call objects.now says.now says.now.sort }
+{
+    match says.sort {
+        Sort::Matrix => Call::EwiseMultMatrix {
+            c: matrix_named(objects, says.output),
+            mask: mask_matrix(objects, says.mask),
+            accum: says.accum,
+            op: says.op,
+            a: matrix_named(objects, says.left),
+            b: matrix_named(objects, says.right),
+            d: says.descriptor,
+        },
+        Sort::Vector => Call::EwiseMultVector {
+            w: vector_named(objects, says.output),
+            mask: mask_vector(objects, says.mask),
+            accum: says.accum,
+            op: says.op,
+            u: vector_named(objects, says.left),
+            v: vector_named(objects, says.right),
+            d: says.descriptor,
+        },
+    }
+}
+
 /// The call that a statement makes, where the names so far stand for these objects. The list of a build goes into its call. Takes no
 /// memory.
 pub(crate) fn call_of(objects: &[Object], statement: Statement) -> Call
@@ -158,6 +228,8 @@ pub(crate) fn call_of(objects: &[Object], statement: Statement) -> Call
             let v = vector_named(objects, name);
             Call::BuildVector { v, tuples, dup }
         }
+        Statement::EwiseAdd(says) => ewise_add_call(objects, &says),
+        Statement::EwiseMult(says) => ewise_mult_call(objects, &says),
     }
 }
 

@@ -3,7 +3,7 @@ ghost use Rattle.std.specs.Io.{WritesAtMost};
 ghost use Rattle.std.specs.IoError.{error_kind};
 ghost use Rattle.std.specs.Io.KnownBytes.{WriteAppends};
 
-use crate::sink::{Sink, SinkFault};
+use grb_market::{Sink, SinkFault};
 use std::io;
 use std::io::{ErrorKind, Write};
 
@@ -66,7 +66,7 @@ impl<W: Write> Sink for OutputSink<W> {
 #[cfg(test)]
 mod tests {
     use super::OutputSink;
-    use crate::sink::{Sink, SinkFault};
+    use grb_market::{Sink, SinkFault};
     use std::io;
     use std::io::{ErrorKind, Write};
 

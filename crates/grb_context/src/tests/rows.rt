@@ -161,7 +161,7 @@ fn is_of_a_vector(asked: Asked) -> bool {
     )
 }
 
-fn ask(
+pub(super) fn ask(
     alloc: Global,
     context: &Context,
     pass: &mut Pass,

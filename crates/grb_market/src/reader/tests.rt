@@ -154,6 +154,81 @@ fn each_fault_has_its_line_and_kind(rt: HostRuntime) -> Result<(), Fail> {
 }
 
 #[test]
+fn of_two_faults_of_one_line_the_first_is_told(rt: HostRuntime) -> Result<(), Fail> {
+    let alloc = rt.alloc();
+    let rows = [
+        ("", "2 2 0", 1, FaultKind::UnendedLine),
+        (INTEGER, "2 2", 2, FaultKind::UnendedLine),
+        (INTEGER, "0 3 0", 2, FaultKind::UnendedLine),
+        (PATTERN_SYMMETRIC, "2 3 0", 2, FaultKind::UnendedLine),
+        (
+            PATTERN_SYMMETRIC,
+            "2 3 18446744073709551616\n",
+            2,
+            FaultKind::SizeLine,
+        ),
+        (INTEGER, "2 2 1\n1 1", 3, FaultKind::UnendedLine),
+        (INTEGER, "2 2 1\n3 1 5", 3, FaultKind::UnendedLine),
+        (
+            INTEGER,
+            "2 2 1\n1 1 18446744073709551616",
+            3,
+            FaultKind::UnendedLine,
+        ),
+        (PATTERN_SYMMETRIC, "2 2 1\n1 2", 3, FaultKind::UnendedLine),
+        (PATTERN, "2 2 2\n1 2\n1 2", 4, FaultKind::UnendedLine),
+        (PATTERN, "2 2 1\n1 2\n1 1", 4, FaultKind::UnendedLine),
+        (INTEGER, "2 2 1\n3 1\n", 3, FaultKind::EntryLine),
+        (
+            INTEGER,
+            "2 2 1\n1 1 18446744073709551616 1\n",
+            3,
+            FaultKind::EntryLine,
+        ),
+        (INTEGER_SYMMETRIC, "2 2 1\n1 2\n", 3, FaultKind::EntryLine),
+        (PATTERN, "2 2 2\n1 2\n1 2 1\n", 4, FaultKind::EntryLine),
+        (
+            INTEGER,
+            "2 2 2\n1 1 5\n1 1 18446744073709551616\n",
+            4,
+            FaultKind::Value,
+        ),
+    ];
+    for (first, behind, line, kind) in rows {
+        let whole = text(alloc, first, behind)?;
+        assert!(rt;
+            is_fault(read(alloc, whole.as_bytes()), line, kind),
+            "{first}{behind}"
+        );
+    }
+    Ok(())
+}
+
+#[test]
+fn the_first_line_that_repeats_a_place_is_told(rt: HostRuntime) -> Result<(), Fail> {
+    let alloc = rt.alloc();
+    let rows = [
+        ("3 3 4\n3 3\n1 1\n3 3\n1 1\n", 5, FaultKind::Repeated),
+        ("3 3 4\n3 3\n1 1\n1 1\n3 3\n", 5, FaultKind::Repeated),
+        ("3 3 3\n1 1\n1 1\n1 1\n", 4, FaultKind::Repeated),
+        ("3 3 9\n2 1\n1 1\n2 1\n", 5, FaultKind::Repeated),
+        ("3 3 4\n2 1\n1 1\n2 1\n9 9\n", 5, FaultKind::Repeated),
+        ("3 3 4\n2 1\n1 1\n2 1\n3 3", 5, FaultKind::Repeated),
+        ("3 3 3\n2 1\n1 1\n2 1\n3 3\n", 5, FaultKind::Repeated),
+        ("3 3 4\n2 1\n9 9\n2 1\n2 1\n", 4, FaultKind::Index),
+        ("3 3 2\n2 1\n1 1\n2 1\n", 5, FaultKind::TooMany),
+    ];
+    for (behind, line, kind) in rows {
+        let whole = text(alloc, PATTERN, behind)?;
+        assert!(rt;
+            is_fault(read(alloc, whole.as_bytes()), line, kind),
+            "{behind}"
+        );
+    }
+    Ok(())
+}
+
+#[test]
 fn each_beginning_of_a_file_has_its_fault(rt: HostRuntime) -> Result<(), Fail> {
     let alloc = rt.alloc();
     let whole = text(alloc, PATTERN_SYMMETRIC, "3 3 2\n2 1\n3 3\n")?;

@@ -1,6 +1,6 @@
 ghost use Rattle.std.specs.Prelude.{Some};
 
-use crate::sink::{Sink, SinkFault, put_all};
+use grb_market::{Sink, SinkFault, put_all};
 use std::test::Fail;
 
 /// How a sink says that it takes no more.

@@ -1,41 +1,29 @@
-use Rattle.std.proofs.Common.{◌-◌, sym, ◌∙◌, arith}
-use Rattle.std.specs.Result.{result_err}
-use Rattle.std.proofs.lemmas.Result.{err_from_is_err_and}
+use Rattle.std.proofs.Common.{◌≡◌, ◌+◌, ◌∙◌, true, None, [], length, ap, sym, subst, arith}
+use Rattle.grb_core.specs.Entries.{cell_cmp, cells_of, map_from}
 use Rattle.grb_market.specs.Line.{lines_of}
-use Rattle.grb_market.specs.Reading.{entry_of}
-use Rattle.grb_market.proofs.MarketLemmas.{entry_fault, repeated_fault, next_entry, line_unread}
-use Rattle.std.proofs.Common.{subst}
-use Rattle.std.specs.Prelude.{IsTrue}
-use Rattle.std.specs.FinMap.{is_sorted}
-use Rattle.grb_core.specs.Entries.{cell_cmp}
-use Rattle.grb_market.specs.Fault.{entries_on}
-use Rattle.grb_market.proofs.EntryMaps.{sorted-map_from}
+use Rattle.grb_market.specs.Gathered.{are_apart, IsAtEnd}
+use Rattle.grb_market.specs.Stands.{StandsBehind, IsRead}
+use Rattle.grb_market.proofs.ApartLemmas.{length-cells_of}
+use Rattle.grb_market.proofs.MarketLemmas.{stands_behind, wrong_fault, is_read}
 use Rattle.grb_market.proofs.reader.read_entries.Goals as goal
 
-pub insert-requires : goal.insert-requires
-insert-requires c =
-    let stands = c.loop-rest.invariant.stands in
-    subst (λ es. IsTrue (is_sorted cell_cmp es)) (sym stands.entries) (sorted-map_from (entries_on c.args.head c.args.size stands.lines))
+pub returns-in-Some-clause-fault : goal.returns-in-Some-clause-fault
+returns-in-Some-clause-fault c =
+    let es = cells_of c.in_ok-tuples.tuples.items in
+    let all = c.in_ok-tuples.ensures in
+    let apart : are_apart es ≡ true = sym c.in_ok-put_in_order.ensures.apart ∙ c.if-not-branch.false in
+    let stands = stands_behind c.args.text.now c.args.head c.args.size c.args.first c.args.behind.now c.requires.stands es all.left all.rest all.front apart in
+    let long = length-cells_of c.in_ok-tuples.tuples.items in
+    let number : c.args.first + length es ≡ c.args.first + c.len-count.result = omega (arith, long, c.len-count.ensures, c.in_ok-tuples.tuples.ok.0) in
+    let here = subst (λ n. StandsBehind c.args.text.now c.args.head c.args.size n all.left all.rest (map_from cell_cmp es)) number stands in
+    rw c.fault-in-Some.ensures (wrong_fault c.args.text.now c.args.head c.args.size (c.args.first + c.len-count.result) all.left all.rest (map_from cell_cmp es) here c.in-Some.kind (all.is_wrong ∙ c.in-Some.is))
 
-pub returns-in_err-cell-clause-fault : goal.returns-in_err-cell-clause-fault
-returns-in_err-cell-clause-fault c =
-    let now = c.loop-rest in
-    let p = err_from_is_err_and c.from_residual.result c.from_residual.ensures.1 in
-    rw (p.1, p.2) (line_unread c.args.text.now now.number (result_err (entry_of c.args.head c.args.size c.in-Some.line.now)) _
-    (λ kind e. entry_fault c.args.text.now c.args.head c.args.size now.number now.left now.rest.now now.entries now.invariant.stands c.in-Some.line.now (lines_of c.in-Some.after.now) kind c.in-Some.ensures.ended (omega arith) e)
-    c.in_err-cell.ensures.fault)
-
-pub returns-then-stood-clause-fault : goal.returns-then-stood-clause-fault
-returns-then-stood-clause-fault c =
-    let now = c.loop-rest in
-    rw c.fault-then-stood.ensures (repeated_fault c.args.text.now c.args.head c.args.size now.number now.left now.rest.now now.entries now.invariant.stands c.in-Some.line.now (lines_of c.in-Some.after.now)
-    (c.in_ok-cell.cell, c.in_ok-cell.value) c.in-Some.ensures.ended (omega arith) c.in_ok-cell.ensures.read (sym c.in_ok-stood.ensures.stood ∙ c.if-stood.true))
-
-pub loop-rest-preserved : goal.loop-rest-preserved
-loop-rest-preserved c =
-    let now = c.loop-rest in
-    record {
-      stands = next_entry c.args.text.now c.args.head c.args.size now.number now.left now.rest.now now.entries now.invariant.stands c.in-Some.line.now c.in-Some.after.now
-          (c.in_ok-cell.cell, c.in_ok-cell.value) (now.left - 1) c.insert.new.self c.in-Some.ensures.ended (omega arith) c.in_ok-cell.ensures.read (sym c.in_ok-stood.ensures.stood ∙ c.if-stood.false) c.in_ok-stood.ensures.stored;
-      numbered = omega (arith, c.in-Some.ensures.shorter);
-    }
+pub returns-in-None-clause-read : goal.returns-in-None-clause-read
+returns-in-None-clause-read c =
+    let es = cells_of c.in_ok-tuples.tuples.items in
+    let all = c.in_ok-tuples.ensures in
+    let apart : are_apart es ≡ true = sym c.in_ok-put_in_order.ensures.apart ∙ c.if-not-branch.false in
+    let stands = stands_behind c.args.text.now c.args.head c.args.size c.args.first c.args.behind.now c.requires.stands es all.left all.rest all.front apart in
+    let end : lines_of all.rest ≡ [] = subst (IsAtEnd (lines_of all.rest)) c.in-None.is all.ends in
+    subst (IsRead c.args.text.now c.args.head c.args.size) (sym (c.in_ok-put_in_order.ensures.ordered c.if-not-branch.false))
+    (is_read c.args.text.now c.args.head c.args.size (c.args.first + length es) all.left all.rest (map_from cell_cmp es) stands end (all.is_wrong ∙ c.in-None.is))

@@ -1,16 +1,11 @@
-use Rattle.std.proofs.Common.{◌≡◌, ◌∙◌, ℕ, sym, ap, subst}
-use Rattle.std.specs.Prelude.{Some, None}
+use Rattle.std.proofs.Common.{◌≡◌, ◌∙◌, ap}
 use Rattle.std.specs.Ordering.{nat_cmp}
-use Rattle.grb_core.specs.Operator.{op_domain, value_of_op}
+use Rattle.grb_core.specs.Operator.{value_of_op}
 use Rattle.grb_core.specs.Entries.{VectorEntries}
-use Rattle.grb_core.specs.Contents.{IsVector, edited_vector}
-use Rattle.grb_core.specs.Mask.{is_inside}
-use Rattle.grb_core.specs.Written.{AccumulatesIn, accumulated, pointwise, written}
-use Rattle.grb_kernels.specs.declared.pairing.Pairing.TheVariants.{Union}
+use Rattle.grb_core.specs.Written.{pointwise}
 use Rattle.grb_kernels.specs.Typed.{entries_of}
 use Rattle.grb_kernels.specs.Pairing.{paired}
-use Rattle.grb_sparse.specs.Vector.{SparseVectorView}
-use Rattle.grb_ops.proofs.Whole.{vector_of, paired_whole, written_whole, whole-same, same_vector, unmasked, unchanged, emptied}
+use Rattle.grb_ops.proofs.Whole.{paired_whole, whole-same}
 use Rattle.grb_ops.proofs.ewise.pair_typed.Goals as goal
 
 pub returns-clause-whole : goal.returns-clause-whole

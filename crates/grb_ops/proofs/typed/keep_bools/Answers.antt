@@ -1,7 +1,6 @@
-use Rattle.std.proofs.Common.{◌≡◌, ℕ, Bool, true, sym, subst}
-use Rattle.std.specs.Prelude.{IfOk, map}
+use Rattle.std.proofs.Common.{◌≡◌, Bool, true, sym, subst}
+use Rattle.std.specs.Prelude.{IfOk}
 use Rattle.grb_core.specs.declared.domain.Domain.TheVariants as domain
-use Rattle.grb_core.specs.declared.value.Value.{Value}
 use Rattle.grb_core.specs.declared.value.Value.TheVariants as value
 use Rattle.grb_core.specs.Entries.{VectorEntries}
 use Rattle.grb_sparse.specs.Vector.{SparseVectorView}

@@ -3,7 +3,7 @@ use Rattle.atomic_table.specs.Table.{Splits}
 use Rattle.grb_order.specs.Rule.{Orderly}
 use Rattle.grb_order.specs.Steps.{dealing, dealt}
 use Rattle.grb_order.specs.declared.rule.Size.{Size}
-use Rattle.grb_order.specs.declared.rule.Standing.{Standing}
+use Rattle.grb_order.specs.declared.standing.Standing.{Standing}
 use Rattle.grb_order.proofs.Steps.{deals}
 use Rattle.grb_order.proofs.order.deal.Goals as goal
 

@@ -13,7 +13,7 @@ use Rattle.grb_rows.specs.Stored.{RowView, paired}
 use Rattle.grb_rows.proofs.Places.{holds, passes}
 use Rattle.grb_rows.proofs.FlatLists.{length-paired, get_or-paired, indices_rise, length-pushed, entries-pushed, is_sorted-pushed}
 use Rattle.std.proofs.lemmas.List.{get_or_default, length_push}
-use Rattle.grb_rows.proofs.FlatCells.{length-codes, code_at, row_at-at, codes-begun, part-at, part-length, split_some, split_upto, split_above, rising, in_span, span_inside, span_of, standing, cell_found, no_row, no_column, columns_rise, same_row, new_before, new_here, new_flat}
+use Rattle.grb_rows.proofs.FlatCells.{length-codes, code_at, row_at-at, codes-begun, part-at, part-length, split_some, split_upto, split_above, rising, in_span, span_inside, span_of, standing, row_after, cell_found, no_row, no_column, columns_rise, same_row, new_before, new_here, new_flat}
 use Rattle.grb_core.specs.Results.{row_of}
 use Rattle.grb_rows.specs.Cells.{decoded}
 use Rattle.grb_core.specs.declared.value.Value.TheVariants as value
@@ -26,3 +26,8 @@ returns-clause-inside c = λ p l m. in_span c.args.rows.now c.args.starts.now c.
 pub returns-clause-outside : goal.returns-clause-outside
 returns-clause-outside c =
     λ p l t. let span = span_of c.args.rows.now c.args.starts.now c.args.columns.now c.requires.flat c.args.k p c.requires.among l t in (span.0, let is = c.end_of-end.ensures.is in omega (arith, span.1, is))
+
+pub returns-clause-next : goal.returns-clause-next
+returns-clause-next c = λ l.
+    let is = c.end_of-end.ensures.is in
+    row_after c.args.rows.now c.args.starts.now c.args.columns.now c.requires.flat c.args.k c.requires.among c.end_of-end.result is l

@@ -1,7 +1,7 @@
 use Rattle.std.proofs.Common.{◌∙◌, get_or, ap, sym, rules, arith}
 use Rattle.grb_script.specs.Reading.{reading, names_behind}
 use Rattle.grb_script.specs.declared.keyword.Keyword.TheVariants as keyword
-use Rattle.grb_script.proofs.FormLemmas.{others_of, form_of-words, reading-short, names_behind-whole, names_behind-placed, names_behind-set}
+use Rattle.grb_script.proofs.FormLemmas.{others_of, form_of-words, reading-short, names_behind-whole, names_behind-placed, names_behind-set, names_behind-ewise}
 use Rattle.grb_script.proofs.IndicesLemmas.{no_word}
 use Rattle.grb_script.proofs.statement.read_statement.Goals as goal
 
@@ -30,4 +30,12 @@ returns-in_ok-set-in-Set-clause-read c =
     record {
       says = ap (reading c.args.names.now) form ∙ sym c.in_ok-set-in-Set.ensures;
       behind = sym (ap (names_behind c.args.names.now) form ∙ names_behind-set c.args.names.now (get_or c.args.words.now 1 no_word).now (others_of c.args.words.now));
+    }
+
+pub returns-in_ok-ewise-in-Ewise-clause-read : goal.returns-in_ok-ewise-in-Ewise-clause-read
+returns-in_ok-ewise-in-Ewise-clause-read c =
+    let form = form_of-words c.args.words.now (keyword.Ewise c.in-Ewise.word) (omega arith) (search rules) (search rules) in
+    record {
+      says = ap (reading c.args.names.now) form ∙ sym c.in_ok-ewise-in-Ewise.ensures;
+      behind = sym (ap (names_behind c.args.names.now) form ∙ names_behind-ewise c.args.names.now c.in-Ewise.word (get_or c.args.words.now 1 no_word).now (others_of c.args.words.now));
     }

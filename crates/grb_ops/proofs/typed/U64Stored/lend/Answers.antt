@@ -1,4 +1,4 @@
-use Rattle.std.proofs.Common.{ℕ, Bool}
+use Rattle.std.proofs.Common.{ℕ}
 use Rattle.grb_core.specs.declared.value.Value.TheVariants as value
 use Rattle.grb_ops.proofs.Lent.{lent, lent-same, lent-rising}
 use Rattle.grb_ops.proofs.typed.U64Stored.lend.Goals as goal

@@ -6,7 +6,7 @@ use Rattle.grb_order.specs.Rule.{Orderly}
 use Rattle.grb_order.specs.Word.{order_word}
 use Rattle.grb_order.specs.View.{LookedLast, enters_word}
 use Rattle.grb_order.specs.Steps.{tried, seen}
-use Rattle.grb_order.specs.declared.rule.Standing.{Standing}
+use Rattle.grb_order.specs.declared.standing.Standing.{Standing}
 use Rattle.grb_order.proofs.Steps.{tries}
 use Rattle.grb_order.proofs.Seats.{within, seated_enters, seated_learns, moved}
 use Rattle.grb_order.proofs.order.Order.enter.Goals as goal

@@ -1,5 +1,5 @@
 use Rattle.std.proofs.Common.{◌≡◌, ◌<◌, ◌≤◌, length, sym, refl, ap, ◌∙◌, arith}
-use Rattle.grb_order.specs.declared.rule.Standing.{Standing}
+use Rattle.grb_order.specs.declared.standing.Standing.{Standing}
 use Rattle.grb_order.proofs.Steps.{looks}
 use Rattle.grb_order.proofs.Seats.{seated_vacant, seated_learns, moved}
 use Rattle.grb_order.proofs.order.Order.look.Goals as goal

@@ -9,6 +9,7 @@ use Rattle.grb_core.specs.Value.{value_domain, IsValueOf}
 use Rattle.grb_core.specs.Monoid.{monoid_domain}
 use Rattle.grb_core.specs.Entries.{Cell, cell_cmp, cells_of, built_from, values_of, without_entry, restricted, VectorEntries, MatrixEntries}
 use Rattle.grb_core.specs.Contents.{Matrix, IsMatrix, edited_matrix, resized_matrix, is_cell_in}
+use Rattle.grb_core.proofs.Dimensions.{dimension-fits}
 use Rattle.grb_core.proofs.Maps.{cell_cmp_total}
 use Rattle.grb_rows.specs.Pending.{Change, PendingView}
 use Rattle.grb_rows.specs.Held.{stored, IsLaid}
@@ -42,6 +43,6 @@ pub returns : goal.returns
 returns c =
     let i = c.self.inside in
     let m = stored i.lists i.deleted.items i.pending.changes in
-    let small = c.self.invariant.0.matrix.ncols.fits in
+    let small = dimension-fits i.ncols c.self.invariant.0.matrix.ncols in
     c.look_up.ensures ∙ ap (λ k. find nat_cmp k m) c.code.ensures ∙ find-cell c.args.i c.args.j m (omega (arith, small, c.if-j-self.false))
     ∙ ap (λ (v : SparseMatrixView). find cell_cmp (c.args.i, c.args.j) v.matrix.entries) c.self.view_is

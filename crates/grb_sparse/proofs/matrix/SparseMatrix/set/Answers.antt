@@ -9,6 +9,7 @@ use Rattle.grb_core.specs.Value.{value_domain, IsValueOf}
 use Rattle.grb_core.specs.Monoid.{monoid_domain}
 use Rattle.grb_core.specs.Entries.{Cell, cell_cmp, cells_of, built_from, values_of, without_entry, restricted, VectorEntries, MatrixEntries}
 use Rattle.grb_core.specs.Contents.{Matrix, IsMatrix, edited_matrix, resized_matrix, is_cell_in}
+use Rattle.grb_core.proofs.Dimensions.{dimension-fits}
 use Rattle.grb_core.proofs.Maps.{cell_cmp_total}
 use Rattle.grb_rows.specs.Pending.{Change, PendingView}
 use Rattle.grb_rows.specs.Held.{stored, IsLaid}
@@ -29,7 +30,7 @@ counted-self-inside-requires-clause-fits c =
     let i = c.self.inside in
     let held = c.self.invariant.0 in
     let few = few_cells i.nrows i.ncols i.lists.domain (stored i.lists i.deleted.items i.pending.changes) held.matrix in
-    omega (arith, few, held.counted, held.matrix.nrows.fits)
+    omega (arith, few, held.counted, dimension-fits i.nrows held.matrix.nrows)
 
 pub invariant_of-self : goal.invariant_of-self
 invariant_of-self c =

@@ -27,8 +27,7 @@ pub invariant_of-self : goal.invariant_of-self
 invariant_of-self c =
     let i = c.self.inside in
     let built = c.in_ok-built.built.items in
-    let copied : c.extend_from_slice.new.self.items ≡ c.args.tuples.now = c.in_ok-extend_from_slice.ensures.items ∙ ap (λ (s : VectorEntries). s ++ c.args.tuples.now) c.new-copy.ensures.items in
-    let is : built ≡ built_from nat_cmp c.args.dup c.args.tuples.now = c.in_ok-built.ensures.items ∙ ap (built_from nat_cmp c.args.dup) copied in
+    let is : built ≡ built_from nat_cmp c.args.dup c.args.tuples.now = c.in_ok-built.ensures.items in
     let same : monoid_domain c.args.dup ≡ i.row.domain = c.requires.same_domain ∙ sym (ap (λ (v : SparseVectorView). v.vector.domain) c.self.view_is) in
     let within = subst (λ (v : SparseVectorView). All (λ e. e.0 < v.vector.size) c.args.tuples.now) (sym c.self.view_is) c.requires.in_range in (
       held-fresh i.size c.in_ok-row.row c.new-unmarked.result.items (none_set c.new-unmarked.result.items c.new-unmarked.ensures.items) c.clear.new.self.changes (ap (λ (p : PendingView). p.changes) c.clear.ensures)
@@ -41,8 +40,7 @@ pub returns-clause-vector : goal.returns-clause-vector
 returns-clause-vector c =
     let i = c.self.inside in
     let built = c.in_ok-built.built.items in
-    let copied : c.extend_from_slice.new.self.items ≡ c.args.tuples.now = c.in_ok-extend_from_slice.ensures.items ∙ ap (λ (s : VectorEntries). s ++ c.args.tuples.now) c.new-copy.ensures.items in
-    let is : built ≡ built_from nat_cmp c.args.dup c.args.tuples.now = c.in_ok-built.ensures.items ∙ ap (built_from nat_cmp c.args.dup) copied in
+    let is : built ≡ built_from nat_cmp c.args.dup c.args.tuples.now = c.in_ok-built.ensures.items in
     same_vector c.in_ok-row.row.domain i.row.domain i.size _ _ (c.in_ok-row.ensures.domain ∙ c.domain.ensures)
     (stored-fresh i.size c.in_ok-row.row c.new-unmarked.result.items (none_set c.new-unmarked.result.items c.new-unmarked.ensures.items) c.clear.new.self.changes (ap (λ (p : PendingView). p.changes) c.clear.ensures) ∙ c.in_ok-row.ensures.entries ∙ c.deref.ensures.value ∙ is)
     ∙ ap (λ (v : SparseVectorView). edited_vector (λ _. built_from nat_cmp c.args.dup c.args.tuples.now) v.vector) c.self.view_is

@@ -11,6 +11,7 @@ use Rattle.grb_core.specs.declared.value.Value.TheVariants as value
 use Rattle.grb_core.specs.Value.{value_domain, IsValueOf}
 use Rattle.grb_core.specs.Entries.{values_of, without_entry, restricted, VectorEntries}
 use Rattle.grb_core.specs.Contents.{IsVector, edited_vector, resized_vector, is_index_in}
+use Rattle.grb_core.proofs.Dimensions.{dimension-fits}
 use Rattle.grb_rows.specs.Pending.{Change, PendingView}
 use Rattle.grb_rows.specs.Held.{stored, IsLaid}
 use Rattle.grb_sparse.specs.Held.{IsHeld}
@@ -29,7 +30,7 @@ returns-clause-indices c =
     let i = c.self.inside in
     let is = ap (λ (v : SparseVectorView). v.assembled) c.self.view_is ∙ c.requires.assembled in
     let held = c.self.invariant.0 in
-    let small = held.vector.size.fits in
+    let small = dimension-fits i.size held.vector.size in
     let low : AllByRecursion (λ (e : ℕ × Value). e.0 < 4294967296) i.row.entries = subst (AllByRecursion (λ (e : ℕ × Value). e.0 < 4294967296)) (stored-assembled i.size i.row i.deleted.items i.pending.changes i.nvals i.assembled held is)
     (recursion_from_All (λ (e : ℕ × Value). e.0 < 4294967296) (stored i.row i.deleted.items i.pending.changes) (λ k d l. let a = held.vector.within k d l in omega (arith, a, small))) in
     c.columns.ensures.columns ∙ low_columns i.row.entries low ∙ ap (map (λ (e : ℕ × Value). e.0)) (sym (stored-assembled i.size i.row i.deleted.items i.pending.changes i.nvals i.assembled c.self.invariant.0 is))
@@ -40,7 +41,7 @@ returns-clause-below c =
     let i = c.self.inside in
     let is = ap (λ (v : SparseVectorView). v.assembled) c.self.view_is ∙ c.requires.assembled in
     let held = c.self.invariant.0 in
-    let small = held.vector.size.fits in
+    let small = dimension-fits i.size held.vector.size in
     let low : AllByRecursion (λ (e : ℕ × Value). e.0 < 4294967296) i.row.entries = subst (AllByRecursion (λ (e : ℕ × Value). e.0 < 4294967296)) (stored-assembled i.size i.row i.deleted.items i.pending.changes i.nvals i.assembled held is)
     (recursion_from_All (λ (e : ℕ × Value). e.0 < 4294967296) (stored i.row i.deleted.items i.pending.changes) (λ k d l. let a = held.vector.within k d l in omega (arith, a, small))) in
     let same = c.columns.ensures.columns ∙ low_columns i.row.entries low ∙ ap (map (λ (e : ℕ × Value). e.0)) (sym (stored-assembled i.size i.row i.deleted.items i.pending.changes i.nvals i.assembled c.self.invariant.0 is))

@@ -7,6 +7,7 @@ use Rattle.grb_core.specs.declared.value.Value.TheVariants as value
 use Rattle.grb_core.specs.Value.{value_domain, IsValueOf}
 use Rattle.grb_core.specs.Entries.{values_of, without_entry, restricted, VectorEntries}
 use Rattle.grb_core.specs.Contents.{IsVector, edited_vector, resized_vector, is_index_in}
+use Rattle.grb_core.proofs.Dimensions.{dimension-fits}
 use Rattle.grb_rows.specs.Pending.{Change, PendingView}
 use Rattle.grb_rows.specs.Held.{stored, IsLaid}
 use Rattle.grb_sparse.specs.Held.{IsHeld}
@@ -21,7 +22,7 @@ pub counted-self-inside-requires-clause-fits : goal.counted-self-inside-requires
 counted-self-inside-requires-clause-fits c =
     let held = c.self.invariant.0 in
     let few = length-le_size _ held.vector in
-    omega (arith, few, held.counted, held.vector.size.fits)
+    omega (arith, few, held.counted, dimension-fits c.self.inside.size held.vector.size)
 
 pub invariant_of-self : goal.invariant_of-self
 invariant_of-self c =

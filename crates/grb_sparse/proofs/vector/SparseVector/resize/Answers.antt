@@ -7,6 +7,7 @@ use Rattle.grb_core.specs.declared.value.Value.TheVariants as value
 use Rattle.grb_core.specs.Value.{value_domain, IsValueOf}
 use Rattle.grb_core.specs.Entries.{values_of, without_entry, restricted, VectorEntries}
 use Rattle.grb_core.specs.Contents.{IsVector, edited_vector, resized_vector, is_index_in}
+use Rattle.grb_core.proofs.Dimensions.{dimension-fits}
 use Rattle.grb_rows.specs.Pending.{Change, PendingView}
 use Rattle.grb_rows.specs.Held.{stored, IsLaid}
 use Rattle.grb_sparse.specs.Held.{IsHeld}
@@ -31,7 +32,7 @@ invariant_of-self c =
     let i = c.self.inside in
     let held = c.self.invariant.0 in
     let new = c.in_ok-row.row in
-    let small = c.requires.dimension.fits in
+    let small = dimension-fits c.args.size c.requires.dimension in
     let is = c.in_ok-row.ensures.entries ∙ restricted-one_row c.args.size (omega (arith, small)) c.in_ok-whole.whole.entries ∙ ap (restricted (is_index_in c.args.size)) c.in_ok-whole.ensures.entries in (
       held-fresh c.args.size new c.new-deleted.result.items (none_set c.new-deleted.result.items c.new-deleted.ensures.items) c.clear.new.self.changes (ap (λ (p : PendingView). p.changes) c.clear.ensures)
           (IsVector-same new.domain i.row.domain c.args.size new.entries _ (c.in_ok-row.ensures.domain ∙ c.in_ok-whole.ensures.domain) is (IsVector-resized (vector_of i.row.domain i.size (stored i.row i.deleted.items i.pending.changes)) c.args.size c.requires.dimension held.vector)) c.len.result c.len.ensures.len i.assembled,
@@ -42,7 +43,7 @@ pub returns-clause-vector : goal.returns-clause-vector
 returns-clause-vector c =
     let i = c.self.inside in
     let new = c.in_ok-row.row in
-    let small = c.requires.dimension.fits in
+    let small = dimension-fits c.args.size c.requires.dimension in
     let is = c.in_ok-row.ensures.entries ∙ restricted-one_row c.args.size (omega (arith, small)) c.in_ok-whole.whole.entries ∙ ap (restricted (is_index_in c.args.size)) c.in_ok-whole.ensures.entries in
     same_vector new.domain i.row.domain c.args.size _ _ (c.in_ok-row.ensures.domain ∙ c.in_ok-whole.ensures.domain)
     (stored-fresh c.args.size new c.new-deleted.result.items (none_set c.new-deleted.result.items c.new-deleted.ensures.items) c.clear.new.self.changes (ap (λ (p : PendingView). p.changes) c.clear.ensures) ∙ is)

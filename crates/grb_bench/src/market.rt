@@ -1,0 +1,157 @@
+ghost use Rattle.std.specs.Prelude.{◌≡◌, ◌<◌, ◌≤◌, length, true, IfOk};
+
+use crate::numbers::Numbers;
+use crate::report::{Least, RUNS, nanos_since, write_check};
+use grb_core::Value;
+use grb_market::read;
+use std::alloc::{AllocError, Global};
+use std::rt::Clock;
+use std::test::Fail;
+use std::time::Instant;
+
+/// The entry lines of a text.
+const LINES: u32 = 250_000;
+
+/// The rows of the matrix, and its columns.
+const SIDE: u64 = 65_536;
+
+/// From one place to the next, in cells counted row by row.
+const STEP: u64 = 17_179;
+
+/// The numbers of an entry line.
+type Line = (u64, u64, u64);
+
+/// The entry lines of a matrix, in rising order of their places.
+fn rising_lines(alloc: Global) -> Result<Vec<Line>, AllocError> {
+    let mut numbers = Numbers::new();
+    let mut lines = Vec::with_capacity(alloc, LINES as usize)?;
+    for k in 0..LINES {
+        let cell = u64::from(k) * STEP;
+        let value = numbers.next();
+        lines.push((1 + cell / SIDE, 1 + cell % SIDE, value))?;
+    }
+    Ok(lines)
+}
+
+/// Puts the lines in a drawn order.
+fn shuffle(lines: &mut [Line]) {
+    let mut numbers = Numbers::new();
+    for k in 1..lines.len() {
+        let drawn = numbers.below(k as u64 + 1);
+        lines.swap(k, drawn as usize);
+    }
+}
+
+/// The text of these lines.
+fn text_of(alloc: Global, lines: &[Line]) -> Result<String, AllocError> {
+    let count = lines.len();
+    let mut text = String::new(alloc);
+    text.push_str("%%MatrixMarket matrix coordinate integer general\n")?;
+    write!(text, "{SIDE} {SIDE} {count}\n")?;
+    for (i, j, value) in lines {
+        write!(text, "{i} {j} {value}\n")?;
+    }
+    Ok(text)
+}
+
+/// The number whose digits stand from this place on, and the place behind them.
+fn number_at(text: &[u8], first: usize) -> (u64, usize)
+    requires { first ≤ length text.now }
+    ensures from { first ≤ result.1 }
+    ensures within { result.1 ≤ length text.now }
+{
+    let mut number: u64 = 0;
+    let mut at = first;
+    while at < text.len() && text[at].is_ascii_digit() {
+        number = number
+            .wrapping_mul(10)
+            .wrapping_add(u64::from(text[at] - b'0'));
+        at += 1;
+    }
+    (number, at)
+}
+
+/// The sum of the numbers of a text, modulo 2^64.
+fn sum_of_numbers(text: &[u8]) -> u64 {
+    let mut sum: u64 = 0;
+    let mut at: usize = 0;
+    while at < text.len() {
+        let (number, end) = number_at(text, at);
+        sum = sum.wrapping_add(number);
+        at = end + 1;
+    }
+    sum
+}
+
+/// The sum of the numbers of the text of these lines, modulo 2^64.
+fn sum_of_lines(lines: &[Line]) -> u64 {
+    lines.iter().fold(2 * SIDE + u64::from(LINES), |sum, line| {
+        sum.wrapping_add(line.0)
+            .wrapping_add(line.1)
+            .wrapping_add(line.2)
+    })
+}
+
+/// Whether the tuples are those that these lines state, one after another.
+fn are_stated(tuples: &[(u64, u64, Value)], lines: &[Line]) -> bool {
+    tuples.len() == lines.len()
+        && tuples.iter().zip(lines).all(|(tuple, line)| {
+            tuple.0.wrapping_add(1) == line.0
+                && tuple.1.wrapping_add(1) == line.1
+                && tuple.2 == Value::Uint64(line.2)
+        })
+}
+
+/// How many nanoseconds a plain scan of the numbers of the text took, and their sum.
+fn timed_scan<R: Clock>(rt: &R, text: &[u8]) -> (u64, u64) {
+    let start = Instant::now(rt);
+    let sum = sum_of_numbers(text);
+    (nanos_since(rt, start), sum)
+}
+
+/// How many nanoseconds a reading of the text took, if it gave just the entries of these lines, which are in order.
+fn timed_read<R: Clock + AllocGlobal>(rt: &R, text: &[u8], lines: &[Line]) -> Option<u64> {
+    let start = Instant::now(rt);
+    let loaded = read(rt.alloc(), text);
+    let nanos = nanos_since(rt, start);
+    let Ok(loaded) = loaded else {
+        return None;
+    };
+    let holds = (loaded.nrows, loaded.ncols) == (SIDE, SIDE)
+        && are_stated(loaded.tuples.as_slice(), lines);
+    holds.then_some(nanos)
+}
+
+/// Times readings of two Matrix Market texts of one matrix, with its entry lines in rising and in drawn order, beside a plain scan of the numbers of
+/// the same text.
+pub fn run<R: Clock + Print + Eprint + AllocGlobal>(rt: &R) -> Result<(), Fail> {
+    let lines = rising_lines(rt.alloc())?;
+    let rising = text_of(rt.alloc(), &lines)?;
+    let mut drawn = Vec::from_slice(rt.alloc(), &lines)?;
+    shuffle(&mut drawn);
+    let shuffled = text_of(rt.alloc(), &drawn)?;
+    let sum = sum_of_lines(&lines);
+    let mut scan = Least::none();
+    let mut scan_shuffled = Least::none();
+    let mut read_rising = Least::none();
+    let mut read_shuffled = Least::none();
+    let mut holds = true;
+    for _ in 0..RUNS {
+        let (nanos, found) = timed_scan(rt, rising.as_bytes());
+        scan.take(nanos);
+        holds &= found == sum;
+        holds &= read_rising.take_if(timed_read(rt, rising.as_bytes(), &lines));
+        let (nanos, found) = timed_scan(rt, shuffled.as_bytes());
+        scan_shuffled.take(nanos);
+        holds &= found == sum;
+        holds &= read_shuffled.take_if(timed_read(rt, shuffled.as_bytes(), &lines));
+    }
+    scan.write(rt, "market: scan, rising", LINES)?;
+    read_rising.write(rt, "market: read, rising", LINES)?;
+    scan_shuffled.write(rt, "market: scan, shuffled", LINES)?;
+    read_shuffled.write(rt, "market: read, shuffled", LINES)?;
+    read_rising.write_ratio(rt, "market: read / scan, rising", scan)?;
+    read_shuffled.write_ratio(rt, "market: read / scan, shuffled", scan_shuffled)?;
+    write_check(rt, "market", holds)?;
+    Ok(())
+}

@@ -1,0 +1,10 @@
+use Rattle.std.proofs.Common.{length}
+use Rattle.grb_core.specs.Entries.{cells_of}
+use Rattle.grb_market.specs.Gathered.{AreGathered}
+use Rattle.grb_market.proofs.reader.gather.Given as goal
+
+abbrev pub invariant-loop-rest : goal.invariant-loop-rest
+invariant-loop-rest l = AreGathered l.head l.size l.behind (cells_of l.tuples.items) l.left l.rest
+
+abbrev pub decreases-loop-rest : goal.decreases-loop-rest
+decreases-loop-rest l = length l.rest

@@ -1,0 +1,28 @@
+// What the rule of the row knows of each seat. No value of these types is made.
+ghost use Rattle.std.specs.Prelude.{ℕ, List};
+ghost use Rattle.std.specs.Borrow.{ftrue};
+
+use crate::view::View;
+use std::marker::Model;
+
+pub enum Role {
+    // It deals the places out. Its number is that of the next one.
+    Dealer,
+    Placed,
+    // It carries the words that a place has learnt to another place.
+    Note,
+    // A note that was taken in.
+    Spent,
+}
+
+// What the rule knows of each seat.
+pub struct Standing {
+    pub role: Role,
+    pub view: View,
+    // The words of the last note that it took in.
+    pub ghost told: { List ℕ },
+}
+
+impl Model for Standing {
+    ghost also_owns = { λ _. ftrue };
+}

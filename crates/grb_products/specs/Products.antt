@@ -1,0 +1,17 @@
+-- The products of a row with a vector, one after another (own): what the fold of a row is made of.
+use Rattle.std.specs.Prelude.{ℕ, List, [], ◌∷◌, ◌++◌, Option, Some, None}
+use Rattle.grb_core.specs.declared.value.Value.{Value}
+use Rattle.grb_core.specs.declared.operator.BinaryOp.{BinaryOp}
+use Rattle.grb_core.specs.Operator.{value_of_op}
+use Rattle.grb_core.specs.Entries.{VectorEntries}
+use Rattle.grb_core.specs.Written.{both_values}
+
+-- a value as a list
+abbrev pub list_of : Option Value → List Value
+list_of None = []
+list_of (Some v) = v ∷ []
+
+-- op(x(j), y(j)) for the entries of x at which y has a value, where `y` is given index by index
+abbrev pub products : BinaryOp → (ℕ → Option Value) → VectorEntries → List Value
+products op y [] = []
+products op y (e ∷ es) = list_of (both_values (value_of_op op) (Some e.1) (y e.0)) ++ products op y es

@@ -1,0 +1,22 @@
+//! Products of sparse objects, and reductions: mxv, and the folds of rows and of all entries.
+//!
+//! One unit is an operation: it takes the old output, the inputs, the mask, the accumulator and the descriptor by reference, and
+//! answers the new output, assembled, or `AllocError`. A reduction to a scalar answers a value, and takes no memory. Nothing that was
+//! lent is changed. Nothing here checks domains or dimensions, which the caller owes, and nothing here knows of stores or threads.
+#![tactic(auto)]
+
+mod folding;
+mod lookup;
+mod monoids;
+mod multiply;
+mod row_folds;
+mod row_products;
+mod rows;
+#[cfg(test)]
+mod samples;
+mod stored;
+mod totals;
+
+pub use multiply::mxv;
+pub use row_folds::reduce_rows;
+pub use totals::{reduce_matrix, reduce_vector};

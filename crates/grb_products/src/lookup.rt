@@ -1,0 +1,85 @@
+//! What a vector stores at an index, in the forms that a product reads it in.
+ghost use Rattle.std.specs.Prelude.{◌≡◌, ◌<◌, ◌^◌, ◌≤◌, ◌≢◌, ℕ, length, slice_index, Option, None, All, IfSome, IfNone};
+ghost use Rattle.std.specs.Ordering.{nat_cmp};
+ghost use Rattle.std.specs.FinMap.{find};
+ghost use Rattle.grb_core.specs.declared.value.Value.{Value};
+ghost use Rattle.grb_kernels.specs.Typed.{kept, entries_of};
+ghost use Rattle.grb_products.specs.Open.{marked_at};
+
+use grb_kernels::{EntrySlice, Scalar};
+
+/// A vector, however its entries are kept.
+pub(crate) trait Lookup<T: Scalar> {
+    /// Indices below this can be asked for.
+    ghost size: { Self → ℕ };
+
+    /// What it stores at an index, if anything.
+    ghost holds: { Self → ℕ → Option Value };
+
+    /// The value at an index, and whether there is one. Where there is none the value is any.
+    fn at(&self, index: u32) -> (T, bool)
+        requires { index < size self.now }
+        ensures { kept (T.value result.0) result.1 ≡ holds self.now index };
+}
+
+/// A vector that lies open: at each index a value, and a mark where it is stored.
+#[derive(Drop)]
+pub(crate) struct Open<'a, T> {
+    pub(crate) marks: &'a [bool],
+    pub(crate) dense: &'a [T],
+    ghost same: { length marks.now ≡ length dense.now },
+}
+
+impl<'a, T: Scalar> Lookup<T> for Open<'a, T> {
+    ghost size = { λ vector. length vector.marks.now };
+
+    ghost holds = { λ vector. marked_at T.value vector.marks.now vector.dense.now };
+
+    fn at(&self, index: u32) -> (T, bool) {
+        let at = index as usize;
+        (self.dense[at], self.marks[at])
+    }
+}
+
+/// Where an index stands among those that rise.
+fn place_of(indices: &[u32], index: u32) -> Option<usize>
+    requires { (i j : ℕ) → i ≤ j → j < length indices.now → slice_index indices.now i ≤ slice_index indices.now j }
+    ensures found { IfSome result (λ at. (at < length indices.now) × (slice_index indices.now at ≡ index)) }
+    ensures absent { IfNone result ((k : ℕ) → k < length indices.now → slice_index indices.now k ≢ index) }
+{
+    match indices.binary_search(&index) {
+        Ok(at) => Some(at),
+        Err(_) => None,
+    }
+}
+
+/// A vector whose entries are searched, so that nothing as long as its size is kept.
+impl<'a, T: Scalar> Lookup<T> for EntrySlice<'a, T> {
+    ghost size = { λ entries. 2 ^ 32 };
+
+    ghost holds = { λ entries. λ j. find nat_cmp j (entries_of T.value entries.indices.now entries.values.now) };
+
+    fn at(&self, index: u32) -> (T, bool) {
+        match place_of(self.indices, index) {
+            Some(at) => (self.values[at], true),
+            None => (T::any(), false),
+        }
+    }
+}
+
+/// Lays the entries of a vector open: marks each index, and puts its value there.
+pub(crate) fn scatter<T: Scalar>(indices: &[u32], values: &[T], marks: &mut [bool], dense: &mut [T])
+    requires same { length indices.now ≡ length values.now }
+    requires room { length marks.old ≡ length dense.old }
+    requires in_range { All (λ c. c < length marks.old) indices.now }
+    requires clear { (j : ℕ) → marked_at T.value marks.old dense.old j ≡ None }
+    ensures { (j : ℕ) → marked_at T.value marks.new dense.new j ≡ find nat_cmp j (entries_of T.value indices.now values.now) }
+{
+    let mut i = indices.len();
+    'down: while i > 0 {
+        i -= 1;
+        let at = indices[i] as usize;
+        marks[at] = true;
+        dense[at] = values[i];
+    }
+}

@@ -1,0 +1,122 @@
+//! The values of sparse objects in the Rust type of their domain.
+ghost use Rattle.std.specs.Prelude.{◌≡◌, ◌<◌, true, map, length, slice_index, All, IfOk};
+ghost use Rattle.grb_core.specs.declared.domain.Domain.TheVariants as domain;
+ghost use Rattle.grb_core.specs.declared.value.Value.TheVariants as value;
+ghost use Rattle.grb_core.specs.Value.{IsValueOf};
+ghost use Rattle.grb_core.specs.Entries.{values_of};
+ghost use Rattle.grb_core.specs.Contents.{IsVector};
+ghost use Rattle.grb_core.specs.Results.{row_of};
+ghost use Rattle.grb_kernels.specs.Typed.{entries_of};
+ghost use Rattle.grb_rows.specs.Cells.{decoded};
+
+use grb_kernels::{EntryList, EntrySlice, Scalar};
+use grb_rows::FlatRows;
+use grb_sparse::SparseVector;
+use std::alloc::{AllocError, Global};
+
+/// A Rust type in which objects of its domain keep their values.
+pub(crate) trait Stored: Scalar {
+    /// The value itself. What reading it shows: it is one of the domain.
+    fn read(self) -> Self
+        ensures same { result ≡ self }
+        ensures of_domain { IsValueOf Self.domain (Self.value self) };
+
+    /// The entries of a vector.
+    fn lend(vector: &SparseVector) -> EntrySlice<'_, Self>
+        requires assembled { vector.now.assembled ≡ true }
+        requires domain { vector.now.vector.domain ≡ Self.domain }
+        ensures entries { entries_of Self.value result.indices.now result.values.now ≡ vector.now.vector.entries }
+        ensures below { All (λ j. j < vector.now.vector.size) result.indices.now }
+        ensures whole { IsVector vector.now.vector };
+
+    /// The values of a vector, in the order of their indices.
+    fn of_vector(vector: &SparseVector) -> &[Self]
+        requires assembled { vector.now.assembled ≡ true }
+        requires domain { vector.now.vector.domain ≡ Self.domain }
+        ensures { map Self.value result.now ≡ values_of vector.now.vector.entries };
+
+    /// The values of all entries of a matrix, row by row.
+    fn of_lists(lists: &FlatRows) -> &[Self]
+        requires { lists.now.domain ≡ Self.domain }
+        ensures { map Self.value result.now ≡ values_of lists.now.entries };
+
+    /// The values of the `k`th row of a matrix that has entries, in the order of their columns.
+    fn of_row(lists: &FlatRows, k: usize) -> &[Self]
+        requires at { k < length lists.now.rows }
+        requires domain { lists.now.domain ≡ Self.domain }
+        ensures { map Self.value result.now ≡ values_of (row_of (slice_index lists.now.rows k) (decoded lists.now.entries)) };
+}
+
+impl Stored for bool {
+    fn read(self) -> bool {
+        self
+    }
+
+    fn lend(vector: &SparseVector) -> EntrySlice<'_, bool> {
+        EntrySlice {
+            indices: vector.indices(),
+            values: vector.bools(),
+        }
+    }
+
+    fn of_vector(vector: &SparseVector) -> &[bool] {
+        vector.bools()
+    }
+
+    fn of_lists(lists: &FlatRows) -> &[bool] {
+        lists.bools()
+    }
+
+    fn of_row(lists: &FlatRows, k: usize) -> &[bool] {
+        lists.row_bools(k)
+    }
+}
+
+impl Stored for u64 {
+    fn read(self) -> u64 {
+        self
+    }
+
+    fn lend(vector: &SparseVector) -> EntrySlice<'_, u64> {
+        EntrySlice {
+            indices: vector.indices(),
+            values: vector.numbers(),
+        }
+    }
+
+    fn of_vector(vector: &SparseVector) -> &[u64] {
+        vector.numbers()
+    }
+
+    fn of_lists(lists: &FlatRows) -> &[u64] {
+        lists.numbers()
+    }
+
+    fn of_row(lists: &FlatRows, k: usize) -> &[u64] {
+        lists.row_numbers(k)
+    }
+}
+
+/// The vector of these truth values. They are not copied.
+pub(crate) fn keep_bools(
+    alloc: Global,
+    size: u64,
+    entries: EntryList<bool>,
+) -> Result<SparseVector, AllocError>
+    requires whole { IsVector (record { domain = domain.Bool; size = size; entries = entries_of (λ b. value.Bool b) entries.indices.items entries.values.items }) }
+    ensures { IfOk result (λ v. v ≡ record { vector = record { domain = domain.Bool; size = size; entries = entries_of (λ b. value.Bool b) entries.indices.items entries.values.items }; assembled = true; reserved = 0; pending = 0 }) }
+{
+    SparseVector::from_bools(alloc, size, entries.indices, entries.values)
+}
+
+/// The vector of these numbers. They are not copied.
+pub(crate) fn keep_numbers(
+    alloc: Global,
+    size: u64,
+    entries: EntryList<u64>,
+) -> Result<SparseVector, AllocError>
+    requires whole { IsVector (record { domain = domain.Uint64; size = size; entries = entries_of (λ n. value.Uint64 n) entries.indices.items entries.values.items }) }
+    ensures { IfOk result (λ v. v ≡ record { vector = record { domain = domain.Uint64; size = size; entries = entries_of (λ n. value.Uint64 n) entries.indices.items entries.values.items }; assembled = true; reserved = 0; pending = 0 }) }
+{
+    SparseVector::from_numbers(alloc, size, entries.indices, entries.values)
+}

@@ -1,0 +1,34 @@
+-- When an operation on several objects may be evaluated (own; what the kernels ask for).
+use Rattle.std.specs.Prelude.{◌≡◌, ℕ, Bool, true, false, List, ◌++◌, Option, IfSome}
+use Rattle.std.specs.List.{AllByRecursion}
+use Rattle.grb_sparse.specs.Matrix.{SparseMatrixView}
+use Rattle.grb_sparse.specs.Vector.{SparseVectorView}
+use Rattle.grb_call.specs.declared.call.Call.{Call}
+use Rattle.grb_call.specs.declared.call.Call.TheVariants as call
+use Rattle.grb_call.specs.declared.ids.Object.{Object}
+use Rattle.grb_call.specs.declared.ids.Object.TheVariants as object
+use Rattle.grb_call.specs.Operands.{operands, masks}
+use Rattle.grb_call.specs.Shapes.{object_at}
+
+-- whether what the call leaves of its output is made from other objects too
+abbrev pub is_operation : Call → Bool
+is_operation (call.EwiseAddMatrix c mask accum op a b d) = true
+is_operation (call.EwiseAddVector w mask accum op u v d) = true
+is_operation (call.EwiseMultMatrix c mask accum op a b d) = true
+is_operation (call.EwiseMultVector w mask accum op u v d) = true
+is_operation _ = false
+
+-- the matrix, or the vector, with this number has no change that waits, if it is there
+abbrev pub IsAssembledMatrix : List (Option SparseMatrixView) → ℕ → Type 0
+IsAssembledMatrix matrices n = IfSome (object_at matrices n) (λ m. m.assembled ≡ true)
+
+abbrev pub IsAssembledVector : List (Option SparseVectorView) → ℕ → Type 0
+IsAssembledVector vectors n = IfSome (object_at vectors n) (λ x. x.assembled ≡ true)
+
+abbrev pub IsAssembled : List (Option SparseMatrixView) → List (Option SparseVectorView) → Object → Type 0
+IsAssembled matrices vectors (object.Matrix a) = IsAssembledMatrix matrices a.0
+IsAssembled matrices vectors (object.Vector v) = IsAssembledVector vectors v.0
+
+-- no change waits in any object that the call names, its mask among them
+abbrev pub AreAssembled : List (Option SparseMatrixView) → List (Option SparseVectorView) → Call → Type 0
+AreAssembled matrices vectors c = AllByRecursion (IsAssembled matrices vectors) (operands c ++ masks c)

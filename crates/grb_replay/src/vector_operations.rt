@@ -1,0 +1,63 @@
+//! What an operation whose output is a vector leaves of it.
+ghost use Rattle.std.specs.Prelude.{◌≡◌, true, Some, None, IfOk};
+ghost use Rattle.grb_call.specs.declared.ids.Object.TheVariants as object;
+ghost use Rattle.grb_call.specs.Output.{output_of, vector_left};
+ghost use Rattle.grb_call.specs.Store.{vector_at};
+ghost use Rattle.grb_call.specs.After.{refused};
+ghost use Rattle.grb_replay.specs.Operation.{is_operation, AreAssembled};
+ghost use Rattle.grb_replay.specs.State.{stored};
+
+use crate::vectors::{lent_vector, lent_vector_mask};
+use grb_call::{Call, VectorId};
+use grb_ops::{ewise_add_vector, ewise_mult_vector};
+use grb_sparse::{SparseMatrix, SparseVector};
+use std::alloc::{AllocError, Global};
+
+/// The vector that the operation leaves of its output `w`. Everything is lent, so that one vector may be output, input and mask.
+/// `AllocError` where memory is refused.
+pub(crate) fn operated_vector(
+    alloc: Global,
+    matrices: &[Option<SparseMatrix>],
+    vectors: &[Option<SparseVector>],
+    w: VectorId,
+    call: &Call,
+) -> Result<SparseVector, AllocError>
+    requires operation { is_operation call.now ≡ true }
+    requires output { output_of call.now ≡ Some (object.Vector w) }
+    requires accepted { refused (stored matrices.now vectors.now) call.now ≡ None }
+    requires assembled { AreAssembled matrices.now vectors.now call.now }
+    ensures { IfOk result (λ made. vector_left (stored matrices.now vectors.now) call.now (vector_at (stored matrices.now vectors.now) w) ≡ Some made.vector) }
+{
+    let output = lent_vector(vectors, w);
+    match call {
+        Call::EwiseAddVector {
+            mask,
+            accum,
+            op,
+            u,
+            v,
+            d,
+            ..
+        } => {
+            let mask = lent_vector_mask(vectors, *mask);
+            let first = lent_vector(vectors, *u);
+            let second = lent_vector(vectors, *v);
+            ewise_add_vector(alloc, output, mask, *accum, *op, first, second, *d)
+        }
+        Call::EwiseMultVector {
+            mask,
+            accum,
+            op,
+            u,
+            v,
+            d,
+            ..
+        } => {
+            let mask = lent_vector_mask(vectors, *mask);
+            let first = lent_vector(vectors, *u);
+            let second = lent_vector(vectors, *v);
+            ewise_mult_vector(alloc, output, mask, *accum, *op, first, second, *d)
+        }
+        _ => unreachable!(),
+    }
+}

@@ -1,0 +1,132 @@
+ghost use Rattle.std.specs.Prelude.{◌≡◌, Some, None, map};
+ghost use Rattle.std.specs.Option.{ok_or, option_map, option_map_or};
+ghost use Rattle.grb_script.specs.Form.{EwiseForm, ewise_form};
+ghost use Rattle.grb_script.specs.Names.{same_sort};
+ghost use Rattle.grb_script.specs.Options.{spelled};
+ghost use Rattle.grb_script.specs.Reading.{reading, saying, mask_found, are_of, ewise_on, ewise_statement};
+
+use crate::fault::FaultKind;
+use crate::keyword::Ewise;
+use crate::names::{Names, Sort};
+use crate::options::{Options, options_of};
+use crate::statement::{Statement, used};
+use crate::word;
+use grb_call::Descriptor;
+use grb_core::BinaryOp;
+
+/// What an element-wise statement says. All its objects are of one sort, and stand by the numbers of their names.
+#[derive(Clone, Copy, Debug, PartialEq, Eq)]
+pub struct Elementwise {
+    /// The sort of all objects.
+    pub sort: Sort,
+    /// The name of the output.
+    pub output: usize,
+    /// The name of the mask, where one is given.
+    pub mask: Option<usize>,
+    /// The accumulator, where one is given.
+    pub accum: Option<BinaryOp>,
+    /// The operator that combines the inputs.
+    pub op: BinaryOp,
+    /// The name of the first input.
+    pub left: usize,
+    /// The name of the second input.
+    pub right: usize,
+    /// How the mask is read and the output written.
+    pub descriptor: Descriptor,
+}
+
+fn is_same_sort(one: Sort, other: Sort) -> bool
+    ensures { result ≡ same_sort one other }
+{
+    matches!(
+        (one, other),
+        (Sort::Matrix, Sort::Matrix) | (Sort::Vector, Sort::Vector)
+    )
+}
+
+/// Whether the objects of both inputs, and of the mask where one is given, are of this sort.
+fn are_of(
+    sort: Sort,
+    left: (usize, Sort),
+    right: (usize, Sort),
+    mask: Option<(usize, Sort)>,
+) -> bool
+    ensures { result ≡ are_of sort left right mask }
+{
+    let is_of_mask = match mask {
+        Some((_, other)) => is_same_sort(sort, other),
+        None => true,
+    };
+    is_same_sort(sort, left.1) && is_same_sort(sort, right.1) && is_of_mask
+}
+
+fn statement_of(ewise: Ewise, says: Elementwise) -> Statement
+    ensures { result ≡ ewise_statement ewise says }
+{
+    match ewise {
+        Ewise::Add => Statement::EwiseAdd(says),
+        Ewise::Mult => Statement::EwiseMult(says),
+    }
+}
+
+/// The number and the sort of the name of the mask, where one is given.
+fn used_mask(mask: Option<&[u8]>, names: &Names) -> Result<Option<(usize, Sort)>, FaultKind>
+    ensures { result ≡ mask_found names.now (option_map (λ name. name.now) mask.entry) }
+{
+    match mask {
+        Some(name) => Ok(Some(used(name, names)?)),
+        None => Ok(None),
+    }
+}
+
+/// What the words of an element-wise statement say where these names stand.
+fn ewise_of(
+    ewise: Ewise,
+    output: &[u8],
+    left: &[u8],
+    right: &[u8],
+    op: BinaryOp,
+    options: &Options<'_>,
+    names: &Names,
+) -> Result<Statement, FaultKind>
+    ensures { result ≡ saying names.now (EwiseForm ewise output.now left.now right.now op (spelled options.now)) }
+{
+    let output = used(output, names)?;
+    let left = used(left, names)?;
+    let right = used(right, names)?;
+    let mask = used_mask(options.mask, names)?;
+    if !are_of(output.1, left, right, mask) {
+        return Err(FaultKind::WrongKind);
+    }
+    let says = Elementwise {
+        sort: output.1,
+        output: output.0,
+        mask: mask.map(|mask| mask.0),
+        accum: options.accum,
+        op,
+        left: left.0,
+        right: right.0,
+        descriptor: options.descriptor,
+    };
+    Ok(statement_of(ewise, says))
+}
+
+/// `ewiseadd NAME NAME NAME OP OPTIONS` or `ewisemult NAME NAME NAME OP OPTIONS`, where `output` is the first name.
+pub fn ewise(
+    ewise: Ewise,
+    output: &[u8],
+    others: &[&[u8]],
+    names: &Names,
+) -> Result<Statement, FaultKind>
+    ensures { result ≡ reading names.now (ewise_form ewise output.now (map (λ word. word.now) others.now)) }
+{
+    let [left, right, op, options @ ..] = others else {
+        return Err(FaultKind::Statement);
+    };
+    if !word::is_name(left) || !word::is_name(right) {
+        return Err(FaultKind::Statement);
+    }
+    let op = word::operator(op).ok_or(FaultKind::Statement)?;
+    let options = options_of(options).ok_or(FaultKind::Statement)?;
+    ewise_of(ewise, output, left, right, op, &options, names)
+}
