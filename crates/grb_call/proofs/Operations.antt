@@ -20,26 +20,26 @@ use Rattle.grb_call.proofs.ShapesAfter.{object_at-map}
 use Rattle.grb_call.proofs.Passed.{same_domain-true}
 
 -- an object that has a shape is there
-there : {X Y : Type 0} (g : X → Y) (xs : List (Option X)) (n : ℕ) → is_some (object_at (map (option_map g) xs) n) ≡ true → (x : X) × (object_at xs n ≡ Some x)
+pub there : {X Y : Type 0} (g : X → Y) (xs : List (Option X)) (n : ℕ) → is_some (object_at (map (option_map g) xs) n) ≡ true → (x : X) × (object_at xs n ≡ Some x)
 there g [] n e = cc
 there g (None ∷ xs) zero e = cc
 there g (Some x ∷ xs) zero e = (x, refl)
 there g (o ∷ xs) (suc n) e = there g xs n e
 
 -- the other objects, and what is given, are of the domain of the first object
-of_output : (t : ObjectShapes) (o : Object) (d : Domain) (os : List Object) (given : List Domain) → ◌≡◌ {A = Option Domain} (domain_at t o) (Some d) → is_one_domain t (o ∷ os) given ≡ true →
+pub of_output : (t : ObjectShapes) (o : Object) (d : Domain) (os : List Object) (given : List Domain) → ◌≡◌ {A = Option Domain} (domain_at t o) (Some d) → is_one_domain t (o ∷ os) given ≡ true →
     (are_of_domain t d os ≡ true) × (list_all (same_domain d) given ≡ true)
 of_output t o d os given at e =
     and_parts _ _ (subst (λ (x : Option Domain). option_map_or (λ d. are_of_domain t d os && list_all (same_domain d) given) x true ≡ true) at e)
 
 -- what an operation computes with, and its accumulator
-given_of : (d given : Domain) (accum : Option BinaryOp) → list_all (same_domain d) (given ∷ accum_domains accum) ≡ true → (given ≡ d) × AccumulatesIn d accum
+pub given_of : (d given : Domain) (accum : Option BinaryOp) → list_all (same_domain d) (given ∷ accum_domains accum) ≡ true → (given ≡ d) × AccumulatesIn d accum
 given_of d given None e = (sym (same_domain-true d given (and_parts _ _ e).0), tt)
 given_of d given (Some op) e =
     let parts = and_parts _ _ e in
     (sym (same_domain-true d given parts.0), sym (same_domain-true d (op_domain op) (and_parts _ _ parts.1).0))
 
-domain_is : (o : Option Domain) (d e : Domain) → option_map_or (same_domain d) o true ≡ true → o ≡ Some e → e ≡ d
+pub domain_is : (o : Option Domain) (d e : Domain) → option_map_or (same_domain d) o true ≡ true → o ≡ Some e → e ≡ d
 domain_is o d e h at = sym (same_domain-true d e (subst (λ (x : Option Domain). option_map_or (same_domain d) x true ≡ true) at h))
 
 -- what the shapes tell of an object that is there
@@ -47,23 +47,23 @@ module _ (s : Store) (a : MatrixId) (m : Matrix) (at : matrix_at s a ≡ Some m)
   shape_of_matrix : ◌≡◌ {A = Option MatrixShape} (matrix_shape_at (shapes_of s) a) (Some (matrix_shape m))
   shape_of_matrix = object_at-map matrix_shape s.matrices a.0 ∙ ap (option_map matrix_shape) at
 
-  nrows-at : nrows_at (shapes_of s) a ≡ m.nrows
+  pub nrows-at : nrows_at (shapes_of s) a ≡ m.nrows
   nrows-at = ap (λ (o : Option MatrixShape). option_map_or (λ x. x.1) o 0) shape_of_matrix
 
-  ncols-at : ncols_at (shapes_of s) a ≡ m.ncols
+  pub ncols-at : ncols_at (shapes_of s) a ≡ m.ncols
   ncols-at = ap (λ (o : Option MatrixShape). option_map_or (λ x. x.2) o 0) shape_of_matrix
 
-  matrix_domain-at : ◌≡◌ {A = Option Domain} (domain_at (shapes_of s) (object.Matrix a)) (Some m.domain)
+  pub matrix_domain-at : ◌≡◌ {A = Option Domain} (domain_at (shapes_of s) (object.Matrix a)) (Some m.domain)
   matrix_domain-at = ap (option_map (λ (x : MatrixShape). x.0)) shape_of_matrix
 
 module _ (s : Store) (v : VectorId) (x : Vector) (at : vector_at s v ≡ Some x) where
   shape_of_vector : ◌≡◌ {A = Option VectorShape} (vector_shape_at (shapes_of s) v) (Some (vector_shape x))
   shape_of_vector = object_at-map vector_shape s.vectors v.0 ∙ ap (option_map vector_shape) at
 
-  size-at : size_at (shapes_of s) v ≡ x.size
+  pub size-at : size_at (shapes_of s) v ≡ x.size
   size-at = ap (λ (o : Option VectorShape). option_map_or (λ y. y.1) o 0) shape_of_vector
 
-  vector_domain-at : ◌≡◌ {A = Option Domain} (domain_at (shapes_of s) (object.Vector v)) (Some x.domain)
+  pub vector_domain-at : ◌≡◌ {A = Option Domain} (domain_at (shapes_of s) (object.Vector v)) (Some x.domain)
   vector_domain-at = ap (option_map (λ (y : VectorShape). y.0)) shape_of_vector
 
 -- the matrix is there, with this domain and these dimensions
@@ -110,7 +110,7 @@ module _ (s : Store) (c : MatrixId) (m : Matrix) (at_output : matrix_at s c ≡ 
         same_ncols = same.1;
       }
 
-  matrix_mask-there : (mask : Option MatrixId) → list_all (is_live (shapes_of s)) (matrix_mask mask) ≡ true → matrix_mask_fits (shapes_of s) mask c ≡ true → IsMatrixMask s mask m.nrows m.ncols
+  pub matrix_mask-there : (mask : Option MatrixId) → list_all (is_live (shapes_of s)) (matrix_mask mask) ≡ true → matrix_mask_fits (shapes_of s) mask c ≡ true → IsMatrixMask s mask m.nrows m.ncols
   matrix_mask-there None live fits = tt
   matrix_mask-there (Some a) live fits =
       let found = there matrix_shape s.matrices a.0 (and_parts _ _ live).0 in
@@ -132,7 +132,7 @@ module _ (s : Store) (w : VectorId) (x : Vector) (at_output : vector_at s w ≡ 
         same_size = size-same v found.0 found.1 size;
       }
 
-  vector_mask-there : (mask : Option VectorId) → list_all (is_live (shapes_of s)) (vector_mask mask) ≡ true → vector_mask_fits (shapes_of s) mask w ≡ true → IsVectorMask s mask x.size
+  pub vector_mask-there : (mask : Option VectorId) → list_all (is_live (shapes_of s)) (vector_mask mask) ≡ true → vector_mask_fits (shapes_of s) mask w ≡ true → IsVectorMask s mask x.size
   vector_mask-there None live fits = tt
   vector_mask-there (Some v) live fits =
       let found = there vector_shape s.vectors v.0 (and_parts _ _ live).0 in

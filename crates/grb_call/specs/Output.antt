@@ -9,7 +9,7 @@ use Rattle.grb_core.specs.declared.operator.BinaryOp.{BinaryOp}
 use Rattle.grb_core.specs.Entries.{cell_cmp, MatrixEntries, VectorEntries, cells_of, without_entry, built_from}
 use Rattle.grb_core.specs.Mask.{is_inside}
 use Rattle.grb_core.specs.Written.{written}
-use Rattle.grb_core.specs.Results.{ewise_add, ewise_mult}
+use Rattle.grb_core.specs.Results.{ewise_add, ewise_mult, mxv_of, mxm_of, reduce_rows_of}
 use Rattle.grb_core.specs.Contents.{Matrix, Vector, edited_matrix, edited_vector, resized_matrix, resized_vector}
 use Rattle.grb_call.specs.declared.call.Call.{Call}
 use Rattle.grb_call.specs.declared.call.Call.TheVariants as call
@@ -48,6 +48,13 @@ output_of (call.EwiseAddMatrix c mask accum op a b d) = Some (object.Matrix c)
 output_of (call.EwiseAddVector w mask accum op u v d) = Some (object.Vector w)
 output_of (call.EwiseMultMatrix c mask accum op a b d) = Some (object.Matrix c)
 output_of (call.EwiseMultVector w mask accum op u v d) = Some (object.Vector w)
+output_of (call.Mxv w mask accum semiring a u d) = Some (object.Vector w)
+output_of (call.Mxm c mask accum semiring a b d) = Some (object.Matrix c)
+output_of (call.ReduceRows w mask accum monoid a d) = Some (object.Vector w)
+output_of (call.ReduceMatrix a monoid) = None
+output_of (call.ReduceVector v monoid) = None
+output_of (call.WaitMatrix a mode) = None
+output_of (call.WaitVector v mode) = None
 
 -- the matrix with the result of an operation written into it, by mask, accumulator and descriptor
 abbrev pub written_matrix : Store → Option MatrixId → Option BinaryOp → Descriptor → MatrixEntries → Matrix → Matrix
@@ -72,6 +79,14 @@ matrix_after s (call.EwiseMultMatrix c mask accum op a b d) m =
     written_matrix s mask accum d (ewise_mult cell_cmp op (matrix_entries s a) (matrix_entries s b)) m
 matrix_after s (call.EwiseAddVector w mask accum op u v d) m = m
 matrix_after s (call.EwiseMultVector w mask accum op u v d) m = m
+matrix_after s (call.Mxv w mask accum semiring a u d) m = m
+matrix_after s (call.Mxm c mask accum semiring a b d) m =
+    written_matrix s mask accum d (mxm_of semiring (matrix_entries s a) (matrix_entries s b)) m
+matrix_after s (call.ReduceRows w mask accum monoid a d) m = m
+matrix_after s (call.ReduceMatrix a monoid) m = m
+matrix_after s (call.ReduceVector v monoid) m = m
+matrix_after s (call.WaitMatrix a mode) m = m
+matrix_after s (call.WaitVector v mode) m = m
 matrix_after s _ m = m
 
 -- the vector that the call leaves, in this store, of the one that it changes and does not end
@@ -87,6 +102,15 @@ vector_after s (call.EwiseMultVector w mask accum op u v d) x =
     written_vector s mask accum d (ewise_mult nat_cmp op (vector_entries s u) (vector_entries s v)) x
 vector_after s (call.EwiseAddMatrix c mask accum op a b d) x = x
 vector_after s (call.EwiseMultMatrix c mask accum op a b d) x = x
+vector_after s (call.Mxv w mask accum semiring a u d) x =
+    written_vector s mask accum d (mxv_of semiring (matrix_entries s a) (vector_entries s u)) x
+vector_after s (call.Mxm c mask accum semiring a b d) x = x
+vector_after s (call.ReduceRows w mask accum monoid a d) x =
+    written_vector s mask accum d (reduce_rows_of monoid (matrix_entries s a)) x
+vector_after s (call.ReduceMatrix a monoid) x = x
+vector_after s (call.ReduceVector v monoid) x = x
+vector_after s (call.WaitMatrix a mode) x = x
+vector_after s (call.WaitVector v mode) x = x
 vector_after s _ x = x
 
 -- what is left of the matrix that the call changes: nothing of one that it ends

@@ -1,14 +1,16 @@
 //! Whether the operands of an operation fit together: that its mask is there, one domain, and dimensions.
 ghost use Rattle.std.specs.Prelude.{◌≡◌, ◌∷◌};
 ghost use Rattle.std.specs.List.{list_all};
+ghost use Rattle.grb_core.specs.Operator.{op_domain};
+ghost use Rattle.grb_core.specs.Monoid.{monoid_domain};
 ghost use Rattle.grb_call.specs.Operands.{matrix_mask, vector_mask, accum_domains};
-ghost use Rattle.grb_call.specs.Refused.{are_of_domain, is_one_domain, same_dims, same_size, matrix_mask_fits, vector_mask_fits, ewise_matrices_fit, ewise_vectors_fit, has_fitting_dims};
+ghost use Rattle.grb_call.specs.Refused.{same_domain, are_of_domain, is_one_domain, same_dims, same_size, matrix_mask_fits, vector_mask_fits, ewise_matrices_fit, ewise_vectors_fit, mxv_fits, mxm_fits, reduce_rows_fits, has_fitting_dims};
 ghost use Rattle.grb_call.specs.Shapes.{is_live};
 
 use crate::call::Call;
 use crate::ids::{MatrixId, Object, VectorId};
 use crate::shapes::Shapes;
-use grb_core::{BinaryOp, Domain};
+use grb_core::{BinaryOp, Domain, Semiring};
 
 /// Whether the mask, if there is one, was made, and not freed.
 pub(crate) fn is_matrix_mask_live(shapes: &Shapes, mask: Option<MatrixId>) -> bool
@@ -31,6 +33,13 @@ fn are_of_domain(shapes: &Shapes, domain: Domain, objects: &[Object]) -> bool
     objects.iter().all(|object| shapes.domain(*object).map_or(true, |d| domain == d))
 }
 
+/// Whether the accumulator, if there is one, is of the domain.
+fn accumulates_in(domain: Domain, accum: Option<BinaryOp>) -> bool
+    ensures { result ≡ list_all (same_domain domain) (accum_domains accum) }
+{
+    accum.map_or(true, |op| domain == op.domain())
+}
+
 /// Whether the inputs of an operation, what it computes with and its accumulator have the domain of the output.
 pub(crate) fn is_operation_of_one_domain(
     shapes: &Shapes,
@@ -45,7 +54,28 @@ pub(crate) fn is_operation_of_one_domain(
         Some(domain) => {
             are_of_domain(shapes, domain, inputs)
                 & (domain == given)
-                & accum.map_or(true, |op| domain == op.domain())
+                & accumulates_in(domain, accum)
+        }
+        None => true,
+    }
+}
+
+/// Whether the inputs of a product, its semiring and its accumulator have the domain of the output.
+pub(crate) fn is_product_of_one_domain(
+    shapes: &Shapes,
+    output: Object,
+    inputs: &[Object],
+    semiring: Semiring,
+    accum: Option<BinaryOp>,
+) -> bool
+    ensures { result ≡ is_one_domain shapes.now.objects (output ∷ inputs.now) (monoid_domain semiring.monoid ∷ op_domain semiring.op ∷ accum_domains accum) }
+{
+    match shapes.domain(output) {
+        Some(domain) => {
+            are_of_domain(shapes, domain, inputs)
+                & (domain == semiring.monoid().domain())
+                & (domain == semiring.op().domain())
+                & accumulates_in(domain, accum)
         }
         None => true,
     }
@@ -101,6 +131,29 @@ fn ewise_vectors_fit(
     same_size(shapes, u, w) & same_size(shapes, v, w) & vector_mask_fits(shapes, mask, w)
 }
 
+fn mxv_fits(shapes: &Shapes, w: VectorId, mask: Option<VectorId>, a: MatrixId, u: VectorId) -> bool
+    ensures { result ≡ mxv_fits shapes.now.objects w mask a u }
+{
+    (shapes.nrows(a) == shapes.size(w))
+        & (shapes.ncols(a) == shapes.size(u))
+        & vector_mask_fits(shapes, mask, w)
+}
+
+fn mxm_fits(shapes: &Shapes, c: MatrixId, mask: Option<MatrixId>, a: MatrixId, b: MatrixId) -> bool
+    ensures { result ≡ mxm_fits shapes.now.objects c mask a b }
+{
+    (shapes.nrows(a) == shapes.nrows(c))
+        & (shapes.ncols(b) == shapes.ncols(c))
+        & (shapes.ncols(a) == shapes.nrows(b))
+        & matrix_mask_fits(shapes, mask, c)
+}
+
+fn reduce_rows_fits(shapes: &Shapes, w: VectorId, mask: Option<VectorId>, a: MatrixId) -> bool
+    ensures { result ≡ reduce_rows_fits shapes.now.objects w mask a }
+{
+    (shapes.nrows(a) == shapes.size(w)) & vector_mask_fits(shapes, mask, w)
+}
+
 /// Whether the dimensions of output, inputs and mask fit together.
 pub(crate) fn has_fitting_dims(shapes: &Shapes, call: &Call) -> bool
     ensures { result ≡ has_fitting_dims shapes.now.objects call.now }
@@ -110,248 +163,14 @@ pub(crate) fn has_fitting_dims(shapes: &Shapes, call: &Call) -> bool
             { ewise_matrices_fit(shapes, *c, *mask, *a, *b) }
         Call::EwiseAddVector { w, mask, u, v, .. } | Call::EwiseMultVector { w, mask, u, v, .. } =>
             { ewise_vectors_fit(shapes, *w, *mask, *u, *v) }
+        Call::Mxv { w, mask, a, u, .. } => mxv_fits(shapes, *w, *mask, *a, *u),
+        Call::Mxm { c, mask, a, b, .. } => mxm_fits(shapes, *c, *mask, *a, *b),
+        Call::ReduceRows { w, mask, a, .. } => reduce_rows_fits(shapes, *w, *mask, *a),
         _ => true,
     }
 }
 
 #[cfg(test)]
-mod tests {
-    use super::*;
-    use crate::checking::{Kind, check};
-    use crate::descriptor::Descriptor;
-    use grb_core::Refusal;
-    use std::alloc::{AllocError, Global};
-    use std::test::Fail;
-
-    const PLAIN: Descriptor = Descriptor {
-        structure: false,
-        comp: false,
-        replace: false,
-    };
-
-    const ENTERS: Result<Kind, Refusal> = Ok(Kind::Enters);
-
-    const UNINITIALIZED: Result<Kind, Refusal> = Err(Refusal::UninitializedObject);
-
-    const DOMAIN: Result<Kind, Refusal> = Err(Refusal::DomainMismatch);
-
-    const DIMENSION: Result<Kind, Refusal> = Err(Refusal::DimensionMismatch);
-
-    const PLUS: Option<BinaryOp> = Some(BinaryOp::Plus);
-
-    const LOR: Option<BinaryOp> = Some(BinaryOp::Lor);
-
-    /// The number of what both lists below freed.
-    const FREED: u32 = 6;
-
-    fn new_vector(domain: Domain, size: u64) -> Call {
-        Call::NewVector { domain, size }
-    }
-
-    fn new_matrix(domain: Domain, nrows: u64, ncols: u64) -> Call {
-        Call::NewMatrix {
-            domain,
-            nrows,
-            ncols,
-        }
-    }
-
-    fn vectors(alloc: Global) -> Result<Shapes, AllocError> {
-        let mut shapes = Shapes::open(alloc, 8)?;
-        shapes.absorb(&new_vector(Domain::Uint64, 3));
-        shapes.absorb(&new_vector(Domain::Uint64, 3));
-        shapes.absorb(&new_vector(Domain::Bool, 3));
-        shapes.absorb(&new_vector(Domain::Uint64, 4));
-        shapes.absorb(&new_vector(Domain::Uint64, 2));
-        shapes.absorb(&new_vector(Domain::Bool, 4));
-        shapes.absorb(&new_vector(Domain::Uint64, 3));
-        shapes.absorb(&Call::FreeVector { v: VectorId(FREED) });
-        Ok(shapes)
-    }
-
-    fn matrices(alloc: Global) -> Result<Shapes, AllocError> {
-        let mut shapes = Shapes::open(alloc, 8)?;
-        shapes.absorb(&new_matrix(Domain::Uint64, 2, 3));
-        shapes.absorb(&new_matrix(Domain::Uint64, 2, 3));
-        shapes.absorb(&new_matrix(Domain::Bool, 2, 3));
-        shapes.absorb(&new_matrix(Domain::Uint64, 3, 3));
-        shapes.absorb(&new_matrix(Domain::Uint64, 2, 2));
-        shapes.absorb(&new_matrix(Domain::Bool, 3, 2));
-        shapes.absorb(&new_matrix(Domain::Uint64, 2, 3));
-        shapes.absorb(&Call::FreeMatrix { a: MatrixId(FREED) });
-        Ok(shapes)
-    }
-
-    fn add_vector(
-        w: u32,
-        mask: Option<u32>,
-        accum: Option<BinaryOp>,
-        op: BinaryOp,
-        u: u32,
-        v: u32,
-    ) -> Call {
-        Call::EwiseAddVector {
-            w: VectorId(w),
-            mask: mask.map(|m| VectorId(m)),
-            accum,
-            op,
-            u: VectorId(u),
-            v: VectorId(v),
-            d: PLAIN,
-        }
-    }
-
-    fn mult_vector(
-        w: u32,
-        mask: Option<u32>,
-        accum: Option<BinaryOp>,
-        op: BinaryOp,
-        u: u32,
-        v: u32,
-    ) -> Call {
-        Call::EwiseMultVector {
-            w: VectorId(w),
-            mask: mask.map(|m| VectorId(m)),
-            accum,
-            op,
-            u: VectorId(u),
-            v: VectorId(v),
-            d: PLAIN,
-        }
-    }
-
-    fn add_matrix(
-        c: u32,
-        mask: Option<u32>,
-        accum: Option<BinaryOp>,
-        op: BinaryOp,
-        a: u32,
-        b: u32,
-    ) -> Call {
-        Call::EwiseAddMatrix {
-            c: MatrixId(c),
-            mask: mask.map(|m| MatrixId(m)),
-            accum,
-            op,
-            a: MatrixId(a),
-            b: MatrixId(b),
-            d: PLAIN,
-        }
-    }
-
-    fn mult_matrix(
-        c: u32,
-        mask: Option<u32>,
-        accum: Option<BinaryOp>,
-        op: BinaryOp,
-        a: u32,
-        b: u32,
-    ) -> Call {
-        Call::EwiseMultMatrix {
-            c: MatrixId(c),
-            mask: mask.map(|m| MatrixId(m)),
-            accum,
-            op,
-            a: MatrixId(a),
-            b: MatrixId(b),
-            d: PLAIN,
-        }
-    }
-
-    #[test]
-    fn an_operation_on_vectors_enters_or_has_its_first_refusal(
-        rt: HostRuntime,
-    ) -> Result<(), Fail> {
-        let shapes = vectors(rt.alloc())?;
-        let plus = BinaryOp::Plus;
-        for (w, mask, accum, op, u, v, want) in [
-            // not refused: one object as all of them, and a mask of the other domain among them
-            (0, None, None, plus, 1, 1, ENTERS),
-            (0, Some(0), PLUS, plus, 0, 0, ENTERS),
-            (0, Some(2), None, BinaryOp::First, 1, 0, ENTERS),
-            (2, Some(1), LOR, BinaryOp::Lxor, 2, 2, ENTERS),
-            // never made: output, first input, second input, mask; and a mask that was freed
-            (9, None, None, plus, 0, 1, UNINITIALIZED),
-            (0, None, None, plus, 9, 1, UNINITIALIZED),
-            (0, None, None, plus, 1, 9, UNINITIALIZED),
-            (0, Some(9), None, plus, 1, 1, UNINITIALIZED),
-            (0, Some(FREED), None, plus, 1, 1, UNINITIALIZED),
-            // another domain: output, first input, second input, operator, accumulator
-            (2, None, None, plus, 0, 1, DOMAIN),
-            (0, None, None, plus, 2, 1, DOMAIN),
-            (0, None, None, plus, 1, 2, DOMAIN),
-            (0, None, None, BinaryOp::Lor, 1, 1, DOMAIN),
-            (0, None, LOR, plus, 1, 1, DOMAIN),
-            // another size: output, first input, second input, mask, and a mask of the other domain
-            (3, None, None, plus, 0, 1, DIMENSION),
-            (0, None, None, plus, 3, 1, DIMENSION),
-            (0, None, None, plus, 1, 4, DIMENSION),
-            (0, Some(3), None, plus, 1, 1, DIMENSION),
-            (0, Some(4), None, plus, 1, 1, DIMENSION),
-            (0, Some(5), None, plus, 1, 1, DIMENSION),
-            // two refusals, and three
-            (0, Some(9), LOR, plus, 1, 1, UNINITIALIZED),
-            (0, Some(9), None, plus, 3, 1, UNINITIALIZED),
-            (0, None, None, plus, 5, 1, DOMAIN),
-            (0, Some(3), LOR, plus, 1, 1, DOMAIN),
-            (5, Some(2), None, plus, 1, 0, DOMAIN),
-            (0, Some(9), LOR, BinaryOp::Land, 5, 3, UNINITIALIZED),
-        ] {
-            let add = add_vector(w, mask, accum, op, u, v);
-            assert_eq!(rt; check(&shapes, &add), want, "of {add:?}");
-            let mult = mult_vector(w, mask, accum, op, u, v);
-            assert_eq!(rt; check(&shapes, &mult), want, "of {mult:?}");
-        }
-        Ok(())
-    }
-
-    #[test]
-    fn an_operation_on_matrices_enters_or_has_its_first_refusal(
-        rt: HostRuntime,
-    ) -> Result<(), Fail> {
-        let shapes = matrices(rt.alloc())?;
-        let plus = BinaryOp::Plus;
-        for (c, mask, accum, op, a, b, want) in [
-            // not refused: one object as all of them, and a mask of the other domain among them
-            (0, None, None, plus, 1, 1, ENTERS),
-            (0, Some(0), PLUS, plus, 0, 0, ENTERS),
-            (0, Some(2), None, BinaryOp::First, 1, 0, ENTERS),
-            (2, Some(1), LOR, BinaryOp::Lxor, 2, 2, ENTERS),
-            // never made: output, first input, second input, mask; and a mask that was freed
-            (9, None, None, plus, 0, 1, UNINITIALIZED),
-            (0, None, None, plus, 9, 1, UNINITIALIZED),
-            (0, None, None, plus, 1, 9, UNINITIALIZED),
-            (0, Some(9), None, plus, 1, 1, UNINITIALIZED),
-            (0, Some(FREED), None, plus, 1, 1, UNINITIALIZED),
-            // another domain: output, first input, second input, operator, accumulator
-            (2, None, None, plus, 0, 1, DOMAIN),
-            (0, None, None, plus, 2, 1, DOMAIN),
-            (0, None, None, plus, 1, 2, DOMAIN),
-            (0, None, None, BinaryOp::Lor, 1, 1, DOMAIN),
-            (0, None, LOR, plus, 1, 1, DOMAIN),
-            // another number of rows, and of columns: output, first input, second input, mask
-            (3, None, None, plus, 0, 1, DIMENSION),
-            (4, None, None, plus, 0, 1, DIMENSION),
-            (0, None, None, plus, 3, 1, DIMENSION),
-            (0, None, None, plus, 4, 1, DIMENSION),
-            (0, None, None, plus, 1, 3, DIMENSION),
-            (0, None, None, plus, 1, 4, DIMENSION),
-            (0, Some(3), None, plus, 1, 1, DIMENSION),
-            (0, Some(4), None, plus, 1, 1, DIMENSION),
-            (0, Some(5), None, plus, 1, 1, DIMENSION),
-            // two refusals, and three
-            (0, Some(9), LOR, plus, 1, 1, UNINITIALIZED),
-            (0, Some(9), None, plus, 3, 1, UNINITIALIZED),
-            (0, None, None, plus, 5, 1, DOMAIN),
-            (0, Some(4), LOR, plus, 1, 1, DOMAIN),
-            (5, Some(2), None, plus, 1, 0, DOMAIN),
-            (0, Some(9), LOR, BinaryOp::Land, 5, 3, UNINITIALIZED),
-        ] {
-            let add = add_matrix(c, mask, accum, op, a, b);
-            assert_eq!(rt; check(&shapes, &add), want, "of {add:?}");
-            let mult = mult_matrix(c, mask, accum, op, a, b);
-            assert_eq!(rt; check(&shapes, &mult), want, "of {mult:?}");
-        }
-        Ok(())
-    }
-}
+mod product_tests;
+#[cfg(test)]
+mod tests;

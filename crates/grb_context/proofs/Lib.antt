@@ -1,13 +1,1 @@
-pub mod Alone
-mod Agreeing
-mod Answering
-mod Checking
-mod Counted
-mod Evaluated
-mod Kept
-mod Learnt
-mod Meeting
-mod Opening
-mod Owning
-mod Promised
-mod Spelling
+pub use Rattle.grb_pass.proofs.Alone

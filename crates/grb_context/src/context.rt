@@ -1,21 +1,19 @@
 ghost use Rattle.std.specs.Prelude.{◌≡◌, ◌<◌, ◌≤◌, All, IfOk};
-ghost use Rattle.grb_order.specs.Order.{room_of, AreFresh};
+ghost use Rattle.grb_order.specs.Order.{room_of};
 ghost use Rattle.grb_context.specs.Known.{AreNew, IsPassOf};
 ghost use Rattle.grb_context.specs.Answered.{Answered};
+ghost use Rattle.grb_context.specs.Meeting.{Met};
 
-use crate::pass::Pass;
 use grb_call::{Call, Reply};
 use grb_core::Refusal;
-use grb_order::{Order, Place};
-use grb_records::Records;
+use grb_pass::{Pass, Shared};
 use std::alloc::{AllocError, Global};
 use std::marker::Model;
 
 /// A store that passes share: the order of all calls, and their records.
 #[derive(Drop)]
 pub struct Context {
-    pub(crate) order: Order,
-    pub(crate) records: Records,
+    pub(crate) shared: Shared,
 }
 
 impl Model for Context {
@@ -23,28 +21,7 @@ impl Model for Context {
 
     ghost Value = { Shared };
 
-    ghost view = { λ c. record { order = c.order; records = c.records } };
-}
-
-// A pass for each of the places.
-fn passes_of(
-    alloc: Global,
-    order: &Order,
-    places: Vec<Place>,
-    room: u32,
-    passes: u32,
-) -> Result<Vec<Pass>, AllocError>
-    requires room { (room_of order.now ≡ room) × (room ≤ 4096) }
-    requires passes { passes ≤ 64 }
-    requires places { AreFresh order.now passes places.items passes }
-    ensures { IfOk result (λ opened. AreNew order.now passes opened.items passes) }
-{
-    let mut opened = Vec::with_capacity(alloc, passes as usize)?;
-    for place in places {
-        let number = opened.len() as u32;
-        opened.push_reserved(Pass::open(alloc, number, place, room)?);
-    }
-    Ok(opened)
+    ghost view = { λ c. c.shared };
 }
 
 impl Context {
@@ -58,10 +35,8 @@ impl Context {
         ensures passes { IfOk result (λ opened. AreNew opened.0.order passes opened.1.items passes) }
         ensures ours { IfOk result (λ opened. All (IsPassOf opened.0) opened.1.items) }
     {
-        let (order, places) = Order::open(alloc, room, passes)?;
-        let records = Records::open(alloc, passes, room)?;
-        let opened = passes_of(alloc, &order, places, room, passes)?;
-        Ok((Context { order, records }, opened))
+        let (shared, opened) = Shared::open(alloc, room, passes)?;
+        Ok((Context { shared }, opened))
     }
 
     /// Makes one call, by whichever thread has the pass, and does not wait. A refusal says why the call was not made: by shapes (the
@@ -77,9 +52,21 @@ impl Context {
         ensures { Answered self.now pass.old pass.new call result }
     {
         if call.enters() {
-            self.enter(pass, call)
+            self.shared.enter(pass, call)
         } else {
-            self.read(pass, &call)
+            self.shared.read(pass, &call)
         }
+    }
+
+    /// Lets the pass learn all that the other knows, in one atomic step for each word that it had not learnt. `Panic` where a record is
+    /// not shown; the words stay learnt, and the next call or meeting asks for it again. Nothing that the other pass knows changes,
+    /// whatever is answered. Takes no memory and does not wait.
+    pub fn meet(&self, pass: &mut Pass, other: &mut Pass) -> Result<(), Refusal>
+        requires pass { IsPassOf self.now pass.old }
+        requires other { IsPassOf self.now other.old }
+        ensures met { Met self.now pass.old pass.new other.old result }
+        ensures other { other.new ≡ other.old }
+    {
+        self.shared.meet(pass, other)
     }
 }

@@ -2,9 +2,9 @@ ghost use Rattle.grb_context.specs.Known.{IsPassOf};
 ghost use Rattle.grb_context.specs.Answered.{Answered};
 
 use crate::context::Context;
-use crate::pass::Pass;
 use grb_call::{Call, MatrixId, MatrixTuples, Reply, VectorId, VectorTuples};
 use grb_core::{Domain, Monoid, Refusal, Value};
+use grb_pass::Pass;
 
 impl Context {
     /// Makes a matrix with no entries; `nrows` and `ncols` are from 1 to 4,294,967,295. Otherwise `InvalidValue`. (`GrB_Matrix_new`.)
@@ -113,7 +113,7 @@ impl Context {
         requires pass { IsPassOf self.now pass.old }
         ensures { Answered self.now pass.old pass.new (Call.GetMatrix a i j) result }
     {
-        self.read(pass, &Call::GetMatrix { a, i, j })
+        self.shared.read(pass, &Call::GetMatrix { a, i, j })
     }
 
     /// The value stored at `i`. `UninitializedObject` or `InvalidIndex` where there is no such vector or it has no such index. Does not
@@ -122,7 +122,7 @@ impl Context {
         requires pass { IsPassOf self.now pass.old }
         ensures { Answered self.now pass.old pass.new (Call.GetVector v i) result }
     {
-        self.read(pass, &Call::GetVector { v, i })
+        self.shared.read(pass, &Call::GetVector { v, i })
     }
 
     /// The number of stored entries. `UninitializedObject` where there is no such matrix. Does not wait. (`GrB_Matrix_nvals`.)
@@ -130,7 +130,7 @@ impl Context {
         requires pass { IsPassOf self.now pass.old }
         ensures { Answered self.now pass.old pass.new (Call.NvalsMatrix a) result }
     {
-        self.read(pass, &Call::NvalsMatrix { a })
+        self.shared.read(pass, &Call::NvalsMatrix { a })
     }
 
     /// The number of stored entries. `UninitializedObject` where there is no such vector. Does not wait. (`GrB_Vector_nvals`.)
@@ -138,7 +138,7 @@ impl Context {
         requires pass { IsPassOf self.now pass.old }
         ensures { Answered self.now pass.old pass.new (Call.NvalsVector v) result }
     {
-        self.read(pass, &Call::NvalsVector { v })
+        self.shared.read(pass, &Call::NvalsVector { v })
     }
 
     /// The numbers of rows and columns. `UninitializedObject` where there is no such matrix. Takes no memory and does not wait.
@@ -147,7 +147,7 @@ impl Context {
         requires pass { IsPassOf self.now pass.old }
         ensures { Answered self.now pass.old pass.new (Call.SizeMatrix a) result }
     {
-        self.read(pass, &Call::SizeMatrix { a })
+        self.shared.read(pass, &Call::SizeMatrix { a })
     }
 
     /// The size. `UninitializedObject` where there is no such vector. Takes no memory and does not wait. (`GrB_Vector_size`.)
@@ -155,7 +155,7 @@ impl Context {
         requires pass { IsPassOf self.now pass.old }
         ensures { Answered self.now pass.old pass.new (Call.SizeVector v) result }
     {
-        self.read(pass, &Call::SizeVector { v })
+        self.shared.read(pass, &Call::SizeVector { v })
     }
 
     /// Removes all entries; the dimensions stay. `UninitializedObject` where there is no such matrix. (`GrB_Matrix_clear`.)

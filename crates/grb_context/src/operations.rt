@@ -2,9 +2,9 @@ ghost use Rattle.grb_context.specs.Known.{IsPassOf};
 ghost use Rattle.grb_context.specs.Answered.{Answered};
 
 use crate::context::Context;
-use crate::pass::Pass;
 use grb_call::{Call, Descriptor, MatrixId, Reply, VectorId};
 use grb_core::{BinaryOp, Refusal};
+use grb_pass::Pass;
 
 impl Context {
     /// Writes into `c`, by accumulator, mask and descriptor, `op` of the values of `a` and `b` where both store one, else the one value.

@@ -1,9 +1,8 @@
 -- Entries at places apart: in a list as it stands, in order, and as a map.
-use Rattle.std.proofs.Common.{not, ◌≡◌, ◌≢◌, ℕ, zero, suc, ◌+◌, ◌<◌, ◌≤◌, length, get_or, eqb, ltb, arith, Bool, true, false, ◌||◌, cond, List, [], ◌∷◌, ◌++◌, map, Option, Some, None, is_some, refl, sym, ap, subst, ◌∙◌, append_assoc, append-nil, length-append}
+use Rattle.std.proofs.Common.{not, ◌≡◌, ℕ, suc, ◌+◌, ◌<◌, ◌≤◌, length, get_or, eqb, ltb, arith, Bool, true, false, ◌||◌, cond, List, [], ◌∷◌, ◌++◌, map, Option, Some, None, is_some, refl, sym, ap, subst, ◌∙◌, append_assoc, append-nil, length-append}
 use Rattle.std.specs.declared.cmp.Ordering.{Ordering}
 use Rattle.std.specs.declared.cmp.Ordering.TheVariants.{Less, Equal, Greater}
 use Rattle.std.specs.Prelude.{◌&&◌, filter}
-use Rattle.std.specs.List.{list_any}
 use Rattle.std.specs.List.Sorted.{IsSortedByKey, IsStableByKey, ties}
 use Rattle.std.specs.FinMap.{find, is_sorted}
 use Rattle.std.specs.FinMap.Entries.{below_all}
@@ -18,7 +17,7 @@ use Rattle.std.proofs.lemmas.List.{take_more, at_drop_more, map-append, length-m
 use Rattle.grb_core.specs.declared.value.Value.{Value}
 use Rattle.grb_core.specs.declared.value.Value.TheVariants as value
 use Rattle.grb_core.specs.Entries.{Cell, cell_cmp, cells_of, MatrixEntries, map_from, values_of, restricted, values_at}
-use Rattle.grb_rows.proofs.Places.{passes, holds}
+use Rattle.grb_rows.proofs.Places.{holds}
 use Rattle.grb_core.proofs.Maps.{cell_cmp_total, below-trans, find-map_from, find-tied_below, is_sorted-map_from}
 use Rattle.grb_market.specs.Gathered.{comes_before, has_place, count_apart, are_apart}
 use Rattle.grb_market.proofs.EntryMaps.{same_map, tied_cells, same_cell, same_place, map_from-push, is_some-map_from}

@@ -1,21 +1,20 @@
 -- Lists of entries, the maps that they make, and the entries on the other side of the diagonal.
-use Rattle.std.proofs.Common.{not, ◌≡◌, ◌≢◌, ℕ, zero, suc, length, get_or, eqb, ltb, arith, Bool, true, false, ◌||◌, if◌then◌else◌, cond, List, [], ◌∷◌, ◌++◌, map, Option, Some, None, is_some, refl, sym, ap, ◌∙◌}
+use Rattle.std.proofs.Common.{not, ◌≡◌, ◌≢◌, Bool, true, false, ◌||◌, if◌then◌else◌, cond, List, [], ◌∷◌, ◌++◌, map, Option, Some, None, is_some, refl, sym, ap, ◌∙◌}
 use Rattle.std.specs.declared.cmp.Ordering.{Ordering}
 use Rattle.std.specs.declared.cmp.Ordering.TheVariants.{Less, Equal, Greater}
 use Rattle.std.specs.BTreeMap.{insert_entry}
 use Rattle.std.specs.Prelude.{◌&&◌}
 use Rattle.std.specs.Option.{option_or}
-use Rattle.std.specs.List.{list_any, AllByRecursion}
+use Rattle.std.specs.List.{list_any}
 use Rattle.std.specs.FinMap.{find, put, is_sorted}
 use Rattle.std.specs.FinMap.Entries.{by_order, find-put, is_sorted-put, same_entries}
-use Rattle.std.specs.Ordering.{eq_by_cmp, is_eq, is_lt, match_ordering, ordering_then, ordering_reverse}
+use Rattle.std.specs.Ordering.{eq_by_cmp, is_eq, match_ordering, ordering_reverse}
 use lib.Dec.{T}
 use Rattle.grb_core.specs.declared.value.Value.{Value}
-use Rattle.std.proofs.lemmas.List.{length-map}
-use Rattle.grb_core.specs.Entries.{Cell, cell_cmp, cells_of, MatrixEntries, map_from}
+use Rattle.grb_core.specs.Entries.{Cell, cell_cmp, MatrixEntries, map_from}
 use Rattle.grb_core.specs.Laws.{set_all}
 use Rattle.std.specs.Prelude.{IsTrue}
-use Rattle.grb_rows.proofs.Places.{passes, holds}
+use Rattle.grb_rows.proofs.Places.{passes}
 use Rattle.grb_core.proofs.Maps.{cell_cmp_total, cell_cmp-IsAntisymmetric, find-append_maps, find-map_from, find-tied_below, is_sorted-map_from}
 use Rattle.grb_market.specs.declared.head.Head.{Head}
 use Rattle.grb_market.specs.Spells.{mirrored, written_out}

@@ -1,5 +1,5 @@
 -- The first fault and the matrix of a text, line by line.
-use Rattle.std.proofs.Common.{◌≡◌, ℕ, ◌+◌, ◌<◌, ◌≤◌, ltb, eqb, not, map, Bool, true, false, if◌then◌else◌, List, [], ◌∷◌, ◌++◌, length, Option, Some, None, Ok, Err, is_some, refl, sym, ap, subst, ◌∙◌, append_assoc, append-nil, length-append, arith}
+use Rattle.std.proofs.Common.{◌≡◌, ℕ, ◌+◌, ◌<◌, ◌≤◌, ltb, eqb, not, map, Bool, true, false, if◌then◌else◌, List, [], ◌∷◌, ◌++◌, length, Option, Some, None, Ok, Err, refl, sym, ap, subst, ◌∙◌, append_assoc, append-nil, length-append, arith}
 use Rattle.std.specs.declared.result.Result.{Result}
 use Rattle.std.specs.Option.{option_map, option_map_or, option_to_list}
 use Rattle.std.specs.Result.{result_ok, result_err}
@@ -15,7 +15,7 @@ use Rattle.grb_market.specs.declared.head.Head.{Head}
 use Rattle.grb_market.specs.declared.head.Size.{Size}
 use Rattle.grb_market.specs.Line.{Line, ended, unended, lines_of, is_comment}
 use Rattle.grb_market.specs.Reading.{head_of, size_of, entry_of}
-use Rattle.grb_market.specs.Fault.{Stage, AtHeader, AtSize, AtEntry, Lost, behind_comments, stage_behind_size, stage_behind_header, stage_with, stage_of, entries_on, stands_in, repeated, bytes_fault, missing_at, fault_at, first_fault, market_fault, IsWhyLineUnread, IsWhyUnread}
+use Rattle.grb_market.specs.Fault.{Stage, AtHeader, AtSize, AtEntry, Lost, behind_comments, stage_behind_size, stage_behind_header, stage_with, stage_of, entries_on, repeated, bytes_fault, missing_at, fault_at, first_fault, market_fault, IsWhyLineUnread, IsWhyUnread}
 use Rattle.std.proofs.lemmas.List.{length-map, map-append}
 use Rattle.grb_market.specs.Gathered.{has_place, count_apart, are_apart, AreSpelled, wrong_at, IsAtEnd, AreGathered, AreAllGathered}
 use Rattle.grb_market.proofs.ApartLemmas.{apart_all, apart_fewer}

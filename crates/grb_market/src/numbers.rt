@@ -1,4 +1,4 @@
-ghost use Rattle.std.specs.Prelude.{◌≡◌, ◌≢◌, ◌≤◌, List, length, take, drop, Some, [], ◌∷◌, IfSome, IfNone, false, true};
+ghost use Rattle.std.specs.Prelude.{◌≡◌, ◌≢◌, ◌<◌, ◌≤◌, List, length, take, drop, Some, [], ◌∷◌, IfSome, IfNone, false, true};
 ghost use Rattle.std.specs.List.{list_all};
 ghost use Rattle.grb_market.specs.Numbers.{is_digit, is_blank, Number, number_of, numbers_of, begins_blank};
 ghost use Rattle.grb_market.specs.Front.{begins_digit, behind, before, has_number, IsNumberFront, IsBlankFront};
@@ -54,15 +54,39 @@ fn number(word: &[u8]) -> Option<u64>
     Some(number)
 }
 
+/// The digits that stand first, at most 19 of them, and the number that they spell.
+fn first_digits(text: &[u8]) -> (usize, u64)
+    ensures within { result.0 ≤ length text.now }
+    ensures few { result.0 ≤ 19 }
+    ensures digits { list_all is_digit (take result.0 text.now) ≡ true }
+    ensures number { Some result.1 ≡ number_of (take result.0 text.now) }
+    ensures behind { result.0 < 19 → begins_digit (drop result.0 text.now) ≡ false }
+{
+    let mut count: usize = 0;
+    let mut number: u64 = 0;
+    for b in text {
+        if count == 19 || !b.is_ascii_digit() {
+            return (count, number);
+        }
+        number = number * 10 + u64::from(*b - b'0');
+        count += 1;
+    }
+    (count, number)
+}
+
 /// The number that stands first, and the text behind its digits. A number above 2^64 - 1 is `None`.
 fn front_number(text: &[u8]) -> Option<(Option<u64>, &[u8])>
     ensures some { IfSome result (λ p. IsNumberFront text.now p.0 p.1.now) }
     ensures none { IfNone result (begins_digit text.now ≡ false) }
 {
-    let end = digits(text);
+    let (end, short) = first_digits(text);
     if end == 0 {
         return None;
     }
+    if end < 19 {
+        return Some((Some(short), &text[end..]));
+    }
+    let end = digits(text);
     Some((number(&text[..end]), &text[end..]))
 }
 

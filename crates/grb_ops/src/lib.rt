@@ -8,8 +8,6 @@
 mod ewise;
 mod ewise_matrix;
 mod rows;
-#[cfg(test)]
-mod tests;
 mod typed;
 mod typed_matrix;
 mod writing;

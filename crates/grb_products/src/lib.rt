@@ -17,6 +17,9 @@ mod samples;
 mod stored;
 mod totals;
 
+pub use lookup::place_of;
+pub use monoids::MonoidOver;
 pub use multiply::mxv;
 pub use row_folds::reduce_rows;
+pub use stored::Stored;
 pub use totals::{reduce_matrix, reduce_vector};

@@ -42,7 +42,7 @@ impl<'a, T: Scalar> Lookup<T> for Open<'a, T> {
 }
 
 /// Where an index stands among those that rise.
-fn place_of(indices: &[u32], index: u32) -> Option<usize>
+pub fn place_of(indices: &[u32], index: u32) -> Option<usize>
     requires { (i j : ℕ) → i ≤ j → j < length indices.now → slice_index indices.now i ≤ slice_index indices.now j }
     ensures found { IfSome result (λ at. (at < length indices.now) × (slice_index indices.now at ≡ index)) }
     ensures absent { IfNone result ((k : ℕ) → k < length indices.now → slice_index indices.now k ≢ index) }

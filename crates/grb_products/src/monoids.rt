@@ -12,7 +12,7 @@ use grb_kernels::Scalar;
 use grb_kernels::operators::{Land, Lor, Lxnor, Lxor, Max, Min, Plus, Times};
 
 /// A monoid on values of the type `T`.
-pub(crate) trait MonoidOver<T: Scalar> {
+pub trait MonoidOver<T: Scalar> {
     /// The monoid that it is.
     ghost monoid: { Monoid };
 

@@ -15,7 +15,7 @@ use grb_sparse::SparseVector;
 use std::alloc::{AllocError, Global};
 
 /// A Rust type in which objects of its domain keep their values.
-pub(crate) trait Stored: Scalar {
+pub trait Stored: Scalar {
     /// The value itself. What reading it shows: it is one of the domain.
     fn read(self) -> Self
         ensures same { result ≡ self }

@@ -67,6 +67,9 @@ module _ (s : Store) (a : MatrixId) (m : Matrix) (at : matrix_at s a ≡ Some m)
   fits_matrix_at (call.EwiseAddVector w mask accum op l r d) is alone accepted = cc
   fits_matrix_at (call.EwiseMultMatrix c mask accum op l r d) is alone accepted = cc
   fits_matrix_at (call.EwiseMultVector w mask accum op l r d) is alone accepted = cc
+  fits_matrix_at (call.Mxv w mask accum semiring l r d) is alone accepted = cc
+  fits_matrix_at (call.Mxm c mask accum semiring l r d) is alone accepted = cc
+  fits_matrix_at (call.ReduceRows w mask accum monoid l d) is alone accepted = cc
   fits_matrix_at _ is alone accepted = tt
 
 pub fits_matrix : (s : Store) (a : MatrixId) (c : Call) → output_of c ≡ Some (object.Matrix a) → is_operation c ≡ false → refused s c ≡ None → IfSome (matrix_at s a) (FitsMatrix c)
@@ -97,6 +100,9 @@ module _ (s : Store) (v : VectorId) (x : Vector) (at : vector_at s v ≡ Some x)
   fits_vector_at (call.EwiseAddVector w mask accum op l r d) is alone accepted = cc
   fits_vector_at (call.EwiseMultMatrix c mask accum op l r d) is alone accepted = cc
   fits_vector_at (call.EwiseMultVector w mask accum op l r d) is alone accepted = cc
+  fits_vector_at (call.Mxv w mask accum semiring l r d) is alone accepted = cc
+  fits_vector_at (call.Mxm c mask accum semiring l r d) is alone accepted = cc
+  fits_vector_at (call.ReduceRows w mask accum monoid l d) is alone accepted = cc
   fits_vector_at _ is alone accepted = tt
 
 pub fits_vector : (s : Store) (v : VectorId) (c : Call) → output_of c ≡ Some (object.Vector v) → is_operation c ≡ false → refused s c ≡ None → IfSome (vector_at s v) (FitsVector c)
@@ -122,6 +128,9 @@ matrix_after_alone s t (call.EwiseAddMatrix c mask accum op l r d) m alone = cc
 matrix_after_alone s t (call.EwiseAddVector w mask accum op l r d) m alone = cc
 matrix_after_alone s t (call.EwiseMultMatrix c mask accum op l r d) m alone = cc
 matrix_after_alone s t (call.EwiseMultVector w mask accum op l r d) m alone = cc
+matrix_after_alone s t (call.Mxv w mask accum semiring l r d) m alone = cc
+matrix_after_alone s t (call.Mxm c mask accum semiring l r d) m alone = cc
+matrix_after_alone s t (call.ReduceRows w mask accum monoid l d) m alone = cc
 matrix_after_alone s t (call.SetMatrix a i j value) m alone = refl
 matrix_after_alone s t (call.RemoveMatrix a i j) m alone = refl
 matrix_after_alone s t (call.ClearMatrix a) m alone = refl
@@ -140,6 +149,9 @@ vector_after_alone s t (call.EwiseAddMatrix c mask accum op l r d) m alone = cc
 vector_after_alone s t (call.EwiseAddVector w mask accum op l r d) m alone = cc
 vector_after_alone s t (call.EwiseMultMatrix c mask accum op l r d) m alone = cc
 vector_after_alone s t (call.EwiseMultVector w mask accum op l r d) m alone = cc
+vector_after_alone s t (call.Mxv w mask accum semiring l r d) m alone = cc
+vector_after_alone s t (call.Mxm c mask accum semiring l r d) m alone = cc
+vector_after_alone s t (call.ReduceRows w mask accum monoid l d) m alone = cc
 vector_after_alone s t (call.SetVector v i value) m alone = refl
 vector_after_alone s t (call.RemoveVector v i) m alone = refl
 vector_after_alone s t (call.ClearVector a) m alone = refl

@@ -59,6 +59,7 @@ few_matrices-changed s (call.ResizeMatrix a nrows ncols) = few s.matrices a.0 _
 few_matrices-changed s (call.BuildMatrix a tuples dup) = few s.matrices a.0 _
 few_matrices-changed s (call.EwiseAddMatrix c mask accum op a b d) = few s.matrices c.0 _
 few_matrices-changed s (call.EwiseMultMatrix c mask accum op a b d) = few s.matrices c.0 _
+few_matrices-changed s (call.Mxm c mask accum semiring a b d) = few s.matrices c.0 _
 few_matrices-changed s _ = as_many s.matrices
 
 few_vectors-changed : (s : Store) (c : Call) → length (changed s c).vectors ≤ length s.vectors + 1
@@ -72,6 +73,8 @@ few_vectors-changed s (call.ResizeVector v size) = few s.vectors v.0 _
 few_vectors-changed s (call.BuildVector v tuples dup) = few s.vectors v.0 _
 few_vectors-changed s (call.EwiseAddVector w mask accum op u v d) = few s.vectors w.0 _
 few_vectors-changed s (call.EwiseMultVector w mask accum op u v d) = few s.vectors w.0 _
+few_vectors-changed s (call.Mxv w mask accum semiring a u d) = few s.vectors w.0 _
+few_vectors-changed s (call.ReduceRows w mask accum monoid a d) = few s.vectors w.0 _
 few_vectors-changed s _ = as_many s.vectors
 
 few_matrices : (s : Store) (c : Call) (o : Option Refusal) → length (option_map_or (λ _. s) o (changed s c)).matrices ≤ length s.matrices + 1

@@ -22,7 +22,7 @@ use Rattle.grb_call.specs.declared.ids.VectorId.{VectorId}
 use Rattle.grb_call.specs.declared.ids.Object.{Object}
 use Rattle.grb_call.specs.declared.ids.Object.TheVariants as object
 use Rattle.grb_call.specs.Operands.{matrix_mask, vector_mask, accum_domains}
-use Rattle.grb_call.specs.Output.{output_of, matrix_left, vector_left, written_matrix, written_vector}
+use Rattle.grb_call.specs.Output.{output_of, matrix_left, vector_left}
 use Rattle.grb_call.specs.Shapes.{ObjectShapes, object_at, is_live}
 use Rattle.grb_call.specs.Refused.{is_one_domain, ewise_matrices_fit, ewise_vectors_fit}
 use Rattle.grb_call.specs.Store.{Store, shapes_of, matrix_at, vector_at, matrix_entries, vector_entries, matrix_shape, vector_shape}
@@ -30,7 +30,7 @@ use Rattle.grb_call.specs.After.{refused}
 use Rattle.grb_call.proofs.ShapesAfter.{object_at-map}
 use Rattle.grb_call.proofs.Passed.{has_passed}
 use Rattle.grb_call.proofs.Operations.{IsMatrixAt, IsVectorAt, IsMatrixMask, IsVectorMask, EwiseMatrices, EwiseVectors, ewise_matrices, ewise_vectors}
-use Rattle.grb_replay.specs.Operation.{is_operation}
+use Rattle.grb_replay.specs.Operation.{is_elementwise}
 use Rattle.grb_replay.specs.State.{stored, stored_matrix, stored_vector}
 
 pub if_ok : {X E : Type 0} (P Q : X → Type 0) (r : Result X E) → ((x : X) → P x → Q x) → IfOk r P → IfOk r Q
@@ -46,7 +46,7 @@ if_both-1 P Q None h = h
 if_both-1 P Q (Some x) h = h.1
 
 -- what has a shape is there
-held : {X Y Z : Type 0} (f : X → Y) (g : Y → Z) (xs : List (Option X)) (n : ℕ) → is_some (object_at (map (option_map g) (map (option_map f) xs)) n) ≡ true → is_some (object_at xs n) ≡ true
+pub held : {X Y Z : Type 0} (f : X → Y) (g : Y → Z) (xs : List (Option X)) (n : ℕ) → is_some (object_at (map (option_map g) (map (option_map f) xs)) n) ≡ true → is_some (object_at xs n) ≡ true
 held f g [] n e = cc
 held f g (None ∷ xs) zero e = cc
 held f g (Some x ∷ xs) zero e = refl
@@ -83,13 +83,13 @@ module _ (s : Store) (called : Call) (out : MatrixId) (c : MatrixId) (mask : Opt
       record { live = p.initialized; one_domain = p.one_domain; fits = p.fits }
 
 module _ (ms : List (Option SparseMatrixView)) (vs : List (Option SparseVectorView)) where
-  at_matrix : (b : MatrixId) (y : SparseMatrixView) → object_at ms b.0 ≡ Some y → matrix_at (stored ms vs) b ≡ Some y.matrix
+  pub at_matrix : (b : MatrixId) (y : SparseMatrixView) → object_at ms b.0 ≡ Some y → matrix_at (stored ms vs) b ≡ Some y.matrix
   at_matrix b y at = object_at-map stored_matrix ms b.0 ∙ ap (option_map stored_matrix) at
 
-  matrix_entries-at : (b : MatrixId) (y : SparseMatrixView) → object_at ms b.0 ≡ Some y → matrix_entries (stored ms vs) b ≡ y.matrix.entries
+  pub matrix_entries-at : (b : MatrixId) (y : SparseMatrixView) → object_at ms b.0 ≡ Some y → matrix_entries (stored ms vs) b ≡ y.matrix.entries
   matrix_entries-at b y at = ap (λ (o : Option Matrix). option_map_or (λ x. x.entries) o []) (at_matrix b y at)
 
-  matrix_is : (o : Option Matrix) (x y : Matrix) → o ≡ Some x → o ≡ Some y → x ≡ y
+  pub matrix_is : (o : Option Matrix) (x y : Matrix) → o ≡ Some x → o ≡ Some y → x ≡ y
   matrix_is o x y e f = let same : Some x ≡ Some y = sym e ∙ f in cc
 
   -- a mask that is lent, as the view of what is lent
@@ -212,13 +212,13 @@ module _ (s : Store) (called : Call) (out : VectorId) (w : VectorId) (mask : Opt
       record { live = p.initialized; one_domain = p.one_domain; fits = p.fits }
 
 module _ (ms : List (Option SparseMatrixView)) (vs : List (Option SparseVectorView)) where
-  at_vector : (v : VectorId) (y : SparseVectorView) → object_at vs v.0 ≡ Some y → vector_at (stored ms vs) v ≡ Some y.vector
+  pub at_vector : (v : VectorId) (y : SparseVectorView) → object_at vs v.0 ≡ Some y → vector_at (stored ms vs) v ≡ Some y.vector
   at_vector v y at = object_at-map stored_vector vs v.0 ∙ ap (option_map stored_vector) at
 
-  vector_entries-at : (v : VectorId) (y : SparseVectorView) → object_at vs v.0 ≡ Some y → vector_entries (stored ms vs) v ≡ y.vector.entries
+  pub vector_entries-at : (v : VectorId) (y : SparseVectorView) → object_at vs v.0 ≡ Some y → vector_entries (stored ms vs) v ≡ y.vector.entries
   vector_entries-at v y at = ap (λ (o : Option Vector). option_map_or (λ x. x.entries) o []) (at_vector v y at)
 
-  vector_is : (o : Option Vector) (x y : Vector) → o ≡ Some x → o ≡ Some y → x ≡ y
+  pub vector_is : (o : Option Vector) (x y : Vector) → o ≡ Some x → o ≡ Some y → x ≡ y
   vector_is o x y e f = let same : Some x ≡ Some y = sym e ∙ f in cc
 
   -- a mask that is lent, as the view of what is lent
@@ -310,8 +310,8 @@ module _ (ms : List (Option SparseMatrixView)) (vs : List (Option SparseVectorVi
         ∙ ap (λ es. vector_write (option_map (vector_entries s) mask) (ewise_mult nat_cmp op es z.vector.entries)) (sym (vector_entries-at u y at_first))
         ∙ ap (λ es. vector_write (option_map (vector_entries s) mask) (ewise_mult nat_cmp op (vector_entries s u) es)) (sym (vector_entries-at v z at_second))))
 
--- the output of an operation is there
-pub held_output_matrix : (ms : List (Option SparseMatrixView)) (vs : List (Option SparseVectorView)) (out : MatrixId) (called : Call) → is_operation called ≡ true → output_of called ≡ Some (object.Matrix out) →
+-- the output of an element-wise operation is there
+pub held_output_matrix : (ms : List (Option SparseMatrixView)) (vs : List (Option SparseVectorView)) (out : MatrixId) (called : Call) → is_elementwise called ≡ true → output_of called ≡ Some (object.Matrix out) →
     refused (stored ms vs) called ≡ None → is_some (object_at ms out.0) ≡ true
 held_output_matrix ms vs out (call.EwiseAddMatrix x mask accum op y z d) operation output accepted =
     matrix_output-there ms vs out mask accum op y z (add_matrix-tests (stored ms vs) (call.EwiseAddMatrix x mask accum op y z d) out x mask accum op y z d output accepted refl)
@@ -321,8 +321,8 @@ held_output_matrix ms vs out (call.EwiseAddVector x mask accum op y z d) operati
 held_output_matrix ms vs out (call.EwiseMultVector x mask accum op y z d) operation output accepted = cc
 held_output_matrix ms vs out _ operation output accepted = cc
 
--- the output of an operation is there
-pub held_output_vector : (ms : List (Option SparseMatrixView)) (vs : List (Option SparseVectorView)) (out : VectorId) (called : Call) → is_operation called ≡ true → output_of called ≡ Some (object.Vector out) →
+-- the output of an element-wise operation is there
+pub held_output_vector : (ms : List (Option SparseMatrixView)) (vs : List (Option SparseVectorView)) (out : VectorId) (called : Call) → is_elementwise called ≡ true → output_of called ≡ Some (object.Vector out) →
     refused (stored ms vs) called ≡ None → is_some (object_at vs out.0) ≡ true
 held_output_vector ms vs out (call.EwiseAddVector x mask accum op y z d) operation output accepted =
     vector_output-there ms vs out mask accum op y z (add_vector-tests (stored ms vs) (call.EwiseAddVector x mask accum op y z d) out x mask accum op y z d output accepted refl)

@@ -1,4 +1,7 @@
 mod Accepted
 mod Applied
+mod Dispatched
 mod Lent
+mod LentProducts
 mod Objects
+mod Totals

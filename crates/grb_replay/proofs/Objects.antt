@@ -1,5 +1,5 @@
 -- The objects of a store by number, where one place changes.
-use Rattle.std.proofs.Common.{◌≡◌, ℕ, zero, suc, ◌<◌, true, nat_lt, List, [], ◌∷◌, length, refl, ap, subst, ◌∙◌, sym, ltb-true, arith}
+use Rattle.std.proofs.Common.{◌≡◌, ℕ, zero, suc, ◌-◌, ◌<◌, ◌≤◌, true, nat_lt, List, [], ◌∷◌, length, refl, ap, subst, ◌∙◌, sym, ltb-true, arith}
 use Rattle.std.specs.Prelude.{IfSome, map, slice_set, slice_get, slice_index_or, Option, Some, None, Result, Ok, Err, OnOk, OnErr}
 use Rattle.std.specs.Option.{option_map}
 use Rattle.grb_call.specs.Shapes.{object_at}
@@ -93,3 +93,9 @@ module _ {X : Type 0} (P : X → Type 0) where
   holds_beyond [] n beyond = tt
   holds_beyond (x ∷ xs) zero beyond = absurd (beyond (omega arith))
   holds_beyond (x ∷ xs) (suc n) beyond = holds_beyond xs n (λ lt. beyond (omega arith))
+
+  -- what holds at each number that there is holds at every one
+  pub holds_everywhere : (xs : List (Option X)) (k : ℕ) → length xs ≤ k → ((n : ℕ) → n < k → IfSome (object_at xs n) P) → (n : ℕ) → IfSome (object_at xs n) P
+  holds_everywhere [] k le below n = tt
+  holds_everywhere (x ∷ xs) k le below zero = below zero (omega arith)
+  holds_everywhere (x ∷ xs) k le below (suc n) = holds_everywhere xs (k - 1) (omega arith) (λ m h. below (suc m) (omega arith)) n

@@ -18,6 +18,13 @@ FitsMatrix (call.EwiseAddMatrix c mask accum op a b d) m = ⊥
 FitsMatrix (call.EwiseAddVector w mask accum op u v d) m = ⊥
 FitsMatrix (call.EwiseMultMatrix c mask accum op a b d) m = ⊥
 FitsMatrix (call.EwiseMultVector w mask accum op u v d) m = ⊥
+FitsMatrix (call.Mxv w mask accum semiring a u d) m = ⊥
+FitsMatrix (call.Mxm c mask accum semiring a b d) m = ⊥
+FitsMatrix (call.ReduceRows w mask accum monoid a d) m = ⊥
+FitsMatrix (call.ReduceMatrix a monoid) m = Unit {0}
+FitsMatrix (call.ReduceVector v monoid) m = Unit {0}
+FitsMatrix (call.WaitMatrix a mode) m = Unit {0}
+FitsMatrix (call.WaitVector v mode) m = Unit {0}
 FitsMatrix _ m = Unit {0}
 
 -- the call may change this vector by itself
@@ -31,4 +38,11 @@ FitsVector (call.EwiseAddMatrix c mask accum op a b d) x = ⊥
 FitsVector (call.EwiseAddVector w mask accum op u v d) x = ⊥
 FitsVector (call.EwiseMultMatrix c mask accum op a b d) x = ⊥
 FitsVector (call.EwiseMultVector w mask accum op u v d) x = ⊥
+FitsVector (call.Mxv w mask accum semiring a u d) x = ⊥
+FitsVector (call.Mxm c mask accum semiring a b d) x = ⊥
+FitsVector (call.ReduceRows w mask accum monoid a d) x = ⊥
+FitsVector (call.ReduceMatrix a monoid) x = Unit {0}
+FitsVector (call.ReduceVector v monoid) x = Unit {0}
+FitsVector (call.WaitMatrix a mode) x = Unit {0}
+FitsVector (call.WaitVector v mode) x = Unit {0}
 FitsVector _ x = Unit {0}

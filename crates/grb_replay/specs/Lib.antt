@@ -1,3 +1,4 @@
 pub mod Fits
 pub mod Operation
+pub mod Settled
 pub mod State

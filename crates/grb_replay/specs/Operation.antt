@@ -16,7 +16,29 @@ is_operation (call.EwiseAddMatrix c mask accum op a b d) = true
 is_operation (call.EwiseAddVector w mask accum op u v d) = true
 is_operation (call.EwiseMultMatrix c mask accum op a b d) = true
 is_operation (call.EwiseMultVector w mask accum op u v d) = true
+is_operation (call.Mxv w mask accum semiring a u d) = true
+is_operation (call.Mxm c mask accum semiring a b d) = true
+is_operation (call.ReduceRows w mask accum monoid a d) = true
+is_operation (call.ReduceMatrix a monoid) = false
+is_operation (call.ReduceVector v monoid) = false
+is_operation (call.WaitMatrix a mode) = false
+is_operation (call.WaitVector v mode) = false
 is_operation _ = false
+
+-- whether it is an element-wise operation, whose objects are of one sort
+abbrev pub is_elementwise : Call → Bool
+is_elementwise (call.EwiseAddMatrix c mask accum op a b d) = true
+is_elementwise (call.EwiseAddVector w mask accum op u v d) = true
+is_elementwise (call.EwiseMultMatrix c mask accum op a b d) = true
+is_elementwise (call.EwiseMultVector w mask accum op u v d) = true
+is_elementwise (call.Mxv w mask accum semiring a u d) = false
+is_elementwise (call.Mxm c mask accum semiring a b d) = false
+is_elementwise (call.ReduceRows w mask accum monoid a d) = false
+is_elementwise (call.ReduceMatrix a monoid) = false
+is_elementwise (call.ReduceVector v monoid) = false
+is_elementwise (call.WaitMatrix a mode) = false
+is_elementwise (call.WaitVector v mode) = false
+is_elementwise _ = false
 
 -- the matrix, or the vector, with this number has no change that waits, if it is there
 abbrev pub IsAssembledMatrix : List (Option SparseMatrixView) → ℕ → Type 0

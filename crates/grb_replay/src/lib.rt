@@ -1,14 +1,15 @@
 //! The store that a list of calls leaves, evaluated.
 //!
 //! A `State` holds the matrices and vectors that the calls made, with their entries. One unit is one call: `apply` makes of the
-//! store what the call makes of it, and nothing of it where the call is refused; `reply` and `refused_build` read it. All places
-//! for objects to come are reserved where a state is opened. Nothing here knows of passes, of an order, or of which calls there
-//! are: the caller brings them, one after another.
+//! store what the call makes of it, and nothing of it where the call is refused; `settle` does what waits in the objects and changes
+//! no entry; `reply` and `refused_build` read it. All places for objects to come are reserved where a state is opened. Nothing here
+//! knows of passes, of an order, or of which calls there are: the caller brings them, one after another.
 #![tactic(auto)]
 
 mod matrices;
 mod matrix_operations;
 mod operations;
+mod product_operations;
 mod state;
 mod vector_operations;
 mod vectors;

@@ -119,6 +119,20 @@ fn assemble_place(place: &mut Option<SparseMatrix>) -> Result<(), AllocError>
     }
 }
 
+/// Assembles the matrix of the place with this number, if there is one. `AllocError` where memory is refused; its entries are as before
+/// in any case, and what was assembled stays so.
+fn assemble_at(matrices: &mut Vec<Option<SparseMatrix>>, place: usize) -> Result<(), AllocError>
+    ensures same { stored_matrices matrices.new.items ≡ stored_matrices matrices.old.items }
+    ensures assembled { OnOk result (IsAssembledMatrix matrices.new.items place) }
+    ensures kept { (n : ℕ) → IsAssembledMatrix matrices.old.items n → IsAssembledMatrix matrices.new.items n }
+    ensures capacity { vec_capacity matrices.new ≡ vec_capacity matrices.old }
+{
+    match matrices.get_mut(place) {
+        Some(place) => assemble_place(place),
+        None => Ok(()),
+    }
+}
+
 /// Assembles the matrix with this number, if it is there. `AllocError` where memory is refused; its entries are as before in any
 /// case, and what was assembled stays so.
 pub(crate) fn assemble_matrix(
@@ -130,10 +144,21 @@ pub(crate) fn assemble_matrix(
     ensures kept { (n : ℕ) → IsAssembledMatrix matrices.old.items n → IsAssembledMatrix matrices.new.items n }
     ensures capacity { vec_capacity matrices.new ≡ vec_capacity matrices.old }
 {
-    match matrices.get_mut(a.0 as usize) {
-        Some(place) => assemble_place(place),
-        None => Ok(()),
+    assemble_at(matrices, a.0 as usize)
+}
+
+/// Assembles each matrix. `AllocError` where memory is refused; the entries are as before in any case.
+pub(crate) fn assemble_all_matrices(
+    matrices: &mut Vec<Option<SparseMatrix>>,
+) -> Result<(), AllocError>
+    ensures same { stored_matrices matrices.new.items ≡ stored_matrices matrices.old.items }
+    ensures assembled { OnOk result ((n : ℕ) → IsAssembledMatrix matrices.new.items n) }
+    ensures capacity { vec_capacity matrices.new ≡ vec_capacity matrices.old }
+{
+    for n in 0..matrices.len() {
+        assemble_at(matrices, n)?;
     }
+    Ok(())
 }
 
 /// Puts the matrix in the place of the one with this number. Takes no memory.

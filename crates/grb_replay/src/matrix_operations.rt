@@ -4,25 +4,25 @@ ghost use Rattle.grb_call.specs.declared.ids.Object.TheVariants as object;
 ghost use Rattle.grb_call.specs.Output.{output_of, matrix_left};
 ghost use Rattle.grb_call.specs.Store.{matrix_at};
 ghost use Rattle.grb_call.specs.After.{refused};
-ghost use Rattle.grb_replay.specs.Operation.{is_operation, AreAssembled};
+ghost use Rattle.grb_replay.specs.Operation.{is_operation, is_elementwise, AreAssembled};
 ghost use Rattle.grb_replay.specs.State.{stored};
 
 use crate::matrices::{lent_matrix, lent_matrix_mask};
+use crate::product_operations::multiplied_matrix;
 use grb_call::{Call, MatrixId};
 use grb_ops::{ewise_add_matrix, ewise_mult_matrix};
 use grb_sparse::{SparseMatrix, SparseVector};
 use std::alloc::{AllocError, Global};
 
-/// The matrix that the operation leaves of its output `c`. Everything is lent, so that one matrix may be output, input and mask.
-/// `AllocError` where memory is refused.
-pub(crate) fn operated_matrix(
+/// The matrix that an element-wise operation leaves of its output `c`. `AllocError` where memory is refused.
+fn elementwise_matrix(
     alloc: Global,
     matrices: &[Option<SparseMatrix>],
     vectors: &[Option<SparseVector>],
     c: MatrixId,
     call: &Call,
 ) -> Result<SparseMatrix, AllocError>
-    requires operation { is_operation call.now ≡ true }
+    requires operation { is_elementwise call.now ≡ true }
     requires output { output_of call.now ≡ Some (object.Matrix c) }
     requires accepted { refused (stored matrices.now vectors.now) call.now ≡ None }
     requires assembled { AreAssembled matrices.now vectors.now call.now }
@@ -57,6 +57,42 @@ pub(crate) fn operated_matrix(
             let first = lent_matrix(matrices, *a);
             let second = lent_matrix(matrices, *b);
             ewise_mult_matrix(alloc, output, mask, *accum, *op, first, second, *d)
+        }
+        _ => unreachable!(),
+    }
+}
+
+/// The matrix that the operation leaves of its output `c`. Everything is lent, so that one matrix may be output, input and mask.
+/// `AllocError` where memory is refused.
+pub(crate) fn operated_matrix(
+    alloc: Global,
+    matrices: &[Option<SparseMatrix>],
+    vectors: &[Option<SparseVector>],
+    c: MatrixId,
+    call: &Call,
+) -> Result<SparseMatrix, AllocError>
+    requires operation { is_operation call.now ≡ true }
+    requires output { output_of call.now ≡ Some (object.Matrix c) }
+    requires accepted { refused (stored matrices.now vectors.now) call.now ≡ None }
+    requires assembled { AreAssembled matrices.now vectors.now call.now }
+    ensures { IfOk result (λ made. matrix_left (stored matrices.now vectors.now) call.now (matrix_at (stored matrices.now vectors.now) c) ≡ Some made.matrix) }
+{
+    match call {
+        Call::Mxm {
+            c,
+            mask,
+            accum,
+            semiring,
+            a,
+            b,
+            d,
+        } => {
+            multiplied_matrix(
+                alloc, matrices, vectors, *c, *mask, *accum, *semiring, *a, *b, *d,
+            )
+        }
+        Call::EwiseAddMatrix { .. } | Call::EwiseMultMatrix { .. } => {
+            elementwise_matrix(alloc, matrices, vectors, c, call)
         }
         _ => unreachable!(),
     }

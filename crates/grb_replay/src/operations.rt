@@ -22,6 +22,9 @@ pub(crate) fn is_operation(call: &Call) -> bool
             | Call::EwiseAddVector { .. }
             | Call::EwiseMultMatrix { .. }
             | Call::EwiseMultVector { .. }
+            | Call::Mxv { .. }
+            | Call::Mxm { .. }
+            | Call::ReduceRows { .. }
     )
 }
 
@@ -73,6 +76,29 @@ fn assemble_vectors(
     }
 }
 
+/// Assembles a matrix, an output and an input that are vectors, and a mask. `AllocError` where memory is refused; the entries are as
+/// before in any case.
+fn assemble_rows(
+    matrices: &mut Vec<Option<SparseMatrix>>,
+    vectors: &mut Vec<Option<SparseVector>>,
+    a: MatrixId,
+    w: VectorId,
+    mask: Option<VectorId>,
+    u: VectorId,
+) -> Result<(), AllocError>
+    ensures same_matrices { stored_matrices matrices.new.items ≡ stored_matrices matrices.old.items }
+    ensures same_vectors { stored_vectors vectors.new.items ≡ stored_vectors vectors.old.items }
+    ensures matrix { OnOk result (IsAssembledMatrix matrices.new.items a.0) }
+    ensures output { OnOk result (IsAssembledVector vectors.new.items w.0) }
+    ensures vector { OnOk result (IsAssembledVector vectors.new.items u.0) }
+    ensures mask { OnOk result (IfSome mask (λ m. IsAssembledVector vectors.new.items m.0)) }
+    ensures matrices { vec_capacity matrices.new ≡ vec_capacity matrices.old }
+    ensures vectors { vec_capacity vectors.new ≡ vec_capacity vectors.old }
+{
+    assemble_matrix(matrices, a)?;
+    assemble_vectors(vectors, w, mask, u, u)
+}
+
 /// Assembles all that the operation reads, its old output and its mask among it. `AllocError` where memory is refused; the entries
 /// of each object are as before in any case.
 fn assemble_operands(
@@ -87,10 +113,15 @@ fn assemble_operands(
     ensures vectors { vec_capacity vectors.new ≡ vec_capacity vectors.old }
 {
     match call {
-        Call::EwiseAddMatrix { c, mask, a, b, .. } | Call::EwiseMultMatrix { c, mask, a, b, .. } =>
-            { assemble_matrices(matrices, *c, *mask, *a, *b) }
+        Call::EwiseAddMatrix { c, mask, a, b, .. }
+        | Call::EwiseMultMatrix { c, mask, a, b, .. }
+        | Call::Mxm { c, mask, a, b, .. } => assemble_matrices(matrices, *c, *mask, *a, *b),
         Call::EwiseAddVector { w, mask, u, v, .. } | Call::EwiseMultVector { w, mask, u, v, .. } =>
             { assemble_vectors(vectors, *w, *mask, *u, *v) }
+        Call::Mxv { w, mask, a, u, .. } => { assemble_rows(matrices, vectors, *a, *w, *mask, *u) }
+        Call::ReduceRows { w, mask, a, .. } => {
+            assemble_rows(matrices, vectors, *a, *w, *mask, *w)
+        }
         _ => unreachable!(),
     }
 }

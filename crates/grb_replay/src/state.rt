@@ -3,18 +3,25 @@ ghost use Rattle.std.specs.Option.{option_map};
 ghost use Rattle.std.specs.Ordering.{nat_cmp};
 ghost use Rattle.std.specs.FinMap.{find};
 ghost use Rattle.grb_core.specs.Entries.{cell_cmp, nvals_of};
+ghost use Rattle.grb_core.specs.Results.{reduce_of};
 ghost use Rattle.grb_call.specs.Kinds.{enters, is_build, is_size};
 ghost use Rattle.grb_call.specs.Output.{output_of};
 ghost use Rattle.grb_call.specs.Refused.{is_in_bounds};
 ghost use Rattle.grb_call.specs.Store.{empty_store, shapes_of, matrix_at, vector_at, matrix_entries, vector_entries};
 ghost use Rattle.grb_call.specs.After.{after, changed, get_reply, has_old_entries, refused, refused_build, reply_of};
-ghost use Rattle.grb_replay.specs.State.{stored};
+ghost use Rattle.grb_replay.specs.Settled.{AreAllAssembled, HasWaited, IsSettled, settles};
+ghost use Rattle.grb_replay.specs.State.{stored, is_assembled};
 
-use crate::matrices::{dup_matrix, edit_matrix, matrix_of};
+use crate::matrices::{
+    assemble_all_matrices, assemble_matrix, dup_matrix, edit_matrix, lent_matrix, matrix_of,
+};
 use crate::operations::{is_operation, operate};
-use crate::vectors::{dup_vector, edit_vector, vector_of};
-use grb_call::{Call, Kind, MatrixId, Object, Reply, Shapes, VectorId, check};
-use grb_core::{Refusal, Value};
+use crate::vectors::{
+    assemble_all_vectors, assemble_vector, dup_vector, edit_vector, lent_vector, vector_of,
+};
+use grb_call::{Call, Kind, MatrixId, Object, Reply, Shapes, VectorId, WaitMode, check};
+use grb_core::{Monoid, Refusal, Value};
+use grb_products::{reduce_matrix, reduce_vector};
 use grb_sparse::{SparseMatrix, SparseVector};
 use std::alloc::{AllocError, Global};
 use std::marker::Model;
@@ -33,7 +40,7 @@ impl Model for State {
 
     ghost Value = { RoomyStore };
 
-    ghost view = { λ s. record { store = stored s.matrices.items s.vectors.items; room = s.shapes.room } };
+    ghost view = { λ s. record { store = stored s.matrices.items s.vectors.items; room = s.shapes.room; matrices = s.matrices.items; vectors = s.vectors.items } };
 
     ghost invariant = { λ s. IsState s.shapes (stored s.matrices.items s.vectors.items) (vec_capacity s.matrices) (vec_capacity s.vectors) };
 }
@@ -111,7 +118,8 @@ fn get_reply(value: Option<Value>) -> Reply
 impl State {
     /// A store with no objects, and room for so many calls. `AllocError` where memory is refused.
     pub fn open(alloc: Global, room: u32) -> Result<State, AllocError>
-        ensures { IfOk result (λ s. s ≡ record { store = empty_store; room = room }) }
+        ensures store { IfOk result (λ s. s.store ≡ empty_store) }
+        ensures room { IfOk result (λ s. s.room ≡ room) }
     {
         Ok(State {
             shapes: Shapes::open(alloc, room)?,
@@ -186,10 +194,82 @@ impl State {
         }
     }
 
-    /// The reply to a call that is not refused and reads entries. Takes no memory.
+    /// Does the changes that wait in the object, if it is there. `AllocError` where memory is refused.
+    fn complete(&mut self, object: Object) -> Result<(), AllocError>
+        ensures store { self.new.store ≡ self.old.store }
+        ensures room { self.new.room ≡ self.old.room }
+        ensures assembled { OnOk result (is_assembled self.new.matrices self.new.vectors object ≡ true) }
+    {
+        match object {
+            Object::Matrix(a) => assemble_matrix(&mut self.matrices, a),
+            Object::Vector(v) => assemble_vector(&mut self.vectors, v),
+        }
+    }
+
+    /// Does the changes that wait in any object. `AllocError` where memory is refused.
+    fn materialize(&mut self) -> Result<(), AllocError>
+        ensures store { self.new.store ≡ self.old.store }
+        ensures room { self.new.room ≡ self.old.room }
+        ensures assembled { OnOk result (AreAllAssembled (is_assembled self.new.matrices self.new.vectors)) }
+    {
+        assemble_all_matrices(&mut self.matrices)?;
+        assemble_all_vectors(&mut self.vectors)
+    }
+
+    /// Does the changes that a wait for the object asks for. `AllocError` where memory is refused.
+    fn wait_for(&mut self, object: Object, mode: WaitMode) -> Result<(), AllocError>
+        ensures store { self.new.store ≡ self.old.store }
+        ensures room { self.new.room ≡ self.old.room }
+        ensures waited { OnOk result (HasWaited (is_assembled self.new.matrices self.new.vectors) object mode) }
+    {
+        match mode {
+            WaitMode::Complete => self.complete(object),
+            WaitMode::Materialize => self.materialize(),
+        }
+    }
+
+    /// Does the changes that are to be done before a reading call is answered: those of the object of a total, and those that a wait
+    /// asks for. The entries are as before in any case. `AllocError` where memory is refused, which a get or a count never is.
+    pub fn settle(&mut self, call: &Call) -> Result<(), AllocError>
+        ensures store { self.new.store ≡ self.old.store }
+        ensures room { self.new.room ≡ self.old.room }
+        ensures settled { OnOk result (IsSettled (is_assembled self.new.matrices self.new.vectors) call.now) }
+        ensures memory { OnErr result (settles call.now ≡ true) }
+    {
+        match call {
+            Call::ReduceMatrix { a, .. } => self.complete(Object::Matrix(*a)),
+            Call::ReduceVector { v, .. } => self.complete(Object::Vector(*v)),
+            Call::WaitMatrix { a, mode } => self.wait_for(Object::Matrix(*a), *mode),
+            Call::WaitVector { v, mode } => self.wait_for(Object::Vector(*v), *mode),
+            _ => Ok(()),
+        }
+    }
+
+    /// All values that the matrix stores, combined by the monoid.
+    fn total_of_matrix(&self, a: MatrixId, monoid: Monoid) -> Value
+        requires accepted { refused self.now.store (Call.ReduceMatrix a monoid) ≡ None }
+        requires assembled { is_assembled self.now.matrices self.now.vectors (Object.Matrix a) ≡ true }
+        ensures { result ≡ reduce_of monoid (matrix_entries self.now.store a) }
+    {
+        reduce_matrix(lent_matrix(&self.matrices, a), monoid)
+    }
+
+    /// All values that the vector stores, combined by the monoid.
+    fn total_of_vector(&self, v: VectorId, monoid: Monoid) -> Value
+        requires accepted { refused self.now.store (Call.ReduceVector v monoid) ≡ None }
+        requires assembled { is_assembled self.now.matrices self.now.vectors (Object.Vector v) ≡ true }
+        ensures { result ≡ reduce_of monoid (vector_entries self.now.store v) }
+    {
+        reduce_vector(lent_vector(&self.vectors, v), monoid)
+    }
+
+    /// The reply to a call that is not refused, only reads, and does not ask for dimensions alone; what it needs was settled. Takes no
+    /// memory.
     pub fn reply(&self, call: &Call) -> Reply
         requires reads { enters call.now ≡ false }
         requires no_size { is_size call.now ≡ false }
+        requires accepted { refused self.now.store call.now ≡ None }
+        requires settled { IsSettled (is_assembled self.now.matrices self.now.vectors) call.now }
         ensures { result ≡ reply_of self.now.store call.now }
     {
         match call {
@@ -197,6 +277,9 @@ impl State {
             Call::GetVector { v, i } => get_reply(self.get_vector(*v, *i)),
             Call::NvalsMatrix { a } => Reply::Count(self.nvals_matrix(*a)),
             Call::NvalsVector { v } => Reply::Count(self.nvals_vector(*v)),
+            Call::ReduceMatrix { a, monoid } => Reply::Value(self.total_of_matrix(*a, *monoid)),
+            Call::ReduceVector { v, monoid } => Reply::Value(self.total_of_vector(*v, *monoid)),
+            Call::WaitMatrix { .. } | Call::WaitVector { .. } => Reply::Done,
             _ => unreachable!(),
         }
     }
@@ -206,7 +289,8 @@ impl State {
         requires { 0 < self.old.room }
         ensures store { OnOk result (self.new.store ≡ after self.old.store call.now) }
         ensures room { OnOk result (self.new.room + 1 ≡ self.old.room) }
-        ensures err { OnErr result (self.new ≡ self.old) }
+        ensures err_store { OnErr result (self.new.store ≡ self.old.store) }
+        ensures err_room { OnErr result (self.new.room ≡ self.old.room) }
     {
         if self.refused(call).is_none() {
             change(&mut self.matrices, &mut self.vectors, call)?;
@@ -215,3 +299,6 @@ impl State {
         Ok(())
     }
 }
+
+#[cfg(test)]
+mod tests;

@@ -4,25 +4,25 @@ ghost use Rattle.grb_call.specs.declared.ids.Object.TheVariants as object;
 ghost use Rattle.grb_call.specs.Output.{output_of, vector_left};
 ghost use Rattle.grb_call.specs.Store.{vector_at};
 ghost use Rattle.grb_call.specs.After.{refused};
-ghost use Rattle.grb_replay.specs.Operation.{is_operation, AreAssembled};
+ghost use Rattle.grb_replay.specs.Operation.{is_operation, is_elementwise, AreAssembled};
 ghost use Rattle.grb_replay.specs.State.{stored};
 
+use crate::product_operations::{multiplied_vector, reduced_rows};
 use crate::vectors::{lent_vector, lent_vector_mask};
 use grb_call::{Call, VectorId};
 use grb_ops::{ewise_add_vector, ewise_mult_vector};
 use grb_sparse::{SparseMatrix, SparseVector};
 use std::alloc::{AllocError, Global};
 
-/// The vector that the operation leaves of its output `w`. Everything is lent, so that one vector may be output, input and mask.
-/// `AllocError` where memory is refused.
-pub(crate) fn operated_vector(
+/// The vector that an element-wise operation leaves of its output `w`. `AllocError` where memory is refused.
+fn elementwise_vector(
     alloc: Global,
     matrices: &[Option<SparseMatrix>],
     vectors: &[Option<SparseVector>],
     w: VectorId,
     call: &Call,
 ) -> Result<SparseVector, AllocError>
-    requires operation { is_operation call.now ≡ true }
+    requires operation { is_elementwise call.now ≡ true }
     requires output { output_of call.now ≡ Some (object.Vector w) }
     requires accepted { refused (stored matrices.now vectors.now) call.now ≡ None }
     requires assembled { AreAssembled matrices.now vectors.now call.now }
@@ -57,6 +57,50 @@ pub(crate) fn operated_vector(
             let first = lent_vector(vectors, *u);
             let second = lent_vector(vectors, *v);
             ewise_mult_vector(alloc, output, mask, *accum, *op, first, second, *d)
+        }
+        _ => unreachable!(),
+    }
+}
+
+/// The vector that the operation leaves of its output `w`. Everything is lent, so that one vector may be output, input and mask.
+/// `AllocError` where memory is refused.
+pub(crate) fn operated_vector(
+    alloc: Global,
+    matrices: &[Option<SparseMatrix>],
+    vectors: &[Option<SparseVector>],
+    w: VectorId,
+    call: &Call,
+) -> Result<SparseVector, AllocError>
+    requires operation { is_operation call.now ≡ true }
+    requires output { output_of call.now ≡ Some (object.Vector w) }
+    requires accepted { refused (stored matrices.now vectors.now) call.now ≡ None }
+    requires assembled { AreAssembled matrices.now vectors.now call.now }
+    ensures { IfOk result (λ made. vector_left (stored matrices.now vectors.now) call.now (vector_at (stored matrices.now vectors.now) w) ≡ Some made.vector) }
+{
+    match call {
+        Call::Mxv {
+            w,
+            mask,
+            accum,
+            semiring,
+            a,
+            u,
+            d,
+        } => {
+            multiplied_vector(
+                alloc, matrices, vectors, *w, *mask, *accum, *semiring, *a, *u, *d,
+            )
+        }
+        Call::ReduceRows {
+            w,
+            mask,
+            accum,
+            monoid,
+            a,
+            d,
+        } => reduced_rows(alloc, matrices, vectors, *w, *mask, *accum, *monoid, *a, *d),
+        Call::EwiseAddVector { .. } | Call::EwiseMultVector { .. } => {
+            elementwise_vector(alloc, matrices, vectors, w, call)
         }
         _ => unreachable!(),
     }

@@ -119,6 +119,20 @@ fn assemble_place(place: &mut Option<SparseVector>) -> Result<(), AllocError>
     }
 }
 
+/// Assembles the vector of the place with this number, if there is one. `AllocError` where memory is refused; its entries are as before
+/// in any case, and what was assembled stays so.
+fn assemble_at(vectors: &mut Vec<Option<SparseVector>>, place: usize) -> Result<(), AllocError>
+    ensures same { stored_vectors vectors.new.items ≡ stored_vectors vectors.old.items }
+    ensures assembled { OnOk result (IsAssembledVector vectors.new.items place) }
+    ensures kept { (n : ℕ) → IsAssembledVector vectors.old.items n → IsAssembledVector vectors.new.items n }
+    ensures capacity { vec_capacity vectors.new ≡ vec_capacity vectors.old }
+{
+    match vectors.get_mut(place) {
+        Some(place) => assemble_place(place),
+        None => Ok(()),
+    }
+}
+
 /// Assembles the vector with this number, if it is there. `AllocError` where memory is refused; its entries are as before in any
 /// case, and what was assembled stays so.
 pub(crate) fn assemble_vector(
@@ -130,10 +144,21 @@ pub(crate) fn assemble_vector(
     ensures kept { (n : ℕ) → IsAssembledVector vectors.old.items n → IsAssembledVector vectors.new.items n }
     ensures capacity { vec_capacity vectors.new ≡ vec_capacity vectors.old }
 {
-    match vectors.get_mut(v.0 as usize) {
-        Some(place) => assemble_place(place),
-        None => Ok(()),
+    assemble_at(vectors, v.0 as usize)
+}
+
+/// Assembles each vector. `AllocError` where memory is refused; the entries are as before in any case.
+pub(crate) fn assemble_all_vectors(
+    vectors: &mut Vec<Option<SparseVector>>,
+) -> Result<(), AllocError>
+    ensures same { stored_vectors vectors.new.items ≡ stored_vectors vectors.old.items }
+    ensures assembled { OnOk result ((n : ℕ) → IsAssembledVector vectors.new.items n) }
+    ensures capacity { vec_capacity vectors.new ≡ vec_capacity vectors.old }
+{
+    for n in 0..vectors.len() {
+        assemble_at(vectors, n)?;
     }
+    Ok(())
 }
 
 /// Puts the vector in the place of the one with this number. Takes no memory.

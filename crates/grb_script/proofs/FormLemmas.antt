@@ -1,26 +1,28 @@
 -- What form words have, and what a statement of it leaves of the names.
-use Rattle.std.proofs.Common.{◌≡◌, ℕ, ◌-◌, ◌≤◌, Bool, true, false, List, [], ◌∷◌, length, get_or, take, drop, Option, Some, None, Ok, Err, Bor, if◌then◌else◌, refl, sym, ap, ◌∙◌, arith}
+use Rattle.std.proofs.Common.{◌≡◌, ℕ, ◌-◌, ◌≤◌, Bool, true, false, List, [], ◌∷◌, length, get_or, take, drop, Option, Some, None, Ok, Err, Bor, Result, if◌then◌else◌, refl, sym, ap, ◌∙◌, arith}
 use Rattle.std.proofs.lemmas.List.{take_all}
 use Rattle.std.specs.Option.{option_and_then, option_map, option_map_or, ok_or}
-use Rattle.grb_script.specs.declared.fault.FaultKind.{FaultKind}
-use Rattle.grb_script.specs.declared.fault.FaultKind.TheVariants.{Statement, UnknownName}
-use Rattle.grb_script.specs.declared.keyword.Ewise.{Ewise}
-use Rattle.grb_script.specs.declared.keyword.Keyword.{Keyword}
-use Rattle.grb_script.specs.declared.keyword.Placed.{Placed}
-use Rattle.grb_script.specs.declared.keyword.Placed.TheVariants.{Remove, Get, Resize}
-use Rattle.grb_script.specs.declared.keyword.Whole.{Whole}
-use Rattle.grb_script.specs.declared.keyword.Whole.TheVariants.{Free, Nvals, Size, Clear}
+use Rattle.grb_words.specs.declared.fault.FaultKind.{FaultKind}
+use Rattle.grb_words.specs.declared.fault.FaultKind.TheVariants.{Statement, UnknownName}
+use Rattle.grb_words.specs.declared.keyword.Ewise.{Ewise}
+use Rattle.grb_words.specs.declared.keyword.Keyword.{Keyword}
+use Rattle.grb_words.specs.declared.keyword.Multiply.{Multiply}
+use Rattle.grb_words.specs.declared.keyword.Placed.{Placed}
+use Rattle.grb_words.specs.declared.keyword.Placed.TheVariants.{Remove, Get, Resize}
+use Rattle.grb_words.specs.declared.keyword.Whole.{Whole}
+use Rattle.grb_words.specs.declared.keyword.Whole.TheVariants.{Free, Nvals, Size, Clear}
 use Rattle.grb_core.specs.declared.value.Value.{Value}
 use Rattle.grb_script.specs.declared.names.Sort.{Sort}
-use Rattle.grb_script.specs.declared.indices.Indices.{Indices}
-use Rattle.grb_script.specs.Line.{Word}
+use Rattle.grb_script.specs.declared.statement.Statement.{Statement as SaidStatement}
+use Rattle.grb_words.specs.declared.indices.Indices.{Indices}
+use Rattle.grb_words.specs.Line.{Word}
 use Rattle.grb_script.specs.Names.{Name, name_found}
-use Rattle.grb_script.specs.Options.{options_of}
-use Rattle.grb_script.specs.Word.{is_name, keyword_of, monoid_of, operator_of}
-use Rattle.grb_script.specs.Form.{Form, SetForm, BuildForm, EwiseForm, ewise_form, form_of_placed, indices_of, indices_and_value_of, values_in, matrix_form, vector_form, whole_form, placed_form, set_form, build_form, form_with, form_of}
-use Rattle.grb_script.specs.Reading.{reading, names_behind, set_at}
-use Rattle.grb_script.proofs.IndicesLemmas.{no_word}
-use Rattle.grb_script.proofs.TupleLemmas.{now_of}
+use Rattle.grb_words.specs.Options.{options_of}
+use Rattle.grb_words.specs.Word.{is_name, keyword_of, monoid_of, operator_of, semiring_of, wait_mode_of}
+use Rattle.grb_words.specs.Form.{Form, SetForm, BuildForm, EwiseForm, ProductForm, ReduceForm, TotalForm, WaitForm, ewise_form, product_form, reduce_form, total_form, wait_form, form_of_placed, indices_of, indices_and_value_of, values_in, matrix_form, vector_form, whole_form, placed_form, set_form, build_form, form_with, form_of}
+use Rattle.grb_script.specs.Reading.{reading, used, masked, mask_found, where_found, names_behind, set_at}
+use Rattle.grb_words.proofs.IndicesLemmas.{no_word}
+use Rattle.grb_words.proofs.TupleLemmas.{now_of}
 
 -- what an `ok_or` is that is `Ok`, and one that is not
 pub some_of_ok : {X : Type 0} (o : Option X) (kind : FaultKind) (x : X) → Ok x ≡ ok_or o kind → Some x ≡ o
@@ -70,6 +72,41 @@ module _ (names : List Name) where
   reading-ewise_form w output (a ∷ []) h = refl
   reading-ewise_form w output (a ∷ b ∷ []) h = refl
   reading-ewise_form w output (a ∷ b ∷ c ∷ more) h = absurd (h (omega arith))
+
+  pub reading-product_form : (w : Multiply) (output : Word) (words : List (Bor (List ℕ))) → (3 ≤ length words → ⊥) → reading names (product_form w output (now_of words)) ≡ Err Statement
+  reading-product_form w output [] h = refl
+  reading-product_form w output (a ∷ []) h = refl
+  reading-product_form w output (a ∷ b ∷ []) h = refl
+  reading-product_form w output (a ∷ b ∷ c ∷ more) h = absurd (h (omega arith))
+
+  pub reading-reduce_form : (output : Word) (words : List (Bor (List ℕ))) → (2 ≤ length words → ⊥) → reading names (reduce_form output (now_of words)) ≡ Err Statement
+  reading-reduce_form output [] h = refl
+  reading-reduce_form output (a ∷ []) h = refl
+  reading-reduce_form output (a ∷ b ∷ more) h = absurd (h (omega arith))
+
+  pub reading-total_form : (name : Word) (words : List (Bor (List ℕ))) → (length words ≡ 1 → ⊥) → reading names (total_form name (now_of words)) ≡ Err Statement
+  reading-total_form name [] h = refl
+  reading-total_form name (a ∷ []) h = absurd (h refl)
+  reading-total_form name (a ∷ b ∷ more) h = refl
+
+  pub reading-wait_form : (name : Word) (words : List (Bor (List ℕ))) → (length words ≡ 1 → ⊥) → reading names (wait_form name (now_of words)) ≡ Err Statement
+  reading-wait_form name [] h = refl
+  reading-wait_form name (a ∷ []) h = absurd (h refl)
+  reading-wait_form name (a ∷ b ∷ more) h = refl
+
+  -- what a statement says that uses three names and a mask which stand
+  pub used-three : (output left right : Word) (mask : Option Word) (says : ℕ × Sort → ℕ × Sort → ℕ × Sort → Option (ℕ × Sort) → Result SaidStatement FaultKind)
+      (p q r : ℕ × Sort) (m : Option (ℕ × Sort)) → Ok p ≡ ok_or (name_found names output) UnknownName → Ok q ≡ ok_or (name_found names left) UnknownName
+      → Ok r ≡ ok_or (name_found names right) UnknownName → Ok m ≡ mask_found names mask
+      → says p q r m ≡ used names output (λ n s. used names left (λ i t. used names right (λ j u. masked names mask (λ found. says (n, s) (i, t) (j, u) found))))
+  used-three output left right mask says p q r m of_output of_left of_right of_mask =
+      let is_output = some_of_ok (name_found names output) UnknownName p of_output in
+      let is_left = some_of_ok (name_found names left) UnknownName q of_left in
+      let is_right = some_of_ok (name_found names right) UnknownName r of_right in
+      λ k. option_map_or
+      (λ n. option_map_or (λ i. option_map_or (λ j. where_found (λ found. says (n.0, n.1) (i.0, i.1) (j.0, j.1) found) (of_mask k)) (is_right k) (Err UnknownName)) (is_left k) (Err UnknownName))
+      (is_output k)
+      (Err UnknownName)
 
   -- what a `set` says
   pub reading-set_form : (name : Word) (others : List Word) (p : Indices) (x : Value) (r : Option (ℕ × Sort)) → Ok (p, x) ≡ ok_or (indices_and_value_of others) Statement
@@ -121,3 +158,29 @@ module _ (names : List Name) where
       kept-where (is_name left) _
       (kept-where (is_name right) _
       (kept-and_then (λ f. option_map (EwiseForm w output left right f) (options_of options)) (λ f. kept-map (EwiseForm w output left right f) (λ o. refl) (options_of options)) (operator_of op)))
+
+  pub names_behind-product : (w : Multiply) (output : Word) (others : List Word) → names_behind names (product_form w output others) ≡ names
+  names_behind-product w output [] = refl
+  names_behind-product w output (left ∷ []) = refl
+  names_behind-product w output (left ∷ right ∷ []) = refl
+  names_behind-product w output (left ∷ right ∷ semiring ∷ options) =
+      kept-where (is_name left) _
+      (kept-where (is_name right) _
+      (kept-and_then (λ s. option_map (ProductForm w output left right s) (options_of options)) (λ s. kept-map (ProductForm w output left right s) (λ o. refl) (options_of options)) (semiring_of semiring)))
+
+  pub names_behind-reduce : (output : Word) (others : List Word) → names_behind names (reduce_form output others) ≡ names
+  names_behind-reduce output [] = refl
+  names_behind-reduce output (input ∷ []) = refl
+  names_behind-reduce output (input ∷ monoid ∷ options) =
+      kept-where (is_name input) _
+      (kept-and_then (λ m. option_map (ReduceForm output input m) (options_of options)) (λ m. kept-map (ReduceForm output input m) (λ o. refl) (options_of options)) (monoid_of monoid))
+
+  pub names_behind-total : (name : Word) (others : List Word) → names_behind names (total_form name others) ≡ names
+  names_behind-total name [] = refl
+  names_behind-total name (monoid ∷ []) = kept-map (TotalForm name) (λ m. refl) (monoid_of monoid)
+  names_behind-total name (a ∷ b ∷ more) = refl
+
+  pub names_behind-wait : (name : Word) (others : List Word) → names_behind names (wait_form name others) ≡ names
+  names_behind-wait name [] = refl
+  names_behind-wait name (mode ∷ []) = kept-map (WaitForm name) (λ m. refl) (wait_mode_of mode)
+  names_behind-wait name (a ∷ b ∷ more) = refl

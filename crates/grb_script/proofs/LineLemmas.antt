@@ -1,7 +1,7 @@
 -- What a line says, from its words.
 use Rattle.std.proofs.Common.{◌≡◌, ℕ, false, List, None, if◌then◌else◌, sym, ap, ◌∙◌}
-use Rattle.grb_script.specs.Line.{Word, ended, words_of, is_skipped}
-use Rattle.grb_script.specs.Form.{form_of, form_on}
+use Rattle.grb_words.specs.Line.{Word, ended, words_of, is_skipped}
+use Rattle.grb_words.specs.Form.{form_of, form_on}
 
 -- the form on a line, by its words
 pub form_on-words : (bytes : List ℕ) (words : List Word) → words ≡ words_of bytes → is_skipped words ≡ false → form_on (ended bytes) ≡ form_of words

@@ -2,13 +2,13 @@
 use Rattle.std.proofs.Common.{◌≡◌, ℕ, ◌+◌, List, [], ◌∷◌, ◌++◌, Option, Some, None, refl, sym, ap, ◌∙◌, append_assoc}
 use Rattle.std.specs.List.{flat_map}
 use Rattle.std.specs.Option.{option_map_or}
-use Rattle.grb_script.specs.declared.fault.FaultKind.{FaultKind}
+use Rattle.grb_words.specs.declared.fault.FaultKind.{FaultKind}
 use Rattle.grb_script.specs.declared.fault.ReadFault.{ReadFault}
 use Rattle.grb_script.specs.declared.fault.ReadFault.TheVariants as read
 use Rattle.grb_script.specs.declared.fault.ScriptFault.{ScriptFault}
 use Rattle.grb_script.specs.declared.statement.Statement.{Statement}
-use Rattle.grb_script.specs.Line.{Line, lines_of}
-use Rattle.grb_script.specs.Form.{form_on}
+use Rattle.grb_words.specs.Line.{Line, lines_of}
+use Rattle.grb_words.specs.Form.{form_on}
 use Rattle.grb_script.specs.Names.{Name}
 use Rattle.grb_script.specs.Reading.{names_behind}
 use Rattle.grb_script.specs.ScriptFault.{names_behind_lines, names_of, line_fault, with_before, first_fault, script_fault, IsWhyLineUnread, IsWhyTextUnread}

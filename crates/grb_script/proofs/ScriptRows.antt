@@ -5,8 +5,8 @@ use Rattle.grb_call.specs.declared.descriptor.Descriptor.{Descriptor}
 use Rattle.grb_core.specs.declared.monoid.Monoid.TheVariants as monoid
 use Rattle.grb_core.specs.declared.operator.BinaryOp.TheVariants as op
 use Rattle.grb_core.specs.declared.value.Value.TheVariants as value
-use Rattle.grb_script.specs.declared.fault.FaultKind.{FaultKind}
-use Rattle.grb_script.specs.declared.fault.FaultKind.TheVariants.{UnendedLine, BadByte, Section, Statement, NameTaken, UnknownName, WrongKind}
+use Rattle.grb_words.specs.declared.fault.FaultKind.{FaultKind}
+use Rattle.grb_words.specs.declared.fault.FaultKind.TheVariants.{UnendedLine, BadByte, Section, Statement, NameTaken, UnknownName, WrongKind}
 use Rattle.grb_script.specs.declared.names.Sort.TheVariants as sort
 use Rattle.grb_script.specs.declared.statement.Statement.TheVariants as statement
 use Rattle.grb_script.specs.Script.{statements_of}

@@ -6,9 +6,9 @@ use Rattle.std.specs.Result.{result_ok}
 use Rattle.std.specs.List.{flat_map, slice_split}
 use Rattle.std.proofs.lemmas.List.Sums.{count_by-le-length}
 use Rattle.std.proofs.lemmas.List.Splits.{length-slice_split}
-use Rattle.grb_script.specs.Line.{Line, lines_from, lines_of}
-use Rattle.grb_script.specs.Form.{Form, form_on}
-use Rattle.grb_script.specs.declared.fault.FaultKind.{FaultKind}
+use Rattle.grb_words.specs.Line.{Line, lines_from, lines_of}
+use Rattle.grb_words.specs.Form.{Form, form_on}
+use Rattle.grb_words.specs.declared.fault.FaultKind.{FaultKind}
 use Rattle.grb_script.specs.declared.statement.Statement.{Statement}
 use Rattle.grb_script.specs.Names.{Name}
 use Rattle.grb_script.specs.Reading.{reading}

@@ -1,10 +1,4 @@
-pub mod Form
-pub mod Laws
-pub mod Line
 pub mod Names
-pub mod Options
 pub mod Reading
 pub mod Script
 pub mod ScriptFault
-pub mod Tuples
-pub mod Word

@@ -6,7 +6,7 @@ use Rattle.std.specs.Option.{option_map}
 use Rattle.std.specs.Str.{bytes_eq}
 use Rattle.grb_script.specs.declared.names.Sort.{Sort}
 use Rattle.grb_script.specs.declared.names.Sort.TheVariants as sort
-use Rattle.grb_script.specs.Line.{Word}
+use Rattle.grb_words.specs.Line.{Word}
 
 -- a name, and the sort of the object that it stands for
 abbrev pub Name : Type 0

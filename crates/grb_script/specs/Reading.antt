@@ -1,28 +1,36 @@
 -- What a statement says where some names stand (own): the call that it makes, or the first of what is wrong with it: it has no form,
--- it makes a name that stands, it uses one that does not, or one of another sort than its form asks for.
+-- it makes a name that stands, it uses one that does not, or one of another sort than its form asks for, or the two parts of its
+-- semiring differ in domain.
 use Rattle.std.specs.Prelude.{◌≡◌, ℕ, Bool, true, ◌&&◌, if◌then◌else◌, List, [], ◌∷◌, ◌++◌, Option, Some, None, Result, Ok, Err}
 use Rattle.std.specs.Option.{option_map, option_map_or}
 use Rattle.grb_core.specs.declared.monoid.Monoid.{Monoid}
 use Rattle.grb_core.specs.declared.operator.BinaryOp.{BinaryOp}
 use Rattle.grb_core.specs.declared.value.Value.{Value}
-use Rattle.grb_core.specs.declared.value.Value.TheVariants as value
+use Rattle.grb_core.specs.Monoid.{monoid_domain}
+use Rattle.grb_core.specs.Operator.{op_domain}
+use Rattle.grb_core.specs.Semiring.{SemiringParts}
+use Rattle.grb_call.specs.Refused.{same_domain}
 use Rattle.grb_script.specs.declared.ewise.Elementwise.{Elementwise}
-use Rattle.grb_script.specs.declared.fault.FaultKind.{FaultKind}
-use Rattle.grb_script.specs.declared.fault.FaultKind.TheVariants as kind
-use Rattle.grb_script.specs.declared.fault.Unread.{Unread}
-use Rattle.grb_script.specs.declared.fault.Unread.TheVariants as unread
-use Rattle.grb_script.specs.declared.keyword.Ewise.{Ewise}
-use Rattle.grb_script.specs.declared.keyword.Ewise.TheVariants as ewise
+use Rattle.grb_script.specs.declared.product.Product.{Product}
+use Rattle.grb_words.specs.declared.keyword.Multiply.{Multiply}
+use Rattle.grb_words.specs.declared.keyword.Multiply.TheVariants as multiply
+use Rattle.grb_words.specs.declared.fault.FaultKind.{FaultKind}
+use Rattle.grb_words.specs.declared.fault.FaultKind.TheVariants as kind
+use Rattle.grb_words.specs.declared.fault.Unread.{Unread}
+use Rattle.grb_words.specs.declared.fault.Unread.TheVariants as unread
+use Rattle.grb_words.specs.declared.keyword.Ewise.{Ewise}
+use Rattle.grb_words.specs.declared.keyword.Ewise.TheVariants as ewise
 use Rattle.grb_script.specs.declared.names.Sort.{Sort}
 use Rattle.grb_script.specs.declared.names.Sort.TheVariants as sort
-use Rattle.grb_script.specs.declared.indices.Indices.{Indices}
-use Rattle.grb_script.specs.declared.indices.Indices.TheVariants as indices
+use Rattle.grb_words.specs.declared.indices.Indices.{Indices}
+use Rattle.grb_words.specs.declared.indices.Indices.TheVariants as indices
 use Rattle.grb_script.specs.declared.statement.Statement.{Statement}
 use Rattle.grb_script.specs.declared.statement.Statement.TheVariants as statement
-use Rattle.grb_script.specs.Line.{Word}
+use Rattle.grb_words.specs.Line.{Word}
 use Rattle.grb_script.specs.Names.{Name, sort_of, stands, name_found, same_sort}
-use Rattle.grb_script.specs.Options.{OptionWords}
-use Rattle.grb_script.specs.Form.{Form, MatrixForm, VectorForm, DupForm, FreeForm, NvalsForm, SizeForm, ClearForm, RemoveForm, GetForm, ResizeForm, SetForm, BuildForm, EwiseForm}
+use Rattle.grb_words.specs.Options.{OptionWords}
+use Rattle.grb_words.specs.Tuples.{vector_tuples, matrix_tuples}
+use Rattle.grb_words.specs.Form.{Form, MatrixForm, VectorForm, DupForm, FreeForm, NvalsForm, SizeForm, ClearForm, RemoveForm, GetForm, ResizeForm, SetForm, BuildForm, EwiseForm, ProductForm, ReduceForm, TotalForm, WaitForm}
 
 -- a statement by the number and the sort of its name, and by its indices: one number at a vector, two at a matrix
 abbrev pub set_at : ℕ → Sort → Indices → Value → Result Statement FaultKind
@@ -45,30 +53,28 @@ resize_to n sort.Matrix (indices.Two nrows ncols) = Ok (statement.ResizeMatrix n
 resize_to n sort.Vector (indices.One size) = Ok (statement.ResizeVector n size)
 resize_to n _ _ = Err kind.WrongKind
 
--- the tuples of a vector: groups of an index and a value
-abbrev pub vector_tuples : List Value → Option (List (ℕ × Value))
-vector_tuples [] = Some []
-vector_tuples (value.Uint64 i ∷ x ∷ more) = option_map (λ tuples. (i, x) ∷ tuples) (vector_tuples more)
-vector_tuples _ = None
-
--- the tuples of a matrix: groups of a row, a column and a value
-abbrev pub matrix_tuples : List Value → Option (List (ℕ × ℕ × Value))
-matrix_tuples [] = Some []
-matrix_tuples (value.Uint64 i ∷ value.Uint64 j ∷ x ∷ more) = option_map (λ tuples. (i, j, x) ∷ tuples) (matrix_tuples more)
-matrix_tuples _ = None
-
+-- a build by the tuples of its values
 abbrev pub build_of : ℕ → Sort → Monoid → List Value → Result Statement FaultKind
 build_of n sort.Matrix dup values = option_map_or (λ tuples. Ok (statement.BuildMatrix n tuples dup)) (matrix_tuples values) (Err kind.WrongKind)
 build_of n sort.Vector dup values = option_map_or (λ tuples. Ok (statement.BuildVector n tuples dup)) (vector_tuples values) (Err kind.WrongKind)
+
+-- what follows from what was found, or that it was not
+abbrev pub where_found : {X : Type 0} → (X → Result Statement FaultKind) → Result X FaultKind → Result Statement FaultKind
+where_found says (Ok x) = says x
+where_found says (Err fault) = Err fault
 
 -- the element-wise statement of a keyword
 abbrev pub ewise_statement : Ewise → Elementwise → Statement
 ewise_statement ewise.Add e = statement.EwiseAdd e
 ewise_statement ewise.Mult e = statement.EwiseMult e
 
--- whether the object of each of these names is of this sort: of both inputs, and of the mask where one is given
+-- whether the object of the name of the mask is of this sort, where one is given
+abbrev pub mask_is_of : Sort → Option (ℕ × Sort) → Bool
+mask_is_of sort mask = option_map_or (λ m. same_sort sort m.1) mask true
+
+-- whether the object of each of these names is of this sort, and that of the mask where one is given
 abbrev pub are_of : Sort → ℕ × Sort → ℕ × Sort → Option (ℕ × Sort) → Bool
-are_of sort left right mask = same_sort sort left.1 && same_sort sort right.1 && option_map_or (λ m. same_sort sort m.1) mask true
+are_of sort left right mask = same_sort sort left.1 && same_sort sort right.1 && mask_is_of sort mask
 
 -- the same by the numbers and the sorts of its names, in the order output, first input, second input, mask
 abbrev pub ewise_on : Ewise → ℕ × Sort → ℕ × Sort → ℕ × Sort → Option (ℕ × Sort) → BinaryOp → OptionWords → Result Statement FaultKind
@@ -86,6 +92,51 @@ ewise_on w output left right mask op o =
     }))
     else Err kind.WrongKind
 
+-- the statement of a keyword that multiplies
+abbrev pub product_statement : Multiply → Product → Statement
+product_statement multiply.Mxv p = statement.Mxv p
+product_statement multiply.Mxm p = statement.Mxm p
+
+-- the sort of the output and of the second input of a product. The first input is a matrix
+abbrev pub product_sort : Multiply → Sort
+product_sort multiply.Mxv = sort.Vector
+product_sort multiply.Mxm = sort.Matrix
+
+-- the semiring of a monoid and an operator, where both are of one domain
+abbrev pub semiring_made : Monoid × BinaryOp → Result SemiringParts FaultKind
+semiring_made s = if same_domain (monoid_domain s.0) (op_domain s.1) then Ok (record { monoid = s.0; op = s.1 }) else Err kind.Semiring
+
+-- a product by the numbers and the sorts of its names, in the order output, first input, second input, mask
+abbrev pub product_on : Multiply → ℕ × Sort → ℕ × Sort → ℕ × Sort → Option (ℕ × Sort) → Monoid × BinaryOp → OptionWords → Result Statement FaultKind
+product_on w output left right mask s o =
+    if same_sort sort.Matrix left.1 && are_of (product_sort w) output right mask
+    then where_found
+    (λ semiring. Ok (product_statement w (record {
+      output = output.0;
+      mask = option_map (λ m. m.0) mask;
+      accum = o.accum;
+      semiring = semiring;
+      left = left.0;
+      right = right.0;
+      descriptor = o.descriptor;
+    })))
+    (semiring_made s)
+    else Err kind.WrongKind
+
+-- a reduction of the rows of a matrix to a vector by the same, in the order output, input, mask
+abbrev pub reduction_on : ℕ × Sort → ℕ × Sort → Option (ℕ × Sort) → Monoid → OptionWords → Result Statement FaultKind
+reduction_on output input mask monoid o =
+    if same_sort sort.Vector output.1 && same_sort sort.Matrix input.1 && mask_is_of sort.Vector mask
+    then Ok (statement.Reduce (record {
+      output = output.0;
+      mask = option_map (λ m. m.0) mask;
+      accum = o.accum;
+      monoid = monoid;
+      input = input.0;
+      descriptor = o.descriptor;
+    }))
+    else Err kind.WrongKind
+
 -- what a statement says that makes this name
 abbrev pub made : List Name → Word → Result Statement FaultKind → Result Statement FaultKind
 made names name says = if stands names name then Err kind.NameTaken else says
@@ -98,11 +149,6 @@ used names name says = option_map_or (λ n. says n.0 n.1) (name_found names name
 abbrev pub mask_found : List Name → Option Word → Result (Option (ℕ × Sort)) FaultKind
 mask_found names None = Ok None
 mask_found names (Some name) = option_map_or (λ n. Ok (Some n)) (name_found names name) (Err kind.UnknownName)
-
--- what follows from what was found, or that it was not
-abbrev pub where_found : {X : Type 0} → (X → Result Statement FaultKind) → Result X FaultKind → Result Statement FaultKind
-where_found says (Ok x) = says x
-where_found says (Err fault) = Err fault
 
 -- what a statement says that uses this name for its mask, where one is given
 abbrev pub masked : List Name → Option Word → (Option (ℕ × Sort) → Result Statement FaultKind) → Result Statement FaultKind
@@ -124,6 +170,12 @@ saying names (SetForm name p x) = used names name (λ n sort. set_at n sort p x)
 saying names (BuildForm name dup values) = used names name (λ n sort. build_of n sort dup values)
 saying names (EwiseForm w output left right op o) =
     used names output (λ n s. used names left (λ i t. used names right (λ j u. masked names o.mask (λ mask. ewise_on w (n, s) (i, t) (j, u) mask op o))))
+saying names (ProductForm w output left right semiring o) =
+    used names output (λ n s. used names left (λ i t. used names right (λ j u. masked names o.mask (λ mask. product_on w (n, s) (i, t) (j, u) mask semiring o))))
+saying names (ReduceForm output input monoid o) =
+    used names output (λ n s. used names input (λ i t. masked names o.mask (λ mask. reduction_on (n, s) (i, t) mask monoid o)))
+saying names (TotalForm name monoid) = used names name (λ n sort. Ok (statement.Total n sort monoid))
+saying names (WaitForm name mode) = used names name (λ n sort. Ok (statement.Wait n sort mode))
 
 -- the same of words that may have no form
 abbrev pub reading : List Name → Option Form → Result Statement FaultKind

@@ -4,9 +4,9 @@ use Rattle.std.specs.List.{flat_map}
 use Rattle.std.specs.Option.{option_to_list}
 use Rattle.std.specs.Result.{result_ok}
 use Rattle.grb_script.specs.declared.statement.Statement.{Statement}
-use Rattle.grb_script.specs.Line.{lines_of}
+use Rattle.grb_words.specs.Line.{lines_of}
 use Rattle.grb_script.specs.Names.{Name}
-use Rattle.grb_script.specs.Form.{Form, form_on}
+use Rattle.grb_words.specs.Form.{Form, form_on}
 use Rattle.grb_script.specs.Reading.{reading}
 use Rattle.grb_script.specs.ScriptFault.{names_of, with_before}
 

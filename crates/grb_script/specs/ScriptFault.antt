@@ -1,19 +1,19 @@
 -- The first fault of a script (own): of the lines in order the first that is faulty, and of its faults the first of this order:
--- an unended line, a bad byte, a section, a statement, a name taken, an unknown name, a wrong kind.
+-- an unended line, a bad byte, a section, a statement, a name taken, an unknown name, a wrong kind, a semiring.
 use Rattle.std.specs.Prelude.{◌≡◌, ℕ, ◌+◌, Bool, false, not, ◌||◌, if◌then◌else◌, List, [], ◌∷◌, ◌++◌, Option, Some, None, codes}
 use Rattle.std.specs.Option.{option_map_or}
 use Rattle.std.specs.Result.{result_err}
 use Rattle.std.specs.Str.{bytes_eq}
-use Rattle.grb_script.specs.declared.fault.FaultKind.{FaultKind}
-use Rattle.grb_script.specs.declared.fault.FaultKind.TheVariants.{UnendedLine, BadByte, Section}
+use Rattle.grb_words.specs.declared.fault.FaultKind.{FaultKind}
+use Rattle.grb_words.specs.declared.fault.FaultKind.TheVariants.{UnendedLine, BadByte, Section}
 use Rattle.grb_script.specs.declared.fault.ScriptFault.{ScriptFault}
 use Rattle.grb_script.specs.declared.fault.ReadFault.{ReadFault}
 use Rattle.grb_script.specs.declared.fault.ReadFault.TheVariants as read
-use Rattle.grb_script.specs.declared.fault.Unread.{Unread}
-use Rattle.grb_script.specs.declared.fault.Unread.TheVariants as unread
-use Rattle.grb_script.specs.Line.{Line, Word, lines_of, words_of, has_allowed_bytes, is_skipped}
+use Rattle.grb_words.specs.declared.fault.Unread.{Unread}
+use Rattle.grb_words.specs.declared.fault.Unread.TheVariants as unread
+use Rattle.grb_words.specs.Line.{Line, Word, lines_of, words_of, has_allowed_bytes, is_skipped, is_section}
 use Rattle.grb_script.specs.Names.{Name}
-use Rattle.grb_script.specs.Form.{form_of, form_on}
+use Rattle.grb_words.specs.Form.{form_of, form_on}
 use Rattle.grb_script.specs.Reading.{reading, names_behind}
 
 -- the names that stand behind these lines, where these stood before: each line makes its own, where those before it made theirs
@@ -24,11 +24,6 @@ names_behind_lines names (line ∷ more) = names_behind_lines (names_behind name
 -- the names that these lines make, in their order
 abbrev pub names_of : List Line → List Name
 names_of lines = names_behind_lines [] lines
-
--- a line that begins with one of the words of sections, which no script has yet
-abbrev pub is_section : List Word → Bool
-is_section [] = false
-is_section (word ∷ words) = bytes_eq word (codes "thread") || bytes_eq word (codes "finally")
 
 -- what is wrong with the words of a line
 abbrev pub wording_fault : List Name → List Word → Option FaultKind

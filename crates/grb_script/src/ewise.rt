@@ -1,18 +1,15 @@
 ghost use Rattle.std.specs.Prelude.{◌≡◌, Some, None, map};
 ghost use Rattle.std.specs.Option.{ok_or, option_map, option_map_or};
-ghost use Rattle.grb_script.specs.Form.{EwiseForm, ewise_form};
+ghost use Rattle.grb_words.specs.Form.{EwiseForm, ewise_form};
 ghost use Rattle.grb_script.specs.Names.{same_sort};
-ghost use Rattle.grb_script.specs.Options.{spelled};
-ghost use Rattle.grb_script.specs.Reading.{reading, saying, mask_found, are_of, ewise_on, ewise_statement};
+ghost use Rattle.grb_words.specs.Options.{spelled};
+ghost use Rattle.grb_script.specs.Reading.{reading, saying, mask_found, mask_is_of, are_of, ewise_on, ewise_statement};
 
-use crate::fault::FaultKind;
-use crate::keyword::Ewise;
 use crate::names::{Names, Sort};
-use crate::options::{Options, options_of};
 use crate::statement::{Statement, used};
-use crate::word;
 use grb_call::Descriptor;
 use grb_core::BinaryOp;
+use grb_words::{Ewise, FaultKind, Options, options_of, word};
 
 /// What an element-wise statement says. All its objects are of one sort, and stand by the numbers of their names.
 #[derive(Clone, Copy, Debug, PartialEq, Eq)]
@@ -35,7 +32,8 @@ pub struct Elementwise {
     pub descriptor: Descriptor,
 }
 
-fn is_same_sort(one: Sort, other: Sort) -> bool
+/// Whether both sorts are one.
+pub fn is_same_sort(one: Sort, other: Sort) -> bool
     ensures { result ≡ same_sort one other }
 {
     matches!(
@@ -44,8 +42,18 @@ fn is_same_sort(one: Sort, other: Sort) -> bool
     )
 }
 
-/// Whether the objects of both inputs, and of the mask where one is given, are of this sort.
-fn are_of(
+/// Whether the object of the mask is of this sort, where one is given.
+pub fn mask_is_of(sort: Sort, mask: Option<(usize, Sort)>) -> bool
+    ensures { result ≡ mask_is_of sort mask }
+{
+    match mask {
+        Some((_, other)) => is_same_sort(sort, other),
+        None => true,
+    }
+}
+
+/// Whether these two objects, and that of the mask where one is given, are of this sort.
+pub fn are_of(
     sort: Sort,
     left: (usize, Sort),
     right: (usize, Sort),
@@ -53,11 +61,7 @@ fn are_of(
 ) -> bool
     ensures { result ≡ are_of sort left right mask }
 {
-    let is_of_mask = match mask {
-        Some((_, other)) => is_same_sort(sort, other),
-        None => true,
-    };
-    is_same_sort(sort, left.1) && is_same_sort(sort, right.1) && is_of_mask
+    is_same_sort(sort, left.1) && is_same_sort(sort, right.1) && mask_is_of(sort, mask)
 }
 
 fn statement_of(ewise: Ewise, says: Elementwise) -> Statement
@@ -70,13 +74,41 @@ fn statement_of(ewise: Ewise, says: Elementwise) -> Statement
 }
 
 /// The number and the sort of the name of the mask, where one is given.
-fn used_mask(mask: Option<&[u8]>, names: &Names) -> Result<Option<(usize, Sort)>, FaultKind>
+pub fn used_mask(mask: Option<&[u8]>, names: &Names) -> Result<Option<(usize, Sort)>, FaultKind>
     ensures { result ≡ mask_found names.now (option_map (λ name. name.now) mask.entry) }
 {
     match mask {
         Some(name) => Ok(Some(used(name, names)?)),
         None => Ok(None),
     }
+}
+
+/// What an element-wise statement says by the numbers and the sorts of its names.
+fn ewise_on(
+    ewise: Ewise,
+    output: (usize, Sort),
+    left: (usize, Sort),
+    right: (usize, Sort),
+    mask: Option<(usize, Sort)>,
+    op: BinaryOp,
+    options: &Options<'_>,
+) -> Result<Statement, FaultKind>
+    ensures { result ≡ ewise_on ewise output left right mask op (spelled options.now) }
+{
+    if !are_of(output.1, left, right, mask) {
+        return Err(FaultKind::WrongKind);
+    }
+    let says = Elementwise {
+        sort: output.1,
+        output: output.0,
+        mask: mask.map(|mask| mask.0),
+        accum: options.accum,
+        op,
+        left: left.0,
+        right: right.0,
+        descriptor: options.descriptor,
+    };
+    Ok(statement_of(ewise, says))
 }
 
 /// What the words of an element-wise statement say where these names stand.
@@ -95,20 +127,7 @@ fn ewise_of(
     let left = used(left, names)?;
     let right = used(right, names)?;
     let mask = used_mask(options.mask, names)?;
-    if !are_of(output.1, left, right, mask) {
-        return Err(FaultKind::WrongKind);
-    }
-    let says = Elementwise {
-        sort: output.1,
-        output: output.0,
-        mask: mask.map(|mask| mask.0),
-        accum: options.accum,
-        op,
-        left: left.0,
-        right: right.0,
-        descriptor: options.descriptor,
-    };
-    Ok(statement_of(ewise, says))
+    ewise_on(ewise, output, left, right, mask, op, options)
 }
 
 /// `ewiseadd NAME NAME NAME OP OPTIONS` or `ewisemult NAME NAME NAME OP OPTIONS`, where `output` is the first name.

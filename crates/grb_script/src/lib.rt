@@ -6,20 +6,15 @@
 
 mod ewise;
 mod fault;
-mod indices;
-mod keyword;
-mod laws;
-mod line;
 mod names;
-mod options;
+mod product;
 mod script;
 mod statement;
-mod tuples;
-mod word;
 
 pub use ewise::Elementwise;
-pub use fault::{FaultKind, ReadFault, ScriptFault};
-pub use laws::options_are_read_as_spelled;
+pub use fault::{ReadFault, ScriptFault};
+pub use grb_words::FaultKind;
 pub use names::Sort;
+pub use product::{Product, Reduction};
 pub use script::read_script;
 pub use statement::Statement;

@@ -1,15 +1,15 @@
 ghost use Rattle.std.specs.Prelude.{◌≡◌, None, IfOk, IfErr, OnOk};
 ghost use Rattle.std.specs.Option.{option_to_list};
-ghost use Rattle.grb_script.specs.Line.{ended};
-ghost use Rattle.grb_script.specs.Form.{form_on};
+ghost use Rattle.grb_words.specs.Line.{ended};
+ghost use Rattle.grb_words.specs.Form.{form_on};
 ghost use Rattle.grb_script.specs.Reading.{names_behind};
 ghost use Rattle.grb_script.specs.Script.{statements_on, statements_of};
 ghost use Rattle.grb_script.specs.ScriptFault.{fault_at, line_fault, IsWhyLineUnread, script_fault, IsWhyTextUnread};
 
-use crate::fault::{FaultKind, ReadFault, ScriptFault, Unread};
-use crate::line::{has_allowed_bytes, is_section, is_skipped, next_line, words};
+use crate::fault::{ReadFault, ScriptFault};
 use crate::names::Names;
 use crate::statement::{Statement, read_statement};
+use grb_words::{FaultKind, Unread, has_allowed_bytes, is_section, is_skipped, next_line, words};
 use std::alloc::{AllocError, Global};
 
 fn fault(line: u64, kind: FaultKind) -> ReadFault

@@ -1,18 +1,18 @@
 ghost use Rattle.std.specs.Prelude.{◌≡◌, [], ◌∷◌, Ok, IfOk, IfErr, map};
 ghost use Rattle.std.specs.Option.{ok_or};
 ghost use Rattle.grb_script.specs.Names.{name_found};
-ghost use Rattle.grb_script.specs.Form.{form_of, matrix_form, vector_form, dup_form, whole_form, placed_form, set_form, build_form};
+ghost use Rattle.grb_words.specs.Form.{form_of, matrix_form, vector_form, dup_form, whole_form, placed_form, set_form, build_form, total_form, wait_form};
 ghost use Rattle.grb_script.specs.Reading.{reading, set_at, remove_at, get_at, resize_to, IsReading, IsWhyUnread};
 
 use crate::ewise::{Elementwise, ewise};
-use crate::fault::{FaultKind, Unread};
-use crate::indices::{Indices, indices_and_value_of, indices_of};
-use crate::keyword::{Keyword, Placed, Whole};
 use crate::names::{Names, Sort};
-use crate::tuples::{matrix_tuples, values, vector_tuples};
-use crate::word;
-use grb_call::{MatrixTuples, VectorTuples};
+use crate::product::{Product, Reduction, read_product, read_reduction};
+use grb_call::{MatrixTuples, VectorTuples, WaitMode};
 use grb_core::{Domain, Monoid, Value};
+use grb_words::{
+    FaultKind, Indices, Keyword, Placed, Unread, Whole, indices_and_value_of, indices_of,
+    matrix_tuples, values, vector_tuples, word,
+};
 use std::alloc::Global;
 
 /// One statement of a script. Names stand as their numbers: the n-th name that the script makes, for a matrix or a vector, has the
@@ -117,6 +117,24 @@ pub enum Statement {
     EwiseAdd(Elementwise),
     /// `ewisemult NAME NAME NAME OP OPTIONS`.
     EwiseMult(Elementwise),
+    /// `mxv NAME NAME NAME SEMIRING OPTIONS`.
+    Mxv(Product),
+    /// `mxm NAME NAME NAME SEMIRING OPTIONS`.
+    Mxm(Product),
+    /// `reduce NAME NAME MONOID OPTIONS`.
+    Reduce(Reduction),
+    /// `total NAME MONOID`.
+    Total {
+        name: usize,
+        sort: Sort,
+        monoid: Monoid,
+    },
+    /// `wait NAME MODE`.
+    Wait {
+        name: usize,
+        sort: Sort,
+        mode: WaitMode,
+    },
 }
 
 /// The number and the sort of the name that a statement uses.
@@ -294,6 +312,30 @@ fn build(alloc: Global, name: &[u8], others: &[&[u8]], names: &Names) -> Result<
     }
 }
 
+/// `total NAME MONOID`.
+fn total(name: &[u8], others: &[&[u8]], names: &Names) -> Result<Statement, FaultKind>
+    ensures { result ≡ reading names.now (total_form name.now (map (λ word. word.now) others.now)) }
+{
+    let [monoid] = others else {
+        return Err(FaultKind::Statement);
+    };
+    let monoid = word::monoid(monoid).ok_or(FaultKind::Statement)?;
+    let (name, sort) = used(name, names)?;
+    Ok(Statement::Total { name, sort, monoid })
+}
+
+/// `wait NAME MODE`.
+fn wait(name: &[u8], others: &[&[u8]], names: &Names) -> Result<Statement, FaultKind>
+    ensures { result ≡ reading names.now (wait_form name.now (map (λ word. word.now) others.now)) }
+{
+    let [mode] = others else {
+        return Err(FaultKind::Statement);
+    };
+    let mode = word::wait_mode(mode).ok_or(FaultKind::Statement)?;
+    let (name, sort) = used(name, names)?;
+    Ok(Statement::Wait { name, sort, mode })
+}
+
 /// The statement that these words spell where these names stand, or what is wrong with it. The name that it makes joins the names.
 pub fn read_statement(
     alloc: Global,
@@ -318,5 +360,9 @@ pub fn read_statement(
         Keyword::Set => Ok(set(name, others, names)?),
         Keyword::Build => build(alloc, name, others, names),
         Keyword::Ewise(word) => Ok(ewise(word, name, others, names)?),
+        Keyword::Multiply(word) => Ok(read_product(word, name, others, names)?),
+        Keyword::Reduce => Ok(read_reduction(name, others, names)?),
+        Keyword::Total => Ok(total(name, others, names)?),
+        Keyword::Wait => Ok(wait(name, others, names)?),
     }
 }

@@ -13,7 +13,8 @@ use Rattle.grb_script.specs.declared.ewise.Elementwise.{Elementwise}
 use Rattle.grb_script.specs.declared.names.Sort.TheVariants as sort
 use Rattle.grb_script.specs.declared.statement.Statement.{Statement}
 use Rattle.grb_script.specs.declared.statement.Statement.TheVariants.{Matrix, Vector, Dup, Free, Nvals, Size, Clear, SetMatrix, SetVector, RemoveVector, GetMatrix, GetVector, ResizeMatrix, BuildVector, EwiseAdd, EwiseMult}
-use Rattle.grbrun.specs.Printed.{answers_in, reply_line}
+use Rattle.grbrun.specs.Printed.{answers_in}
+use Rattle.grb_lines.specs.ReplyLine.{reply_line}
 
 abbrev lines : ℕ → List Statement → List ℕ
 lines room statements = flat_map reply_line (answers_in room [] [] statements)

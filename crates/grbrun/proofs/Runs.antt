@@ -8,7 +8,8 @@ use Rattle.grb_call.specs.declared.ids.Object.{Object}
 use Rattle.grb_call.specs.History.{History}
 use Rattle.grb_context.specs.Explains.{Answer, history_after}
 use Rattle.grb_script.specs.declared.statement.Statement.{Statement}
-use Rattle.grbrun.specs.Objects.{call_of, made_sort, objects_after}
+use Rattle.grb_lines.specs.Calls.{call_of}
+use Rattle.grb_lines.specs.Objects.{made_sort, objects_after}
 use Rattle.grbrun.specs.Printed.{answer_in, answers_in, IsAnswer, IsRun, WasServed}
 
 served : (room : ℕ) (h : History) (c : Call) (a : Answer) → WasServed a → IsAnswer room h c a → a ≡ answer_in room h c

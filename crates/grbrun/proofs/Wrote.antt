@@ -6,7 +6,8 @@ use Rattle.std.specs.Io.KnownBytes.{Appends}
 use Rattle.grb_context.specs.Explains.{Answer}
 use Rattle.grb_script.specs.declared.statement.Statement.{Statement}
 use Rattle.grb_script.specs.Script.{statements_of}
-use Rattle.grbrun.specs.Printed.{IsRun, reply_line, Wrote}
+use Rattle.grbrun.specs.Printed.{IsRun, Wrote}
+use Rattle.grb_lines.specs.ReplyLine.{reply_line}
 use Rattle.grbrun.proofs.Runs.{IsRun-served}
 
 pub wrote : (room : ℕ) (text : List ℕ) (before after : Option (List ℕ)) (statements : List Statement) (answers : List Answer) (lines : List ℕ) →

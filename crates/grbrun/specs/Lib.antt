@@ -1,6 +1,5 @@
 pub mod CommandLine
 pub mod Files
-pub mod Objects
 pub mod Printed
 pub mod Run
 pub mod RunFault

@@ -1,22 +1,19 @@
 -- What a script prints (own): a line for each statement, in their order.
 use Rattle.std.specs.Prelude.{◌≡◌, ◌≢◌, ℕ, ◌<◌, Bool, true, false, IsTrue, ◌==◌, ◌&&◌, if◌then◌else◌, List, [], ◌∷◌, ◌++◌, length, is_none, All, Option, None, Ok, Err, codes}
 use Rattle.std.specs.List.{flat_map}
-use Rattle.std.specs.Fmt.{decimal}
 use Rattle.std.specs.Io.KnownBytes.{Appends}
-use Rattle.grb_core.specs.declared.value.Value.TheVariants as value
 use Rattle.grb_core.specs.declared.refusal.Refusal.TheVariants.{OrderFull, OutOfMemory, Panic}
-use Rattle.grb_core.specs.Refusal.{refusal_name}
 use Rattle.grb_call.specs.declared.call.Call.{Call}
 use Rattle.grb_call.specs.declared.ids.Object.{Object}
-use Rattle.grb_call.specs.declared.reply.Reply.{Reply}
-use Rattle.grb_call.specs.declared.reply.Reply.TheVariants as reply
 use Rattle.grb_call.specs.Kinds.{enters}
 use Rattle.grb_call.specs.After.{refused, answer}
 use Rattle.grb_call.specs.History.{History, store_of}
 use Rattle.grb_context.specs.Explains.{Answer, MayLackMemory, MayLackRecord, history_after}
 use Rattle.grb_script.specs.declared.statement.Statement.{Statement}
 use Rattle.grb_script.specs.Script.{statements_of}
-use Rattle.grbrun.specs.Objects.{call_of, made_sort, objects_after}
+use Rattle.grb_lines.specs.Calls.{call_of}
+use Rattle.grb_lines.specs.Objects.{made_sort, objects_after}
+use Rattle.grb_lines.specs.ReplyLine.{reply_line}
 
 -- the call would be entered, and the history has all the calls that there is room for
 abbrev pub is_full : ℕ → History → Call → Bool
@@ -50,28 +47,6 @@ IsRun room objects h _ _ = ⊥
 -- neither memory nor a record was refused
 abbrev pub WasServed : Answer → Type 0
 WasServed a = (a ≢ Err OutOfMemory) × (a ≢ Err Panic)
-
--- the words of a reply
-abbrev pub printed_reply : Reply → List ℕ
-printed_reply reply.Done = codes "ok"
-printed_reply (reply.MadeMatrix a) = codes "ok"
-printed_reply (reply.MadeVector v) = codes "ok"
-printed_reply (reply.Value (value.Bool true)) = codes "value true"
-printed_reply (reply.Value (value.Bool false)) = codes "value false"
-printed_reply (reply.Value (value.Uint64 n)) = codes "value " ++ decimal n
-printed_reply reply.NoValue = codes "none"
-printed_reply (reply.Count n) = codes "count " ++ decimal n
-printed_reply (reply.Size n) = codes "size " ++ decimal n
-printed_reply (reply.Dims r c) = codes "size " ++ decimal r ++ codes " " ++ decimal c
-
--- the words of an answer: of a refusal its name
-abbrev pub printed_answer : Answer → List ℕ
-printed_answer (Ok r) = printed_reply r
-printed_answer (Err refusal) = refusal_name refusal
-
--- the line of an answer, with its end
-abbrev pub reply_line : Answer → List ℕ
-reply_line a = printed_answer a ++ 10 ∷ []
 
 -- what a script prints in a store with room for so many calls, where neither memory nor a record is refused
 abbrev pub printed : ℕ → List ℕ → List ℕ

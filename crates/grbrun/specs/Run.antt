@@ -1,7 +1,7 @@
 -- What a run of a script leaves (own): what was written by how the run ended, and which faults of the source and the sink it met.
 use Rattle.std.specs.Prelude.{◌≡◌, ℕ, ◌+◌, ◌⊎◌, List, [], Option, Some, None, Result, Err}
 use Rattle.std.specs.List.{flat_map}
-use Rattle.grb_script.specs.declared.fault.FaultKind.{FaultKind}
+use Rattle.grb_words.specs.declared.fault.FaultKind.{FaultKind}
 use Rattle.grbrun.specs.declared.fault.RunFault.{RunFault}
 use Rattle.grbrun.specs.declared.fault.RunFault.TheVariants as run
 use Rattle.grbrun.specs.declared.source.SourceFault.TheVariants as source
@@ -9,7 +9,8 @@ use Rattle.grbrun.specs.declared.source.TheConstants.{MAX_SCRIPT}
 use Rattle.grb_context.specs.Explains.{Answer}
 use Rattle.grb_script.specs.Script.{statements_of}
 use Rattle.grb_script.specs.ScriptFault.{script_fault}
-use Rattle.grbrun.specs.Printed.{IsRun, reply_line, Wrote}
+use Rattle.grbrun.specs.Printed.{IsRun, Wrote}
+use Rattle.grb_lines.specs.ReplyLine.{reply_line}
 use Rattle.grb_market.specs.Sink.{AppendsBeginning}
 use Rattle.grbrun.specs.Source.{FaultCounts, counted, IsGiven}
 

@@ -14,9 +14,7 @@ mod driver;
 mod fault;
 mod files;
 mod gate;
-mod objects;
 mod output;
-mod reply_line;
 mod report;
 mod source;
 #[cfg(test)]

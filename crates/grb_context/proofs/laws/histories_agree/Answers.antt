@@ -1,4 +1,4 @@
-use Rattle.grb_context.proofs.Agreeing.{histories}
+use Rattle.grb_pass.proofs.Agreeing.{histories}
 use Rattle.grb_context.proofs.laws.histories_agree.Goals as goal
 
 pub returns : goal.returns

@@ -1,6 +1,4 @@
-use Rattle.std.proofs.Common.{◌≡◌, sym, ap, ◌∙◌, arith}
-use Rattle.grb_core.specs.Entries.{cells_of}
-use Rattle.grb_market.specs.Gathered.{count_apart}
+use Rattle.std.proofs.Common.{sym, ◌∙◌, arith}
 use Rattle.grb_market.proofs.ApartLemmas.{count_step, there_if_found, map_step}
 use Rattle.grb_market.proofs.gathered.count_apart.Goals as goal
 

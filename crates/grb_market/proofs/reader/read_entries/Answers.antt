@@ -1,4 +1,4 @@
-use Rattle.std.proofs.Common.{◌≡◌, ◌+◌, ◌∙◌, true, None, [], length, ap, sym, subst, arith}
+use Rattle.std.proofs.Common.{◌≡◌, ◌+◌, ◌∙◌, true, [], length, sym, subst, arith}
 use Rattle.grb_core.specs.Entries.{cell_cmp, cells_of, map_from}
 use Rattle.grb_market.specs.Line.{lines_of}
 use Rattle.grb_market.specs.Gathered.{are_apart, IsAtEnd}

@@ -1,4 +1,4 @@
-use Rattle.std.proofs.Common.{rules, ◌≡◌, ◌+◌, ◌∙◌, [], length, false, Some, ap, sym, arith}
+use Rattle.std.proofs.Common.{rules, ◌≡◌, ◌+◌, ◌∙◌, [], false, Some, ap, sym}
 use Rattle.grb_core.specs.Entries.{cells_of}
 use Rattle.grb_market.specs.Fault.{fault_at}
 use Rattle.grb_market.specs.declared.fault.FaultKind.TheVariants.{Repeated}

@@ -3,11 +3,11 @@ use Rattle.std.specs.Option.{option_to_list}
 use Rattle.std.proofs.lemmas.List.{append-nil}
 use Rattle.std.proofs.lemmas.Result.{err_from_is_err_and}
 use Rattle.std.proofs.lemmas.Bool.Decides.{nat_tests}
-use Rattle.grb_script.specs.declared.fault.FaultKind.TheVariants.{UnendedLine}
+use Rattle.grb_words.specs.declared.fault.FaultKind.TheVariants.{UnendedLine}
 use Rattle.grb_script.specs.declared.fault.ReadFault.TheVariants as read
-use Rattle.grb_script.specs.Form.{form_on}
+use Rattle.grb_words.specs.Form.{form_on}
 use Rattle.grb_script.specs.Script.{statements_on}
-use Rattle.grb_script.specs.Line.{ended, unended, lines_of}
+use Rattle.grb_words.specs.Line.{ended, unended, lines_of}
 use Rattle.grb_script.proofs.ScriptLemmas.{fault_from, statements_from, fault_from-text, statements_from-text, unread, fault_from-next, statements_from-next}
 use Rattle.grb_script.proofs.script.read_script.Goals as goal
 use Rattle.grb_script.proofs.script.read_script.Goals.{in-Some-2+in_ok-map_err, in_default-2}

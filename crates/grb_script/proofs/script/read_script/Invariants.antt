@@ -1,5 +1,5 @@
 use Rattle.std.proofs.Common.{◌≡◌, ◌+◌, ◌≤◌, ◌++◌, length}
-use Rattle.grb_script.specs.Line.{lines_of}
+use Rattle.grb_words.specs.Line.{lines_of}
 use Rattle.grb_script.specs.ScriptFault.{script_fault}
 use Rattle.grb_script.specs.Script.{statements_of}
 use Rattle.grb_script.proofs.ScriptLemmas.{fault_from, statements_from}

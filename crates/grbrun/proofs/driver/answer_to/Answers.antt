@@ -2,7 +2,7 @@ use Rattle.std.proofs.Common.{◌≡◌, ap, ◌∙◌, subst}
 use Rattle.grb_order.specs.Order.{room_of}
 use Rattle.grb_context.specs.Known.{known}
 use Rattle.grb_context.specs.Explains.{history_after}
-use Rattle.grbrun.specs.Objects.{call_of}
+use Rattle.grb_lines.specs.Calls.{call_of}
 use Rattle.grbrun.specs.Printed.{IsAnswer}
 use Rattle.grbrun.proofs.Explained.{explained}
 use Rattle.grbrun.proofs.driver.answer_to.Goals as goal

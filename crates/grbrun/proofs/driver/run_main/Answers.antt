@@ -2,7 +2,7 @@ use Rattle.std.proofs.Common.{◌∙◌, ap, sym, length, arith}
 use Rattle.grb_script.specs.Script.{statements_of}
 use Rattle.grb_script.specs.ScriptFault.{script_fault}
 use Rattle.std.specs.List.{flat_map}
-use Rattle.grbrun.specs.Printed.{reply_line}
+use Rattle.grb_lines.specs.ReplyLine.{reply_line}
 use Rattle.grb_script.proofs.StatementCount.{length-statements_of}
 use Rattle.grbrun.proofs.Wrote.{wrote}
 use Rattle.grbrun.proofs.driver.run_main.Goals as goal

@@ -1,0 +1,234 @@
+use super::*;
+use crate::checking::{Kind, check};
+use crate::descriptor::Descriptor;
+use grb_core::Refusal;
+use std::alloc::{AllocError, Global};
+use std::test::Fail;
+
+const PLAIN: Descriptor = Descriptor {
+    structure: false,
+    comp: false,
+    replace: false,
+};
+
+const ENTERS: Result<Kind, Refusal> = Ok(Kind::Enters);
+
+const UNINITIALIZED: Result<Kind, Refusal> = Err(Refusal::UninitializedObject);
+
+const DOMAIN: Result<Kind, Refusal> = Err(Refusal::DomainMismatch);
+
+const DIMENSION: Result<Kind, Refusal> = Err(Refusal::DimensionMismatch);
+
+const PLUS: Option<BinaryOp> = Some(BinaryOp::Plus);
+
+const LOR: Option<BinaryOp> = Some(BinaryOp::Lor);
+
+/// The number of what both lists below freed.
+const FREED: u32 = 6;
+
+fn new_vector(domain: Domain, size: u64) -> Call {
+    Call::NewVector { domain, size }
+}
+
+fn new_matrix(domain: Domain, nrows: u64, ncols: u64) -> Call {
+    Call::NewMatrix {
+        domain,
+        nrows,
+        ncols,
+    }
+}
+
+fn vectors(alloc: Global) -> Result<Shapes, AllocError> {
+    let mut shapes = Shapes::open(alloc, 8)?;
+    shapes.absorb(&new_vector(Domain::Uint64, 3));
+    shapes.absorb(&new_vector(Domain::Uint64, 3));
+    shapes.absorb(&new_vector(Domain::Bool, 3));
+    shapes.absorb(&new_vector(Domain::Uint64, 4));
+    shapes.absorb(&new_vector(Domain::Uint64, 2));
+    shapes.absorb(&new_vector(Domain::Bool, 4));
+    shapes.absorb(&new_vector(Domain::Uint64, 3));
+    shapes.absorb(&Call::FreeVector { v: VectorId(FREED) });
+    Ok(shapes)
+}
+
+fn matrices(alloc: Global) -> Result<Shapes, AllocError> {
+    let mut shapes = Shapes::open(alloc, 8)?;
+    shapes.absorb(&new_matrix(Domain::Uint64, 2, 3));
+    shapes.absorb(&new_matrix(Domain::Uint64, 2, 3));
+    shapes.absorb(&new_matrix(Domain::Bool, 2, 3));
+    shapes.absorb(&new_matrix(Domain::Uint64, 3, 3));
+    shapes.absorb(&new_matrix(Domain::Uint64, 2, 2));
+    shapes.absorb(&new_matrix(Domain::Bool, 3, 2));
+    shapes.absorb(&new_matrix(Domain::Uint64, 2, 3));
+    shapes.absorb(&Call::FreeMatrix { a: MatrixId(FREED) });
+    Ok(shapes)
+}
+
+fn add_vector(
+    w: u32,
+    mask: Option<u32>,
+    accum: Option<BinaryOp>,
+    op: BinaryOp,
+    u: u32,
+    v: u32,
+) -> Call {
+    Call::EwiseAddVector {
+        w: VectorId(w),
+        mask: mask.map(|m| VectorId(m)),
+        accum,
+        op,
+        u: VectorId(u),
+        v: VectorId(v),
+        d: PLAIN,
+    }
+}
+
+fn mult_vector(
+    w: u32,
+    mask: Option<u32>,
+    accum: Option<BinaryOp>,
+    op: BinaryOp,
+    u: u32,
+    v: u32,
+) -> Call {
+    Call::EwiseMultVector {
+        w: VectorId(w),
+        mask: mask.map(|m| VectorId(m)),
+        accum,
+        op,
+        u: VectorId(u),
+        v: VectorId(v),
+        d: PLAIN,
+    }
+}
+
+fn add_matrix(
+    c: u32,
+    mask: Option<u32>,
+    accum: Option<BinaryOp>,
+    op: BinaryOp,
+    a: u32,
+    b: u32,
+) -> Call {
+    Call::EwiseAddMatrix {
+        c: MatrixId(c),
+        mask: mask.map(|m| MatrixId(m)),
+        accum,
+        op,
+        a: MatrixId(a),
+        b: MatrixId(b),
+        d: PLAIN,
+    }
+}
+
+fn mult_matrix(
+    c: u32,
+    mask: Option<u32>,
+    accum: Option<BinaryOp>,
+    op: BinaryOp,
+    a: u32,
+    b: u32,
+) -> Call {
+    Call::EwiseMultMatrix {
+        c: MatrixId(c),
+        mask: mask.map(|m| MatrixId(m)),
+        accum,
+        op,
+        a: MatrixId(a),
+        b: MatrixId(b),
+        d: PLAIN,
+    }
+}
+
+#[test]
+fn an_operation_on_vectors_enters_or_has_its_first_refusal(rt: HostRuntime) -> Result<(), Fail> {
+    let shapes = vectors(rt.alloc())?;
+    let plus = BinaryOp::Plus;
+    for (w, mask, accum, op, u, v, want) in [
+        // not refused: one object as all of them, and a mask of the other domain among them
+        (0, None, None, plus, 1, 1, ENTERS),
+        (0, Some(0), PLUS, plus, 0, 0, ENTERS),
+        (0, Some(2), None, BinaryOp::First, 1, 0, ENTERS),
+        (2, Some(1), LOR, BinaryOp::Lxor, 2, 2, ENTERS),
+        // never made: output, first input, second input, mask; and a mask that was freed
+        (9, None, None, plus, 0, 1, UNINITIALIZED),
+        (0, None, None, plus, 9, 1, UNINITIALIZED),
+        (0, None, None, plus, 1, 9, UNINITIALIZED),
+        (0, Some(9), None, plus, 1, 1, UNINITIALIZED),
+        (0, Some(FREED), None, plus, 1, 1, UNINITIALIZED),
+        // another domain: output, first input, second input, operator, accumulator
+        (2, None, None, plus, 0, 1, DOMAIN),
+        (0, None, None, plus, 2, 1, DOMAIN),
+        (0, None, None, plus, 1, 2, DOMAIN),
+        (0, None, None, BinaryOp::Lor, 1, 1, DOMAIN),
+        (0, None, LOR, plus, 1, 1, DOMAIN),
+        // another size: output, first input, second input, mask, and a mask of the other domain
+        (3, None, None, plus, 0, 1, DIMENSION),
+        (0, None, None, plus, 3, 1, DIMENSION),
+        (0, None, None, plus, 1, 4, DIMENSION),
+        (0, Some(3), None, plus, 1, 1, DIMENSION),
+        (0, Some(4), None, plus, 1, 1, DIMENSION),
+        (0, Some(5), None, plus, 1, 1, DIMENSION),
+        // two refusals, and three
+        (0, Some(9), LOR, plus, 1, 1, UNINITIALIZED),
+        (0, Some(9), None, plus, 3, 1, UNINITIALIZED),
+        (0, None, None, plus, 5, 1, DOMAIN),
+        (0, Some(3), LOR, plus, 1, 1, DOMAIN),
+        (5, Some(2), None, plus, 1, 0, DOMAIN),
+        (0, Some(9), LOR, BinaryOp::Land, 5, 3, UNINITIALIZED),
+    ] {
+        let add = add_vector(w, mask, accum, op, u, v);
+        assert_eq!(rt; check(&shapes, &add), want, "of {add:?}");
+        let mult = mult_vector(w, mask, accum, op, u, v);
+        assert_eq!(rt; check(&shapes, &mult), want, "of {mult:?}");
+    }
+    Ok(())
+}
+
+#[test]
+fn an_operation_on_matrices_enters_or_has_its_first_refusal(rt: HostRuntime) -> Result<(), Fail> {
+    let shapes = matrices(rt.alloc())?;
+    let plus = BinaryOp::Plus;
+    for (c, mask, accum, op, a, b, want) in [
+        // not refused: one object as all of them, and a mask of the other domain among them
+        (0, None, None, plus, 1, 1, ENTERS),
+        (0, Some(0), PLUS, plus, 0, 0, ENTERS),
+        (0, Some(2), None, BinaryOp::First, 1, 0, ENTERS),
+        (2, Some(1), LOR, BinaryOp::Lxor, 2, 2, ENTERS),
+        // never made: output, first input, second input, mask; and a mask that was freed
+        (9, None, None, plus, 0, 1, UNINITIALIZED),
+        (0, None, None, plus, 9, 1, UNINITIALIZED),
+        (0, None, None, plus, 1, 9, UNINITIALIZED),
+        (0, Some(9), None, plus, 1, 1, UNINITIALIZED),
+        (0, Some(FREED), None, plus, 1, 1, UNINITIALIZED),
+        // another domain: output, first input, second input, operator, accumulator
+        (2, None, None, plus, 0, 1, DOMAIN),
+        (0, None, None, plus, 2, 1, DOMAIN),
+        (0, None, None, plus, 1, 2, DOMAIN),
+        (0, None, None, BinaryOp::Lor, 1, 1, DOMAIN),
+        (0, None, LOR, plus, 1, 1, DOMAIN),
+        // another number of rows, and of columns: output, first input, second input, mask
+        (3, None, None, plus, 0, 1, DIMENSION),
+        (4, None, None, plus, 0, 1, DIMENSION),
+        (0, None, None, plus, 3, 1, DIMENSION),
+        (0, None, None, plus, 4, 1, DIMENSION),
+        (0, None, None, plus, 1, 3, DIMENSION),
+        (0, None, None, plus, 1, 4, DIMENSION),
+        (0, Some(3), None, plus, 1, 1, DIMENSION),
+        (0, Some(4), None, plus, 1, 1, DIMENSION),
+        (0, Some(5), None, plus, 1, 1, DIMENSION),
+        // two refusals, and three
+        (0, Some(9), LOR, plus, 1, 1, UNINITIALIZED),
+        (0, Some(9), None, plus, 3, 1, UNINITIALIZED),
+        (0, None, None, plus, 5, 1, DOMAIN),
+        (0, Some(4), LOR, plus, 1, 1, DOMAIN),
+        (5, Some(2), None, plus, 1, 0, DOMAIN),
+        (0, Some(9), LOR, BinaryOp::Land, 5, 3, UNINITIALIZED),
+    ] {
+        let add = add_matrix(c, mask, accum, op, a, b);
+        assert_eq!(rt; check(&shapes, &add), want, "of {add:?}");
+        let mult = mult_matrix(c, mask, accum, op, a, b);
+        assert_eq!(rt; check(&shapes, &mult), want, "of {mult:?}");
+    }
+    Ok(())
+}

@@ -1,5 +1,0 @@
-use Rattle.grb_context.specs.Known.{IsPassOf}
-use Rattle.grb_context.proofs.tests.memory.expect_all.Given as goal
-
-abbrev pub invariant-rows : goal.invariant-rows
-invariant-rows g l = record { pass : IsPassOf l.context l.pass }

@@ -1,0 +1,134 @@
+ghost use Rattle.grb_context.specs.Known.{IsPassOf};
+ghost use Rattle.grb_context.specs.Answered.{Answered};
+
+use crate::context::Context;
+use grb_call::{Call, Descriptor, MatrixId, Reply, VectorId};
+use grb_core::{BinaryOp, Monoid, Refusal, Semiring};
+use grb_pass::Pass;
+
+impl Context {
+    /// Writes into `w`, by accumulator, mask and descriptor, the product of `a` and `u` by the semiring: at row `i` the monoid's fold of
+    /// the products of row `i` and `u` where both store a value, and nothing where there is no such place. `UninitializedObject`,
+    /// `DomainMismatch` or `DimensionMismatch` where one of the objects, the mask among them, is not there, output, inputs, semiring and
+    /// accumulator are not of one domain, or `a` has not a row for each index of `w` and a column for each of `u`, or the mask is not of
+    /// the size of `w`. The mask may be of either domain, and one vector may be output, input and mask at once. (`GrB_mxv`.)
+    pub fn mxv(
+        &self,
+        pass: &mut Pass,
+        w: VectorId,
+        mask: Option<VectorId>,
+        accum: Option<BinaryOp>,
+        semiring: Semiring,
+        a: MatrixId,
+        u: VectorId,
+        d: Descriptor,
+    ) -> Result<Reply, Refusal>
+        requires pass { IsPassOf self.now pass.old }
+        ensures { Answered self.now pass.old pass.new (Call.Mxv w mask accum semiring a u d) result }
+    {
+        self.call(
+            pass,
+            Call::Mxv {
+                w,
+                mask,
+                accum,
+                semiring,
+                a,
+                u,
+                d,
+            },
+        )
+    }
+
+    /// Writes into `c`, by accumulator, mask and descriptor, the product of `a` and `b` by the semiring: at row `i` and column `j` the
+    /// monoid's fold of the products of row `i` of `a` and column `j` of `b` where both store a value, and nothing where there is no such
+    /// place. `UninitializedObject`, `DomainMismatch` or `DimensionMismatch` where one of the objects, the mask among them, is not there,
+    /// output, inputs, semiring and accumulator are not of one domain, or `a` has not the rows of `c`, `b` not its columns, or `a` not as
+    /// many columns as `b` has rows, or the mask has not the dimensions of `c`. The mask may be of either domain, and one matrix may be
+    /// output, input and mask at once. (`GrB_mxm`.)
+    pub fn mxm(
+        &self,
+        pass: &mut Pass,
+        c: MatrixId,
+        mask: Option<MatrixId>,
+        accum: Option<BinaryOp>,
+        semiring: Semiring,
+        a: MatrixId,
+        b: MatrixId,
+        d: Descriptor,
+    ) -> Result<Reply, Refusal>
+        requires pass { IsPassOf self.now pass.old }
+        ensures { Answered self.now pass.old pass.new (Call.Mxm c mask accum semiring a b d) result }
+    {
+        self.call(
+            pass,
+            Call::Mxm {
+                c,
+                mask,
+                accum,
+                semiring,
+                a,
+                b,
+                d,
+            },
+        )
+    }
+
+    /// Writes into `w`, by accumulator, mask and descriptor, the monoid's fold of each row of `a` that stores a value, and nothing for any
+    /// other row. `UninitializedObject`, `DomainMismatch` or `DimensionMismatch` where one of the objects, the mask among them, is not
+    /// there, output, input, monoid and accumulator are not of one domain, or `a` has not a row for each index of `w`, or the mask is not
+    /// of the size of `w`. The mask may be of either domain. (`GrB_reduce`, to a vector.)
+    pub fn reduce_rows(
+        &self,
+        pass: &mut Pass,
+        w: VectorId,
+        mask: Option<VectorId>,
+        accum: Option<BinaryOp>,
+        monoid: Monoid,
+        a: MatrixId,
+        d: Descriptor,
+    ) -> Result<Reply, Refusal>
+        requires pass { IsPassOf self.now pass.old }
+        ensures { Answered self.now pass.old pass.new (Call.ReduceRows w mask accum monoid a d) result }
+    {
+        self.call(
+            pass,
+            Call::ReduceRows {
+                w,
+                mask,
+                accum,
+                monoid,
+                a,
+                d,
+            },
+        )
+    }
+
+    /// All values that the matrix stores, combined by the monoid; its identity where none is stored. `UninitializedObject` or
+    /// `DomainMismatch` where there is no such matrix, or the monoid is of the other domain. Does not wait. (`GrB_reduce`, to a scalar.)
+    pub fn reduce_matrix(
+        &self,
+        pass: &mut Pass,
+        a: MatrixId,
+        monoid: Monoid,
+    ) -> Result<Reply, Refusal>
+        requires pass { IsPassOf self.now pass.old }
+        ensures { Answered self.now pass.old pass.new (Call.ReduceMatrix a monoid) result }
+    {
+        self.shared.read(pass, &Call::ReduceMatrix { a, monoid })
+    }
+
+    /// All values that the vector stores, combined by the monoid; its identity where none is stored. `UninitializedObject` or
+    /// `DomainMismatch` where there is no such vector, or the monoid is of the other domain. Does not wait. (`GrB_reduce`, to a scalar.)
+    pub fn reduce_vector(
+        &self,
+        pass: &mut Pass,
+        v: VectorId,
+        monoid: Monoid,
+    ) -> Result<Reply, Refusal>
+        requires pass { IsPassOf self.now pass.old }
+        ensures { Answered self.now pass.old pass.new (Call.ReduceVector v monoid) result }
+    {
+        self.shared.read(pass, &Call::ReduceVector { v, monoid })
+    }
+}

@@ -1,0 +1,13 @@
+use Rattle.std.proofs.Common.{◌≡◌, ◌≤◌, true, take}
+use Rattle.std.specs.List.{list_all}
+use Rattle.std.specs.Str.Parse.{digits_value}
+use Rattle.grb_market.specs.Numbers.{is_digit}
+use Rattle.grb_market.proofs.numbers.first_digits.Given as goal
+
+abbrev pub invariant-loop-b : goal.invariant-loop-b
+invariant-loop-b l = record {
+  counted : l.count ≡ l.b-index;
+  few : l.count ≤ 19;
+  all : list_all is_digit (take l.b-index l.text) ≡ true;
+  number : l.number ≡ digits_value 10 (take l.b-index l.text);
+}

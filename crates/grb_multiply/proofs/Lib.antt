@@ -1,0 +1,10 @@
+pub mod LowestBit
+pub mod WordByWord
+pub mod Cleared
+pub mod Renamed
+pub mod RowSums
+pub mod OpenRow
+pub mod ProductRows
+pub mod Making
+pub mod RankLemmas
+pub mod WholeProduct

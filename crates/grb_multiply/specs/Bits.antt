@@ -1,0 +1,28 @@
+-- Values picked by the bits of a word (own): bit t of the word stands for the place base + t.
+use Rattle.std.specs.Prelude.{ℕ, zero, suc, ◌+◌, ◌*◌, ◌<◌, ◌≡◌, Bool, false, slice_index, slice_index_or, length, nat_eq, if◌then◌else◌, List, [], ◌∷◌, Option, Some, None}
+use Rattle.std.specs.Int.{bit_at}
+use Rattle.grb_core.specs.declared.value.Value.{Value}
+use Rattle.grb_core.specs.Entries.{VectorEntries, before_entries}
+
+-- the bit is set
+abbrev pub has_bit : ℕ → ℕ → Bool
+has_bit word t = nat_eq (bit_at word t) 1
+
+-- what a list holds at a place
+abbrev pub value_at : {V : Type 0} → (V → Value) → List V → ℕ → Option Value
+value_at value [] j = None
+value_at value (v ∷ vs) zero = Some (value v)
+value_at value (v ∷ vs) (suc j) = value_at value vs j
+
+-- the values at the set bits among n from t on, by rising place, each at the name of its place
+unfoldable pub bits_from : (ℕ → ℕ) → (ℕ → Bool) → (ℕ → Option Value) → ℕ → ℕ → ℕ → VectorEntries
+bits_from name bit at base zero t = []
+bits_from name bit at base (suc n) t = before_entries (name (base + t)) (if bit t then at (base + t) else None) (bits_from name bit at base n (t + 1))
+
+-- the bits of these words are these marks, 64 a word
+abbrev pub AreMarks : List Bool → List ℕ → Type 0
+AreMarks marks words = (w t : ℕ) → t < 64 → has_bit (slice_index words w) t ≡ slice_index_or marks (64 * w + t) false
+
+-- at each place without a mark there is this value
+abbrev pub HoldUnmarked : {V : Type 0} → (V → Value) → Value → List Bool → List V → Type 0
+HoldUnmarked value v marks values = (p : ℕ) → p < length values → slice_index_or marks p false ≡ false → value_at value values p ≡ Some v

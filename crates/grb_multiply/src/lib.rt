@@ -1,0 +1,17 @@
+//! The product of two matrices: mxm.
+//!
+//! One unit is the operation: it takes the old output, the inputs, the mask, the accumulator and the descriptor by reference, and
+//! answers the new output, assembled, or `AllocError`. Nothing that was lent is changed. Nothing here checks domains or dimensions,
+//! which the caller owes, and nothing here knows of stores or threads.
+#![tactic(auto)]
+
+mod bits;
+mod gustavson;
+mod multiply;
+mod ranked;
+mod ranks;
+mod rows;
+#[cfg(test)]
+mod tests;
+
+pub use multiply::mxm;

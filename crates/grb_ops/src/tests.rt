@@ -1,2 +1,0 @@
-mod edges;
-mod made;

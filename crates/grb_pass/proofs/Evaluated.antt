@@ -1,0 +1,103 @@
+-- The store of a pass, as calls are learnt and evaluated.
+use Rattle.std.proofs.Common.{◌≡◌, ℕ, suc, ◌+◌, ◌<◌, ◌≤◌, Bool, true, false, cond, List, [], ◌∷◌, ◌++◌, length, get_or, take, refl, sym, ap, ◌∙◌, subst, arith, length-append, append_assoc}
+use Rattle.std.specs.Prelude.{Option, Some, None, slice_get}
+use Rattle.std.specs.Option.{option_map}
+use Rattle.std.proofs.lemmas.Option.{slice_get-map, slice_get_read, slice_get_within, get_or_from_slice_get}
+use Rattle.std.proofs.lemmas.List.{take-append-le, take_more, take_all, append-nil, length_push}
+use Rattle.grb_order.specs.Word.{order_word, number_of}
+use Rattle.grb_order.specs.Order.{room_of}
+use Rattle.grb_records.specs.Token.{Shown}
+use Rattle.grb_call.specs.declared.call.Call.{Call}
+use Rattle.grb_call.specs.Store.{Store, empty_store}
+use Rattle.grb_call.specs.After.{after}
+use Rattle.grb_call.specs.History.{Entry, History, calls_of, after_all, store_of}
+use Rattle.grb_call.proofs.Runs.{after_all-append}
+use Rattle.grb_pass.specs.Known.{Knowing, known, spelled}
+use Rattle.grb_pass.specs.Explains.{Answer, ExplainsCall, is_entered, history_after}
+use Rattle.grb_pass.specs.Learning.{Enters, Learns}
+use Rattle.grb_pass.specs.Reading.{IsEvaluated, IsPass}
+use Rattle.grb_replay.specs.State.{RoomyStore}
+use Rattle.grb_pass.proofs.Spelling.{length_spelled, calls_of-append, calls_of-spelled, spelled_push, spelled_more}
+
+-- more calls, which are not evaluated
+evaluated_more : (calls more : List Call) (evaluated : ℕ) (s : Store) → IsEvaluated calls evaluated s → IsEvaluated (calls ++ more) evaluated s
+evaluated_more calls more evaluated s is = record {
+  within = omega (arith, length-append calls more, is.within);
+  store_is = is.store_is ∙ ap (after_all empty_store) (sym (take-append-le evaluated calls more is.within));
+}
+
+pass_more : (old new : Knowing) (state : RoomyStore) (evaluated : ℕ) (more : History) → new.order ≡ old.order → known new ≡ known old ++ more → IsPass old state evaluated → IsPass new state evaluated
+pass_more old new state evaluated more order is kept = record {
+  state_is = subst (λ (cs : List Call). IsEvaluated cs evaluated state.store) (sym (ap calls_of is ∙ calls_of-append (known old) more)) (evaluated_more (calls_of (known old)) (calls_of more) evaluated state.store kept.state_is);
+  room = kept.room ∙ sym (ap room_of order);
+}
+
+pub pass_learns : (old new : Knowing) (state : RoomyStore) (evaluated : ℕ) → new.order ≡ old.order → Learns old new → IsPass old state evaluated → IsPass new state evaluated
+pass_learns old new state evaluated order l kept = pass_more old new state evaluated l.learnt order l.known_is kept
+
+-- a try to enter a record: it was entered behind all known ones, or another pass's word was learnt
+pub pass_tried : (room : ℕ) (old new : Knowing) (token : Shown) (state : RoomyStore) (evaluated : ℕ) (back : Option Shown) → new.order ≡ old.order → Enters room token old back new → length old.shown ≡ length old.view.words
+    → IsPass old state evaluated → IsPass new state evaluated
+pass_tried room old new token state evaluated None order is all kept =
+    let word : ℕ = order_word old.view.number token.index in let words : List ℕ = old.view.words ++ word ∷ [] in
+    let m : length words ≡ length old.view.words + 1 = length_push old.view.words word in
+    let lt : length old.shown < length words = omega arith in let few : length old.shown ≤ length old.view.words = omega arith in
+    let entry : Entry = (number_of (get_or words (length old.shown) 0), token.call) in
+    let known_is : known new ≡ known old ++ entry ∷ [] =
+    (λ i. spelled ((is.0 i).words) (is.1 i)) ∙ spelled_push words old.shown token lt ∙ ap (λ (h : History). h ++ entry ∷ []) (spelled_more old.view.words (word ∷ []) old.shown few) in
+    pass_more old new state evaluated (entry ∷ []) order known_is kept
+pass_tried room old new token state evaluated (Some back) order is all kept =
+    let few : length old.shown ≤ length old.view.words = omega arith in let word : ℕ = is.2 in
+    let known_is : known new ≡ known old ++ [] =
+    (λ i. spelled ((is.3 i).words) (is.1 i)) ∙ spelled_more old.view.words (word ∷ []) old.shown few ∙ sym (append-nil (known old)) in
+    pass_more old new state evaluated [] order known_is kept
+
+behind : (b : Bool) (e : Entry) (g h : History) → (more : History) × (cond b ((g ++ h) ++ e ∷ []) (g ++ h) ≡ g ++ more)
+behind true e g h = (h ++ e ∷ [], append_assoc g h (e ∷ []))
+behind false e g h = (h, refl)
+
+pub pass_explained : (room : ℕ) (old new : Knowing) (c : Call) (r : Answer) (state : RoomyStore) (evaluated : ℕ) → new.order ≡ old.order → ExplainsCall room old new c r → IsPass old state evaluated → IsPass new state evaluated
+pass_explained room old new c r state evaluated order is kept =
+    let more : (more : History) × (history_after old.view.number c r (known old ++ is.learnt) ≡ known old ++ more) = behind (is_entered c r) (old.view.number, c) (known old) is.learnt in
+    pass_more old new state evaluated more.0 order (is.known_is ∙ more.1) kept
+
+after_all-push : (s : Store) (calls : List Call) (c : Call) → after_all s (calls ++ c ∷ []) ≡ after (after_all s calls) c
+after_all-push s calls c = after_all-append s calls (c ∷ [])
+
+pub known_within : (p : Knowing) (k : ℕ) → length p.shown ≤ length p.view.words → k < length (known p) → k < length p.shown
+known_within p k few lt = let n : length (known p) ≡ length p.shown = length_spelled p.view.words p.shown few in omega (arith, lt, n)
+
+-- the call of a record that was shown
+pub call_known : (p : Knowing) (k : ℕ) (t : Shown) → length p.shown ≤ length p.view.words → k < length p.shown → t ≡ get_or p.shown k t → slice_get (calls_of (known p)) k ≡ Some t.call
+call_known p k t few lt is =
+    ap (λ (cs : List Call). slice_get cs k) (calls_of-spelled p.view.words p.shown few) ∙ slice_get-map (λ (x : Shown). x.call) p.shown k
+    ∙ ap (option_map (λ (x : Shown). x.call)) (slice_get_read p.shown (length p.shown) k t refl lt is)
+
+-- one more call evaluated
+pub evaluated_next : (calls : List Call) (evaluated : ℕ) (s : Store) (c : Call) → IsEvaluated calls evaluated s → slice_get calls evaluated ≡ Some c → IsEvaluated calls (evaluated + 1) (after s c)
+evaluated_next calls evaluated s c is at =
+    let near : evaluated < length calls = slice_get_within calls evaluated c at in
+    let here : Call = get_or calls evaluated c in
+    record {
+      within = omega (arith, near);
+      store_is =
+          ap (after s) (sym (get_or_from_slice_get calls evaluated c c at)) ∙ ap (λ (t : Store). after t here) is.store_is ∙ sym (after_all-push empty_store (take evaluated calls) here)
+          ∙ ap (after_all empty_store) (sym (take_more calls evaluated c near));
+    }
+
+-- one more call evaluated by a pass
+pub pass_next : (p : Knowing) (before state : RoomyStore) (evaluated : ℕ) (c : Call) → IsPass p before evaluated → slice_get (calls_of (known p)) evaluated ≡ Some c → state.store ≡ after before.store c → state.room + 1 ≡ before.room → IsPass p state (evaluated + 1)
+pass_next p before state evaluated c kept at is room = record {
+  state_is = subst (λ (s : Store). IsEvaluated (calls_of (known p)) (evaluated + 1) s) (sym is) (evaluated_next (calls_of (known p)) evaluated before.store c kept.state_is at);
+  room = omega (arith, kept.room, room);
+}
+
+length-calls_of : (h : History) → length (calls_of h) ≡ length h
+length-calls_of [] = refl
+length-calls_of (e ∷ h) = ap suc (length-calls_of h)
+
+-- all calls evaluated
+pub store_evaluated : (p : Knowing) (state : RoomyStore) (evaluated : ℕ) → IsPass p state evaluated → length (known p) ≤ evaluated → state.store ≡ store_of (known p)
+store_evaluated p state evaluated kept all =
+    let calls : List Call = calls_of (known p) in let n : length calls ≡ length (known p) = length-calls_of (known p) in
+    kept.state_is.store_is ∙ ap (after_all empty_store) (take_all evaluated calls (omega arith))

@@ -1,0 +1,13 @@
+pub mod Agreeing
+pub mod Alone
+mod Answering
+mod Checking
+mod Counted
+mod Evaluated
+mod Kept
+mod Learnt
+mod Meeting
+mod Opening
+mod Owning
+mod Promised
+mod Spelling

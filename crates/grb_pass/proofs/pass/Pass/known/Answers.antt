@@ -1,0 +1,6 @@
+use Rattle.std.proofs.Common.{length, ap, ◌∙◌}
+use Rattle.grb_pass.specs.Known.{Knowing, known}
+use Rattle.grb_pass.proofs.pass.Pass.known.Goals as goal
+
+pub returns : goal.returns
+returns c = c.known.ensures.known ∙ ap (λ (p : Knowing). length (known p)) c.self.view_is

@@ -1,0 +1,22 @@
+use Rattle.std.proofs.Common.{◌≡◌, sym, ap, subst, ◌∙◌}
+use Rattle.grb_pass.specs.Learning.{IsSteady}
+use Rattle.grb_pass.proofs.Kept.{kept_told, steady}
+use Rattle.grb_pass.proofs.reader.Reader.tell.Goals as goal
+
+pub invariant_of-self : goal.invariant_of-self
+invariant_of-self c =
+    let place = c.self.inside.place in
+    let same : c.tell.new.place.table_id ≡ place.table_id = c.tell.ensures.order ∙ sym (ap (λ p. p.order) c.self.view_is ∙ c.requires.order) in
+    kept_told _ _ _ _ _ _ c.other.inside.place.view.words _ _ _ c.self.invariant same c.tell.ensures.told c.tell.ensures.others c.tell.ensures.sound
+
+pub invariant_of-self-2 : goal.invariant_of-self-2
+invariant_of-self-2 c =
+    let place = c.self.inside.place in
+    let same : c.tell.new.place.table_id ≡ place.table_id = c.tell.ensures.order ∙ sym (ap (λ p. p.order) c.self.view_is ∙ c.requires.order) in
+    kept_told _ _ _ _ _ _ c.other.inside.place.view.words _ _ _ c.self.invariant same c.tell.ensures.told c.tell.ensures.others c.tell.ensures.sound
+
+pub returns-clause-steady : goal.returns-clause-steady
+returns-clause-steady c = steady _ _ _ _ _ _ (invariant_of-self-2 c) _
+
+pub returns-clause-steady_other : goal.returns-clause-steady_other
+returns-clause-steady_other c = subst IsSteady c.other.view_is (steady _ _ _ _ _ _ c.other.invariant _)

@@ -1,0 +1,29 @@
+use Rattle.std.proofs.Common.{◌≡◌, ℕ, ◌<◌, ◌≤◌, length, arith, sym, subst, ◌∙◌}
+use Rattle.grb_pass.specs.Known.{Knowing, known}
+use Rattle.grb_pass.proofs.Spelling.{length_spelled}
+use Rattle.grb_pass.proofs.Meeting.{begins_known, fewer_shown}
+use Rattle.grb_pass.proofs.shared.Shared.agree.Goals as goal
+
+pub compare-requires-clause-mine : goal.compare-requires-clause-mine
+compare-requires-clause-mine c =
+    let p = c.args.reader.now in let q = c.args.other.now in let r = c.requires in
+    let fewer : length q.shown ≤ length p.shown = fewer_shown p q r.steady r.steady_other r.words r.all in
+    let all : length (known q) ≡ length q.shown = length_spelled q.view.words q.shown r.steady_other.few in
+    let lt : c.loop-at.at < c.known-at-end.result = c.loop-at-test.true in
+    let within : c.loop-at.at < length p.shown = omega (arith, fewer, all, lt, c.known-at-end.ensures.known) in
+    subst (λ (k : Knowing). c.loop-at.at < length k.shown) (sym c.loop-at.invariant.reader) within
+
+pub compare-requires-clause-theirs : goal.compare-requires-clause-theirs
+compare-requires-clause-theirs c =
+    let q = c.args.other.now in let r = c.requires in
+    let all : length (known q) ≡ length q.shown = length_spelled q.view.words q.shown r.steady_other.few in
+    let lt : c.loop-at.at < c.known-at-end.result = c.loop-at-test.true in
+    let within : c.loop-at.at < length q.shown = omega (arith, all, lt, c.known-at-end.ensures.known) in
+    subst (λ (k : Knowing). c.loop-at.at < length k.shown) (sym c.loop-at.invariant.other) within
+
+pub returns-clause-begins : goal.returns-clause-begins
+returns-clause-begins c =
+    let p = c.args.reader.now in let q = c.args.other.now in let r = c.requires in
+    let all : length (known q) ≡ length q.shown = length_spelled q.view.words q.shown r.steady_other.few in
+    let over : c.known-at-end.result ≤ c.loop-at.at = c.loop-at-test.false in
+    begins_known p q r.steady r.steady_other r.words r.all (λ at lt. c.loop-at.invariant.share at (omega (arith, all, lt, over, c.known-at-end.ensures.known)))

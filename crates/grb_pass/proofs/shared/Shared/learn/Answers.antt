@@ -1,0 +1,38 @@
+use Rattle.std.proofs.Common.{ap, arith, ◌∙◌}
+use Rattle.grb_order.specs.declared.view.View.{View}
+use Rattle.grb_pass.specs.Learning.{Learns}
+use Rattle.grb_pass.proofs.Counted.{counts_same, counts_then, steps_few}
+use Rattle.grb_pass.proofs.Learnt.{learns_then, learns_word, learns_vacant, learns_same, pass_same}
+use Rattle.grb_pass.proofs.shared.Shared.learn.Goals as goal
+
+pub look-requires-clause-few : goal.look-requires-clause-few
+look-requires-clause-few c =
+    let p = c.catch_up.new.reader in let s = c.catch_up.ensures.steady in
+    steps_few c.args.reader.now p (counts_then c.args.reader.now c.words.reader c.catch_up.new.reader c.words.invariant.counts (counts_same c.words.reader c.catch_up.new.reader c.catch_up.ensures.steps c.catch_up.ensures.view)) (ap (λ (v : View). v.looks) c.catch_up.ensures.view ∙ c.words.invariant.looks) c.requires.few (omega (arith, s.sound.few, s.small))
+
+pub returns-in_err-catch_up-clause-learns : goal.returns-in_err-catch_up-clause-learns
+returns-in_err-catch_up-clause-learns c = learns_then _ _ _ c.words.invariant.learns c.catch_up.ensures.learns
+
+pub words-preserved : goal.words-preserved
+words-preserved c =
+    let old = c.args.reader.now in let p = c.catch_up.new.reader in let q = c.look.new.self in
+    let look = c.in-Next.ensures.look in
+    let first : Learns old p = learns_then old _ p c.words.invariant.learns c.catch_up.ensures.learns in
+    record {
+      pass = pass_same c.args.self.now p q c.look.ensures.order c.look.ensures.shown c.catch_up.ensures.pass;
+      looks = ap (λ (v : View). v.looks) look.0 ∙ ap (λ (v : View). v.looks) c.catch_up.ensures.view ∙ c.words.invariant.looks;
+      counts = counts_then old p q (counts_then c.args.reader.now c.words.reader c.catch_up.new.reader c.words.invariant.counts (counts_same c.words.reader c.catch_up.new.reader c.catch_up.ensures.steps c.catch_up.ensures.view)) c.look.ensures.counts;
+      learns = learns_then old p q first (learns_word p q c.catch_up.ensures.steady.few c.look.ensures.shown c.in-Next.field-0 look.0);
+    }
+
+pub returns-in-Vacant-clause-learns : goal.returns-in-Vacant-clause-learns
+returns-in-Vacant-clause-learns c =
+    let old = c.args.reader.now in let p = c.catch_up.new.reader in let q = c.look.new.self in
+    let first : Learns old p = learns_then old _ p c.words.invariant.learns c.catch_up.ensures.learns in
+    learns_then old p q first (learns_vacant p q c.catch_up.ensures.steady.few c.look.ensures.shown c.in-Vacant.ensures.look.0)
+
+pub returns-in-Full-clause-learns : goal.returns-in-Full-clause-learns
+returns-in-Full-clause-learns c =
+    let old = c.args.reader.now in let p = c.catch_up.new.reader in let q = c.look.new.self in
+    let first : Learns old p = learns_then old _ p c.words.invariant.learns c.catch_up.ensures.learns in
+    learns_then old p q first (learns_same p q c.catch_up.ensures.steady.few c.look.ensures.shown c.in-Full.ensures.look.0)

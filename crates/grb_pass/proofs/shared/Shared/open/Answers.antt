@@ -1,0 +1,5 @@
+use Rattle.grb_pass.proofs.Opening.{all_ours}
+use Rattle.grb_pass.proofs.shared.Shared.open.Goals as goal
+
+pub returns-clause-ours : goal.returns-clause-ours
+returns-clause-ours c = all_ours _ c.args.passes _ c.in_ok-opened.ensures

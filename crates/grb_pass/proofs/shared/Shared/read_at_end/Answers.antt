@@ -1,0 +1,46 @@
+use Rattle.std.proofs.Common.{subst, sym, ap, ◌∙◌}
+use Rattle.std.specs.Prelude.{Err}
+use Rattle.std.proofs.lemmas.Result.{err_from_is_err_and}
+use Rattle.grb_order.specs.Order.{room_of}
+use Rattle.grb_pass.specs.Known.{Knowing}
+use Rattle.grb_pass.specs.Counting.{CountsCall}
+use Rattle.grb_pass.specs.Explains.{Answer, ExplainsCall, IsCaughtUp, ground_of}
+use Rattle.grb_pass.specs.Learning.{IsRefused}
+use Rattle.grb_pass.proofs.Answering.{refused_by_check, explains_refused, explains_evaluated, known_evaluated}
+use Rattle.grb_pass.proofs.Counted.{counts_looked}
+use Rattle.grb_pass.proofs.shared.Shared.read_at_end.Goals as goal
+
+refused_check : (c : goal.After-from_residual-in_err-check) → IsRefused (room_of c.args.self.now.order) c.pass.inside.reader c.learn.new.reader c.args.call.now c.in_err-check.field-0.0
+refused_check c = refused_by_check _ _ _ c.in_ok-learn.field-0 _ _ c.in_ok-learn.ensures.finds (sym c.check.ensures ∙ c.in_err-check.was)
+
+pub returns-in_err-check-clause-explains : goal.returns-in_err-check-clause-explains
+returns-in_err-check-clause-explains c =
+    let room = room_of c.args.self.now.order in let new = c.learn.new.reader in let call = c.args.call.now in let r = c.in_err-check.field-0.0 in
+    let p = err_from_is_err_and c.from_residual-in_err-check.result c.from_residual-in_err-check.ensures.1 in
+    rw (p.1, p.2) (subst (λ (old : Knowing). ExplainsCall room old new call (Err r)) c.pass.view_is (explains_refused room _ new call r c.learn.ensures.learns (refused_check c)))
+
+pub returns-in_err-check-clause-caught_up : goal.returns-in_err-check-clause-caught_up
+returns-in_err-check-clause-caught_up c =
+    let p = err_from_is_err_and c.from_residual-in_err-check.result c.from_residual-in_err-check.ensures.1 in
+    rw (p.1, p.2) (refused_check c).caught_up
+
+pub returns-clause-explains : goal.returns-clause-explains
+returns-clause-explains c =
+    let room = room_of c.args.self.now.order in let new = c.reply.new.self in let call = c.args.call.now in
+    let is = explains_evaluated room _ c.learn.new.reader new c.in_ok-learn.field-0 call _ c.in_ok-learn.ensures.finds c.reply.ensures.same c.reply.result c.learn.ensures.learns c.requires.reads (sym c.check.ensures ∙ c.in_ok-check.was) c.reply.ensures.reply c.reply.ensures.memory in
+    subst (λ (y : Knowing × Answer). ExplainsCall room y.0 new call y.1) (λ i. (c.pass.view_is i, sym c.or.ensures i)) is
+
+pub returns-clause-caught_up : goal.returns-clause-caught_up
+returns-clause-caught_up c =
+    let room = room_of c.args.self.now.order in let new = c.reply.new.self in let call = c.args.call.now in
+    subst (λ (r : Answer). IsCaughtUp (ground_of r) new) (sym c.or.ensures)
+    (known_evaluated room c.pass.inside.reader c.learn.new.reader new c.in_ok-learn.field-0 call c.in_ok-check.field-0 c.in_ok-learn.ensures.finds c.reply.ensures.same c.reply.result)
+
+pub returns-in_err-learn-clause-counts : goal.returns-in_err-learn-clause-counts
+returns-in_err-learn-clause-counts c = (subst (λ (old : Knowing). CountsCall old c.learn.new.reader) c.pass.view_is (counts_looked c.pass.inside.reader c.learn.new.reader c.learn.ensures.learns c.learn.ensures.counts (ap (λ (p : Knowing). p.steps) c.pass.view_is ∙ c.requires.begun) c.learn.ensures.few))
+
+pub returns-in_err-check-clause-counts : goal.returns-in_err-check-clause-counts
+returns-in_err-check-clause-counts c = (subst (λ (old : Knowing). CountsCall old c.learn.new.reader) c.pass.view_is (counts_looked c.pass.inside.reader c.learn.new.reader c.learn.ensures.learns c.learn.ensures.counts (ap (λ (p : Knowing). p.steps) c.pass.view_is ∙ c.requires.begun) c.learn.ensures.few))
+
+pub returns-clause-counts : goal.returns-clause-counts
+returns-clause-counts c = subst (λ (p : Knowing). CountsCall c.args.pass.now p) (sym c.reply.ensures.same) (subst (λ (old : Knowing). CountsCall old c.learn.new.reader) c.pass.view_is (counts_looked c.pass.inside.reader c.learn.new.reader c.learn.ensures.learns c.learn.ensures.counts (ap (λ (p : Knowing). p.steps) c.pass.view_is ∙ c.requires.begun) c.learn.ensures.few))

@@ -1,0 +1,11 @@
+pub mod Answered
+pub mod BackOff
+pub mod Counting
+pub mod Explains
+pub mod Known
+pub mod Laws
+pub mod Learning
+pub mod Meeting
+pub mod Point
+pub mod Putting
+pub mod Reading

@@ -1,0 +1,60 @@
+-- What ties the parts of a pass (own).
+use Rattle.std.specs.Prelude.{◌≡◌, ℕ, ◌+◌, ◌≤◌, true, List, length, take, drop, All, vec_capacity, Some, None, Result, Ok, Err}
+use Rattle.grb_core.specs.declared.refusal.Refusal.{Refusal}
+use Rattle.grb_core.specs.declared.refusal.Refusal.TheVariants.{OutOfMemory}
+use Rattle.grb_order.specs.View.{IsOthers, IsSound}
+use Rattle.grb_order.specs.Order.{room_of}
+use Rattle.grb_order.specs.Holding.{Holding}
+use Rattle.grb_records.specs.Token.{Shown}
+use Rattle.grb_call.specs.declared.call.Call.{Call}
+use Rattle.grb_call.specs.Shapes.{RoomyShapes}
+use Rattle.grb_call.specs.Store.{Store, empty_store, shapes_of}
+use Rattle.grb_call.specs.Kinds.{is_build}
+use Rattle.grb_call.specs.Refused.{refused_by_shapes}
+use Rattle.grb_call.specs.After.{refused, refused_build}
+use Rattle.grb_call.specs.History.{after_all, calls_of, store_of}
+use Rattle.grb_pass.specs.Explains.{ByStore, ground_of}
+use Rattle.grb_pass.specs.Known.{Knowing, known, spelled, AreRecords}
+use Rattle.grb_replay.specs.State.{RoomyStore}
+use Rattle.grb_pass.specs.declared.reader.Reader.TheInside.{Inside}
+
+abbrev pub knowing : Inside → Knowing
+knowing r = record { order = r.place.table_id; view = r.place.view; shown = r.tokens.items; steps = r.steps }
+
+-- a reader with these tokens and shapes; the words whose records were not shown yet are of others
+pub record IsKept (number size : ℕ) (place : Holding) (shown : List Shown) (capacity : ℕ) (shapes : RoomyShapes) : Type 0 where
+  pub number_is : number ≡ place.view.number
+  pub sound : IsSound place.table_id.words place.view
+  pub few : length shown ≤ length place.view.words
+  pub records : AreRecords place.view.words shown
+  pub others : All (IsOthers place.view) (drop (length shown) place.view.words)
+  pub shapes_are : shapes.objects ≡ shapes_of (store_of (spelled place.view.words shown))
+  pub room : shapes.room + length shown ≡ place.table_id.words
+  pub roomy : place.table_id.words ≤ capacity
+  pub room_is : size ≡ place.table_id.words
+  pub small : place.table_id.words ≤ 4096
+
+abbrev pub IsReader : Inside → Type 0
+IsReader r = IsKept r.number r.room r.place r.tokens.items (vec_capacity r.tokens) r.shapes
+
+-- the store is the one after so many of the calls
+pub record IsEvaluated (calls : List Call) (evaluated : ℕ) (store : Store) : Type 0 where
+  pub within : evaluated ≤ length calls
+  pub store_is : store ≡ after_all empty_store (take evaluated calls)
+
+-- the store is the one after so many of the calls that are known, and each call to come has its room there
+pub record IsPass (p : Knowing) (state : RoomyStore) (evaluated : ℕ) : Type 0 where
+  pub state_is : IsEvaluated (calls_of (known p)) evaluated state.store
+  pub room : state.room + evaluated ≡ room_of p.order
+
+-- what a check of a build by what is stored found: no refusal, or memory was refused to the evaluation, or this refusal
+abbrev pub IsBuildChecked : Store → Call → Result (Unit {0}) Refusal → Type 0
+IsBuildChecked s c (Ok _) = refused_build s c ≡ None
+IsBuildChecked s c (Err OutOfMemory) = Unit {0}
+IsBuildChecked s c (Err r) = refused_build s c ≡ Some r
+
+-- what a check after all known calls found: the call is not refused, or memory was refused to a build's evaluation, or this refusal
+abbrev pub IsChecked : Store → Call → Result (Unit {0}) Refusal → Type 0
+IsChecked s c (Ok _) = refused s c ≡ None
+IsChecked s c (Err OutOfMemory) = (refused_by_shapes (shapes_of s) c ≡ None) × (is_build c ≡ true)
+IsChecked s c (Err r) = (refused s c ≡ Some r) × (ground_of (Err r) ≡ ByStore)

@@ -1,0 +1,76 @@
+ghost use Rattle.std.specs.Prelude.{◌≡◌, ◌+◌, ◌<◌, ◌≤◌, ◌^◌, length, true, OnOk, IfErr};
+ghost use Rattle.grb_order.specs.Order.{room_of};
+ghost use Rattle.grb_call.specs.Kinds.{enters};
+ghost use Rattle.grb_pass.specs.Known.{IsPassOf};
+ghost use Rattle.grb_pass.specs.Explains.{ExplainsCall, IsCaughtUp, ground_of};
+ghost use Rattle.grb_pass.specs.Answered.{Answered};
+ghost use Rattle.grb_pass.specs.Counting.{Counts, CountsCall};
+ghost use Rattle.grb_pass.specs.Learning.{IsReady, IsRefused, IsSteady, Learns};
+
+use crate::learn::End;
+use crate::pass::Pass;
+use crate::shared::Shared;
+use grb_call::{Call, Reply};
+use grb_core::Refusal;
+
+impl Shared {
+    /// Learns the order to its end, and checks there a call that enters. Takes memory for a build alone, whose object is evaluated, and
+    /// does not wait.
+    #[inline(always)]
+    fn ready(&self, pass: &mut Pass, call: &Call) -> Result<(), Refusal>
+        requires pass { IsPassOf self.now pass.old }
+        requires enters { enters call.now ≡ true }
+        requires few { pass.old.steps < 2 ^ 30 }
+        ensures pass { IsPassOf self.now pass.new }
+        ensures counts { Counts pass.old pass.new }
+        ensures few { length pass.new.view.looks ≤ length pass.old.view.looks + 1 }
+        ensures learns { Learns pass.old pass.new }
+        ensures steady { IsSteady pass.new }
+        ensures ready { OnOk result (IsReady (room_of self.now.order) pass.old pass.new call.now) }
+        ensures refused { IfErr result (λ refusal. IsRefused (room_of self.now.order) pass.old pass.new call.now refusal) }
+    {
+        let end = self.learn(&mut pass.reader)?;
+        pass.check(&self.records, call)?;
+        match end {
+            End::Vacant => Ok(()),
+            End::Full => Err(Refusal::OrderFull),
+        }
+    }
+
+    /// Puts the record of a call and enters it. After a lost try the call is checked again, with the words learnt since.
+    #[inline(always)]
+    fn enter_record(&self, pass: &mut Pass, call: Call) -> Result<Reply, Refusal>
+        requires pass { IsPassOf self.now pass.old }
+        requires enters { enters call ≡ true }
+        requires begun { pass.old.steps ≡ 0 }
+        ensures pass { IsPassOf self.now pass.new }
+        ensures counts { CountsCall pass.old pass.new }
+        ensures explains { ExplainsCall (room_of self.now.order) pass.old pass.new call result }
+        ensures steady { IsSteady pass.new }
+        ensures caught_up { IsCaughtUp (ground_of result) pass.new }
+    {
+        self.ready(pass, &call)?;
+        let mut token = pass.put(&self.records, call)?;
+        'tries: loop {
+            let call = self.records.call_of(&mut token);
+            let reply = pass.reader.reply(call);
+            let Some(back) = pass.enter(&self.order, token, call) else {
+                return Ok(reply);
+            };
+            token = back;
+            self.ready(pass, call)?;
+        }
+    }
+
+    /// Enters a call that changes the store, after all that were entered before it. Takes memory for its record, and for a build for the
+    /// evaluation of its object, and does not wait.
+    #[inline(always)]
+    pub fn enter(&self, pass: &mut Pass, call: Call) -> Result<Reply, Refusal>
+        requires pass { IsPassOf self.now pass.old }
+        requires enters { enters call ≡ true }
+        ensures { Answered self.now pass.old pass.new call result }
+    {
+        pass.begin();
+        self.enter_record(pass, call)
+    }
+}

@@ -1,0 +1,20 @@
+//! A pass: one thread's view of a store that passes share, and what one call of a pass is.
+//!
+//! Passes share the order of all calls and the records behind its words. A pass has the words that it has learnt, the records that it
+//! was shown, and a store that it evaluates for itself. One unit is one call: `enter` checks a call against all that was entered
+//! before it and enters it by one compare-and-swap, `read` answers one that only reads, and `meet` lets a pass learn what another
+//! knows. Nothing here starts a thread or waits, and which calls there are is left to the crates below.
+#![tactic(auto)]
+
+mod back_off;
+mod enter;
+mod learn;
+mod meet;
+mod pass;
+mod read;
+mod reader;
+mod row;
+mod shared;
+
+pub use pass::Pass;
+pub use shared::Shared;

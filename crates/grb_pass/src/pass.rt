@@ -1,0 +1,242 @@
+ghost use Rattle.std.specs.Prelude.{◌≡◌, ◌<◌, ◌≤◌, ◌+◌, ◌^◌, ◌⊎◌, false, [], length, All, IfOk, IfErr, OnOk, OnErr};
+ghost use Rattle.grb_order.specs.View.{fresh, LookedLast};
+ghost use Rattle.grb_order.specs.Order.{room_of};
+ghost use Rattle.grb_records.specs.Token.{IsOf};
+ghost use Rattle.grb_call.specs.Kinds.{enters, is_size};
+ghost use Rattle.grb_call.specs.Refused.{is_in_bounds};
+ghost use Rattle.grb_call.specs.Store.{shapes_of};
+ghost use Rattle.grb_call.specs.After.{refused, reply_of};
+ghost use Rattle.grb_call.specs.History.{store_of};
+ghost use Rattle.grb_pass.specs.Known.{known};
+ghost use Rattle.grb_pass.specs.Counting.{Counts};
+ghost use Rattle.grb_pass.specs.Learning.{Enters, IsSteady};
+ghost use Rattle.grb_pass.specs.Reading.{IsBuildChecked, IsChecked, IsPass};
+
+use crate::back_off::BackOff;
+use crate::reader::Reader;
+use crate::row::Row;
+use grb_call::{Call, Kind, Reply};
+use grb_core::Refusal;
+use grb_order::{Order, Place};
+use grb_records::{Records, Token};
+use grb_replay::State;
+use std::alloc::{AllocError, Global};
+use std::marker::Model;
+
+/// One thread's view of a context: its number, and what it knows of the history.
+#[derive(Drop)]
+pub struct Pass {
+    pub(crate) reader: Reader,
+    // The store after the first calls known, as many as were evaluated.
+    state: State,
+    evaluated: usize,
+    // Where its own records go.
+    row: Row,
+    // How long it holds back after a lost try.
+    back_off: BackOff,
+}
+
+impl Model for Pass {
+    ghost use Rattle.grb_pass.specs.Known.{Knowing};
+    ghost use Rattle.grb_pass.specs.Reading.{IsPass};
+
+    ghost Value = { Knowing };
+
+    ghost view = { λ p. p.reader };
+
+    ghost invariant = { λ p. IsPass p.reader p.state p.evaluated };
+}
+
+/// Applies the calls of the records that were not yet evaluated. Where memory is refused, those before stay evaluated.
+fn evaluate(
+    records: &Records,
+    reader: &mut Reader,
+    state: &mut State,
+    evaluated: &mut usize,
+) -> Result<(), AllocError>
+    requires kept { IsPass reader.old state.old evaluated.old }
+    requires of { All (IsOf records.now) reader.old.shown }
+    ensures same { reader.new ≡ reader.old }
+    ensures kept { IsPass reader.new state.new evaluated.new }
+    ensures store { OnOk result (state.new.store ≡ store_of (known reader.new)) }
+{
+    'calls: while *evaluated < reader.known() as usize {
+        state.apply(reader.call_at(records, *evaluated))?;
+        *evaluated += 1;
+    }
+    Ok(())
+}
+
+impl Pass {
+    /// A pass that knows no call, with memory for all that it can learn. `AllocError` where memory is refused.
+    pub(crate) fn open(
+        alloc: Global,
+        number: u32,
+        place: Place,
+        room: u32,
+    ) -> Result<Pass, AllocError>
+        requires number { (number ≡ place.view.number) × (number < place.view.passes) }
+        requires room { (room ≡ room_of place.table_id) × (room ≤ 4096) }
+        requires fresh { place.view ≡ fresh number place.view.passes }
+        ensures { IfOk result (λ pass. pass ≡ record { order = place.table_id; view = place.view; shown = []; steps = 0 }) }
+    {
+        Ok(Pass {
+            reader: Reader::open(alloc, number, place, room)?,
+            state: State::open(alloc, room)?,
+            evaluated: 0,
+            row: Row::open(room),
+            back_off: BackOff::new(),
+        })
+    }
+
+    /// The number of the pass, from 0. Takes no memory.
+    pub fn number(&self) -> u32
+        ensures { result ≡ self.now.view.number }
+    {
+        self.reader.number()
+    }
+
+    /// How many calls of the history the pass knows. Takes no memory.
+    pub fn known(&self) -> u32
+        ensures { result ≡ length (known self.now) }
+    {
+        self.reader.known()
+    }
+
+    /// How many words of the order the pass has learnt. Takes no memory.
+    pub fn words(&self) -> u32
+        ensures { result ≡ length self.now.view.words }
+    {
+        self.reader.words()
+    }
+
+    /// How many atomic steps the pass's last call made on the order; 0 before its first. Takes no memory.
+    pub fn steps(&self) -> u32
+        ensures { result ≡ self.now.steps }
+    {
+        self.reader.steps()
+    }
+
+    /// Begins to count the steps of a call.
+    pub(crate) fn begin(&mut self)
+        ensures { self.new ≡ record self.old { steps = 0 } }
+    {
+        self.reader.begin();
+    }
+
+    /// How many more calls the history takes, as far as the pass has learnt. Takes no memory.
+    pub fn room_left(&self) -> u32
+        ensures { result + length self.now.view.words ≡ room_of self.now.order }
+    {
+        self.reader.room_left()
+    }
+
+    /// Puts the call as the next record of the pass, as [`Row::put`] does.
+    #[inline(always)]
+    pub(crate) fn put(&mut self, records: &Records, call: Call) -> Result<Token, Refusal>
+        ensures same { self.new ≡ self.old }
+        ensures put { IfOk result (λ token. (token.pass ≡ self.old.view.number) × (token.call ≡ call)) }
+        ensures index { IfOk result (λ token. token.index < 2 ^ 48) }
+        ensures of { IfOk result (IsOf records.now) }
+        ensures refused { IfErr result (λ refusal. (refusal ≡ Refusal.Panic) ⊎ (refusal ≡ Refusal.OutOfMemory)) }
+    {
+        let number = self.number();
+        self.row.put(records, number, call)
+    }
+
+    /// Why what is stored after all known calls refuses the build, if it does; it evaluates them. `OutOfMemory` where memory is refused.
+    fn check_build(
+        &mut self,
+        records: &Records,
+        call: &Call,
+        in_bounds: bool,
+    ) -> Result<(), Refusal>
+        requires records { All (IsOf records.now) self.old.shown }
+        requires in_bounds { in_bounds ≡ is_in_bounds (shapes_of (store_of (known self.old))) call.now }
+        ensures checked { IsBuildChecked (store_of (known self.old)) call.now result }
+        ensures same { self.new ≡ self.old }
+    {
+        let evaluated = evaluate(
+            records,
+            &mut self.reader,
+            &mut self.state,
+            &mut self.evaluated,
+        );
+        match evaluated {
+            Err(_refused) => Err(Refusal::OutOfMemory),
+            Ok(()) => match self.state.refused_build(call, in_bounds) {
+                Some(refusal) => Err(refusal),
+                None => Ok(()),
+            },
+        }
+    }
+
+    /// Whether the call is refused after all known ones, and why; a build evaluates them. `OutOfMemory` where memory is refused to that.
+    #[inline(always)]
+    pub(crate) fn check(&mut self, records: &Records, call: &Call) -> Result<(), Refusal>
+        requires records { All (IsOf records.now) self.old.shown }
+        ensures checked { IsChecked (store_of (known self.old)) call.now result }
+        ensures same { self.new ≡ self.old }
+    {
+        match self.reader.check(call)? {
+            Kind::Build { in_bounds } => self.check_build(records, call, in_bounds),
+            Kind::Enters | Kind::Reads => Ok(()),
+        }
+    }
+
+    /// The reply to a call that reads entries or has changes done, after all known ones, which it evaluates. `AllocError` where memory is
+    /// refused.
+    fn reply_of_entries(&mut self, records: &Records, call: &Call) -> Result<Reply, AllocError>
+        requires reads { enters call.now ≡ false }
+        requires no_size { is_size call.now ≡ false }
+        requires accepted { refused (store_of (known self.old)) call.now ≡ None }
+        requires records { All (IsOf records.now) self.old.shown }
+        ensures reply { IfOk result (λ reply. reply ≡ reply_of (store_of (known self.old)) call.now) }
+        ensures same { self.new ≡ self.old }
+    {
+        evaluate(
+            records,
+            &mut self.reader,
+            &mut self.state,
+            &mut self.evaluated,
+        )?;
+        self.state.settle(call)?;
+        Ok(self.state.reply(call))
+    }
+
+    /// The reply to a call that only reads and is not refused, after all known ones. One for dimensions takes no memory; any other
+    /// evaluates the known calls, and a total or a wait has the changes that wait done. `AllocError` where memory is refused to that.
+    pub(crate) fn reply(&mut self, records: &Records, call: &Call) -> Result<Reply, AllocError>
+        requires reads { enters call.now ≡ false }
+        requires accepted { refused (store_of (known self.old)) call.now ≡ None }
+        requires records { All (IsOf records.now) self.old.shown }
+        ensures reply { IfOk result (λ reply. reply ≡ reply_of (store_of (known self.old)) call.now) }
+        ensures memory { OnErr result (is_size call.now ≡ false) }
+        ensures same { self.new ≡ self.old }
+    {
+        match call {
+            Call::SizeMatrix { .. } | Call::SizeVector { .. } => Ok(self.reader.size(call)),
+            _ => self.reply_of_entries(records, call),
+        }
+    }
+
+    /// Enters the record of a call after all known ones, in one atomic step. The token comes back where another pass was first; the
+    /// pass has then held back for a while, so that the other runs on.
+    pub(crate) fn enter(&mut self, order: &Order, token: Token, call: &Call) -> Option<Token>
+        requires order { self.old.order ≡ order.now }
+        requires looked { LookedLast self.old.view }
+        requires shown { length self.old.shown ≡ length self.old.view.words }
+        requires pass { token.pass ≡ self.old.view.number }
+        requires index { token.index < 2 ^ 48 }
+        requires call { call.now ≡ token.call }
+        requires few { self.old.steps < 2 ^ 31 }
+        ensures order { self.new.order ≡ self.old.order }
+        ensures enters { Enters (room_of order.now) token self.old result self.new }
+        ensures steady { IsSteady self.new }
+        ensures counts { Counts self.old self.new }
+    {
+        let back = self.reader.enter(order, token, call);
+        self.back_off.tried(back.is_some());
+        back
+    }
+}

@@ -1,0 +1,42 @@
+ghost use Rattle.std.specs.Prelude.{◌≡◌, false};
+ghost use Rattle.grb_order.specs.Order.{room_of};
+ghost use Rattle.grb_call.specs.Kinds.{enters};
+ghost use Rattle.grb_pass.specs.Known.{IsPassOf};
+ghost use Rattle.grb_pass.specs.Explains.{ExplainsCall, IsCaughtUp, ground_of};
+ghost use Rattle.grb_pass.specs.Answered.{Answered};
+ghost use Rattle.grb_pass.specs.Counting.{CountsCall};
+ghost use Rattle.grb_pass.specs.Learning.{IsSteady};
+
+use crate::pass::Pass;
+use crate::shared::Shared;
+use grb_call::{Call, Reply};
+use grb_core::Refusal;
+
+impl Shared {
+    /// Learns the order to its end, checks the call there, and evaluates what its answer needs.
+    fn read_at_end(&self, pass: &mut Pass, call: &Call) -> Result<Reply, Refusal>
+        requires pass { IsPassOf self.now pass.old }
+        requires reads { enters call.now ≡ false }
+        requires begun { pass.old.steps ≡ 0 }
+        ensures pass { IsPassOf self.now pass.new }
+        ensures counts { CountsCall pass.old pass.new }
+        ensures explains { ExplainsCall (room_of self.now.order) pass.old pass.new call.now result }
+        ensures steady { IsSteady pass.new }
+        ensures caught_up { IsCaughtUp (ground_of result) pass.new }
+    {
+        self.learn(&mut pass.reader)?;
+        pass.reader.check(call)?;
+        pass.reply(&self.records, call)
+            .or(Err(Refusal::OutOfMemory))
+    }
+
+    /// Answers a call that only reads. Takes memory for the evaluation of calls alone, and does not wait.
+    pub fn read(&self, pass: &mut Pass, call: &Call) -> Result<Reply, Refusal>
+        requires pass { IsPassOf self.now pass.old }
+        requires reads { enters call.now ≡ false }
+        ensures { Answered self.now pass.old pass.new call.now result }
+    {
+        pass.begin();
+        self.read_at_end(pass, call)
+    }
+}

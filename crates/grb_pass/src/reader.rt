@@ -1,0 +1,277 @@
+ghost use Rattle.std.specs.Prelude.{◌≡◌, ◌<◌, ◌≤◌, ◌+◌, ◌^◌, true, [], ◌∷◌, ◌++◌, length, All, Some, slice_get, slice_index, MatchOption, IfOk};
+ghost use Rattle.grb_order.specs.Word.{number_of, index_of, StartsWith};
+ghost use Rattle.grb_order.specs.View.{fresh, is_told, LookedLast};
+ghost use Rattle.grb_order.specs.Order.{room_of};
+ghost use Rattle.grb_order.specs.Steps.{Looks};
+ghost use Rattle.grb_records.specs.Token.{IsOf};
+ghost use Rattle.grb_call.specs.Kinds.{enters, is_size};
+ghost use Rattle.grb_call.specs.Refused.{check_of};
+ghost use Rattle.grb_call.specs.Store.{shapes_of};
+ghost use Rattle.grb_call.specs.After.{reply_of};
+ghost use Rattle.grb_call.specs.History.{calls_of, store_of};
+ghost use Rattle.grb_pass.specs.Known.{known};
+ghost use Rattle.grb_pass.specs.Learning.{Enters, IsNextUnshown, IsSteady};
+ghost use Rattle.grb_pass.specs.Counting.{Counts, look_steps};
+ghost use Rattle.grb_pass.specs.Meeting.{SharesCallAt};
+
+use grb_call::{Call, Kind, MatrixId, Reply, Shapes, VectorId, check};
+use grb_core::Refusal;
+use grb_order::{Entered, Look, Order, Place};
+use grb_records::{Records, Token};
+use std::alloc::{AllocError, Global};
+use std::marker::Model;
+
+/// What a pass has read of the order: its words, the records behind the first of them, and the shapes that their calls leave.
+#[derive(Drop)]
+pub(crate) struct Reader {
+    number: u32,
+    // How many words the order has.
+    room: u32,
+    place: Place,
+    // The records of the first words learnt, with room for all words of the order.
+    tokens: Vec<Token>,
+    shapes: Shapes,
+    // The steps of the last call.
+    steps: u32,
+}
+
+impl Model for Reader {
+    ghost use Rattle.grb_pass.specs.Known.{Knowing};
+
+    ghost Value = { Knowing };
+
+    ghost use Rattle.grb_pass.specs.Reading.{knowing, IsReader};
+
+    ghost view = { knowing };
+
+    ghost invariant = { IsReader };
+}
+
+/// How many steps a look made.
+fn steps_of_look(look: Look) -> u32
+    ensures steps { result ≡ look_steps look }
+    ensures few { result ≤ 1 }
+{
+    match look {
+        Look::Next(_) | Look::Vacant => 1,
+        Look::Full => 0,
+    }
+}
+
+impl Reader {
+    /// A reader that knows no call, with memory for all that it can learn. `AllocError` where memory is refused.
+    pub(crate) fn open(
+        alloc: Global,
+        number: u32,
+        place: Place,
+        room: u32,
+    ) -> Result<Reader, AllocError>
+        requires number { (number ≡ place.view.number) × (number < place.view.passes) }
+        requires room { (room ≡ room_of place.table_id) × (room ≤ 4096) }
+        requires fresh { place.view ≡ fresh number place.view.passes }
+        ensures { IfOk result (λ reader. reader ≡ record { order = place.table_id; view = place.view; shown = []; steps = 0 }) }
+    {
+        let tokens = Vec::with_capacity(alloc, room as usize)?;
+        let shapes = Shapes::open(alloc, room)?;
+        Ok(Reader {
+            number,
+            room,
+            place,
+            tokens,
+            shapes,
+            steps: 0,
+        })
+    }
+
+    pub(crate) fn number(&self) -> u32
+        ensures { result ≡ self.now.view.number }
+    {
+        self.number
+    }
+
+    /// Begins to count the steps of a call.
+    pub(crate) fn begin(&mut self)
+        ensures { self.new ≡ record self.old { steps = 0 } }
+    {
+        self.steps = 0;
+    }
+
+    /// The steps of the last call.
+    pub(crate) fn steps(&self) -> u32
+        ensures { result ≡ self.now.steps }
+    {
+        self.steps
+    }
+
+    /// How many words the pass has learnt.
+    pub(crate) fn words(&self) -> u32
+        ensures { result ≡ length self.now.view.words }
+    {
+        self.place.words().len() as u32
+    }
+
+    /// How many words are still vacant, as far as the pass has learnt.
+    pub(crate) fn room_left(&self) -> u32
+        ensures { result + length self.now.view.words ≡ room_of self.now.order }
+    {
+        self.room - self.words()
+    }
+
+    /// How many records were shown.
+    pub(crate) fn known(&self) -> u32
+        ensures known { result ≡ length (known self.now) }
+        ensures few { length (known self.now) ≤ room_of self.now.order }
+    {
+        self.tokens.len() as u32
+    }
+
+    /// The call of the record shown at this place.
+    pub(crate) fn call_at<'a>(&mut self, records: &'a Records, at: usize) -> &'a Call
+        requires known { at < length (known self.old) }
+        requires of { All (IsOf records.now) self.old.shown }
+        ensures call { slice_get (calls_of (known self.old)) at ≡ Some result.now }
+        ensures same { self.new ≡ self.old }
+    {
+        records.call_of(&mut self.tokens[at])
+    }
+
+    /// The word learnt first of those whose record was not shown.
+    pub(crate) fn next_unshown(&self) -> Option<u64>
+        ensures next { MatchOption result (length self.now.shown ≡ length self.now.view.words) (λ word. IsNextUnshown self.now word) }
+        ensures steady { IsSteady self.now }
+    {
+        let shown = self.tokens.len();
+        let words = self.place.words();
+        if shown < words.len() {
+            Some(words[shown])
+        } else {
+            None
+        }
+    }
+
+    /// Takes in the record of that word and its call.
+    pub(crate) fn admit(&mut self, token: Token, call: &Call)
+        requires next { length self.old.shown < length self.old.view.words }
+        requires pass { token.pass ≡ number_of (slice_index self.old.view.words (length self.old.shown)) }
+        requires index { token.index ≡ index_of (slice_index self.old.view.words (length self.old.shown)) }
+        requires call { call.now ≡ token.call }
+        ensures { self.new ≡ record self.old { shown = self.old.shown ++ token ∷ [] } }
+    {
+        self.shapes.absorb(call);
+        self.tokens.push_reserved(token);
+    }
+
+    /// Loads the word after those learnt, in one atomic step, unless all are learnt.
+    pub(crate) fn look(&mut self, order: &Order) -> Look
+        requires order { self.old.order ≡ order.now }
+        requires few { self.old.steps < 2 ^ 31 }
+        ensures order { self.new.order ≡ self.old.order }
+        ensures shown { self.new.shown ≡ self.old.shown }
+        ensures look { Looks (room_of order.now) self.old.view result self.new.view }
+        ensures steady { IsSteady self.new }
+        ensures counts { Counts self.old self.new }
+    {
+        let look = order.look(&mut self.place);
+        self.steps += steps_of_look(look);
+        look
+    }
+
+    /// Learns the words of the other that it has not learnt, in one atomic step each. Nothing of the other changes.
+    pub(crate) fn tell(&mut self, order: &Order, other: &mut Reader)
+        requires order { self.old.order ≡ order.now }
+        requires other { other.old.order ≡ order.now }
+        requires begun { self.old.steps ≡ 0 }
+        ensures order { self.new.order ≡ self.old.order }
+        ensures shown { self.new.shown ≡ self.old.shown }
+        ensures told { self.new.view ≡ is_told self.old.view other.old.view.words }
+        ensures words { StartsWith self.new.view.words other.old.view.words }
+        ensures other { other.new ≡ other.old }
+        ensures steady { IsSteady self.new }
+        ensures steady_other { IsSteady other.old }
+        ensures few { length self.old.shown ≤ length self.old.view.words }
+        ensures steps { self.new.steps + length self.old.view.words ≡ length self.new.view.words }
+    {
+        let before = self.words();
+        order.tell(&mut self.place, &mut other.place);
+        self.steps = self.words() - before;
+    }
+
+    /// Where both have a token of one record at this place, it has one call. Changes neither.
+    pub(crate) fn compare(&mut self, records: &Records, other: &mut Reader, at: usize)
+        requires mine { at < length self.old.shown }
+        requires theirs { at < length other.old.shown }
+        requires of { All (IsOf records.now) self.old.shown }
+        requires of_other { All (IsOf records.now) other.old.shown }
+        ensures call { SharesCallAt self.old.shown other.old.shown at }
+        ensures same { self.new ≡ self.old }
+        ensures other { other.new ≡ other.old }
+    {
+        records.same(&mut self.tokens[at], &mut other.tokens[at]);
+    }
+
+    /// What becomes of the call after all known ones, or its refusal.
+    pub(crate) fn check(&self, call: &Call) -> Result<Kind, Refusal>
+        ensures { result ≡ check_of (shapes_of (store_of (known self.now))) call.now }
+    {
+        check(&self.shapes, call)
+    }
+
+    /// The reply to a call that is entered after all known ones.
+    pub(crate) fn reply(&self, call: &Call) -> Reply
+        requires { enters call.now ≡ true }
+        ensures { result ≡ reply_of (store_of (known self.now)) call.now }
+    {
+        match call {
+            Call::NewMatrix { .. } | Call::DupMatrix { .. } => {
+                Reply::MadeMatrix(MatrixId(self.shapes.matrices()))
+            }
+            Call::NewVector { .. } | Call::DupVector { .. } => {
+                Reply::MadeVector(VectorId(self.shapes.vectors()))
+            }
+            _ => Reply::Done,
+        }
+    }
+
+    /// The reply to a call for the dimensions of an object, after all known calls. Takes no memory.
+    pub(crate) fn size(&self, call: &Call) -> Reply
+        requires { is_size call.now ≡ true }
+        ensures { result ≡ reply_of (store_of (known self.now)) call.now }
+    {
+        match call {
+            Call::SizeMatrix { a } => self
+                .shapes
+                .matrix(*a)
+                .map_or(Reply::Done, |shape| Reply::Dims(shape.1, shape.2)),
+            Call::SizeVector { v } => self
+                .shapes
+                .vector(*v)
+                .map_or(Reply::Done, |shape| Reply::Size(shape.1)),
+            _ => unreachable!(),
+        }
+    }
+
+    /// Enters the record of a call after all known ones, in one atomic step. The token comes back where another pass was first.
+    pub(crate) fn enter(&mut self, order: &Order, token: Token, call: &Call) -> Option<Token>
+        requires order { self.old.order ≡ order.now }
+        requires looked { LookedLast self.old.view }
+        requires shown { length self.old.shown ≡ length self.old.view.words }
+        requires pass { token.pass ≡ self.old.view.number }
+        requires index { token.index < 2 ^ 48 }
+        requires call { call.now ≡ token.call }
+        requires few { self.old.steps < 2 ^ 31 }
+        ensures order { self.new.order ≡ self.old.order }
+        ensures enters { Enters (room_of order.now) token self.old result self.new }
+        ensures steady { IsSteady self.new }
+        ensures counts { Counts self.old self.new }
+    {
+        self.steps += 1;
+        match order.enter(&mut self.place, token.index()) {
+            Entered::Won => {
+                self.shapes.absorb(call);
+                self.tokens.push_reserved(token);
+                None
+            }
+            Entered::Lost(_) => Some(token),
+        }
+    }
+}

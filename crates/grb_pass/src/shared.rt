@@ -1,0 +1,62 @@
+ghost use Rattle.std.specs.Prelude.{◌≡◌, ◌<◌, ◌≤◌, All, IfOk};
+ghost use Rattle.grb_order.specs.Order.{room_of, AreFresh};
+ghost use Rattle.grb_pass.specs.Known.{AreNew, IsPassOf};
+
+use crate::pass::Pass;
+use grb_order::{Order, Place};
+use grb_records::Records;
+use std::alloc::{AllocError, Global};
+use std::marker::Model;
+
+/// What the passes of a context share: the order of all calls, and their records.
+#[derive(Drop)]
+pub struct Shared {
+    pub(crate) order: Order,
+    pub(crate) records: Records,
+}
+
+impl Model for Shared {
+    ghost use Rattle.grb_pass.specs.Known.{Shared};
+
+    ghost Value = { Shared };
+
+    ghost view = { λ s. record { order = s.order; records = s.records } };
+}
+
+// A pass for each of the places.
+fn passes_of(
+    alloc: Global,
+    order: &Order,
+    places: Vec<Place>,
+    room: u32,
+    passes: u32,
+) -> Result<Vec<Pass>, AllocError>
+    requires room { (room_of order.now ≡ room) × (room ≤ 4096) }
+    requires passes { passes ≤ 64 }
+    requires places { AreFresh order.now passes places.items passes }
+    ensures { IfOk result (λ opened. AreNew order.now passes opened.items passes) }
+{
+    let mut opened = Vec::with_capacity(alloc, passes as usize)?;
+    for place in places {
+        let number = opened.len() as u32;
+        opened.push_reserved(Pass::open(alloc, number, place, room)?);
+    }
+    Ok(opened)
+}
+
+impl Shared {
+    /// What passes share whose history takes `room` calls, from 1 to 4,096, and those passes, from 1 to 64, which know no call: the one
+    /// at index k has the number k. `AllocError` where memory is refused.
+    pub fn open(alloc: Global, room: u32, passes: u32) -> Result<(Shared, Vec<Pass>), AllocError>
+        requires room { (0 < room) × (room ≤ 4096) }
+        requires passes { (0 < passes) × (passes ≤ 64) }
+        ensures room { IfOk result (λ opened. room_of opened.0.order ≡ room) }
+        ensures passes { IfOk result (λ opened. AreNew opened.0.order passes opened.1.items passes) }
+        ensures ours { IfOk result (λ opened. All (IsPassOf opened.0) opened.1.items) }
+    {
+        let (order, places) = Order::open(alloc, room, passes)?;
+        let records = Records::open(alloc, passes, room)?;
+        let opened = passes_of(alloc, &order, places, room, passes)?;
+        Ok((Shared { order, records }, opened))
+    }
+}

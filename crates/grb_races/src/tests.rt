@@ -1,0 +1,9 @@
+mod answers;
+mod asked;
+mod meeting;
+mod memory;
+mod operations;
+mod products;
+mod rows;
+mod steps;
+mod threads;

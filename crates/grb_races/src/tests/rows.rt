@@ -1,0 +1,178 @@
+ghost use Rattle.std.specs.Prelude.{◌<◌, ◌≤◌, All, IfOk};
+ghost use Rattle.grb_context.specs.Known.{IsPassOf};
+
+use crate::tests::asked::{Answer, Asked, ask};
+use grb_context::{Context, Pass};
+use grb_core::Refusal;
+use std::alloc::{AllocError, Global};
+use std::process::Abort;
+
+/// What the last number of each row counts.
+#[derive(Clone, Copy)]
+pub(super) enum Counted {
+    /// The calls that the pass knows after the call; it has learnt as many words.
+    Known,
+    /// The steps that the call made on the order.
+    Steps,
+}
+
+/// Which of two passes makes the call, the call, its answer, and a count.
+type Row = (u32, Asked, Answer, u32);
+
+/// The pass of the highest number of those that are left.
+pub(super) fn next_pass(rt: &impl Abort, context: &Context, passes: &mut Vec<Pass>) -> Pass
+    requires { All (IsPassOf context.now) passes.old.items }
+    ensures pass { IsPassOf context.now result }
+    ensures rest { All (IsPassOf context.now) passes.new.items }
+{
+    let Some(pass) = passes.pop() else {
+        panic!(rt; "no pass is left")
+    };
+    pass
+}
+
+/// A store, and its two passes, 0 and 1. Where memory is refused it is asked for once more.
+pub(super) fn open_two(
+    rt: &impl Abort,
+    alloc: Global,
+    room: u32,
+) -> Result<(Context, Pass, Pass), AllocError>
+    requires { (0 < room) × (room ≤ 4096) }
+    ensures { IfOk result (λ opened. IsPassOf opened.0 opened.1 × IsPassOf opened.0 opened.2) }
+{
+    let (context, mut passes) = match Context::open(alloc, room, 2) {
+        Ok(opened) => opened,
+        Err(_) => Context::open(alloc, room, 2)?,
+    };
+    let second = next_pass(rt, &context, &mut passes);
+    let first = next_pass(rt, &context, &mut passes);
+    Ok((context, first, second))
+}
+
+/// Makes the call by its method, and once more where memory was refused, or a record that it asks for. It counts the refusals.
+pub(super) fn answer_of(
+    alloc: Global,
+    context: &Context,
+    pass: &mut Pass,
+    asked: Asked,
+    refusals: &mut u32,
+) -> Result<Answer, AllocError>
+    requires { IsPassOf context.now pass.old }
+    ensures { IsPassOf context.now pass.new }
+{
+    match ask(alloc, context, pass, asked) {
+        Err(_) | Ok(Err(Refusal::OutOfMemory | Refusal::Panic)) => {
+            *refusals = refusals.saturating_add(1);
+            ask(alloc, context, pass, asked)
+        }
+        answered => answered,
+    }
+}
+
+// After a refusal the steps of the call are not those of the row.
+fn expect_count<R: Abort>(
+    rt: &R,
+    pass: &Pass,
+    counted: Counted,
+    expected: u32,
+    at: usize,
+    refusals: u32,
+) {
+    match counted {
+        Counted::Known => {
+            assert_eq!(rt;
+                (pass.known(), pass.words()),
+                (expected, expected),
+                "row {at}, from 0"
+            );
+        }
+        Counted::Steps => {
+            assert!(rt;
+                refusals > 0 || pass.steps() == expected,
+                "row {at}, from 0: {} steps",
+                pass.steps()
+            );
+        }
+    }
+}
+
+fn expect_row<R: Abort>(
+    rt: &R,
+    alloc: Global,
+    context: &Context,
+    pass: &mut Pass,
+    row: &Row,
+    counted: Counted,
+    at: usize,
+    refusals: &mut u32,
+) -> Result<(), AllocError>
+    requires { IsPassOf context.now pass.old }
+    ensures { IsPassOf context.now pass.new }
+{
+    let (_, asked, expected, count) = *row;
+    let answer = answer_of(alloc, context, pass, asked, refusals)?;
+    assert_eq!(rt; answer, expected, "row {at}, from 0");
+    expect_count(rt, pass, counted, count, at, *refusals);
+    Ok(())
+}
+
+// How many calls were refused memory, or a record, before they were made once more.
+fn expect_rows<R: Abort>(
+    rt: &R,
+    alloc: Global,
+    context: &Context,
+    p: &mut Pass,
+    q: &mut Pass,
+    counted: Counted,
+    rows: &[Row],
+) -> Result<u32, AllocError>
+    requires first { IsPassOf context.now p.old }
+    requires second { IsPassOf context.now q.old }
+{
+    let mut refusals = 0;
+    for (at, row) in rows.iter().enumerate() {
+        if row.0 == 0 {
+            expect_row(rt, alloc, context, p, row, counted, at, &mut refusals)?;
+        } else {
+            expect_row(rt, alloc, context, q, row, counted, at, &mut refusals)?;
+        }
+    }
+    Ok(refusals)
+}
+
+// Makes the rows by the two passes of a new store with this room. How many calls were refused memory, or a record.
+fn refusals_of<R: Abort + AllocGlobal>(
+    rt: &R,
+    room: u32,
+    counted: Counted,
+    rows: &[Row],
+) -> Result<u32, AllocError>
+    requires { (0 < room) × (room ≤ 4096) }
+{
+    let (context, mut p, mut q) = open_two(rt, rt.alloc(), room)?;
+    assert_eq!(rt; (p.steps(), q.steps()), (0, 0));
+    let refusals = expect_rows(rt, rt.alloc(), &context, &mut p, &mut q, counted, rows)?;
+    assert_eq!(rt; (p.number(), q.number()), (0, 1));
+    assert_eq!(rt; p.room_left(), room.saturating_sub(p.words()));
+    assert_eq!(rt; q.room_left(), room.saturating_sub(q.words()));
+    Ok(refusals)
+}
+
+/// Makes the rows twice, each time in a new store with this room. One refused allocation spoils one of the two runs at most: a store
+/// that refuses a call with memory at hand does so in both.
+pub(super) fn run<R: Abort + AllocGlobal>(
+    rt: &R,
+    room: u32,
+    counted: Counted,
+    rows: &[Row],
+) -> Result<(), AllocError>
+    requires { (0 < room) × (room ≤ 4096) }
+{
+    let first = refusals_of(rt, room, counted, rows)?;
+    let second = refusals_of(rt, room, counted, rows)?;
+    assert!(rt;
+        first.saturating_add(second) <= 1,
+        "{first} and {second} calls were refused memory or a record"
+    );
+    Ok(())
+}

@@ -1,0 +1,12 @@
+use Rattle.std.proofs.Common.{◌∙◌}
+use Rattle.grb_words.specs.Options.{spelled}
+use Rattle.grb_script.specs.Reading.{product_on}
+use Rattle.grb_script.proofs.FormLemmas.{used-three}
+use Rattle.grb_script.proofs.product.product_of.Goals as goal
+
+pub returns : goal.returns
+returns c =
+    let o = spelled c.args.options.now in
+    c.product_on.ensures
+    ∙ used-three c.args.names.now c.args.output.now c.args.left.now c.args.right.now o.mask (λ p q r m. product_on c.args.multiply p q r m c.args.semiring o) c.in_ok-output.output c.in_ok-left.left c.in_ok-right.right c.in_ok-mask.mask
+    c.in_ok-output.ensures c.in_ok-left.ensures c.in_ok-right.ensures c.in_ok-mask.ensures

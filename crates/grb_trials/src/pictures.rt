@@ -1,0 +1,229 @@
+//! Each way to call an operation, on one example that has every case: three rows of four places. The mask stores nothing in the first
+//! row, 0 in the second and 1 in the third; in each row the first place is one of neither the output nor the result, the second of the
+//! output alone, the third of the result alone, and the fourth of both.
+ghost use Rattle.std.specs.Prelude.{◌<◌};
+
+use crate::options::{Operation, Options, Tables, expect_combined_matrix, expect_combined_vector};
+use crate::tables::Table;
+use grb_call::Descriptor;
+use grb_core::{BinaryOp, Domain};
+use std::alloc::{AllocError, Global};
+use std::process::Abort;
+use std::test::Fail;
+
+/// How a mask is read, and what the output then stores: with neither accumulator nor replace, with replace, with the accumulator, with
+/// both.
+struct Wanted {
+    masked: bool,
+    structure: bool,
+    comp: bool,
+    output: [&'static [u8]; 4],
+}
+
+/// A dot is a place that stores nothing, `w` one with the old value, `t` with the result's, and `s` with what the accumulator makes of both.
+static WANTED: [Wanted; 8] = [
+    Wanted {
+        masked: false,
+        structure: false,
+        comp: false,
+        output: [
+            b"..tt ..tt ..tt",
+            b"..tt ..tt ..tt",
+            b".wts .wts .wts",
+            b".wts .wts .wts",
+        ],
+    },
+    Wanted {
+        masked: false,
+        structure: true,
+        comp: false,
+        output: [
+            b"..tt ..tt ..tt",
+            b"..tt ..tt ..tt",
+            b".wts .wts .wts",
+            b".wts .wts .wts",
+        ],
+    },
+    Wanted {
+        masked: false,
+        structure: false,
+        comp: true,
+        output: [
+            b".w.w .w.w .w.w",
+            b".... .... ....",
+            b".w.w .w.w .w.w",
+            b".... .... ....",
+        ],
+    },
+    Wanted {
+        masked: false,
+        structure: true,
+        comp: true,
+        output: [
+            b".w.w .w.w .w.w",
+            b".... .... ....",
+            b".w.w .w.w .w.w",
+            b".... .... ....",
+        ],
+    },
+    Wanted {
+        masked: true,
+        structure: false,
+        comp: false,
+        output: [
+            b".w.w .w.w ..tt",
+            b".... .... ..tt",
+            b".w.w .w.w .wts",
+            b".... .... .wts",
+        ],
+    },
+    Wanted {
+        masked: true,
+        structure: true,
+        comp: false,
+        output: [
+            b".w.w ..tt ..tt",
+            b".... ..tt ..tt",
+            b".w.w .wts .wts",
+            b".... .wts .wts",
+        ],
+    },
+    Wanted {
+        masked: true,
+        structure: false,
+        comp: true,
+        output: [
+            b"..tt ..tt .w.w",
+            b"..tt ..tt ....",
+            b".wts .wts .w.w",
+            b".wts .wts ....",
+        ],
+    },
+    Wanted {
+        masked: true,
+        structure: true,
+        comp: true,
+        output: [
+            b"..tt .w.w .w.w",
+            b"..tt .... ....",
+            b".wts .w.w .w.w",
+            b".wts .... ....",
+        ],
+    },
+];
+
+/// The number behind a letter of a picture: `u` and `v` are of the inputs, and `t` is their sum; `s` is 100 - 7.
+fn number_behind(letter: u8) -> Option<u64> {
+    match letter {
+        b'0' => Some(0),
+        b'1' => Some(1),
+        b'u' => Some(3),
+        b'v' => Some(4),
+        b't' => Some(7),
+        b'w' => Some(100),
+        b's' => Some(93),
+        _ => None,
+    }
+}
+
+/// The table of a picture, whose rows have a space between them.
+fn table_of(alloc: Global, picture: &[u8]) -> Result<Table, AllocError> {
+    let mut table = Vec::new(alloc);
+    'letters: for letter in picture {
+        if *letter != b' ' {
+            table.push(number_behind(*letter))?;
+        }
+    }
+    Ok(table)
+}
+
+/// Both inputs of the operation, of which the result is the same: an addition stores what one of them stores, a multiplication what both do.
+fn tables_for(alloc: Global, operation: Operation) -> Result<Tables, AllocError> {
+    let (first, second) = match operation {
+        Operation::Add => (b"..uu ..uu ..uu", b"..vv ..vv ..vv"),
+        Operation::Mult => (b"uuuu u.uu .uuu", b"..vv .vvv v.vv"),
+    };
+    Ok(Tables {
+        output: table_of(alloc, b".w.w .w.w .w.w")?,
+        mask: table_of(alloc, b".... 0000 1111")?,
+        first: table_of(alloc, first)?,
+        second: table_of(alloc, second)?,
+    })
+}
+
+/// The options of a case: each row of the table has four.
+fn options_of(operation: Operation, mask_domain: Domain, case: usize) -> Options
+    requires { case < 32 }
+{
+    let wanted = &WANTED[case / 4];
+    Options {
+        operation,
+        domain: Domain::Uint64,
+        mask_domain,
+        masked: wanted.masked,
+        accumulated: case % 4 >= 2,
+        accum: BinaryOp::Minus,
+        op: BinaryOp::Plus,
+        descriptor: Descriptor {
+            structure: wanted.structure,
+            comp: wanted.comp,
+            replace: case % 2 == 1,
+        },
+    }
+}
+
+/// Each way to call the operation on vectors, by a mask of this domain.
+fn expect_vectors(
+    rt: &impl Abort,
+    alloc: Global,
+    operation: Operation,
+    mask_domain: Domain,
+) -> Result<(), AllocError> {
+    let tables = tables_for(alloc, operation)?;
+    for case in 0..32 {
+        let options = options_of(operation, mask_domain, case);
+        let want = table_of(alloc, WANTED[case / 4].output[case % 4])?;
+        expect_combined_vector(rt, alloc, options, 12, &tables, &want, case)?;
+    }
+    Ok(())
+}
+
+/// The same on matrices of 3 rows and 4 columns.
+fn expect_matrices(
+    rt: &impl Abort,
+    alloc: Global,
+    operation: Operation,
+    mask_domain: Domain,
+) -> Result<(), AllocError> {
+    let tables = tables_for(alloc, operation)?;
+    for case in 0..32 {
+        let options = options_of(operation, mask_domain, case);
+        let want = table_of(alloc, WANTED[case / 4].output[case % 4])?;
+        expect_combined_matrix(rt, alloc, options, (3, 4), &tables, &want, case)?;
+    }
+    Ok(())
+}
+
+#[test]
+fn an_addition_of_vectors_is_written_as_its_options_say(rt: HostRuntime) -> Result<(), Fail> {
+    expect_vectors(&rt, rt.alloc(), Operation::Add, Domain::Bool)?;
+    Ok(())
+}
+
+#[test]
+fn a_multiplication_of_vectors_is_written_as_its_options_say(rt: HostRuntime) -> Result<(), Fail> {
+    expect_vectors(&rt, rt.alloc(), Operation::Mult, Domain::Uint64)?;
+    Ok(())
+}
+
+#[test]
+fn an_addition_of_matrices_is_written_as_its_options_say(rt: HostRuntime) -> Result<(), Fail> {
+    expect_matrices(&rt, rt.alloc(), Operation::Add, Domain::Uint64)?;
+    Ok(())
+}
+
+#[test]
+fn a_multiplication_of_matrices_is_written_as_its_options_say(rt: HostRuntime) -> Result<(), Fail> {
+    expect_matrices(&rt, rt.alloc(), Operation::Mult, Domain::Bool)?;
+    Ok(())
+}

@@ -1,0 +1,6 @@
+pub mod IndicesLemmas
+pub mod NextLineLemmas
+pub mod NumberLemmas
+pub mod OptionLemmas
+pub mod SemiringLemmas
+pub mod TupleLemmas

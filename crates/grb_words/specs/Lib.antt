@@ -1,0 +1,6 @@
+pub mod Form
+pub mod Laws
+pub mod Line
+pub mod Options
+pub mod Tuples
+pub mod Word

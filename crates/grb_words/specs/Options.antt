@@ -1,0 +1,92 @@
+-- The options behind a statement that writes an output (own): 'mask NAME', 'structure', 'comp', 'accum OP' and 'replace', in this
+-- order, each at most once.
+use Rattle.std.specs.Prelude.{◌≡◌, Bool, true, false, if◌then◌else◌, List, [], ◌∷◌, ◌++◌, Option, Some, None, codes}
+use Rattle.std.specs.Option.{option_and_then, option_map}
+use Rattle.std.specs.Str.{bytes_eq}
+use Rattle.grb_core.specs.declared.operator.BinaryOp.{BinaryOp}
+use Rattle.grb_call.specs.declared.descriptor.Descriptor.{Descriptor}
+use Rattle.grb_words.specs.declared.options.Options.{Options}
+use Rattle.grb_words.specs.Line.{Word}
+use Rattle.grb_words.specs.Word.{is_name, operator_of, operator_word}
+
+-- the name of the mask and the accumulator, where they are given, and how the mask is read and the output written
+pub record OptionWords : Type 0 where
+  pub mask : Option Word
+  pub accum : Option BinaryOp
+  pub descriptor : Descriptor
+
+-- a word, where it is given
+abbrev pub word_if : Bool → Word → List Word
+word_if true word = word ∷ []
+word_if false word = []
+
+abbrev pub mask_words : Option Word → List Word
+mask_words None = []
+mask_words (Some name) = codes "mask" ∷ name ∷ []
+
+abbrev pub accum_words : Option BinaryOp → List Word
+accum_words None = []
+accum_words (Some op) = codes "accum" ∷ operator_word op ∷ []
+
+-- the words that spell these options
+abbrev pub options_words : OptionWords → List Word
+options_words o =
+    mask_words o.mask
+    ++ (word_if o.descriptor.structure (codes "structure")
+    ++ (word_if o.descriptor.comp (codes "comp") ++ (accum_words o.accum ++ word_if o.descriptor.replace (codes "replace"))))
+
+-- the mask is a name, where one is given
+abbrev pub IsNamed : Option Word → Type 0
+IsNamed None = Unit {0}
+IsNamed (Some name) = is_name name ≡ true
+
+-- whether the words begin with this one, and the words behind it where they do
+abbrev pub flag : List Word → Word → Bool × List Word
+flag [] word = (false, [])
+flag (first ∷ others) word = if bytes_eq first word then (true, others) else (false, first ∷ others)
+
+-- 'NAME', and the words behind it
+abbrev pub name_first : List Word → Option (Option Word × List Word)
+name_first [] = None
+name_first (name ∷ others) = if is_name name then Some (Some name, others) else None
+
+-- 'OP', and the words behind it
+abbrev pub operator_first : List Word → Option (Option BinaryOp × List Word)
+operator_first [] = None
+operator_first (word ∷ others) = option_map (λ op. (Some op, others)) (operator_of word)
+
+-- 'mask NAME' where the words begin with 'mask', and the words behind that
+abbrev pub mask_option : List Word → Option (Option Word × List Word)
+mask_option words = let f = flag words (codes "mask") in if f.0 then name_first f.1 else Some (None, f.1)
+
+-- 'accum OP' where the words begin with 'accum', and the words behind that
+abbrev pub accum_option : List Word → Option (Option BinaryOp × List Word)
+accum_option words = let f = flag words (codes "accum") in if f.0 then operator_first f.1 else Some (None, f.1)
+
+-- these options, where no word is left
+abbrev pub where_none_left : List Word → OptionWords → Option OptionWords
+where_none_left [] o = Some o
+where_none_left (word ∷ more) o = None
+
+-- the options that these words spell, if they spell them and nothing else
+abbrev pub options_of : List Word → Option OptionWords
+options_of words =
+    option_and_then
+    (λ mask.
+    let structure = flag mask.1 (codes "structure") in
+    let comp = flag structure.1 (codes "comp") in
+    option_and_then
+    (λ accum.
+    let replace = flag accum.1 (codes "replace") in
+    where_none_left replace.1
+    (record {
+      mask = mask.0;
+      accum = accum.0;
+      descriptor = record { structure = structure.0; comp = comp.0; replace = replace.0 };
+    }))
+    (accum_option comp.1))
+    (mask_option words)
+
+-- options as they are read, by what their words are
+abbrev pub spelled : Options → OptionWords
+spelled o = record { mask = option_map (λ name. name.now) o.mask; accum = o.accum; descriptor = o.descriptor }

@@ -1,0 +1,70 @@
+/// The first word of a statement.
+#[derive(Clone, Copy, Debug, PartialEq, Eq)]
+pub enum Keyword {
+    /// `matrix NAME DOMAIN R C`.
+    Matrix,
+    /// `vector NAME DOMAIN N`.
+    Vector,
+    /// `dup NAME NAME`.
+    Dup,
+    /// A keyword behind which a name stands alone.
+    Whole(Whole),
+    /// A keyword behind which a name and its indices stand.
+    Placed(Placed),
+    /// `set NAME INDICES VALUE`.
+    Set,
+    /// `build NAME MONOID ..`.
+    Build,
+    /// A keyword behind which the names of an output and of two inputs stand, an operator and options.
+    Ewise(Ewise),
+    /// A keyword behind which the names of an output and of two inputs stand, a semiring and options.
+    Multiply(Multiply),
+    /// `reduce NAME NAME MONOID OPTIONS`.
+    Reduce,
+    /// `total NAME MONOID`.
+    Total,
+    /// `wait NAME MODE`.
+    Wait,
+}
+
+/// The first word of a statement on a whole object.
+#[derive(Clone, Copy, Debug, PartialEq, Eq)]
+pub enum Whole {
+    /// `free NAME`.
+    Free,
+    /// `nvals NAME`.
+    Nvals,
+    /// `size NAME`.
+    Size,
+    /// `clear NAME`.
+    Clear,
+}
+
+/// The first word of a statement with indices and no value.
+#[derive(Clone, Copy, Debug, PartialEq, Eq)]
+pub enum Placed {
+    /// `remove NAME INDICES`.
+    Remove,
+    /// `get NAME INDICES`.
+    Get,
+    /// `resize NAME INDICES`, where the numbers tell the new size, or the new rows and columns.
+    Resize,
+}
+
+/// The first word of an element-wise statement.
+#[derive(Clone, Copy, Debug, PartialEq, Eq)]
+pub enum Ewise {
+    /// `ewiseadd NAME NAME NAME OP OPTIONS`.
+    Add,
+    /// `ewisemult NAME NAME NAME OP OPTIONS`.
+    Mult,
+}
+
+/// The first word of a statement that multiplies.
+#[derive(Clone, Copy, Debug, PartialEq, Eq)]
+pub enum Multiply {
+    /// `mxv NAME NAME NAME SEMIRING OPTIONS`, a matrix by a vector.
+    Mxv,
+    /// `mxm NAME NAME NAME SEMIRING OPTIONS`, a matrix by a matrix.
+    Mxm,
+}

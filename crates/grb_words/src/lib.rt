@@ -1,0 +1,22 @@
+//! The words of scripts: the lines of a text and their words, what each class of word is, and the form of a statement that words have.
+//!
+//! One unit is a list of words, those of one line. What a form says depends on its words alone, and not on what their names stand for.
+//! Nothing here knows which names a script has made, makes a call, reads a file or prints.
+#![tactic(auto)]
+
+mod fault;
+mod indices;
+mod keyword;
+mod laws;
+mod line;
+mod options;
+mod tuples;
+pub mod word;
+
+pub use fault::{FaultKind, Unread};
+pub use indices::{Indices, indices_and_value_of, indices_of};
+pub use keyword::{Ewise, Keyword, Multiply, Placed, Whole};
+pub use laws::{options_are_read_as_spelled, semirings_are_read_as_spelled};
+pub use line::{has_allowed_bytes, is_section, is_skipped, next_line, words};
+pub use options::{Options, options_of};
+pub use tuples::{matrix_tuples, values, vector_tuples};
