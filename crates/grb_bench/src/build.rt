@@ -2,12 +2,11 @@ ghost use Rattle.std.specs.Prelude.{◌≡◌, ◌<◌, All, IfOk};
 ghost use Rattle.grb_core.specs.Value.{value_domain};
 ghost use Rattle.grb_core.specs.declared.domain.Domain.{Domain};
 
-use crate::numbers::Numbers;
 use crate::open::open_one;
-use crate::report::{Least, RUNS, nanos_since, write_check};
 use grb_call::{MatrixTuples, Reply};
 use grb_core::{Domain, Monoid, Value};
 use grb_sparse::SparseMatrix;
+use grb_timing::{Least, Numbers, RUNS, nanos_since, write_check};
 use std::alloc::{AllocError, Global};
 use std::rt::Clock;
 use std::test::Fail;

@@ -1,11 +1,11 @@
 ghost use Rattle.std.specs.Prelude.{◌<◌, ◌≤◌};
 ghost use Rattle.grb_context.specs.Known.{IsPassOf};
 
-use crate::report::{Least, RUNS, nanos_since, write_check};
 use crate::single;
 use grb_call::{Reply, VectorId};
 use grb_context::{Context, Pass};
 use grb_core::{Domain, Refusal, Value};
+use grb_timing::{Least, RUNS, nanos_since, write_check};
 use std::rt::Clock;
 use std::sync::{Barrier, Mutex, Wait};
 use std::test::Fail;

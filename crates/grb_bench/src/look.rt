@@ -1,7 +1,7 @@
 ghost use Rattle.std.specs.Prelude.{◌≡◌};
 
-use crate::report::{Least, RUNS, nanos_since, write_check};
 use grb_order::{Look, Order, Place};
+use grb_timing::{Least, RUNS, nanos_since, write_check};
 use std::rt::Clock;
 use std::sync::{Mutex, Wait};
 use std::test::Fail;

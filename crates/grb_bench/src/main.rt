@@ -7,11 +7,9 @@ mod build;
 mod fill;
 mod look;
 mod market;
-mod numbers;
 mod objects;
 mod open;
 mod opening;
-mod report;
 mod sets;
 mod single;
 

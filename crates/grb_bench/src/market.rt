@@ -1,9 +1,8 @@
 ghost use Rattle.std.specs.Prelude.{◌≡◌, ◌<◌, ◌≤◌, length, true, IfOk};
 
-use crate::numbers::Numbers;
-use crate::report::{Least, RUNS, nanos_since, write_check};
 use grb_core::Value;
 use grb_market::read;
+use grb_timing::{Least, Numbers, RUNS, nanos_since, write_check};
 use std::alloc::{AllocError, Global};
 use std::rt::Clock;
 use std::test::Fail;

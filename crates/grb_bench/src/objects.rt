@@ -2,10 +2,9 @@ ghost use Rattle.std.specs.Prelude.{◌≡◌, ◌<◌, ◌≤◌, true, length,
 ghost use Rattle.grb_core.specs.declared.domain.Domain.{Domain};
 
 use crate::build::number_of;
-use crate::numbers::Numbers;
-use crate::report::{Least, RUNS, nanos_since, write_check};
 use grb_core::{Domain, Value};
 use grb_sparse::{SparseMatrix, SparseVector};
+use grb_timing::{Least, Numbers, RUNS, nanos_since, write_check};
 use std::alloc::{AllocError, Global};
 use std::rt::Clock;
 use std::test::Fail;

@@ -1,6 +1,6 @@
-use crate::report::{Least, RUNS, nanos_since};
 use grb_context::Context;
 use grb_records::Records;
+use grb_timing::{Least, RUNS, nanos_since};
 use std::rt::Clock;
 use std::test::Fail;
 use std::time::Instant;

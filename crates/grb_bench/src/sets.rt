@@ -1,11 +1,10 @@
 ghost use Rattle.grb_context.specs.Known.{IsPassOf};
 
-use crate::numbers::Numbers;
 use crate::open::open_one;
-use crate::report::{Least, RUNS, nanos_since, write_check};
 use grb_call::{MatrixId, Reply, VectorId};
 use grb_context::{Context, Pass};
 use grb_core::{Domain, Refusal, Value};
+use grb_timing::{Least, Numbers, RUNS, nanos_since, write_check};
 use std::alloc::{AllocError, Global};
 use std::rt::Clock;
 use std::test::Fail;

@@ -3,10 +3,10 @@ ghost use Rattle.grb_context.specs.Known.{IsPassOf};
 
 use crate::fill::{ROOM, Share, longest};
 use crate::open::open_one;
-use crate::report::nanos_since;
 use grb_call::{Reply, VectorId};
 use grb_context::{Context, Pass};
 use grb_core::{Domain, Refusal, Value};
+use grb_timing::nanos_since;
 use std::alloc::{AllocError, Global};
 use std::marker::Model;
 use std::rt::Clock;

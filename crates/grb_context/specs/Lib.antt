@@ -1,3 +1,4 @@
+pub mod Ran
 pub use Rattle.grb_pass.specs.Answered
 pub use Rattle.grb_pass.specs.Counting
 pub use Rattle.grb_pass.specs.Explains

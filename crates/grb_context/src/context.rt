@@ -14,6 +14,8 @@ use std::marker::Model;
 #[derive(Drop)]
 pub struct Context {
     pub(crate) shared: Shared,
+    // Of the answers to lists of calls.
+    pub(crate) alloc: Global,
 }
 
 impl Model for Context {
@@ -36,7 +38,7 @@ impl Context {
         ensures ours { IfOk result (λ opened. All (IsPassOf opened.0) opened.1.items) }
     {
         let (shared, opened) = Shared::open(alloc, room, passes)?;
-        Ok((Context { shared }, opened))
+        Ok((Context { shared, alloc }, opened))
     }
 
     /// Makes one call, by whichever thread has the pass, and does not wait. A refusal says why the call was not made: by shapes (the
@@ -49,7 +51,8 @@ impl Context {
     #[inline(always)]
     pub fn call(&self, pass: &mut Pass, call: Call) -> Result<Reply, Refusal>
         requires pass { IsPassOf self.now pass.old }
-        ensures { Answered self.now pass.old pass.new call result }
+        ensures pass { IsPassOf self.now pass.new }
+        ensures answered { Answered self.now pass.old pass.new call result }
     {
         if call.enters() {
             self.shared.enter(pass, call)

@@ -16,7 +16,8 @@ impl Context {
         ncols: u64,
     ) -> Result<Reply, Refusal>
         requires pass { IsPassOf self.now pass.old }
-        ensures { Answered self.now pass.old pass.new (Call.NewMatrix domain nrows ncols) result }
+        ensures pass { IsPassOf self.now pass.new }
+        ensures answered { Answered self.now pass.old pass.new (Call.NewMatrix domain nrows ncols) result }
     {
         self.call(
             pass,
@@ -31,7 +32,8 @@ impl Context {
     /// Makes a vector with no entries; `size` is from 1 to 4,294,967,295. Otherwise `InvalidValue`. (`GrB_Vector_new`.)
     pub fn new_vector(&self, pass: &mut Pass, domain: Domain, size: u64) -> Result<Reply, Refusal>
         requires pass { IsPassOf self.now pass.old }
-        ensures { Answered self.now pass.old pass.new (Call.NewVector domain size) result }
+        ensures pass { IsPassOf self.now pass.new }
+        ensures answered { Answered self.now pass.old pass.new (Call.NewVector domain size) result }
     {
         self.call(pass, Call::NewVector { domain, size })
     }
@@ -39,7 +41,8 @@ impl Context {
     /// Ends the matrix; its number is not used again. `UninitializedObject` where there is no such matrix. (`GrB_free`.)
     pub fn free_matrix(&self, pass: &mut Pass, a: MatrixId) -> Result<Reply, Refusal>
         requires pass { IsPassOf self.now pass.old }
-        ensures { Answered self.now pass.old pass.new (Call.FreeMatrix a) result }
+        ensures pass { IsPassOf self.now pass.new }
+        ensures answered { Answered self.now pass.old pass.new (Call.FreeMatrix a) result }
     {
         self.call(pass, Call::FreeMatrix { a })
     }
@@ -47,7 +50,8 @@ impl Context {
     /// Ends the vector; its number is not used again. `UninitializedObject` where there is no such vector. (`GrB_free`.)
     pub fn free_vector(&self, pass: &mut Pass, v: VectorId) -> Result<Reply, Refusal>
         requires pass { IsPassOf self.now pass.old }
-        ensures { Answered self.now pass.old pass.new (Call.FreeVector v) result }
+        ensures pass { IsPassOf self.now pass.new }
+        ensures answered { Answered self.now pass.old pass.new (Call.FreeVector v) result }
     {
         self.call(pass, Call::FreeVector { v })
     }
@@ -63,7 +67,8 @@ impl Context {
         value: Value,
     ) -> Result<Reply, Refusal>
         requires pass { IsPassOf self.now pass.old }
-        ensures { Answered self.now pass.old pass.new (Call.SetMatrix a i j value) result }
+        ensures pass { IsPassOf self.now pass.new }
+        ensures answered { Answered self.now pass.old pass.new (Call.SetMatrix a i j value) result }
     {
         self.call(pass, Call::SetMatrix { a, i, j, value })
     }
@@ -78,7 +83,8 @@ impl Context {
         value: Value,
     ) -> Result<Reply, Refusal>
         requires pass { IsPassOf self.now pass.old }
-        ensures { Answered self.now pass.old pass.new (Call.SetVector v i value) result }
+        ensures pass { IsPassOf self.now pass.new }
+        ensures answered { Answered self.now pass.old pass.new (Call.SetVector v i value) result }
     {
         self.call(pass, Call::SetVector { v, i, value })
     }
@@ -93,7 +99,8 @@ impl Context {
         j: u64,
     ) -> Result<Reply, Refusal>
         requires pass { IsPassOf self.now pass.old }
-        ensures { Answered self.now pass.old pass.new (Call.RemoveMatrix a i j) result }
+        ensures pass { IsPassOf self.now pass.new }
+        ensures answered { Answered self.now pass.old pass.new (Call.RemoveMatrix a i j) result }
     {
         self.call(pass, Call::RemoveMatrix { a, i, j })
     }
@@ -102,7 +109,8 @@ impl Context {
     /// index. (`GrB_Vector_removeElement`.)
     pub fn remove_vector(&self, pass: &mut Pass, v: VectorId, i: u64) -> Result<Reply, Refusal>
         requires pass { IsPassOf self.now pass.old }
-        ensures { Answered self.now pass.old pass.new (Call.RemoveVector v i) result }
+        ensures pass { IsPassOf self.now pass.new }
+        ensures answered { Answered self.now pass.old pass.new (Call.RemoveVector v i) result }
     {
         self.call(pass, Call::RemoveVector { v, i })
     }
@@ -111,7 +119,8 @@ impl Context {
     /// or column. Does not wait. (`GrB_Matrix_extractElement`.)
     pub fn get_matrix(&self, pass: &mut Pass, a: MatrixId, i: u64, j: u64) -> Result<Reply, Refusal>
         requires pass { IsPassOf self.now pass.old }
-        ensures { Answered self.now pass.old pass.new (Call.GetMatrix a i j) result }
+        ensures pass { IsPassOf self.now pass.new }
+        ensures answered { Answered self.now pass.old pass.new (Call.GetMatrix a i j) result }
     {
         self.shared.read(pass, &Call::GetMatrix { a, i, j })
     }
@@ -120,7 +129,8 @@ impl Context {
     /// wait. (`GrB_Vector_extractElement`.)
     pub fn get_vector(&self, pass: &mut Pass, v: VectorId, i: u64) -> Result<Reply, Refusal>
         requires pass { IsPassOf self.now pass.old }
-        ensures { Answered self.now pass.old pass.new (Call.GetVector v i) result }
+        ensures pass { IsPassOf self.now pass.new }
+        ensures answered { Answered self.now pass.old pass.new (Call.GetVector v i) result }
     {
         self.shared.read(pass, &Call::GetVector { v, i })
     }
@@ -128,7 +138,8 @@ impl Context {
     /// The number of stored entries. `UninitializedObject` where there is no such matrix. Does not wait. (`GrB_Matrix_nvals`.)
     pub fn nvals_matrix(&self, pass: &mut Pass, a: MatrixId) -> Result<Reply, Refusal>
         requires pass { IsPassOf self.now pass.old }
-        ensures { Answered self.now pass.old pass.new (Call.NvalsMatrix a) result }
+        ensures pass { IsPassOf self.now pass.new }
+        ensures answered { Answered self.now pass.old pass.new (Call.NvalsMatrix a) result }
     {
         self.shared.read(pass, &Call::NvalsMatrix { a })
     }
@@ -136,7 +147,8 @@ impl Context {
     /// The number of stored entries. `UninitializedObject` where there is no such vector. Does not wait. (`GrB_Vector_nvals`.)
     pub fn nvals_vector(&self, pass: &mut Pass, v: VectorId) -> Result<Reply, Refusal>
         requires pass { IsPassOf self.now pass.old }
-        ensures { Answered self.now pass.old pass.new (Call.NvalsVector v) result }
+        ensures pass { IsPassOf self.now pass.new }
+        ensures answered { Answered self.now pass.old pass.new (Call.NvalsVector v) result }
     {
         self.shared.read(pass, &Call::NvalsVector { v })
     }
@@ -145,7 +157,8 @@ impl Context {
     /// (`GrB_Matrix_nrows`, `GrB_Matrix_ncols`.)
     pub fn size_matrix(&self, pass: &mut Pass, a: MatrixId) -> Result<Reply, Refusal>
         requires pass { IsPassOf self.now pass.old }
-        ensures { Answered self.now pass.old pass.new (Call.SizeMatrix a) result }
+        ensures pass { IsPassOf self.now pass.new }
+        ensures answered { Answered self.now pass.old pass.new (Call.SizeMatrix a) result }
     {
         self.shared.read(pass, &Call::SizeMatrix { a })
     }
@@ -153,7 +166,8 @@ impl Context {
     /// The size. `UninitializedObject` where there is no such vector. Takes no memory and does not wait. (`GrB_Vector_size`.)
     pub fn size_vector(&self, pass: &mut Pass, v: VectorId) -> Result<Reply, Refusal>
         requires pass { IsPassOf self.now pass.old }
-        ensures { Answered self.now pass.old pass.new (Call.SizeVector v) result }
+        ensures pass { IsPassOf self.now pass.new }
+        ensures answered { Answered self.now pass.old pass.new (Call.SizeVector v) result }
     {
         self.shared.read(pass, &Call::SizeVector { v })
     }
@@ -161,7 +175,8 @@ impl Context {
     /// Removes all entries; the dimensions stay. `UninitializedObject` where there is no such matrix. (`GrB_Matrix_clear`.)
     pub fn clear_matrix(&self, pass: &mut Pass, a: MatrixId) -> Result<Reply, Refusal>
         requires pass { IsPassOf self.now pass.old }
-        ensures { Answered self.now pass.old pass.new (Call.ClearMatrix a) result }
+        ensures pass { IsPassOf self.now pass.new }
+        ensures answered { Answered self.now pass.old pass.new (Call.ClearMatrix a) result }
     {
         self.call(pass, Call::ClearMatrix { a })
     }
@@ -169,7 +184,8 @@ impl Context {
     /// Removes all entries; the size stays. `UninitializedObject` where there is no such vector. (`GrB_Vector_clear`.)
     pub fn clear_vector(&self, pass: &mut Pass, v: VectorId) -> Result<Reply, Refusal>
         requires pass { IsPassOf self.now pass.old }
-        ensures { Answered self.now pass.old pass.new (Call.ClearVector v) result }
+        ensures pass { IsPassOf self.now pass.new }
+        ensures answered { Answered self.now pass.old pass.new (Call.ClearVector v) result }
     {
         self.call(pass, Call::ClearVector { v })
     }
@@ -184,7 +200,8 @@ impl Context {
         ncols: u64,
     ) -> Result<Reply, Refusal>
         requires pass { IsPassOf self.now pass.old }
-        ensures { Answered self.now pass.old pass.new (Call.ResizeMatrix a nrows ncols) result }
+        ensures pass { IsPassOf self.now pass.new }
+        ensures answered { Answered self.now pass.old pass.new (Call.ResizeMatrix a nrows ncols) result }
     {
         self.call(pass, Call::ResizeMatrix { a, nrows, ncols })
     }
@@ -193,7 +210,8 @@ impl Context {
     /// is no such vector or the size is out of its range. (`GrB_Vector_resize`.)
     pub fn resize_vector(&self, pass: &mut Pass, v: VectorId, size: u64) -> Result<Reply, Refusal>
         requires pass { IsPassOf self.now pass.old }
-        ensures { Answered self.now pass.old pass.new (Call.ResizeVector v size) result }
+        ensures pass { IsPassOf self.now pass.new }
+        ensures answered { Answered self.now pass.old pass.new (Call.ResizeVector v size) result }
     {
         self.call(pass, Call::ResizeVector { v, size })
     }
@@ -201,7 +219,8 @@ impl Context {
     /// Makes a matrix of the same domain, dimensions and entries. `UninitializedObject` where there is no such matrix. (`GrB_Matrix_dup`.)
     pub fn dup_matrix(&self, pass: &mut Pass, a: MatrixId) -> Result<Reply, Refusal>
         requires pass { IsPassOf self.now pass.old }
-        ensures { Answered self.now pass.old pass.new (Call.DupMatrix a) result }
+        ensures pass { IsPassOf self.now pass.new }
+        ensures answered { Answered self.now pass.old pass.new (Call.DupMatrix a) result }
     {
         self.call(pass, Call::DupMatrix { a })
     }
@@ -209,7 +228,8 @@ impl Context {
     /// Makes a vector of the same domain, size and entries. `UninitializedObject` where there is no such vector. (`GrB_Vector_dup`.)
     pub fn dup_vector(&self, pass: &mut Pass, v: VectorId) -> Result<Reply, Refusal>
         requires pass { IsPassOf self.now pass.old }
-        ensures { Answered self.now pass.old pass.new (Call.DupVector v) result }
+        ensures pass { IsPassOf self.now pass.new }
+        ensures answered { Answered self.now pass.old pass.new (Call.DupVector v) result }
     {
         self.call(pass, Call::DupVector { v })
     }
@@ -226,7 +246,8 @@ impl Context {
         dup: Monoid,
     ) -> Result<Reply, Refusal>
         requires pass { IsPassOf self.now pass.old }
-        ensures { Answered self.now pass.old pass.new (Call.BuildMatrix a tuples dup) result }
+        ensures pass { IsPassOf self.now pass.new }
+        ensures answered { Answered self.now pass.old pass.new (Call.BuildMatrix a tuples dup) result }
     {
         self.call(pass, Call::BuildMatrix { a, tuples, dup })
     }
@@ -242,7 +263,8 @@ impl Context {
         dup: Monoid,
     ) -> Result<Reply, Refusal>
         requires pass { IsPassOf self.now pass.old }
-        ensures { Answered self.now pass.old pass.new (Call.BuildVector v tuples dup) result }
+        ensures pass { IsPassOf self.now pass.new }
+        ensures answered { Answered self.now pass.old pass.new (Call.BuildVector v tuples dup) result }
     {
         self.call(pass, Call::BuildVector { v, tuples, dup })
     }

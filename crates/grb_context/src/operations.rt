@@ -23,7 +23,8 @@ impl Context {
         d: Descriptor,
     ) -> Result<Reply, Refusal>
         requires pass { IsPassOf self.now pass.old }
-        ensures { Answered self.now pass.old pass.new (Call.EwiseAddMatrix c mask accum op a b d) result }
+        ensures pass { IsPassOf self.now pass.new }
+        ensures answered { Answered self.now pass.old pass.new (Call.EwiseAddMatrix c mask accum op a b d) result }
     {
         self.call(
             pass,
@@ -55,7 +56,8 @@ impl Context {
         d: Descriptor,
     ) -> Result<Reply, Refusal>
         requires pass { IsPassOf self.now pass.old }
-        ensures { Answered self.now pass.old pass.new (Call.EwiseAddVector w mask accum op u v d) result }
+        ensures pass { IsPassOf self.now pass.new }
+        ensures answered { Answered self.now pass.old pass.new (Call.EwiseAddVector w mask accum op u v d) result }
     {
         self.call(
             pass,
@@ -87,7 +89,8 @@ impl Context {
         d: Descriptor,
     ) -> Result<Reply, Refusal>
         requires pass { IsPassOf self.now pass.old }
-        ensures { Answered self.now pass.old pass.new (Call.EwiseMultMatrix c mask accum op a b d) result }
+        ensures pass { IsPassOf self.now pass.new }
+        ensures answered { Answered self.now pass.old pass.new (Call.EwiseMultMatrix c mask accum op a b d) result }
     {
         self.call(
             pass,
@@ -119,7 +122,8 @@ impl Context {
         d: Descriptor,
     ) -> Result<Reply, Refusal>
         requires pass { IsPassOf self.now pass.old }
-        ensures { Answered self.now pass.old pass.new (Call.EwiseMultVector w mask accum op u v d) result }
+        ensures pass { IsPassOf self.now pass.new }
+        ensures answered { Answered self.now pass.old pass.new (Call.EwiseMultVector w mask accum op u v d) result }
     {
         self.call(
             pass,

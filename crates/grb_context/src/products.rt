@@ -24,7 +24,8 @@ impl Context {
         d: Descriptor,
     ) -> Result<Reply, Refusal>
         requires pass { IsPassOf self.now pass.old }
-        ensures { Answered self.now pass.old pass.new (Call.Mxv w mask accum semiring a u d) result }
+        ensures pass { IsPassOf self.now pass.new }
+        ensures answered { Answered self.now pass.old pass.new (Call.Mxv w mask accum semiring a u d) result }
     {
         self.call(
             pass,
@@ -58,7 +59,8 @@ impl Context {
         d: Descriptor,
     ) -> Result<Reply, Refusal>
         requires pass { IsPassOf self.now pass.old }
-        ensures { Answered self.now pass.old pass.new (Call.Mxm c mask accum semiring a b d) result }
+        ensures pass { IsPassOf self.now pass.new }
+        ensures answered { Answered self.now pass.old pass.new (Call.Mxm c mask accum semiring a b d) result }
     {
         self.call(
             pass,
@@ -89,7 +91,8 @@ impl Context {
         d: Descriptor,
     ) -> Result<Reply, Refusal>
         requires pass { IsPassOf self.now pass.old }
-        ensures { Answered self.now pass.old pass.new (Call.ReduceRows w mask accum monoid a d) result }
+        ensures pass { IsPassOf self.now pass.new }
+        ensures answered { Answered self.now pass.old pass.new (Call.ReduceRows w mask accum monoid a d) result }
     {
         self.call(
             pass,
@@ -113,7 +116,8 @@ impl Context {
         monoid: Monoid,
     ) -> Result<Reply, Refusal>
         requires pass { IsPassOf self.now pass.old }
-        ensures { Answered self.now pass.old pass.new (Call.ReduceMatrix a monoid) result }
+        ensures pass { IsPassOf self.now pass.new }
+        ensures answered { Answered self.now pass.old pass.new (Call.ReduceMatrix a monoid) result }
     {
         self.shared.read(pass, &Call::ReduceMatrix { a, monoid })
     }
@@ -127,7 +131,8 @@ impl Context {
         monoid: Monoid,
     ) -> Result<Reply, Refusal>
         requires pass { IsPassOf self.now pass.old }
-        ensures { Answered self.now pass.old pass.new (Call.ReduceVector v monoid) result }
+        ensures pass { IsPassOf self.now pass.new }
+        ensures answered { Answered self.now pass.old pass.new (Call.ReduceVector v monoid) result }
     {
         self.shared.read(pass, &Call::ReduceVector { v, monoid })
     }

@@ -18,7 +18,8 @@ impl Context {
         mode: WaitMode,
     ) -> Result<Reply, Refusal>
         requires pass { IsPassOf self.now pass.old }
-        ensures { Answered self.now pass.old pass.new (Call.WaitMatrix a mode) result }
+        ensures pass { IsPassOf self.now pass.new }
+        ensures answered { Answered self.now pass.old pass.new (Call.WaitMatrix a mode) result }
     {
         self.shared.read(pass, &Call::WaitMatrix { a, mode })
     }
@@ -34,7 +35,8 @@ impl Context {
         mode: WaitMode,
     ) -> Result<Reply, Refusal>
         requires pass { IsPassOf self.now pass.old }
-        ensures { Answered self.now pass.old pass.new (Call.WaitVector v mode) result }
+        ensures pass { IsPassOf self.now pass.new }
+        ensures answered { Answered self.now pass.old pass.new (Call.WaitVector v mode) result }
     {
         self.shared.read(pass, &Call::WaitVector { v, mode })
     }

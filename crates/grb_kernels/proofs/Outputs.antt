@@ -10,7 +10,7 @@ use lib.Dec.{T}
 use Rattle.grb_core.specs.declared.value.Value.{Value}
 use Rattle.grb_core.proofs.Maps.{same_entries_at}
 use Rattle.grb_core.specs.Mask.{selects, is_inside}
-use Rattle.grb_core.specs.Written.{pointwise, masked}
+use Rattle.grb_core.specs.Written.{either_value, pointwise, masked}
 use Rattle.grb_core.proofs.Written.{find-pointwise, is_sorted-pointwise, find-masked, is_sorted-masked}
 use Rattle.grb_kernels.specs.Masked.{by_mask, by_mask-none}
 
@@ -30,6 +30,19 @@ at_index false true true c z = sym (or_none z)
 at_index false true false c z = sym (or_none z)
 at_index false false true c z = refl
 at_index false false false c z = refl
+
+either_none : (f : Value → Value → Value) (x : Option Value) → either_value f x None ≡ x
+either_none f None = refl
+either_none f (Some x) = refl
+
+-- index by index, with an accumulator and without replace
+accumulated_at : (f : Value → Value → Value) (comp b : Bool) (c t : Option Value)
+    → cond (cond comp (not b) b) (either_value f c t) c
+    ≡ either_value f c (cond (beq b (not comp)) t None)
+accumulated_at f true true c t = sym (either_none f c)
+accumulated_at f true false c t = refl
+accumulated_at f false true c t = refl
+accumulated_at f false false c t = sym (either_none f c)
 
 module _ {K : Type 0} (R : K → K → Ordering) (o : IsTotalOrder R) (same : IsAntisymmetric R) (structure comp : Bool) (mask : List (K × Value)) where
   abbrev pub inside_part : List (K × Value) → List (K × Value)
@@ -81,3 +94,22 @@ module _ {K : Type 0} (R : K → K → Ordering) (o : IsTotalOrder R) (same : Is
       ∙ ap (pointwise R option_or (inside_part z)) u
       ∙ ap (λ b. pointwise R option_or (inside_part z) (outside_part b c)) (sym r)
       ∙ sym (masked_parts replace c z)
+
+  -- what is inside of a result, by the accumulator into the old map
+  accumulated_parts : (f : Value → Value → Value) (c t : List (K × Value))
+      → masked R (is_inside R structure comp (Some mask)) false c (pointwise R (either_value f) c t) ≡ pointwise R (either_value f) c (inside_part t)
+  accumulated_parts f c t =
+      same_entries_at R o same _ _
+      (is_sorted-masked o same (is_inside R structure comp (Some mask)) false c (pointwise R (either_value f) c t))
+      (is_sorted-pointwise o same (either_value f) c (inside_part t))
+      (λ q. find-masked o same (is_inside R structure comp (Some mask)) false q c (pointwise R (either_value f) c t)
+      ∙ ap (λ w. cond (cond comp (not (selects structure (find R q mask))) (selects structure (find R q mask))) w (find R q c)) (find-pointwise o same (either_value f) refl q c t)
+      ∙ accumulated_at f comp (selects structure (find R q mask)) (find R q c) (find R q t)
+      ∙ sym (find-pointwise o same (either_value f) refl q c (inside_part t)
+      ∙ ap (either_value f (find R q c)) (find-pointwise o same (by_mask structure (not comp)) (by_mask-none structure (not comp) None) q t mask)))
+
+  -- with an accumulator and without replace, the old map stays where nothing comes from inside
+  pub accumulated_inside : (f : Value → Value → Value) (c t inside out : List (K × Value))
+      → inside ≡ inside_part t → out ≡ pointwise R (either_value f) c inside
+      → out ≡ masked R (is_inside R structure comp (Some mask)) false c (pointwise R (either_value f) c t)
+  accumulated_inside f c t inside out i e = e ∙ ap (pointwise R (either_value f) c) i ∙ sym (accumulated_parts f c t)

@@ -1,9 +1,11 @@
 //! How a result goes into an output: by an accumulator, and then by a mask.
-ghost use Rattle.std.specs.Prelude.{◌≡◌, IfOk, Some};
+ghost use Rattle.std.specs.Prelude.{◌≡◌, not, false, IfOk, Some};
 ghost use Rattle.std.specs.Ordering.{nat_cmp};
 ghost use Rattle.grb_core.specs.Mask.{is_inside};
-ghost use Rattle.grb_core.specs.Written.{AccumulatesIn, masked, written};
+ghost use Rattle.grb_core.specs.Operator.{op_domain};
+ghost use Rattle.grb_core.specs.Written.{AccumulatesIn, pointwise, masked, written};
 ghost use Rattle.grb_kernels.specs.Typed.{entries_of};
+ghost use Rattle.grb_kernels.specs.Masked.{by_mask};
 
 use crate::list::{EntryList, EntrySlice};
 use crate::merging::merged;
@@ -22,6 +24,22 @@ pub struct MaskReading {
     pub comp: bool,
 }
 
+/// What the mask lets in of a map. Takes memory in proportion to the entries of both.
+fn inside_of<T: Scalar + Drop, M: Scalar>(
+    alloc: Global,
+    reading: MaskReading,
+    mask: &EntrySlice<M>,
+    made: &EntrySlice<T>,
+) -> Result<EntryList<T>, AllocError>
+    ensures entries { IfOk result (λ inside. entries_of T.value inside.indices.items inside.values.items ≡ pointwise nat_cmp (by_mask reading.structure (not reading.comp)) (entries_of T.value made.now.indices.now made.now.values.now) (entries_of M.value mask.now.indices.now mask.now.values.now)) }
+{
+    let keep_inside = ByMask {
+        structure: reading.structure,
+        wanted: !reading.comp,
+    };
+    merged(alloc, &keep_inside, made, mask)
+}
+
 /// The new output by a mask: inside it what `made` has, outside what `output` has, or with `replace` nothing. Takes memory in
 /// proportion to the entries of the three.
 ///
@@ -36,11 +54,7 @@ pub fn write_masked<T: Scalar + Drop, M: Scalar>(
 ) -> Result<EntryList<T>, AllocError>
     ensures { IfOk result (λ written. entries_of T.value written.indices.items written.values.items ≡ masked nat_cmp (is_inside nat_cmp reading.structure reading.comp (Some (entries_of M.value mask.now.indices.now mask.now.values.now))) replace (entries_of T.value output.now.indices.now output.now.values.now) (entries_of T.value made.now.indices.now made.now.values.now)) }
 {
-    let keep_inside = ByMask {
-        structure: reading.structure,
-        wanted: !reading.comp,
-    };
-    let inside = merged(alloc, &keep_inside, made, mask)?;
+    let inside = inside_of(alloc, reading, mask, made)?;
     if replace {
         return Ok(inside);
     }
@@ -51,6 +65,24 @@ pub fn write_masked<T: Scalar + Drop, M: Scalar>(
     let outside = merged(alloc, &keep_outside, output, mask)?;
     let both = merged(alloc, &Over, &inside.lend(), &outside.lend())?;
     Ok(both)
+}
+
+/// The new output by the accumulator, where what lies outside of the mask stays: what is inside of the result alone goes into the old
+/// output, which is read once.
+fn accumulate_inside<T: Paired + Drop, M: Scalar>(
+    alloc: Global,
+    op: BinaryOp,
+    reading: MaskReading,
+    mask: &EntrySlice<M>,
+    output: &EntrySlice<T>,
+    computed: &EntrySlice<T>,
+) -> Result<EntryList<T>, AllocError>
+    requires domain { op_domain op ≡ T.domain }
+    ensures { IfOk result (λ new. entries_of T.value new.indices.items new.values.items ≡ written nat_cmp (is_inside nat_cmp reading.structure reading.comp (Some (entries_of M.value mask.now.indices.now mask.now.values.now))) false (Some op) (entries_of T.value output.now.indices.now output.now.values.now) (entries_of T.value computed.now.indices.now computed.now.values.now)) }
+{
+    let inside = inside_of(alloc, reading, mask, computed)?;
+    let new = T::pair(alloc, Pairing::Union, op, output, &inside.lend())?;
+    Ok(new)
 }
 
 /// The new output by the accumulator and then by a mask. Takes memory in proportion to the entries of the three.
@@ -71,6 +103,9 @@ pub fn write<T: Paired + Drop, M: Scalar>(
     match accum {
         None => write_masked(alloc, reading, replace, mask, output, computed),
         Some(op) => {
+            if !replace {
+                return accumulate_inside(alloc, op, reading, mask, output, computed);
+            }
             let made = T::pair(alloc, Pairing::Union, op, output, computed)?;
             let new = write_masked(alloc, reading, replace, mask, output, &made.lend())?;
             Ok(new)

@@ -8,3 +8,8 @@ pub mod ProductRows
 pub mod Making
 pub mod RankLemmas
 pub mod WholeProduct
+pub mod MaskedSums
+pub mod MaskedProduct
+pub mod Tables
+pub mod Names
+pub mod ProductLaws

@@ -139,7 +139,7 @@ column-unnamed name n j (r ∷ ranks) (d ∷ b) e h none =
     rest e = cc
 
 -- the product of a row with a column that stores nothing is nothing
-product_of-nothing : (s : SemiringParts) (x : VectorEntries) → IsTrue (is_sorted nat_cmp x) → product_of s x [] ≡ None
+pub product_of-nothing : (s : SemiringParts) (x : VectorEntries) → IsTrue (is_sorted nat_cmp x) → product_of s x [] ≡ None
 product_of-nothing s x h = product_of-products s x [] h ∙ ap (fold_of_some s.monoid) (no_products x)
   where
     no_products : (x : VectorEntries) → products s.op (λ j. None) x ≡ []

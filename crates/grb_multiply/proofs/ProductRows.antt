@@ -1,6 +1,6 @@
 -- The product of two matrices, row by row.
-use Rattle.std.proofs.Common.{◌≡◌, ℕ, Bool, true, false, cond, List, [], ◌∷◌, ◌++◌, refl, sym, ap, subst, ◌∙◌}
-use Rattle.std.specs.Prelude.{◌&&◌, Option, Some, None, is_some, IsTrue, map, filter}
+use Rattle.std.proofs.Common.{◌≡◌, ℕ, Bool, true, false, cond, List, [], ◌∷◌, ◌++◌, refl, sym, ap, ◌∙◌}
+use Rattle.std.specs.Prelude.{◌&&◌, Option, Some, None, is_some, map, filter}
 use Rattle.std.specs.declared.cmp.Ordering.TheVariants.{Less, Equal, Greater}
 use Rattle.std.specs.Ordering.{nat_cmp, is_lt, is_eq, eq_by_cmp}
 use Rattle.std.specs.Cmp.{nat_cmp_total}
@@ -80,7 +80,7 @@ module _ (g : ℕ → VectorEntries) where
       ] refl
 
 -- a row that stores nothing
-row_of-none : (q : ℕ) (a : MatrixEntries) → find nat_cmp q (by_row a) ≡ None → row_of q a ≡ []
+pub row_of-none : (q : ℕ) (a : MatrixEntries) → find nat_cmp q (by_row a) ≡ None → row_of q a ≡ []
 row_of-none q [] h = refl
 row_of-none q (e ∷ a) h =
     ap (λ b. map in_its_row (cond b (e ∷ filter (is_in q) a) (filter (is_in q) a))) (same_test q e.0.0)
@@ -88,6 +88,10 @@ row_of-none q (e ∷ a) h =
       | true ↦ λ (n : Some e.1 ≡ None). cc
       | false ↦ λ n. row_of-none q a n
     ] h
+
+-- the product of a row is in order
+pub product_row-sorted : (s : SemiringParts) (x : VectorEntries) (b : MatrixEntries) → T (is_sorted nat_cmp (product_row s x b))
+product_row-sorted s x b = is_sorted-map_on_indices nat_cmp nat_cmp_total (λ j. product_of s x (column_of j b)) (map in_its_row b)
 
 module _ (s : SemiringParts) (a b : MatrixEntries) where
   -- has no product
@@ -101,7 +105,7 @@ module _ (s : SemiringParts) (a b : MatrixEntries) where
   pub sorted-mxm : T (is_sorted cell_cmp (mxm_of s a b))
   sorted-mxm = is_sorted-cells a b (λ cell. product_of s (row_of cell.0 a) (column_of cell.1 b))
 
-  find-mxm : (q : Cell) → find cell_cmp q (mxm_of s a b) ≡ find nat_cmp q.1 (product_row s (row_of q.0 a) b)
+  pub find-mxm : (q : Cell) → find cell_cmp q (mxm_of s a b) ≡ find nat_cmp q.1 (product_row s (row_of q.0 a) b)
   find-mxm q =
       ap (find cell_cmp q) (map_on-cells (rows_of a) (columns_of b) (λ cell. product_of s (row_of cell.0 a) (column_of cell.1 b)))
       ∙ find-flat (λ i. product_row s (row_of i a) b) q (map_from nat_cmp (by_row a)) (is_sorted-map_from nat_cmp nat_cmp_total (by_row a))

@@ -1,20 +1,18 @@
 -- Entries at the names of their places: names that rise change no order.
-use Rattle.std.proofs.Common.{◌≡◌, ℕ, zero, suc, ◌+◌, ◌-◌, ◌<◌, ◌≤◌, ◌%◌, Bool, true, false, cond, List, [], ◌∷◌, refl, sym, ap, subst, ◌∙◌, arith, length, get_or, take, drop, inl, inr}
-use Rattle.std.specs.Prelude.{◌&&◌, ◌⊎◌, Option, Some, None, IsTrue, map, filter, nat_eq}
+use Rattle.std.proofs.Common.{◌≡◌, ℕ, zero, suc, ◌<◌, ◌%◌, Bool, true, false, cond, List, [], ◌∷◌, refl, sym, ap, subst, ◌∙◌, take, drop, inl, inr}
+use Rattle.std.specs.Prelude.{◌&&◌, Some, IsTrue, map}
 use Rattle.std.specs.List.{AllByRecursion}
-use Rattle.std.specs.declared.cmp.Ordering.{Ordering}
 use Rattle.std.specs.declared.cmp.Ordering.TheVariants.{Less, Equal, Greater}
-use Rattle.std.specs.Ordering.{nat_cmp, is_lt, is_eq, eq_by_cmp}
+use Rattle.std.specs.Ordering.{nat_cmp, is_lt, is_eq}
 use Rattle.std.specs.Cmp.{nat_cmp_is}
 use Rattle.std.specs.FinMap.{is_sorted, find}
 use Rattle.std.specs.FinMap.Entries.{below_all}
 use Rattle.std.proofs.lemmas.Bool.{cases_order}
 use lib.Dec.{T}
 use Rattle.grb_core.specs.declared.value.Value.{Value}
-use Rattle.grb_core.specs.Entries.{VectorEntries, MatrixEntries, values_of}
-use Rattle.grb_core.specs.Results.{row_of, column_of}
+use Rattle.grb_core.specs.Entries.{VectorEntries, values_of}
 use Rattle.grb_kernels.specs.Typed.{entries_of}
-use Rattle.grb_rows.specs.Cells.{decoded, cell_of, in_row}
+use Rattle.grb_rows.specs.Cells.{decoded, in_row}
 use Rattle.grb_ops.proofs.Lent.{lent}
 use Rattle.grb_multiply.specs.Rows.{renamed}
 

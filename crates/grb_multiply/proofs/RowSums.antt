@@ -39,7 +39,7 @@ snd : (a b : Bool) → T (a && b) → T b
 snd true b p = p
 snd false b p = absurd p
 
-here_or_not : (add : Value → Value → Value) (o p : Value) (b : Bool) → (b ≡ false → add o p ≡ p) → Some (add o p) ≡ either_value add (kept o b) (Some p)
+pub here_or_not : (add : Value → Value → Value) (o p : Value) (b : Bool) → (b ≡ false → add o p ≡ p) → Some (add o p) ≡ either_value add (kept o b) (Some p)
 here_or_not add o p true h = refl
 here_or_not add o p false h = ap Some (h refl)
 

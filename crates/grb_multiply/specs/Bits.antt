@@ -1,5 +1,5 @@
 -- Values picked by the bits of a word (own): bit t of the word stands for the place base + t.
-use Rattle.std.specs.Prelude.{ℕ, zero, suc, ◌+◌, ◌*◌, ◌<◌, ◌≡◌, Bool, false, slice_index, slice_index_or, length, nat_eq, if◌then◌else◌, List, [], ◌∷◌, Option, Some, None}
+use Rattle.std.specs.Prelude.{ℕ, zero, suc, ◌+◌, ◌*◌, ◌<◌, ◌≡◌, Bool, true, false, slice_index, slice_index_or, length, nat_eq, if◌then◌else◌, List, [], ◌∷◌, Option, Some, None}
 use Rattle.std.specs.Int.{bit_at}
 use Rattle.grb_core.specs.declared.value.Value.{Value}
 use Rattle.grb_core.specs.Entries.{VectorEntries, before_entries}
@@ -26,3 +26,11 @@ AreMarks marks words = (w t : ℕ) → t < 64 → has_bit (slice_index words w) 
 -- at each place without a mark there is this value
 abbrev pub HoldUnmarked : {V : Type 0} → (V → Value) → Value → List Bool → List V → Type 0
 HoldUnmarked value v marks values = (p : ℕ) → p < length values → slice_index_or marks p false ≡ false → value_at value values p ≡ Some v
+
+-- each mark is at a place that is allowed
+abbrev pub AreAmong : List Bool → List Bool → Type 0
+AreAmong marks allowed = (p : ℕ) → slice_index_or marks p false ≡ true → slice_index_or allowed p false ≡ true
+
+-- the place stands in the list
+abbrev pub StandsIn : List ℕ → ℕ → Type 0
+StandsIn places p = (k : ℕ) × (k < length places) × (slice_index places k ≡ p)

@@ -1,7 +1,9 @@
--- One row of the product of two matrices, and rows whose columns have other names (own).
-use Rattle.std.specs.Prelude.{ℕ, ◌<◌, List, length, map, slice_index}
-use Rattle.grb_core.specs.Entries.{VectorEntries, MatrixEntries, map_on}
-use Rattle.grb_core.specs.Results.{columns_of, column_of, product_of}
+-- Rows of the product of two matrices, rows whose columns have other names, and what a mask leaves of a product (own).
+use Rattle.std.specs.Prelude.{◌≡◌, ℕ, ◌<◌, Bool, if◌then◌else◌, Some, None, List, [], ◌∷◌, Option, length, map, slice_index}
+use Rattle.grb_core.specs.declared.value.Value.{Value}
+use Rattle.grb_core.specs.Entries.{VectorEntries, MatrixEntries, cell_cmp, before_entries, map_on, restricted}
+use Rattle.grb_core.specs.Mask.{is_selected}
+use Rattle.grb_core.specs.Results.{columns_of, column_of, product_of, mxm_of}
 use Rattle.grb_core.specs.Semiring.{SemiringParts}
 
 -- a row with each column of a matrix
@@ -19,3 +21,21 @@ renamed name m = map (λ e. (name e.0, e.1)) m
 -- numbers of which each is above those before it
 abbrev pub Rise : List ℕ → Type 0
 Rise names = (i j : ℕ) → i < j → j < length names → slice_index names i < slice_index names j
+
+-- at the number of each row a table has its place
+abbrev pub IsTable : List ℕ → List ℕ → Type 0
+IsTable rows table = (k : ℕ) → k < length rows → (slice_index rows k < length table) × (slice_index table (slice_index rows k) ≡ k)
+
+-- what stands at these places, each at its name
+abbrev pub picked : (ℕ → ℕ) → (ℕ → Option Value) → List ℕ → VectorEntries
+picked name at [] = []
+picked name at (p ∷ ps) = before_entries (name p) (at p) (picked name at ps)
+
+-- the product of two matrices at the cells that a mask selects; at all, where there is no mask
+abbrev pub selected_product : SemiringParts → Bool → Option MatrixEntries → MatrixEntries → MatrixEntries → MatrixEntries
+selected_product s structure None a b = mxm_of s a b
+selected_product s structure (Some mask) a b = restricted (is_selected cell_cmp structure (Some mask)) (mxm_of s a b)
+
+-- the mask that bounds the work: none, where its complement is meant
+abbrev pub bounding : Bool → Option MatrixEntries → Option MatrixEntries
+bounding comp mask = if comp then None else mask

@@ -7,11 +7,19 @@
 
 mod bits;
 mod gustavson;
+mod laws;
+mod mask_rows;
+mod masked;
+mod masked_rows;
+mod masked_whole;
 mod multiply;
+mod places;
 mod ranked;
 mod ranks;
 mod rows;
 #[cfg(test)]
 mod tests;
+mod whole;
 
+pub use laws::{a_total_is_that_of_the_rows, mxv_is_mxm_with_one_column};
 pub use multiply::mxm;

@@ -1,5 +1,5 @@
 //! The product of two matrices.
-ghost use Rattle.std.specs.Prelude.{◌≡◌, length, true, IsTrue, IfOk, IfSome};
+ghost use Rattle.std.specs.Prelude.{◌≡◌, ◌<◌, ◌^◌, length, true, All, IsTrue, IfOk, IfSome};
 ghost use Rattle.std.specs.Option.{option_map};
 ghost use Rattle.std.specs.FinMap.{is_sorted};
 ghost use Rattle.grb_core.specs.declared.domain.Domain.TheVariants as domain;
@@ -13,11 +13,11 @@ ghost use Rattle.grb_core.specs.Written.{AccumulatesIn, written};
 ghost use Rattle.grb_core.specs.Results.{mxm_of};
 ghost use Rattle.grb_rows.specs.Cells.{decoded, IsFlat};
 ghost use Rattle.grb_ops.specs.Rows.{flat_entries};
+ghost use Rattle.grb_multiply.specs.Rows.{selected_product, bounding};
 
-use crate::bits::clear_all;
-use crate::ranked::RankedRows;
-use crate::ranks::{distinct, ranks_of};
-use crate::rows::{MadeRows, multiply_rows};
+use crate::masked_whole::multiply_masked;
+use crate::rows::MadeRows;
+use crate::whole::multiply_whole;
 use grb_call::Descriptor;
 use grb_core::{BinaryOp, Domain, Monoid, Semiring};
 use grb_kernels::Operator;
@@ -29,72 +29,42 @@ use grb_products::{MonoidOver, Stored};
 use grb_rows::FlatRows;
 use grb_sparse::SparseMatrix;
 use std::alloc::{AllocError, Global};
-use std::marker::PhantomData;
 
-/// The product of two matrices, the columns of the second of which have ranks. Takes memory to work in, some places for each name.
-fn multiply_ranked<T: Stored + Drop, M: MonoidOver<T>, O: Operator<T>>(
-    alloc: Global,
-    a: &FlatRows,
-    b: &RankedRows<T>,
-) -> Result<MadeRows<T>, AllocError>
-    requires domain { a.now.domain ≡ T.domain }
-    requires ordered { IsTrue (is_sorted cell_cmp (decoded a.now.entries)) }
-    ensures flat { IfOk result (λ made. IsFlat made.rows.items made.starts.items made.columns.items) }
-    ensures same { IfOk result (λ made. length made.values.items ≡ length made.columns.items) }
-    ensures entries { IfOk result (λ made. flat_entries T.value made.rows.items made.starts.items made.columns.items made.values.items ≡ mxm_of (record { monoid = M.monoid; op = O.op }) (decoded a.now.entries) (decoded b.now.lists.now.entries)) }
-{
-    let count = b.names.len();
-    let mut marks = vec![in alloc; false; count]?;
-    let mut sums = vec![in alloc; T::any(); count]?;
-    let mut words = vec![in alloc; 0u64; count / 64 + 1]?;
-    let mut columns = vec![in alloc; 0u32; count]?;
-    let mut values = vec![in alloc; T::any(); count]?;
-    let open_sums = sums.as_mut_slice();
-    clear_all::<T, M>(open_sums);
-    let made = multiply_rows::<T, M, O>(
-        alloc,
-        a,
-        &*b,
-        marks.as_mut_slice(),
-        open_sums,
-        words.as_mut_slice(),
-        columns.as_mut_slice(),
-        values.as_mut_slice(),
-    )?;
-    Ok(made)
-}
-
-/// The product of two matrices, by a monoid and an operator as types.
+/// The product of two matrices at the cells that a mask selects, by a monoid and an operator as types; at all cells, where there is no
+/// mask.
 fn multiply<T: Stored + Drop, M: MonoidOver<T>, O: Operator<T>>(
     alloc: Global,
+    ncols: u64,
+    structure: bool,
+    mask: Option<&FlatRows>,
     a: &FlatRows,
     b: &FlatRows,
 ) -> Result<MadeRows<T>, AllocError>
+    requires few { ncols < 2 ^ 32 }
     requires a_domain { a.now.domain ≡ T.domain }
     requires b_domain { b.now.domain ≡ T.domain }
     requires a_ordered { IsTrue (is_sorted cell_cmp (decoded a.now.entries)) }
     requires b_ordered { IsTrue (is_sorted cell_cmp (decoded b.now.entries)) }
+    requires mask_ordered { IfSome mask (λ m. IsTrue (is_sorted cell_cmp (decoded m.now.entries))) }
+    requires in_range { All (λ e. e.0.1 < ncols) (decoded b.now.entries) }
+    requires mask_in_range { IfSome mask (λ m. All (λ e. e.0.1 < ncols) (decoded m.now.entries)) }
     ensures flat { IfOk result (λ made. IsFlat made.rows.items made.starts.items made.columns.items) }
     ensures same { IfOk result (λ made. length made.values.items ≡ length made.columns.items) }
-    ensures entries { IfOk result (λ made. flat_entries T.value made.rows.items made.starts.items made.columns.items made.values.items ≡ mxm_of (record { monoid = M.monoid; op = O.op }) (decoded a.now.entries) (decoded b.now.entries)) }
+    ensures entries { IfOk result (λ made. flat_entries T.value made.rows.items made.starts.items made.columns.items made.values.items ≡ selected_product (record { monoid = M.monoid; op = O.op }) structure (option_map (λ m. decoded m.now.entries) mask.entry) (decoded a.now.entries) (decoded b.now.entries)) }
 {
-    let columns = b.columns();
-    let names = distinct(alloc, columns)?;
-    let ranks = ranks_of(alloc, columns, names.as_slice())?;
-    let ranked: RankedRows<T> = RankedRows {
-        lists: b,
-        ranks: ranks.as_slice(),
-        names: names.as_slice(),
-        of: PhantomData,
-    };
-    let made = multiply_ranked::<T, M, O>(alloc, a, &ranked)?;
-    Ok(made)
+    match mask {
+        None => multiply_whole::<T, M, O>(alloc, ncols, a, b),
+        Some(mask) => multiply_masked::<T, M, O>(alloc, ncols, structure, mask, a, b),
+    }
 }
 
 /// The same of truth values, by a monoid as a type.
 fn multiply_bools_by<M: MonoidOver<bool>>(
     alloc: Global,
     op: BinaryOp,
+    ncols: u64,
+    structure: bool,
+    mask: Option<&FlatRows>,
     a: &FlatRows,
     b: &FlatRows,
 ) -> Result<MadeRows<bool>, AllocError>
@@ -103,17 +73,23 @@ fn multiply_bools_by<M: MonoidOver<bool>>(
     requires b_domain { b.now.domain ≡ Domain.Bool }
     requires a_ordered { IsTrue (is_sorted cell_cmp (decoded a.now.entries)) }
     requires b_ordered { IsTrue (is_sorted cell_cmp (decoded b.now.entries)) }
+    requires few { ncols < 2 ^ 32 }
+    requires mask_ordered { IfSome mask (λ m. IsTrue (is_sorted cell_cmp (decoded m.now.entries))) }
+    requires in_range { All (λ e. e.0.1 < ncols) (decoded b.now.entries) }
+    requires mask_in_range { IfSome mask (λ m. All (λ e. e.0.1 < ncols) (decoded m.now.entries)) }
     ensures flat { IfOk result (λ made. IsFlat made.rows.items made.starts.items made.columns.items) }
     ensures same { IfOk result (λ made. length made.values.items ≡ length made.columns.items) }
-    ensures entries { IfOk result (λ made. flat_entries (λ b. value.Bool b) made.rows.items made.starts.items made.columns.items made.values.items ≡ mxm_of (record { monoid = M.monoid; op = op }) (decoded a.now.entries) (decoded b.now.entries)) }
+    ensures entries { IfOk result (λ made. flat_entries (λ b. value.Bool b) made.rows.items made.starts.items made.columns.items made.values.items ≡ selected_product (record { monoid = M.monoid; op = op }) structure (option_map (λ m. decoded m.now.entries) mask.entry) (decoded a.now.entries) (decoded b.now.entries)) }
 {
     match op {
-        BinaryOp::Lor => multiply::<bool, M, Lor>(alloc, a, b),
-        BinaryOp::Land => multiply::<bool, M, Land>(alloc, a, b),
-        BinaryOp::Lxor => multiply::<bool, M, Lxor>(alloc, a, b),
-        BinaryOp::Lxnor => multiply::<bool, M, Lxnor>(alloc, a, b),
-        BinaryOp::FirstBool => multiply::<bool, M, FirstBool>(alloc, a, b),
-        BinaryOp::SecondBool => multiply::<bool, M, SecondBool>(alloc, a, b),
+        BinaryOp::Lor => multiply::<bool, M, Lor>(alloc, ncols, structure, mask, a, b),
+        BinaryOp::Land => multiply::<bool, M, Land>(alloc, ncols, structure, mask, a, b),
+        BinaryOp::Lxor => multiply::<bool, M, Lxor>(alloc, ncols, structure, mask, a, b),
+        BinaryOp::Lxnor => multiply::<bool, M, Lxnor>(alloc, ncols, structure, mask, a, b),
+        BinaryOp::FirstBool => multiply::<bool, M, FirstBool>(alloc, ncols, structure, mask, a, b),
+        BinaryOp::SecondBool => multiply::<bool, M, SecondBool>(
+            alloc, ncols, structure, mask, a, b,
+        ),
         BinaryOp::Plus
         | BinaryOp::Times
         | BinaryOp::Min
@@ -128,6 +104,9 @@ fn multiply_bools_by<M: MonoidOver<bool>>(
 fn multiply_numbers_by<M: MonoidOver<u64>>(
     alloc: Global,
     op: BinaryOp,
+    ncols: u64,
+    structure: bool,
+    mask: Option<&FlatRows>,
     a: &FlatRows,
     b: &FlatRows,
 ) -> Result<MadeRows<u64>, AllocError>
@@ -136,18 +115,22 @@ fn multiply_numbers_by<M: MonoidOver<u64>>(
     requires b_domain { b.now.domain ≡ Domain.Uint64 }
     requires a_ordered { IsTrue (is_sorted cell_cmp (decoded a.now.entries)) }
     requires b_ordered { IsTrue (is_sorted cell_cmp (decoded b.now.entries)) }
+    requires few { ncols < 2 ^ 32 }
+    requires mask_ordered { IfSome mask (λ m. IsTrue (is_sorted cell_cmp (decoded m.now.entries))) }
+    requires in_range { All (λ e. e.0.1 < ncols) (decoded b.now.entries) }
+    requires mask_in_range { IfSome mask (λ m. All (λ e. e.0.1 < ncols) (decoded m.now.entries)) }
     ensures flat { IfOk result (λ made. IsFlat made.rows.items made.starts.items made.columns.items) }
     ensures same { IfOk result (λ made. length made.values.items ≡ length made.columns.items) }
-    ensures entries { IfOk result (λ made. flat_entries (λ n. value.Uint64 n) made.rows.items made.starts.items made.columns.items made.values.items ≡ mxm_of (record { monoid = M.monoid; op = op }) (decoded a.now.entries) (decoded b.now.entries)) }
+    ensures entries { IfOk result (λ made. flat_entries (λ n. value.Uint64 n) made.rows.items made.starts.items made.columns.items made.values.items ≡ selected_product (record { monoid = M.monoid; op = op }) structure (option_map (λ m. decoded m.now.entries) mask.entry) (decoded a.now.entries) (decoded b.now.entries)) }
 {
     match op {
-        BinaryOp::Plus => multiply::<u64, M, Plus>(alloc, a, b),
-        BinaryOp::Times => multiply::<u64, M, Times>(alloc, a, b),
-        BinaryOp::Min => multiply::<u64, M, Min>(alloc, a, b),
-        BinaryOp::Max => multiply::<u64, M, Max>(alloc, a, b),
-        BinaryOp::Minus => multiply::<u64, M, Minus>(alloc, a, b),
-        BinaryOp::First => multiply::<u64, M, First>(alloc, a, b),
-        BinaryOp::Second => multiply::<u64, M, Second>(alloc, a, b),
+        BinaryOp::Plus => multiply::<u64, M, Plus>(alloc, ncols, structure, mask, a, b),
+        BinaryOp::Times => multiply::<u64, M, Times>(alloc, ncols, structure, mask, a, b),
+        BinaryOp::Min => multiply::<u64, M, Min>(alloc, ncols, structure, mask, a, b),
+        BinaryOp::Max => multiply::<u64, M, Max>(alloc, ncols, structure, mask, a, b),
+        BinaryOp::Minus => multiply::<u64, M, Minus>(alloc, ncols, structure, mask, a, b),
+        BinaryOp::First => multiply::<u64, M, First>(alloc, ncols, structure, mask, a, b),
+        BinaryOp::Second => multiply::<u64, M, Second>(alloc, ncols, structure, mask, a, b),
         BinaryOp::Lor
         | BinaryOp::Land
         | BinaryOp::Lxor
@@ -161,6 +144,9 @@ fn multiply_numbers_by<M: MonoidOver<u64>>(
 fn multiply_bools(
     alloc: Global,
     semiring: Semiring,
+    ncols: u64,
+    structure: bool,
+    mask: Option<&FlatRows>,
     a: &FlatRows,
     b: &FlatRows,
 ) -> Result<MadeRows<bool>, AllocError>
@@ -170,15 +156,43 @@ fn multiply_bools(
     requires b_domain { b.now.domain ≡ Domain.Bool }
     requires a_ordered { IsTrue (is_sorted cell_cmp (decoded a.now.entries)) }
     requires b_ordered { IsTrue (is_sorted cell_cmp (decoded b.now.entries)) }
+    requires few { ncols < 2 ^ 32 }
+    requires mask_ordered { IfSome mask (λ m. IsTrue (is_sorted cell_cmp (decoded m.now.entries))) }
+    requires in_range { All (λ e. e.0.1 < ncols) (decoded b.now.entries) }
+    requires mask_in_range { IfSome mask (λ m. All (λ e. e.0.1 < ncols) (decoded m.now.entries)) }
     ensures flat { IfOk result (λ made. IsFlat made.rows.items made.starts.items made.columns.items) }
     ensures same { IfOk result (λ made. length made.values.items ≡ length made.columns.items) }
-    ensures entries { IfOk result (λ made. flat_entries (λ b. value.Bool b) made.rows.items made.starts.items made.columns.items made.values.items ≡ mxm_of semiring (decoded a.now.entries) (decoded b.now.entries)) }
+    ensures entries { IfOk result (λ made. flat_entries (λ b. value.Bool b) made.rows.items made.starts.items made.columns.items made.values.items ≡ selected_product semiring structure (option_map (λ m. decoded m.now.entries) mask.entry) (decoded a.now.entries) (decoded b.now.entries)) }
 {
     match semiring.monoid() {
-        Monoid::Lor => multiply_bools_by::<Lor>(alloc, semiring.op(), a, b),
-        Monoid::Land => multiply_bools_by::<Land>(alloc, semiring.op(), a, b),
-        Monoid::Lxor => multiply_bools_by::<Lxor>(alloc, semiring.op(), a, b),
-        Monoid::Lxnor => multiply_bools_by::<Lxnor>(alloc, semiring.op(), a, b),
+        Monoid::Lor => multiply_bools_by::<Lor>(alloc, semiring.op(), ncols, structure, mask, a, b),
+        Monoid::Land => multiply_bools_by::<Land>(
+            alloc,
+            semiring.op(),
+            ncols,
+            structure,
+            mask,
+            a,
+            b,
+        ),
+        Monoid::Lxor => multiply_bools_by::<Lxor>(
+            alloc,
+            semiring.op(),
+            ncols,
+            structure,
+            mask,
+            a,
+            b,
+        ),
+        Monoid::Lxnor => multiply_bools_by::<Lxnor>(
+            alloc,
+            semiring.op(),
+            ncols,
+            structure,
+            mask,
+            a,
+            b,
+        ),
         Monoid::Plus | Monoid::Times | Monoid::Min | Monoid::Max => unreachable!(),
     }
 }
@@ -187,6 +201,9 @@ fn multiply_bools(
 fn multiply_numbers(
     alloc: Global,
     semiring: Semiring,
+    ncols: u64,
+    structure: bool,
+    mask: Option<&FlatRows>,
     a: &FlatRows,
     b: &FlatRows,
 ) -> Result<MadeRows<u64>, AllocError>
@@ -196,15 +213,51 @@ fn multiply_numbers(
     requires b_domain { b.now.domain ≡ Domain.Uint64 }
     requires a_ordered { IsTrue (is_sorted cell_cmp (decoded a.now.entries)) }
     requires b_ordered { IsTrue (is_sorted cell_cmp (decoded b.now.entries)) }
+    requires few { ncols < 2 ^ 32 }
+    requires mask_ordered { IfSome mask (λ m. IsTrue (is_sorted cell_cmp (decoded m.now.entries))) }
+    requires in_range { All (λ e. e.0.1 < ncols) (decoded b.now.entries) }
+    requires mask_in_range { IfSome mask (λ m. All (λ e. e.0.1 < ncols) (decoded m.now.entries)) }
     ensures flat { IfOk result (λ made. IsFlat made.rows.items made.starts.items made.columns.items) }
     ensures same { IfOk result (λ made. length made.values.items ≡ length made.columns.items) }
-    ensures entries { IfOk result (λ made. flat_entries (λ n. value.Uint64 n) made.rows.items made.starts.items made.columns.items made.values.items ≡ mxm_of semiring (decoded a.now.entries) (decoded b.now.entries)) }
+    ensures entries { IfOk result (λ made. flat_entries (λ n. value.Uint64 n) made.rows.items made.starts.items made.columns.items made.values.items ≡ selected_product semiring structure (option_map (λ m. decoded m.now.entries) mask.entry) (decoded a.now.entries) (decoded b.now.entries)) }
 {
     match semiring.monoid() {
-        Monoid::Plus => multiply_numbers_by::<Plus>(alloc, semiring.op(), a, b),
-        Monoid::Times => multiply_numbers_by::<Times>(alloc, semiring.op(), a, b),
-        Monoid::Min => multiply_numbers_by::<Min>(alloc, semiring.op(), a, b),
-        Monoid::Max => multiply_numbers_by::<Max>(alloc, semiring.op(), a, b),
+        Monoid::Plus => multiply_numbers_by::<Plus>(
+            alloc,
+            semiring.op(),
+            ncols,
+            structure,
+            mask,
+            a,
+            b,
+        ),
+        Monoid::Times => multiply_numbers_by::<Times>(
+            alloc,
+            semiring.op(),
+            ncols,
+            structure,
+            mask,
+            a,
+            b,
+        ),
+        Monoid::Min => multiply_numbers_by::<Min>(
+            alloc,
+            semiring.op(),
+            ncols,
+            structure,
+            mask,
+            a,
+            b,
+        ),
+        Monoid::Max => multiply_numbers_by::<Max>(
+            alloc,
+            semiring.op(),
+            ncols,
+            structure,
+            mask,
+            a,
+            b,
+        ),
         Monoid::Lor | Monoid::Land | Monoid::Lxor | Monoid::Lxnor => unreachable!(),
     }
 }
@@ -233,10 +286,12 @@ fn keep_numbers(alloc: Global, nrows: u64, ncols: u64, made: MadeRows<u64>) -> S
     SparseMatrix::from_lists(alloc, nrows, ncols, lists)
 }
 
-/// The product of two matrices, as a matrix.
+/// The product of two matrices at the cells that a mask selects, as a matrix; at all cells, where there is no mask.
 fn product(
     alloc: Global,
     semiring: Semiring,
+    structure: bool,
+    mask: Option<&FlatRows>,
     a: &SparseMatrix,
     b: &SparseMatrix,
 ) -> Result<SparseMatrix, AllocError>
@@ -245,20 +300,74 @@ fn product(
     requires a_domain { a.now.matrix.domain ≡ op_domain semiring.op }
     requires b_domain { b.now.matrix.domain ≡ op_domain semiring.op }
     requires inner { a.now.matrix.ncols ≡ b.now.matrix.nrows }
-    ensures matrix { IfOk result (λ made. made.matrix ≡ record { domain = a.now.matrix.domain; nrows = a.now.matrix.nrows; ncols = b.now.matrix.ncols; entries = mxm_of semiring a.now.matrix.entries b.now.matrix.entries }) }
+    requires mask_ordered { IfSome mask (λ m. IsTrue (is_sorted cell_cmp (decoded m.now.entries))) }
+    requires mask_in_range { IfSome mask (λ m. All (λ e. e.0.1 < b.now.matrix.ncols) (decoded m.now.entries)) }
+    ensures matrix { IfOk result (λ made. made.matrix ≡ record { domain = a.now.matrix.domain; nrows = a.now.matrix.nrows; ncols = b.now.matrix.ncols; entries = selected_product semiring structure (option_map (λ m. decoded m.now.entries) mask.entry) a.now.matrix.entries b.now.matrix.entries }) }
     ensures assembled { IfOk result (λ made. made.assembled ≡ true) }
 {
     let (nrows, _inner) = a.dims();
     let (_rows, ncols) = b.dims();
     match semiring.domain() {
         Domain::Bool => {
-            let made = multiply_bools(alloc, semiring, a.lists(), b.lists())?;
+            let made = multiply_bools(
+                alloc,
+                semiring,
+                ncols,
+                structure,
+                mask,
+                a.lists(),
+                b.lists(),
+            )?;
             Ok(keep_bools(alloc, nrows, ncols, made))
         }
         Domain::Uint64 => {
-            let made = multiply_numbers(alloc, semiring, a.lists(), b.lists())?;
+            let made = multiply_numbers(
+                alloc,
+                semiring,
+                ncols,
+                structure,
+                mask,
+                a.lists(),
+                b.lists(),
+            )?;
             Ok(keep_numbers(alloc, nrows, ncols, made))
         }
+    }
+}
+
+/// The product of two matrices as far as the mask asks for it: at the cells that it selects, or at all, where there is none or its
+/// complement is meant.
+fn wanted_product(
+    alloc: Global,
+    mask: Option<&SparseMatrix>,
+    semiring: Semiring,
+    a: &SparseMatrix,
+    b: &SparseMatrix,
+    descriptor: Descriptor,
+) -> Result<SparseMatrix, AllocError>
+    requires a_assembled { a.now.assembled ≡ true }
+    requires b_assembled { b.now.assembled ≡ true }
+    requires mask_assembled { IfSome mask (λ m. m.now.assembled ≡ true) }
+    requires a_domain { a.now.matrix.domain ≡ op_domain semiring.op }
+    requires b_domain { b.now.matrix.domain ≡ op_domain semiring.op }
+    requires inner { a.now.matrix.ncols ≡ b.now.matrix.nrows }
+    requires mask_columns { IfSome mask (λ m. m.now.matrix.ncols ≡ b.now.matrix.ncols) }
+    ensures matrix { IfOk result (λ made. made.matrix ≡ record { domain = a.now.matrix.domain; nrows = a.now.matrix.nrows; ncols = b.now.matrix.ncols; entries = selected_product semiring descriptor.structure (bounding descriptor.comp (option_map (λ m. m.now.matrix.entries) mask.entry)) a.now.matrix.entries b.now.matrix.entries }) }
+    ensures assembled { IfOk result (λ made. made.assembled ≡ true) }
+{
+    if descriptor.comp {
+        return product(alloc, semiring, descriptor.structure, None, a, b);
+    }
+    match mask {
+        None => product(alloc, semiring, descriptor.structure, None, a, b),
+        Some(mask) => product(
+            alloc,
+            semiring,
+            descriptor.structure,
+            Some(mask.lists()),
+            a,
+            b,
+        ),
     }
 }
 
@@ -267,9 +376,13 @@ fn product(
 /// and the descriptor. `AllocError` where memory is refused.
 ///
 /// All are of one domain, the mask aside; `b` has one row for each column of `a`, and the output and the mask have the rows of `a` and the
-/// columns of `b`. Time is in proportion to the products that there are, with a binary search for each entry of `a` and of `b`, and for
-/// each row of `a` one step for 64 columns in which `b` stores something; a mask saves no work. Memory is in proportion to the entries of
-/// `b` and of the product.
+/// columns of `b`. A mask that is given and not complemented bounds the work: sums are made at the cells that it selects alone, for the
+/// rows in which it stores something, in time in proportion to the products that are looked at and to the mask's entries. Else time is in
+/// proportion to the products that there are, and for each row of `a` one step for 64 columns.
+///
+/// Work arrays of one place for each column are made where that is no more than 8 times the entries of `a` and `b`; else the columns in
+/// which `b` or the mask stores something are numbered first, by a sort and a binary search for each entry. A row is found by a table that
+/// is no longer than 8 times the entries, else by a binary search. Memory is in proportion to the entries of all and of the product.
 ///
 /// Source: GraphBLAS C API 2.0, "mxm".
 pub fn mxm(
@@ -298,6 +411,7 @@ pub fn mxm(
     ensures matrix { IfOk result (λ made. made.matrix ≡ edited_matrix (λ c. written cell_cmp (is_inside cell_cmp descriptor.structure descriptor.comp (option_map (λ m. m.now.matrix.entries) mask.entry)) descriptor.replace accum c (mxm_of semiring a.now.matrix.entries b.now.matrix.entries)) output.now.matrix) }
     ensures assembled { IfOk result (λ made. made.assembled ≡ true) }
 {
-    let computed = product(alloc, semiring, a, b)?;
-    write_masked_matrix(alloc, output, mask, accum, descriptor, computed)
+    let computed = wanted_product(alloc, mask, semiring, a, b, descriptor)?;
+    let made = write_masked_matrix(alloc, output, mask, accum, descriptor, computed)?;
+    Ok(made)
 }

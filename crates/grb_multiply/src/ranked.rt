@@ -5,26 +5,29 @@ ghost use Rattle.grb_core.specs.Entries.{cell_cmp};
 ghost use Rattle.grb_core.specs.Results.{row_of};
 ghost use Rattle.grb_kernels.specs.Typed.{entries_of};
 ghost use Rattle.grb_rows.specs.Cells.{decoded};
-ghost use Rattle.grb_multiply.specs.Rows.{name_in, renamed, Rise};
+ghost use Rattle.grb_multiply.specs.Rows.{name_in, renamed, Rise, IsTable};
 
+use crate::places::place_in;
 use grb_kernels::EntrySlice;
-use grb_products::{Stored, place_of};
+use grb_products::Stored;
 use grb_rows::FlatRows;
 use std::marker::PhantomData;
 
 /// A matrix whose columns have ranks: `names` has the columns, each once and in rising order, and `ranks` for each entry the place of its
-/// column there. A column of `names` in which nothing is stored does no harm.
+/// column there. A column of `names` in which nothing is stored does no harm. `table` has the places of the rows, or is empty.
 #[derive(Drop)]
 pub(crate) struct RankedRows<'a, T: Stored> {
     pub(crate) lists: &'a FlatRows,
     pub(crate) ranks: &'a [u32],
     pub(crate) names: &'a [u32],
+    pub(crate) table: &'a [u32],
     pub(crate) of: PhantomData<T>,
     ghost domain: { lists.now.domain ≡ T.domain },
     ghost ordered: { IsTrue (is_sorted cell_cmp (decoded lists.now.entries)) },
     ghost in_range: { All (λ r. r < length names.now) ranks.now },
     ghost named: { map (name_in names.now) ranks.now ≡ map (λ e. e.0.1) (decoded lists.now.entries) },
     ghost rising: { Rise names.now },
+    ghost tabled: { 0 < length table.now → IsTable lists.now.rows table.now },
 }
 
 /// Where the entries of the `k`th row end: where the next one starts, or else at the end of all.
@@ -51,7 +54,7 @@ fn part(list: &[u32], start: usize, end: usize) -> &[u32]
 }
 
 /// The `k`th row that has entries, by the ranks of its columns.
-fn row_at<'a, T: Stored>(
+pub(crate) fn row_at<'a, T: Stored>(
     lists: &'a FlatRows,
     ranks: &'a [u32],
     names: &[u32],
@@ -80,7 +83,7 @@ impl<'a, T: Stored> RankedRows<'a, T> {
         ensures in_range { All (λ r. r < length self.now.names.now) result.indices.now }
         ensures entries { renamed (name_in self.now.names.now) (entries_of T.value result.indices.now result.values.now) ≡ row_of number (decoded self.now.lists.now.entries) }
     {
-        if let Some(k) = place_of(self.lists.rows(), number) {
+        if let Some(k) = place_in(self.lists.rows(), self.table, number) {
             return row_at(self.lists, self.ranks, self.names, k);
         }
         EntrySlice {

@@ -1,18 +1,44 @@
 //! The columns of a matrix that store something, numbered from 0 on.
-ghost use Rattle.std.specs.Prelude.{◌≡◌, ◌<◌, ℕ, length, map, slice_index, All, IfOk};
+ghost use Rattle.std.specs.Prelude.{◌≡◌, ◌<◌, ◌≤◌, ◌^◌, ℕ, length, map, slice_index, All, IfOk};
 ghost use Rattle.std.specs.List.{Contains};
 ghost use Rattle.grb_multiply.specs.Rows.{name_in, Rise};
 
 use grb_products::place_of;
 use std::alloc::{AllocError, Global};
 
-/// The numbers of a list, each once and in rising order.
-pub(crate) fn distinct(alloc: Global, columns: &[u32]) -> Result<Vec<u32>, AllocError>
+/// Writes at each place its number.
+fn fill_numbers(names: &mut [u32])
+    requires few { length names.old ≤ 2 ^ 32 }
+    ensures { (p : ℕ) → p < length names.new → slice_index names.new p ≡ p }
+{
+    'places: for p in 0..names.len() {
+        names[p] = p as u32;
+    }
+}
+
+/// The numbers below `count`.
+pub(crate) fn numbers_below(alloc: Global, count: u32) -> Result<Vec<u32>, AllocError>
+    ensures long { IfOk result (λ names. length names.items ≡ count) }
+    ensures each { IfOk result (λ names. (p : ℕ) → p < count → slice_index names.items p ≡ p) }
+{
+    let mut names = vec![in alloc; 0u32; count as usize]?;
+    fill_numbers(names.as_mut_slice());
+    Ok(names)
+}
+
+/// The numbers of two lists, each once and in rising order.
+pub(crate) fn distinct(
+    alloc: Global,
+    columns: &[u32],
+    others: &[u32],
+) -> Result<Vec<u32>, AllocError>
     ensures rising { IfOk result (λ names. Rise names.items) }
     ensures all { IfOk result (λ names. (j : ℕ) → Contains columns.now j → Contains names.items j) }
+    ensures others { IfOk result (λ names. (j : ℕ) → Contains others.now j → Contains names.items j) }
 {
     let mut names = Vec::new(alloc);
     names.extend_from_slice(columns)?;
+    names.extend_from_slice(others)?;
     names.sort_unstable();
     names.dedup();
     Ok(names)

@@ -25,7 +25,7 @@ pub(crate) struct MadeRows<T> {
 }
 
 /// Puts a row behind those so far, where it has entries.
-fn push_row<T: Stored>(
+pub(crate) fn push_row<T: Stored>(
     rows: &mut Vec<u32>,
     starts: &mut Vec<usize>,
     columns: &mut Vec<u32>,

@@ -1,11 +1,13 @@
 //! How what was computed goes into a matrix: the accumulator, and then the mask with replace.
-ghost use Rattle.std.specs.Prelude.{◌≡◌, true, [], Some, None, IsTrue, IfOk, IfSome};
+ghost use Rattle.std.specs.Prelude.{◌≡◌, not, true, false, [], Some, None, IsTrue, IfOk, IfSome};
 ghost use Rattle.std.specs.Option.{option_map};
 ghost use Rattle.std.specs.FinMap.{is_sorted};
+ghost use Rattle.grb_core.specs.Operator.{op_domain};
 ghost use Rattle.grb_core.specs.Entries.{cell_cmp};
 ghost use Rattle.grb_core.specs.Contents.{IsMatrix, edited_matrix};
 ghost use Rattle.grb_core.specs.Mask.{is_inside};
-ghost use Rattle.grb_core.specs.Written.{AccumulatesIn, accumulated, masked, written};
+ghost use Rattle.grb_core.specs.Written.{AccumulatesIn, accumulated, pointwise, masked, written};
+ghost use Rattle.grb_kernels.specs.Masked.{by_mask};
 ghost use Rattle.grb_rows.specs.Cells.{decoded};
 
 use crate::ewise_matrix::{PairedRows, pair_matrices};
@@ -44,6 +46,28 @@ fn accumulate(
     }
 }
 
+/// What the mask lets in of flat lists.
+fn rows_inside<T: StoredRows + Drop, M: StoredRows>(
+    alloc: Global,
+    reading: MaskReading,
+    mask: &FlatRows,
+    made: &FlatRows,
+) -> Result<FlatRows, AllocError>
+    requires mask_domain { mask.now.domain ≡ M.domain }
+    requires made_domain { made.now.domain ≡ T.domain }
+    requires mask_ordered { IsTrue (is_sorted cell_cmp (decoded mask.now.entries)) }
+    requires made_ordered { IsTrue (is_sorted cell_cmp (decoded made.now.entries)) }
+    ensures entries { IfOk result (λ inside. decoded inside.entries ≡ pointwise cell_cmp (by_mask reading.structure (not reading.comp)) (decoded made.now.entries) (decoded mask.now.entries)) }
+    ensures ordered { IfOk result (λ inside. IsTrue (is_sorted cell_cmp (decoded inside.entries))) }
+    ensures domain { IfOk result (λ inside. inside.domain ≡ T.domain) }
+{
+    let keep_inside = ByMask {
+        structure: reading.structure,
+        wanted: !reading.comp,
+    };
+    merge_rows::<T, M, ByMask>(alloc, &keep_inside, made, mask)
+}
+
 /// The flat lists of the new output by a mask: inside it what `made` has, outside what `output` has, or with `replace` nothing.
 fn mask_rows<T: StoredRows + Drop, M: StoredRows>(
     alloc: Global,
@@ -62,11 +86,7 @@ fn mask_rows<T: StoredRows + Drop, M: StoredRows>(
     ensures entries { IfOk result (λ new. decoded new.entries ≡ masked cell_cmp (is_inside cell_cmp reading.structure reading.comp (Some (decoded mask.now.entries))) replace (decoded output.now.entries) (decoded made.now.entries)) }
     ensures domain { IfOk result (λ new. new.domain ≡ T.domain) }
 {
-    let keep_inside = ByMask {
-        structure: reading.structure,
-        wanted: !reading.comp,
-    };
-    let inside = merge_rows::<T, M, ByMask>(alloc, &keep_inside, made, mask)?;
+    let inside = rows_inside::<T, M>(alloc, reading, mask, made)?;
     if replace {
         return Ok(inside);
     }
@@ -77,6 +97,31 @@ fn mask_rows<T: StoredRows + Drop, M: StoredRows>(
     let outside = merge_rows::<T, M, ByMask>(alloc, &keep_outside, output, mask)?;
     let both = merge_rows::<T, T, Over>(alloc, &Over, &inside, &outside)?;
     Ok(both)
+}
+
+/// The flat lists of the new output by the accumulator, where what lies outside of the mask stays: what is inside of the result alone goes
+/// into the old output, which is read once.
+fn accumulate_inside<T: PairedRows + Drop, M: StoredRows>(
+    alloc: Global,
+    op: BinaryOp,
+    reading: MaskReading,
+    mask: &FlatRows,
+    output: &FlatRows,
+    computed: &FlatRows,
+) -> Result<FlatRows, AllocError>
+    requires op_domain { op_domain op ≡ T.domain }
+    requires mask_domain { mask.now.domain ≡ M.domain }
+    requires output_domain { output.now.domain ≡ T.domain }
+    requires computed_domain { computed.now.domain ≡ T.domain }
+    requires mask_ordered { IsTrue (is_sorted cell_cmp (decoded mask.now.entries)) }
+    requires output_ordered { IsTrue (is_sorted cell_cmp (decoded output.now.entries)) }
+    requires computed_ordered { IsTrue (is_sorted cell_cmp (decoded computed.now.entries)) }
+    ensures entries { IfOk result (λ new. decoded new.entries ≡ written cell_cmp (is_inside cell_cmp reading.structure reading.comp (Some (decoded mask.now.entries))) false (Some op) (decoded output.now.entries) (decoded computed.now.entries)) }
+    ensures domain { IfOk result (λ new. new.domain ≡ T.domain) }
+{
+    let inside = rows_inside::<T, M>(alloc, reading, mask, computed)?;
+    let new = T::pair_rows(alloc, Pairing::Union, op, output, &inside)?;
+    Ok(new)
 }
 
 /// The flat lists of the new output by the accumulator and then by a mask.
@@ -102,6 +147,9 @@ fn write_rows<T: PairedRows + Drop, M: StoredRows>(
     match accum {
         None => mask_rows::<T, M>(alloc, reading, replace, mask, output, computed),
         Some(op) => {
+            if !replace {
+                return accumulate_inside::<T, M>(alloc, op, reading, mask, output, computed);
+            }
             let made = T::pair_rows(alloc, Pairing::Union, op, output, computed)?;
             let new = mask_rows::<T, M>(alloc, reading, replace, mask, output, &made)?;
             Ok(new)

@@ -1,14 +1,15 @@
 -- Why an answer is explained.
-use Rattle.std.proofs.Common.{◌≡◌, ℕ, ◌+◌, ◌^◌, ◌<◌, ◌≤◌, Bool, true, false, cond, List, [], ◌∷◌, ◌++◌, length, get_or, refl, sym, ap, ◌∙◌, subst, arith, append_assoc, inl, inr}
+use Rattle.std.proofs.Common.{◌≡◌, ◌≢◌, ℕ, ◌+◌, ◌^◌, ◌<◌, ◌≤◌, Bool, true, false, cond, List, [], ◌∷◌, ◌++◌, length, get_or, refl, sym, ap, ◌∙◌, subst, arith, append_assoc, inl, inr}
 use Rattle.std.specs.Prelude.{◌⊎◌, Option, Some, None, Result, Ok, Err, IfOk, OnErr, IsTrue}
 use Rattle.std.specs.Result.{result_or}
 use Rattle.std.specs.declared.alloc.AllocError.{AllocError}
 use Rattle.std.specs.Option.{option_map_or}
 use Rattle.std.proofs.lemmas.List.{append-nil, length_push, get_or_at}
+use Rattle.std.proofs.lemmas.List.Elements.{All-append}
 use Rattle.grb_core.specs.declared.refusal.Refusal.{Refusal}
 use Rattle.grb_core.specs.declared.refusal.Refusal.TheVariants.{OrderFull, OutOfMemory, Panic}
 use Rattle.grb_order.specs.Word.{order_word, number_of, StartsWith}
-use Rattle.grb_order.specs.View.{enters_word, learns, LookedLast}
+use Rattle.grb_order.specs.View.{enters_word, learns}
 use Rattle.grb_order.specs.declared.view.View.{View}
 use Rattle.grb_records.specs.Token.{Shown}
 use Rattle.grb_call.specs.declared.call.Call.{Call}
@@ -24,7 +25,7 @@ use Rattle.grb_call.proofs.ByShapes.{by_check}
 use Rattle.grb_call.proofs.Checked.{answer-err, answer-ok, refused-none, by_shapes-ok}
 use Rattle.grb_pass.specs.declared.learn.End.{End}
 use Rattle.grb_pass.specs.declared.learn.End.TheVariants.{Vacant, Full}
-use Rattle.grb_pass.specs.Known.{Knowing, known, spelled}
+use Rattle.grb_pass.specs.Known.{Knowing, known, spelled, IsOfOthers, IsOfPasses}
 use Rattle.grb_pass.specs.Point.{GrewTo, IsAtPoint}
 use Rattle.grb_pass.specs.Explains.{Answer, Ground, ByStore, ByRoom, ByMemory, ByRecords, ground_of, history_after, IsGrounded, IsOutOfMemory, MayLackMemory, ExplainsCall, IsCaughtUp}
 use Rattle.grb_pass.specs.Learning.{Learns, Finds, IsReady, IsRefused}
@@ -103,28 +104,20 @@ refused_by_room room old new c f writes e =
 pub refused_unshown : (room : ℕ) (old new : Knowing) (c : Call) (r : Refusal) → Finds room old (Err r) new → IsRefused room old new c r
 refused_unshown room old new c r f = subst (IsRefused room old new c) (sym f.0) (record { grounds = inl f.1; caught_up = tt })
 
-pub is_ready : (room : ℕ) (old new : Knowing) (c : Call) → Finds room old (Ok Vacant) new → refused (store_of (known new)) c ≡ None → IsReady room old new c
-is_ready room old new c f e = record {
-  all = f.0;
-  looked = looked_once old.view.looks new.view.looks (length new.view.words) f.1;
-  room_left = f.2;
-  unrefused = e;
-}
-
 -- the call's own record was not put: its cell did not take it, or memory was refused
-pub refused_put : (room : ℕ) (old new : Knowing) (c : Call) (r : Refusal) → (r ≡ Panic) ⊎ (r ≡ OutOfMemory) → enters c ≡ true → IsReady room old new c → IsRefused room old new c r
-refused_put room old new c r (inl is) writes ready =
+pub refused_put : (room : ℕ) (old new : Knowing) (c : Call) (r : Refusal) → (r ≡ Panic) ⊎ (r ≡ OutOfMemory) → enters c ≡ true → IsReady room new c → GrewTo old.view.looks new.view.looks (length new.view.words) → IsRefused room old new c r
+refused_put room old new c r (inl is) writes ready looked =
     let n : length (known new) ≡ length new.view.words = length_known new ready.all in
     let near : length (known new) < room = omega (arith, ready.room_left) in
     subst (IsRefused room old new c) (sym is)
-    (record { grounds = inr (record { point = point_looked room old new ready.all ready.looked; may = record { unrefused = ready.unrefused; enters = writes; room_left = near } }); caught_up = tt })
-refused_put room old new c r (inr is) writes ready =
+    (record { grounds = inr (record { point = point_looked room old new ready.all looked; may = record { unrefused = ready.unrefused; enters = writes; room_left = near } }); caught_up = tt })
+refused_put room old new c r (inr is) writes ready looked =
     let n : length (known new) ≡ length new.view.words = length_known new ready.all in
     let near : length (known new) < room = omega (arith, ready.room_left) in
     subst (IsRefused room old new c) (sym is)
     (record {
       grounds = record {
-        point = point_looked room old new ready.all ready.looked;
+        point = point_looked room old new ready.all looked;
         may = record {
           by_shapes = unrefused_by_shapes (store_of (known new)) c ready.unrefused;
           no_size = enters_no_size c writes;
@@ -165,22 +158,11 @@ module _ (room : ℕ) (a b c : Knowing) (call : Call) (first : Learns a b) where
   pub refused_before : (r : Refusal) → IsRefused room b c call r → IsRefused room a c call r
   refused_before r is = record { grounds = grounded_before (Err r) (known c) (ground_of (Err r)) is.grounds; caught_up = is.caught_up }
 
-  pub ready_before : IsReady room b c call → IsReady room a c call
-  ready_before is = record {
-    all = is.all;
-    looked = grew_before a.view.looks b.view.looks c.view.looks (length c.view.words) first.grown.looks is.looked;
-    room_left = is.room_left;
-    unrefused = is.unrefused;
-  }
-
 -- a lost try: the word of another pass is learnt
-pub learns_lost : (room : ℕ) (old mid lost : Knowing) (c : Call) (word : ℕ) → Learns old mid → IsReady room old mid c → lost.shown ≡ mid.shown → lost.view ≡ learns mid.view word → Learns old lost
+pub learns_lost : (room : ℕ) (old mid lost : Knowing) (c : Call) (word : ℕ) → Learns old mid → IsReady room mid c → lost.shown ≡ mid.shown → lost.view ≡ learns mid.view word → Learns old lost
 learns_lost room old mid lost c word l ready shown is =
     let all : length mid.shown ≡ length mid.view.words = ready.all in let few : length mid.shown ≤ length mid.view.words = omega arith in
     learns_then old mid lost l (learns_word mid lost few shown word is)
-
-pub looked_last : (old new : Knowing) → GrewTo old.view.looks new.view.looks (length new.view.words) → LookedLast new.view
-looked_last old new grew = (old.view.looks ++ grew.0, grew.1)
 
 -- a call that is refused where the pass learnt what it knows now
 pub explains_refused : (room : ℕ) (old new : Knowing) (c : Call) (r : Refusal) → Learns old new → IsRefused room old new c r → ExplainsCall room old new c (Err r)
@@ -192,6 +174,20 @@ explains_refused room old new c r l is = record {
   grounds = subst (λ (g : History). IsGrounded room old new c (Err r) g (ground_of (Err r))) l.known_is is.grounds;
   known_is = l.known_is;
 }
+
+-- a call whose later part is explained
+pub explains_before : (room : ℕ) (old mid new : Knowing) (c : Call) (r : Answer) → Learns old mid → ExplainsCall room mid new c r → ExplainsCall room old new c r
+explains_before room old mid new c r l is =
+    let g : History = known old ++ (l.learnt ++ is.learnt) in
+    let same : known mid ++ is.learnt ≡ g = ap (λ (h : History). h ++ is.learnt) l.known_is ∙ append_assoc (known old) l.learnt is.learnt in
+    record {
+      grown = grows_then old.view mid.view new.view l.grown is.grown;
+      learnt = l.learnt ++ is.learnt;
+      others = All-append (λ e. e.0 ≢ old.view.number) l.learnt is.learnt l.others (subst (λ (n : ℕ). IsOfOthers n is.learnt) l.grown.number is.others);
+      passes = All-append (λ e. e.0 < old.view.passes) l.learnt is.learnt l.passes (subst (λ (n : ℕ). IsOfPasses n is.learnt) l.grown.passes is.passes);
+      grounds = subst (λ (h : History). IsGrounded room old new c r h (ground_of r)) same (grounded_before room old mid new c l r (known mid ++ is.learnt) (ground_of r) is.grounds);
+      known_is = is.known_is ∙ ap (history_after mid.view.number c r) same ∙ ap (λ (n : ℕ). history_after n c r g) l.grown.number;
+    }
 
 answer_unrefused : (s : Store) (c : Call) → refused s c ≡ None → answer s c ≡ Ok (reply_of s c)
 answer_unrefused s c none = ap (λ (o : Option Refusal). option_map_or Err o (Ok (reply_of s c))) none
@@ -210,7 +206,7 @@ known_won mid new token all small is shown =
     (λ i. spelled (is i).words (shown i)) ∙ spelled_push words mid.shown token lt
     ∙ (λ i. spelled_more mid.view.words (word ∷ []) mid.shown few i ++ (number i, token.call) ∷ [])
 
-pub explains_won : (room : ℕ) (old mid new : Knowing) (c : Call) (token : Shown) (reply : Reply) → Learns old mid → IsReady room old mid c → enters c ≡ true → token.call ≡ c → token.index < 2 ^ 48
+pub explains_won : (room : ℕ) (old mid new : Knowing) (c : Call) (token : Shown) (reply : Reply) → Learns old mid → IsReady room mid c → enters c ≡ true → token.call ≡ c → token.index < 2 ^ 48
     → new.view ≡ enters_word mid.view (order_word mid.view.number token.index) → new.shown ≡ mid.shown ++ token ∷ [] → reply ≡ reply_of (store_of (known mid)) c → ExplainsCall room old new c (Ok reply)
 explains_won room old mid new c token reply l ready writes same small view shown is =
     let g : History = known mid in
@@ -232,9 +228,9 @@ explains_won room old mid new c token reply l ready writes same small view shown
       known_is = behind ∙ ap (history_after old.view.number c (Ok reply)) l.known_is;
     }
 
-pub known_entered : (mid new : Knowing) (token : Shown) (room : ℕ) (old : Knowing) (c : Call) → IsReady room old mid c → token.index < 2 ^ 48 → new.view ≡ enters_word mid.view (order_word mid.view.number token.index) → new.shown ≡ mid.shown ++ token ∷ []
+pub known_entered : (mid new : Knowing) (token : Shown) (room : ℕ) (c : Call) → IsReady room mid c → token.index < 2 ^ 48 → new.view ≡ enters_word mid.view (order_word mid.view.number token.index) → new.shown ≡ mid.shown ++ token ∷ []
     → length (known new) ≡ length new.view.words
-known_entered mid new token room old c ready small view shown =
+known_entered mid new token room c ready small view shown =
     let all : length mid.shown ≡ length mid.view.words = ready.all in
     let more : length new.view.words ≡ length mid.view.words + 1 = ap (λ (v : View). length v.words) view ∙ length_push mid.view.words (order_word mid.view.number token.index) in
     let records : length new.shown ≡ length mid.shown + 1 = ap length shown ∙ length_push mid.shown token in

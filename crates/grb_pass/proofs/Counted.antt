@@ -8,7 +8,7 @@ use Rattle.grb_order.specs.declared.view.View.{View}
 use Rattle.grb_order.specs.declared.step.Look.{Look}
 use Rattle.grb_order.specs.declared.step.Look.TheVariants.{Next, Vacant, Full}
 use Rattle.grb_call.specs.declared.call.Call.{Call}
-use Rattle.grb_pass.specs.Counting.{steps_of, look_steps, Counts, CountsCall}
+use Rattle.grb_pass.specs.Counting.{steps_of, look_steps, Counts, CountsTries, CountsCall}
 use Rattle.grb_pass.specs.Known.{Knowing, known}
 use Rattle.grb_pass.specs.Explains.{Answer, ExplainsCall, ground_of}
 use Rattle.grb_pass.specs.Learning.{Learns}
@@ -68,15 +68,29 @@ learnt_more old new l = let n : length new.view.words ≡ length old.view.words 
 pub counts_looked : (old new : Knowing) → Learns old new → Counts old new → old.steps ≡ 0 → length new.view.looks ≤ length old.view.looks + 1 → CountsCall old new
 counts_looked old new l counts begun looks = let more : length old.view.words ≤ length new.view.words = learnt_more old new l in counts_refused old new l counts begun (omega arith)
 
--- a call that entered its word
-pub counts_won : (old mid new : Knowing) (word : ℕ) → Learns old mid → Counts old mid → Counts mid new → old.steps ≡ 0 → new.view ≡ enters_word mid.view word
-    → length mid.view.looks + length old.view.words ≤ length old.view.looks + length mid.view.words + 1 → CountsCall old new
-counts_won old mid new word l first next begun is looks =
+-- a call that looked once, and then tried
+pub counts_tried : (old mid new : Knowing) → Learns old mid → Counts old mid → CountsTries mid new → old.steps ≡ 0 → length mid.view.looks ≤ length old.view.looks + 1 → CountsCall old new
+counts_tried old mid new l first tries begun looks =
+    let own : length mid.view.own ≡ length old.view.own = ap length l.own in
+    let more : length old.view.words ≤ length mid.view.words = learnt_more old mid l in
+    let few = tries.few in let grown = tries.own in
+    counts_call old new (counts_then old mid new first tries.count) begun (omega (arith, own, grown)) (omega (arith, own, more, few, looks))
+
+-- tries of which the last was won
+pub counts_won : (old mid new : Knowing) (word : ℕ) → Learns old mid → Counts old mid → Counts mid new → new.view ≡ enters_word mid.view word
+    → length mid.view.looks + length old.view.words ≤ length old.view.looks + length mid.view.words → CountsTries old new
+counts_won old mid new word l first next is looks =
     let own : length mid.view.own ≡ length old.view.own = ap length l.own in
     let more : length new.view.own ≡ length mid.view.own + 1 = ap (λ (x : View). length x.own) is ∙ length_push mid.view.own (length mid.view.words) in
     let n : length new.view.words ≡ length mid.view.words + 1 = ap (λ (x : View). length x.words) is ∙ length_push mid.view.words word in
     let k : length new.view.looks ≡ length mid.view.looks = ap (λ (x : View). length x.looks) is in
-    counts_call old new (counts_then old mid new first next) begun (omega arith) (omega arith)
+    record { count = counts_then old mid new first next; own = omega arith; few = omega arith }
+
+-- tries after which the call was refused
+pub counts_lost : (old new : Knowing) → Learns old new → Counts old new → length new.view.looks + length old.view.words ≤ length old.view.looks + length new.view.words → CountsTries old new
+counts_lost old new l counts looks =
+    let own : length new.view.own ≡ length old.view.own = ap length l.own in
+    record { count = counts; own = omega arith; few = omega arith }
 
 abbrev pub begun : Knowing → Knowing
 begun p = record p { steps = 0 }
@@ -107,15 +121,19 @@ pub counts_begun : (old now new : Knowing) → now ≡ begun old → CountsCall 
 counts_begun old now new is e = let f : CountsCall (begun old) new = subst (λ (k : Knowing). CountsCall k new) is e in record { count = f.count; few = f.few; alone = f.alone }
 
 -- after a lost try one more look
-pub looks_again : (old mid lost new : Knowing) (word : ℕ) → length mid.view.looks + length old.view.words ≤ length old.view.looks + length mid.view.words + 1 → lost.view ≡ learns mid.view word → Learns lost new
-    → length new.view.looks ≤ length lost.view.looks + 1 → length new.view.looks + length old.view.words ≤ length old.view.looks + length new.view.words + 1
+pub looks_again : (old mid lost new : Knowing) (word : ℕ) → length mid.view.looks + length old.view.words ≤ length old.view.looks + length mid.view.words → lost.view ≡ learns mid.view word → Learns lost new
+    → length new.view.looks ≤ length lost.view.looks + 1 → length new.view.looks + length old.view.words ≤ length old.view.looks + length new.view.words
 looks_again old mid lost new word looks is l few =
     let n : length lost.view.words ≡ length mid.view.words + 1 = ap (λ (x : View). length x.words) is ∙ length_push mid.view.words word in
     let k : length lost.view.looks ≡ length mid.view.looks = ap (λ (x : View). length x.looks) is in
     let more : length lost.view.words ≤ length new.view.words = learnt_more lost new l in omega arith
 
--- the steps of a call that is about to try
-pub steps_near : (old mid : Knowing) → Counts old mid → old.steps ≡ 0 → length mid.view.looks + length old.view.words ≤ length old.view.looks + length mid.view.words + 1 → length mid.view.words ≤ 4096 → mid.steps < 2 ^ 29
+-- the steps of a call that has looked once, and is about to try first
+pub steps_first : (old mid : Knowing) → Counts old mid → old.steps ≡ 0 → length mid.view.looks ≤ length old.view.looks + 1 → length mid.view.words ≤ 4096 → mid.steps < 2 ^ 28
+steps_first old mid counts begun looks small = omega (arith, counts)
+
+-- the steps of a call that is about to try once more
+pub steps_near : (old mid : Knowing) → Counts old mid → old.steps < 2 ^ 28 → length mid.view.looks + length old.view.words ≤ length old.view.looks + length mid.view.words → length mid.view.words ≤ 4096 → mid.steps < 2 ^ 29
 steps_near old mid counts begun looks small = omega (arith, counts)
 
 pub steps_lost : (mid lost : Knowing) (word : ℕ) → Counts mid lost → lost.view ≡ learns mid.view word → mid.steps < 2 ^ 29 → lost.steps < 2 ^ 30

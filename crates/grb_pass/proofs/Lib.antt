@@ -9,5 +9,5 @@ mod Learnt
 mod Meeting
 mod Opening
 mod Owning
-mod Promised
+pub mod Promised
 mod Spelling

@@ -1,21 +1,24 @@
--- All that a call promises (own): one record, which each method of the store cites with its call.
+-- All that a call promises (own): one record, under one name, which each method of the store cites with its call.
 use Rattle.std.specs.Prelude.{◌≡◌, ◌++◌, Err}
 use Rattle.grb_core.specs.declared.refusal.Refusal.TheVariants.{OutOfMemory}
 use Rattle.grb_order.specs.Order.{room_of}
 use Rattle.grb_call.specs.declared.call.Call.{Call}
-use Rattle.grb_pass.specs.Known.{Shared, Knowing, known, calls_by, IsKnown, IsPassOf}
+use Rattle.grb_pass.specs.Known.{Shared, Knowing, known, calls_by, IsKnown}
 use Rattle.grb_pass.specs.Explains.{Answer, entered_calls, ground_of, ExplainsCall, IsCaughtUp, MayLackMemory}
 use Rattle.grb_pass.specs.Counting.{CountsCall}
 
--- One call of a pass, with what the pass knows before and after it. It is still a pass of the context. The answer is that of one
--- history, which it now knows to the end of the words that it has learnt unless a record is not there. Of its own calls it knows
--- those of before, and this one if it was entered. Memory is refused only where nothing that comes first refuses the call. The steps
--- on the order are counted
-pub record Answered (context : Shared) (old new : Knowing) (c : Call) (r : Answer) : Type 0 where
-  pub pass : IsPassOf context new
+-- One call of a pass, with what the pass knows before and after it. The answer is that of one history, which it now knows to the end
+-- of the words that it has learnt unless a record is not there. Of its own calls it knows those of before, and this one if it was
+-- entered. Memory is refused only where nothing that comes first refuses the call. The steps on the order are counted
+pub record Promise (context : Shared) (old new : Knowing) (c : Call) (r : Answer) : Type 0 where
   pub explains : ExplainsCall (room_of context.order) old new c r
   pub knows : IsKnown context new
   pub own : calls_by old.view.number (known new) ≡ calls_by old.view.number (known old) ++ entered_calls c r
   pub caught_up : IsCaughtUp (ground_of r) new
   pub memory : r ≡ Err OutOfMemory → MayLackMemory (room_of context.order) (known new) c
   pub steps : CountsCall old new
+
+-- That promise, by the name under which one call passes it on to the next. A proof sees its fields where it opens the name, by a line
+-- `unfolding Answered`, or by the lemma `promise` of `proofs/Promised.antt`
+unfoldable pub Answered : Shared → Knowing → Knowing → Call → Answer → Type 0
+Answered context old new c r = Promise context old new c r

@@ -19,6 +19,13 @@ look_steps Full = 0
 abbrev pub Counts : Knowing → Knowing → Type 0
 Counts old new = new.steps + steps_of old.view ≡ old.steps + steps_of new.view
 
+-- The steps of the tries of a call, from the first one on: those by which the view grew, and one look at the most for each try that was
+-- lost
+pub record CountsTries (old new : Knowing) : Type 0 where
+  pub count : Counts old new
+  pub own : length old.view.own ≤ length new.view.own
+  pub few : length new.view.looks + length old.view.words + length new.view.own ≤ length old.view.looks + length new.view.words + length old.view.own
+
 -- The steps of one call: those by which the view grew, and at most 2d + 1 where it learnt d words; where it learnt just what it
 -- entered itself, at most d + 1
 pub record CountsCall (old new : Knowing) : Type 0 where

@@ -3,7 +3,7 @@ use Rattle.std.specs.Prelude.{◌≡◌, ℕ, ◌<◌, ◌≤◌, [], ◌∷◌,
 use Rattle.grb_core.specs.declared.refusal.Refusal.{Refusal}
 use Rattle.grb_core.specs.declared.refusal.Refusal.TheVariants.{Panic}
 use Rattle.grb_order.specs.Word.{order_word}
-use Rattle.grb_order.specs.View.{learns, enters_word, IsOthers, IsSound}
+use Rattle.grb_order.specs.View.{learns, enters_word, IsOthers, IsSound, LookedLast}
 use Rattle.grb_order.specs.Order.{room_of}
 use Rattle.grb_records.specs.Token.{Shown}
 use Rattle.grb_call.specs.declared.call.Call.{Call}
@@ -12,7 +12,7 @@ use Rattle.grb_call.specs.History.{History, store_of}
 use Rattle.grb_pass.specs.declared.learn.End.{End}
 use Rattle.grb_pass.specs.declared.learn.End.TheVariants.{Vacant, Full}
 use Rattle.grb_pass.specs.Known.{Knowing, known, AreRecords, IsOfOthers, IsOfPasses}
-use Rattle.grb_pass.specs.Point.{GrewTo, Grows}
+use Rattle.grb_pass.specs.Point.{Grows}
 use Rattle.grb_pass.specs.Explains.{IsGrounded, IsCaughtUp, ground_of}
 
 -- what each pass keeps: the records shown are those of the first words, the words are what its place has seen, and those whose
@@ -46,11 +46,11 @@ Finds room old (Ok Full) new = (length new.shown ≡ length new.view.words) × (
 Finds room old (Err r) new = (r ≡ Panic) × (length (known new) < length new.view.words)
 
 -- all words are known, the last look found the next one vacant, and the call is not refused
-pub record IsReady (room : ℕ) (old new : Knowing) (c : Call) : Type 0 where
-  pub all : length new.shown ≡ length new.view.words
-  pub looked : GrewTo old.view.looks new.view.looks (length new.view.words)
-  pub room_left : length new.view.words < room
-  pub unrefused : refused (store_of (known new)) c ≡ None
+pub record IsReady (room : ℕ) (p : Knowing) (c : Call) : Type 0 where
+  pub all : length p.shown ≡ length p.view.words
+  pub looked : LookedLast p.view
+  pub room_left : length p.view.words < room
+  pub unrefused : refused (store_of (known p)) c ≡ None
 
 -- the call is refused at the end of what the pass knows
 pub record IsRefused (room : ℕ) (old new : Knowing) (c : Call) (r : Refusal) : Type 0 where

@@ -1,10 +1,12 @@
 ghost use Rattle.std.specs.Prelude.{◌≡◌, ◌+◌, ◌<◌, ◌≤◌, ◌^◌, length, true, OnOk, IfErr};
 ghost use Rattle.grb_order.specs.Order.{room_of};
+ghost use Rattle.grb_records.specs.Token.{IsOf};
 ghost use Rattle.grb_call.specs.Kinds.{enters};
 ghost use Rattle.grb_pass.specs.Known.{IsPassOf};
+ghost use Rattle.grb_pass.specs.Point.{GrewTo};
 ghost use Rattle.grb_pass.specs.Explains.{ExplainsCall, IsCaughtUp, ground_of};
 ghost use Rattle.grb_pass.specs.Answered.{Answered};
-ghost use Rattle.grb_pass.specs.Counting.{Counts, CountsCall};
+ghost use Rattle.grb_pass.specs.Counting.{Counts, CountsTries, CountsCall};
 ghost use Rattle.grb_pass.specs.Learning.{IsReady, IsRefused, IsSteady, Learns};
 
 use crate::learn::End;
@@ -12,6 +14,7 @@ use crate::pass::Pass;
 use crate::shared::Shared;
 use grb_call::{Call, Reply};
 use grb_core::Refusal;
+use grb_records::Token;
 
 impl Shared {
     /// Learns the order to its end, and checks there a call that enters. Takes memory for a build alone, whose object is evaluated, and
@@ -26,7 +29,8 @@ impl Shared {
         ensures few { length pass.new.view.looks ≤ length pass.old.view.looks + 1 }
         ensures learns { Learns pass.old pass.new }
         ensures steady { IsSteady pass.new }
-        ensures ready { OnOk result (IsReady (room_of self.now.order) pass.old pass.new call.now) }
+        ensures ready { OnOk result (IsReady (room_of self.now.order) pass.new call.now) }
+        ensures looked { OnOk result (GrewTo pass.old.view.looks pass.new.view.looks (length pass.new.view.words)) }
         ensures refused { IfErr result (λ refusal. IsRefused (room_of self.now.order) pass.old pass.new call.now refusal) }
     {
         let end = self.learn(&mut pass.reader)?;
@@ -37,7 +41,37 @@ impl Shared {
         }
     }
 
-    /// Puts the record of a call and enters it. After a lost try the call is checked again, with the words learnt since.
+    /// Enters the record of a token, whose call is not refused after all that the pass knows. After a lost try the call is checked again,
+    /// with the words learnt since.
+    #[inline(always)]
+    fn enter_token(&self, pass: &mut Pass, token: Token) -> Result<Reply, Refusal>
+        requires pass { IsPassOf self.now pass.old }
+        requires steady { IsSteady pass.old }
+        requires of { IsOf self.now.records token }
+        requires own { token.pass ≡ pass.old.view.number }
+        requires index { token.index < 2 ^ 48 }
+        requires enters { enters token.call ≡ true }
+        requires ready { IsReady (room_of self.now.order) pass.old token.call }
+        requires few { pass.old.steps < 2 ^ 28 }
+        ensures pass { IsPassOf self.now pass.new }
+        ensures counts { CountsTries pass.old pass.new }
+        ensures explains { ExplainsCall (room_of self.now.order) pass.old pass.new token.call result }
+        ensures steady { IsSteady pass.new }
+        ensures caught_up { IsCaughtUp (ground_of result) pass.new }
+    {
+        let mut token = token;
+        'tries: loop {
+            let call = self.records.call_of(&mut token);
+            let reply = pass.reader.reply(call);
+            let Some(back) = pass.enter(&self.order, token, call) else {
+                return Ok(reply);
+            };
+            token = back;
+            self.ready(pass, call)?;
+        }
+    }
+
+    /// Puts the record of a call and enters it.
     #[inline(always)]
     fn enter_record(&self, pass: &mut Pass, call: Call) -> Result<Reply, Refusal>
         requires pass { IsPassOf self.now pass.old }
@@ -50,16 +84,27 @@ impl Shared {
         ensures caught_up { IsCaughtUp (ground_of result) pass.new }
     {
         self.ready(pass, &call)?;
-        let mut token = pass.put(&self.records, call)?;
-        'tries: loop {
-            let call = self.records.call_of(&mut token);
-            let reply = pass.reader.reply(call);
-            let Some(back) = pass.enter(&self.order, token, call) else {
-                return Ok(reply);
-            };
-            token = back;
-            self.ready(pass, call)?;
-        }
+        let token = pass.put(&self.records, call)?;
+        self.enter_token(pass, token)
+    }
+
+    /// Puts the record of a copy of a call and enters it. The copy is made once the call is found not to be refused.
+    fn enter_record_of_copy(&self, pass: &mut Pass, call: &Call) -> Result<Reply, Refusal>
+        requires pass { IsPassOf self.now pass.old }
+        requires enters { enters call.now ≡ true }
+        requires begun { pass.old.steps ≡ 0 }
+        ensures pass { IsPassOf self.now pass.new }
+        ensures counts { CountsCall pass.old pass.new }
+        ensures explains { ExplainsCall (room_of self.now.order) pass.old pass.new call.now result }
+        ensures steady { IsSteady pass.new }
+        ensures caught_up { IsCaughtUp (ground_of result) pass.new }
+    {
+        self.ready(pass, call)?;
+        let Ok(copy) = call.try_clone() else {
+            return Err(Refusal::OutOfMemory);
+        };
+        let token = pass.put(&self.records, copy)?;
+        self.enter_token(pass, token)
     }
 
     /// Enters a call that changes the store, after all that were entered before it. Takes memory for its record, and for a build for the
@@ -68,9 +113,22 @@ impl Shared {
     pub fn enter(&self, pass: &mut Pass, call: Call) -> Result<Reply, Refusal>
         requires pass { IsPassOf self.now pass.old }
         requires enters { enters call ≡ true }
-        ensures { Answered self.now pass.old pass.new call result }
+        ensures pass { IsPassOf self.now pass.new }
+        ensures answered { Answered self.now pass.old pass.new call result }
     {
         pass.begin();
         self.enter_record(pass, call)
+    }
+
+    /// Enters a copy of a call that changes the store, as `enter` does. Takes memory for the list of a build too, once the build is found
+    /// not to be refused, and does not wait.
+    pub fn enter_copy(&self, pass: &mut Pass, call: &Call) -> Result<Reply, Refusal>
+        requires pass { IsPassOf self.now pass.old }
+        requires enters { enters call.now ≡ true }
+        ensures pass { IsPassOf self.now pass.new }
+        ensures answered { Answered self.now pass.old pass.new call.now result }
+    {
+        pass.begin();
+        self.enter_record_of_copy(pass, call)
     }
 }

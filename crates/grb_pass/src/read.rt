@@ -34,7 +34,8 @@ impl Shared {
     pub fn read(&self, pass: &mut Pass, call: &Call) -> Result<Reply, Refusal>
         requires pass { IsPassOf self.now pass.old }
         requires reads { enters call.now ≡ false }
-        ensures { Answered self.now pass.old pass.new call.now result }
+        ensures pass { IsPassOf self.now pass.new }
+        ensures answered { Answered self.now pass.old pass.new call.now result }
     {
         pass.begin();
         self.read_at_end(pass, call)

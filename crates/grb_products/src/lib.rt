@@ -19,7 +19,8 @@ mod totals;
 
 pub use lookup::place_of;
 pub use monoids::MonoidOver;
-pub use multiply::mxv;
+pub use multiply::{is_worth_opening, mxv};
 pub use row_folds::reduce_rows;
+pub use rows::emit;
 pub use stored::Stored;
 pub use totals::{reduce_matrix, reduce_vector};

@@ -1,5 +1,5 @@
 //! The product of a matrix and a vector.
-ghost use Rattle.std.specs.Prelude.{◌≡◌, ◌<◌, ◌≤◌, ◌*◌, ◌+◌, ◌^◌, ℕ, true, length, All, IsTrue, IfOk, IfSome};
+ghost use Rattle.std.specs.Prelude.{◌≡◌, ◌<◌, ◌≤◌, ◌*◌, ◌+◌, ◌^◌, ℕ, true, false, length, All, IsTrue, IfOk, IfSome};
 ghost use Rattle.std.specs.Ordering.{nat_cmp};
 ghost use Rattle.std.specs.Option.{option_map};
 ghost use Rattle.std.specs.FinMap.{is_sorted};
@@ -50,13 +50,15 @@ fn multiply_each_row<T: Stored + Drop, M: MonoidOver<T>, O: Operator<T>, L: Look
     made_rows(alloc, &rule, lists)
 }
 
-/// The product of a matrix and a vector that is laid open first, which takes memory for `ncols` places.
+/// The product of a matrix and a vector that is laid open first, which takes memory for `ncols` places: no more than 8 times the entries
+/// that are there.
 fn multiply_open<T: Stored + Drop, M: MonoidOver<T>, O: Operator<T>>(
     alloc: Global,
     ncols: usize,
     lists: &FlatRows,
     u: &EntrySlice<T>,
 ) -> Result<EntryList<T>, AllocError>
+    requires short { ncols ≤ 8 * (length lists.now.entries + length u.now.indices.now) }
     requires domain { lists.now.domain ≡ T.domain }
     requires ordered { IsTrue (is_sorted cell_cmp (decoded lists.now.entries)) }
     requires in_range { All (λ e. e.0.1 < ncols) (decoded lists.now.entries) }
@@ -76,10 +78,13 @@ fn multiply_open<T: Stored + Drop, M: MonoidOver<T>, O: Operator<T>>(
     Ok(made)
 }
 
-/// Whether a work array of `ncols` places is no longer than 8 times the entries that are there.
-fn is_worth_opening(ncols: u64, entries: usize) -> bool
+/// Whether a work array of `ncols` places is no longer than 8 times the entries that are there. Takes no memory.
+///
+/// `ncols` is below 2^32. The bound is our own.
+pub fn is_worth_opening(ncols: u64, entries: usize) -> bool
     requires few { ncols < 2 ^ 32 }
-    ensures { result ≡ true → ncols ≤ 8 * entries }
+    ensures short { result ≡ true → ncols ≤ 8 * entries }
+    ensures long { result ≡ false → 8 * entries < ncols }
 {
     (ncols + 7) / 8 <= entries as u64
 }

@@ -31,8 +31,9 @@ pub(crate) trait RowRule<T: Scalar> {
     ghost none: { (rule : Self) → gives rule [] ≡ None };
 }
 
-/// Writes an entry at place `k` of a result, if it is to be kept, and answers how many entries there are then.
-pub(crate) fn emit<T: Scalar>(
+/// Writes an entry at place `k` of a result, if it is to be kept, and answers how many entries there are then. Takes no memory. What
+/// stands at places behind those is any.
+pub fn emit<T: Scalar>(
     indices: &mut [u32],
     values: &mut [T],
     k: usize,

@@ -1,5 +1,6 @@
 mod answers;
 mod asked;
+mod lists;
 mod meeting;
 mod memory;
 mod operations;

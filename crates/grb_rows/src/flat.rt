@@ -20,7 +20,8 @@ use std::marker::Model;
 /// Entries in rising order of the numbers of their cells, row * 2^32 + column. Each row has a start for its entries, which end where those
 /// of the next row start.
 ///
-/// An assembled matrix lends its lists (`SparseMatrix::lists`): no method that is public takes memory or copies anything.
+/// An assembled matrix lends its lists (`SparseMatrix::lists`): those that read them, `rows` to `row_numbers`, take no memory and copy
+/// nothing.
 #[derive(Drop)]
 pub struct FlatRows {
     pub(crate) rows: Vec<u32>,
@@ -60,7 +61,11 @@ impl FlatRows {
     }
 
     /// No entries, and memory for `room`.
-    pub fn with_capacity(alloc: Global, domain: Domain, room: usize) -> Result<FlatRows, AllocError>
+    pub(crate) fn with_capacity(
+        alloc: Global,
+        domain: Domain,
+        room: usize,
+    ) -> Result<FlatRows, AllocError>
         ensures entries { IfOk result (λ row. row.entries ≡ []) }
         ensures domain { IfOk result (λ row. row.domain ≡ domain) }
         ensures room { IfOk result (λ row. row.room ≡ room) }
@@ -98,7 +103,7 @@ impl FlatRows {
     }
 
     /// Where the entry of an index stands, if there is one.
-    pub fn place_of(&self, index: u64) -> Option<usize>
+    pub(crate) fn place_of(&self, index: u64) -> Option<usize>
         ensures found { IfSome result (λ at. (at < length self.now.entries) × ((d : ℕ × Stored) → (slice_index_or self.now.entries at d).0 ≡ index)) }
         ensures absent { IfNone result (find nat_cmp index self.now.entries ≡ None) }
     {
@@ -138,7 +143,7 @@ impl FlatRows {
     }
 
     /// Writes a value over the one at a place.
-    pub fn write(&mut self, at: usize, value: Value)
+    pub(crate) fn write(&mut self, at: usize, value: Value)
         requires at { at < length self.old.entries }
         requires domain { value_domain value ≡ self.old.domain }
         ensures entries { (d : ℕ × Stored) → self.new.entries ≡ slice_set self.old.entries at ((slice_index_or self.old.entries at d).0, value) }
@@ -148,7 +153,7 @@ impl FlatRows {
     }
 
     /// One more entry, at an index above all others.
-    pub fn push_reserved(&mut self, index: u64, value: Value)
+    pub(crate) fn push_reserved(&mut self, index: u64, value: Value)
         requires room { 0 < self.old.room }
         requires above { AllByRecursion (λ e. e.0 < index) self.old.entries }
         requires domain { value_domain value ≡ self.old.domain }
@@ -163,7 +168,7 @@ impl FlatRows {
     }
 
     /// Gives back the memory that no entry takes.
-    pub fn shrink(&mut self)
+    pub(crate) fn shrink(&mut self)
         ensures entries { self.new.entries ≡ self.old.entries }
         ensures domain { self.new.domain ≡ self.old.domain }
     {
@@ -228,6 +233,8 @@ impl FlatRows {
     /// last row at the end of all.
     pub fn starts(&self) -> &[usize]
         ensures len { length result.now ≡ length self.now.rows }
+        ensures rise { (i j : ℕ) → i < j → j < length result.now → slice_index result.now i < slice_index result.now j }
+        ensures within { (k : ℕ) → k < length result.now → slice_index result.now k < length self.now.entries }
         ensures spans { (k : ℕ) → k < length self.now.rows → row_of (slice_index self.now.rows k) (decoded self.now.entries) ≡ in_row (drop (slice_index result.now k) (take (slice_index_or result.now (k + 1) (length self.now.entries)) self.now.entries)) }
     {
         &self.starts

@@ -13,7 +13,7 @@ use grb_core::Value;
 use std::alloc::{AllocError, Global};
 
 /// Whether the entry at a place is marked as deleted. Where there is no mark, none is.
-pub fn is_marked(deleted: &[bool], at: usize) -> bool
+pub(crate) fn is_marked(deleted: &[bool], at: usize) -> bool
     ensures { result ≡ slice_index_or deleted.now at false }
 {
     if at < deleted.len() {

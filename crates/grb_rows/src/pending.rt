@@ -57,7 +57,7 @@ impl Pending {
     }
 
     /// The last change of an index, if there is one.
-    pub fn latest(&self, index: u64) -> Option<Option<Value>>
+    pub(crate) fn latest(&self, index: u64) -> Option<Option<Value>>
         ensures { result ≡ last_at index self.now.changes }
     {
         match self.latest.get(&index) {
@@ -67,7 +67,7 @@ impl Pending {
     }
 
     /// Whether the last change of an index leaves a value there.
-    pub fn leaves_value(&self, index: u64) -> bool
+    pub(crate) fn leaves_value(&self, index: u64) -> bool
         ensures { result ≡ is_some (value_left (last_at index self.now.changes)) }
     {
         match self.latest(index) {
@@ -89,7 +89,7 @@ impl Pending {
     }
 
     /// Uses up a place for no change.
-    pub fn spend(&mut self)
+    pub(crate) fn spend(&mut self)
         requires { 0 < self.old.reserved }
         ensures changes { self.new.changes ≡ self.old.changes }
         ensures reserved { self.new.reserved + 1 ≡ self.old.reserved }
@@ -98,7 +98,7 @@ impl Pending {
     }
 
     /// One more change. Takes no memory, and uses up a place.
-    pub fn push(&mut self, index: u64, change: Option<Value>)
+    pub(crate) fn push(&mut self, index: u64, change: Option<Value>)
         requires { 0 < self.old.reserved }
         ensures changes { self.new.changes ≡ self.old.changes ++ (index, change) ∷ [] }
         ensures reserved { self.new.reserved + 1 ≡ self.old.reserved }
@@ -109,7 +109,7 @@ impl Pending {
     }
 
     /// The last change of each index, in rising order of the indices.
-    pub fn in_order(&self) -> Result<Vec<(u64, Option<Value>)>, AllocError>
+    pub(crate) fn in_order(&self) -> Result<Vec<(u64, Option<Value>)>, AllocError>
         ensures sorted { IfOk result (λ last. IsTrue (is_sorted nat_cmp last.items)) }
         ensures found { IfOk result (λ last. (q : ℕ) → find nat_cmp q last.items ≡ last_at q self.now.changes) }
         ensures inside { IfOk result (λ last. (size : ℕ) (domain : D) → All (IsChangeIn size domain) self.now.changes → All (IsChangeIn size domain) last.items) }

@@ -1,6 +1,5 @@
 mod ScriptRows
+pub mod CommandCount
 pub mod FormLemmas
-pub mod LineLemmas
 pub mod NamesLemmas
 pub mod ScriptLemmas
-pub mod StatementCount

@@ -1,4 +1,5 @@
 -- Worked rows: what the definitions of scripts say of small texts, by computing. Expected values are by hand.
+use Rattle.std.specs.Str.{is_utf8, chars}
 use Rattle.std.specs.Prelude.{◌≡◌, ℕ, List, [], ◌∷◌, ◌++◌, Some, None, refl, codes, true, false}
 use Rattle.grb_core.specs.declared.domain.Domain.TheVariants as domain
 use Rattle.grb_call.specs.declared.descriptor.Descriptor.{Descriptor}
@@ -7,14 +8,24 @@ use Rattle.grb_core.specs.declared.operator.BinaryOp.TheVariants as op
 use Rattle.grb_core.specs.declared.value.Value.TheVariants as value
 use Rattle.grb_words.specs.declared.fault.FaultKind.{FaultKind}
 use Rattle.grb_words.specs.declared.fault.FaultKind.TheVariants.{UnendedLine, BadByte, Section, Statement, NameTaken, UnknownName, WrongKind}
+use Rattle.grb_script.specs.declared.command.Command.TheVariants as command
+use Rattle.grb_script.specs.declared.command.Numbered.{Numbered}
 use Rattle.grb_script.specs.declared.names.Sort.TheVariants as sort
+use Rattle.grb_script.specs.declared.statement.Statement.{Statement as SaidStatement}
 use Rattle.grb_script.specs.declared.statement.Statement.TheVariants as statement
-use Rattle.grb_script.specs.Script.{statements_of}
+use Rattle.grb_script.specs.Script.{commands_of}
 use Rattle.grb_script.specs.ScriptFault.{script_fault}
 
 -- the text has this first fault
 abbrev IsFaulty : List ℕ → ℕ → FaultKind → Type 0
 IsFaulty text line kind = script_fault text ≡ Some (record { line = line; kind = kind })
+
+-- a statement on the line of this number, and a load
+abbrev says : ℕ → SaidStatement → Numbered
+says number s = record { line = number; command = command.Statement s }
+
+abbrev loads : ℕ → List ℕ → Numbered
+loads number path = record { line = number; command = command.Load path }
 
 -- the line ended
 abbrev ended : List ℕ → List ℕ
@@ -24,20 +35,20 @@ ended line = line ++ 10 ∷ []
 abbrev first : List ℕ
 first = ended (codes "vector v uint64 5") ++ ended (codes "set v 2 7") ++ ended (codes "get v 2") ++ ended (codes "nvals v")
 
-no_text : (script_fault [] ≡ None) × (statements_of [] ≡ [])
+no_text : (script_fault [] ≡ None) × (commands_of [] ≡ [])
 no_text = (refl, refl)
 
-one_empty_line : (script_fault (10 ∷ []) ≡ None) × (statements_of (10 ∷ []) ≡ [])
+one_empty_line : (script_fault (10 ∷ []) ≡ None) × (commands_of (10 ∷ []) ≡ [])
 one_empty_line = (refl, refl)
 
-first_script : (script_fault first ≡ None) × (statements_of first ≡ statement.Vector domain.Uint64 5 ∷ statement.SetVector 0 2 (value.Uint64 7) ∷ statement.GetVector 0 2 ∷ statement.Nvals 0 sort.Vector ∷ [])
+first_script : (script_fault first ≡ None) × (commands_of first ≡ says 1 (statement.Vector domain.Uint64 5) ∷ says 2 (statement.SetVector 0 2 (value.Uint64 7)) ∷ says 3 (statement.GetVector 0 2) ∷ says 4 (statement.Nvals 0 sort.Vector) ∷ [])
 first_script = (refl, refl)
 
 -- names count from 0 in the order of making; comments, lines of spaces and many spaces are skipped
 abbrev two_names : List ℕ
 two_names = ended (codes "# names") ++ ended (codes "vector a bool 1") ++ ended (codes "   ") ++ ended (codes "  vector   b_2 uint64 18446744073709551615 ") ++ ended (codes "  # more") ++ ended (codes "set a 0 false") ++ ended (codes "get b_2 18446744073709551615")
 
-numbered : (script_fault two_names ≡ None) × (statements_of two_names ≡ statement.Vector domain.Bool 1 ∷ statement.Vector domain.Uint64 18446744073709551615 ∷ statement.SetVector 0 0 (value.Bool false) ∷ statement.GetVector 1 18446744073709551615 ∷ [])
+numbered : (script_fault two_names ≡ None) × (commands_of two_names ≡ says 2 (statement.Vector domain.Bool 1) ∷ says 4 (statement.Vector domain.Uint64 18446744073709551615) ∷ says 6 (statement.SetVector 0 0 (value.Bool false)) ∷ says 7 (statement.GetVector 1 18446744073709551615) ∷ [])
 numbered = (refl, refl)
 
 unended : IsFaulty (ended (codes "vector v uint64 5") ++ codes "nvals v") 2 UnendedLine
@@ -103,7 +114,7 @@ statement_before_name_taken : IsFaulty (ended (codes "vector v bool 1") ++ ended
 statement_before_name_taken = refl
 
 -- a word of sections is one only where it begins a line
-name_of_a_section : (script_fault (ended (codes "vector thread uint64 5")) ≡ None) × (statements_of (ended (codes "vector thread uint64 5")) ≡ statement.Vector domain.Uint64 5 ∷ [])
+name_of_a_section : (script_fault (ended (codes "vector thread uint64 5")) ≡ None) × (commands_of (ended (codes "vector thread uint64 5")) ≡ says 1 (statement.Vector domain.Uint64 5) ∷ [])
 name_of_a_section = (refl, refl)
 
 longer_word : IsFaulty (ended (codes "threads")) 1 Statement
@@ -116,18 +127,18 @@ matrices =
     ++ ended (codes "get A 0 1") ++ ended (codes "resize A 5 6") ++ ended (codes "build A plus 1 0 8 0 1 true") ++ ended (codes "dup B A") ++ ended (codes "free A")
     ++ ended (codes "get A 0 0") ++ ended (codes "size B") ++ ended (codes "clear v")
 
-matrix_statements : (script_fault matrices ≡ None) × (statements_of matrices ≡ statement.Vector domain.Bool 9 ∷ statement.Matrix domain.Uint64 3 4 ∷ statement.SetMatrix 1 2 3 (value.Uint64 7)
-    ∷ statement.RemoveMatrix 1 2 0 ∷ statement.GetMatrix 1 0 1 ∷ statement.ResizeMatrix 1 5 6
-    ∷ statement.BuildMatrix 1 ((1, 0, value.Uint64 8) ∷ (0, 1, value.Bool true) ∷ []) monoid.Plus ∷ statement.Dup 1 sort.Matrix ∷ statement.Free 1 sort.Matrix
-    ∷ statement.GetMatrix 1 0 0 ∷ statement.Size 2 sort.Matrix ∷ statement.Clear 0 sort.Vector ∷ [])
+matrix_statements : (script_fault matrices ≡ None) × (commands_of matrices ≡ says 1 (statement.Vector domain.Bool 9) ∷ says 2 (statement.Matrix domain.Uint64 3 4) ∷ says 3 (statement.SetMatrix 1 2 3 (value.Uint64 7))
+    ∷ says 4 (statement.RemoveMatrix 1 2 0) ∷ says 5 (statement.GetMatrix 1 0 1) ∷ says 6 (statement.ResizeMatrix 1 5 6)
+    ∷ says 7 (statement.BuildMatrix 1 ((1, 0, value.Uint64 8) ∷ (0, 1, value.Bool true) ∷ []) monoid.Plus) ∷ says 8 (statement.Dup 1 sort.Matrix) ∷ says 9 (statement.Free 1 sort.Matrix)
+    ∷ says 10 (statement.GetMatrix 1 0 0) ∷ says 11 (statement.Size 2 sort.Matrix) ∷ says 12 (statement.Clear 0 sort.Vector) ∷ [])
 matrix_statements = (refl, refl)
 
 -- a list of tuples may be empty, and its values of any domain
 abbrev builds : List ℕ
 builds = ended (codes "vector v uint64 5") ++ ended (codes "build v plus") ++ ended (codes "build v min 2 5 0 false 2 6") ++ ended (codes "resize v 6") ++ ended (codes "remove v 5")
 
-vector_builds : (script_fault builds ≡ None) × (statements_of builds ≡ statement.Vector domain.Uint64 5 ∷ statement.BuildVector 0 [] monoid.Plus
-    ∷ statement.BuildVector 0 ((2, value.Uint64 5) ∷ (0, value.Bool false) ∷ (2, value.Uint64 6) ∷ []) monoid.Min ∷ statement.ResizeVector 0 6 ∷ statement.RemoveVector 0 5 ∷ [])
+vector_builds : (script_fault builds ≡ None) × (commands_of builds ≡ says 1 (statement.Vector domain.Uint64 5) ∷ says 2 (statement.BuildVector 0 [] monoid.Plus)
+    ∷ says 3 (statement.BuildVector 0 ((2, value.Uint64 5) ∷ (0, value.Bool false) ∷ (2, value.Uint64 6) ∷ []) monoid.Min) ∷ says 4 (statement.ResizeVector 0 6) ∷ says 5 (statement.RemoveVector 0 5) ∷ [])
 vector_builds = (refl, refl)
 
 -- a copy of itself
@@ -185,10 +196,10 @@ three = ended (codes "vector c uint64 3") ++ ended (codes "vector a uint64 3") +
 abbrev sums : List ℕ
 sums = three ++ ended (codes "ewiseadd c a c plus") ++ ended (codes "ewisemult M M M first mask M accum minus") ++ ended (codes "ewiseadd c a a second mask c structure comp accum max replace")
 
-element_wise : (script_fault sums ≡ None) × (statements_of sums ≡ statement.Vector domain.Uint64 3 ∷ statement.Vector domain.Uint64 3 ∷ statement.Matrix domain.Uint64 3 3
-    ∷ statement.EwiseAdd (record { sort = sort.Vector; output = 0; mask = None; accum = None; op = op.Plus; left = 1; right = 0; descriptor = plain })
-    ∷ statement.EwiseMult (record { sort = sort.Matrix; output = 2; mask = Some 2; accum = Some op.Minus; op = op.First; left = 2; right = 2; descriptor = plain })
-    ∷ statement.EwiseAdd (record { sort = sort.Vector; output = 0; mask = Some 0; accum = Some op.Max; op = op.Second; left = 1; right = 1; descriptor = record { structure = true; comp = true; replace = true } }) ∷ [])
+element_wise : (script_fault sums ≡ None) × (commands_of sums ≡ says 1 (statement.Vector domain.Uint64 3) ∷ says 2 (statement.Vector domain.Uint64 3) ∷ says 3 (statement.Matrix domain.Uint64 3 3)
+    ∷ says 4 (statement.EwiseAdd (record { sort = sort.Vector; output = 0; mask = None; accum = None; op = op.Plus; left = 1; right = 0; descriptor = plain }))
+    ∷ says 5 (statement.EwiseMult (record { sort = sort.Matrix; output = 2; mask = Some 2; accum = Some op.Minus; op = op.First; left = 2; right = 2; descriptor = plain }))
+    ∷ says 6 (statement.EwiseAdd (record { sort = sort.Vector; output = 0; mask = Some 0; accum = Some op.Max; op = op.Second; left = 1; right = 1; descriptor = record { structure = true; comp = true; replace = true } })) ∷ [])
 element_wise = (refl, refl)
 
 options_out_of_order : IsFaulty (three ++ ended (codes "ewiseadd c a a plus comp structure")) 4 Statement
@@ -217,3 +228,28 @@ sort_of_output = refl
 
 sort_of_mask : IsFaulty (three ++ ended (codes "ewisemult c a a plus mask M structure")) 4 WrongKind
 sort_of_mask = refl
+
+-- a load, which makes the name of a matrix; its path is any word
+abbrev loaded : List ℕ
+loaded = ended (codes "# a graph") ++ ended (codes " load  P ../a-b/s.mtx ") ++ ended (codes "get P 0 1")
+
+one_load : (script_fault loaded ≡ None) × (commands_of loaded ≡ loads 2 (codes "../a-b/s.mtx") ∷ says 3 (statement.GetMatrix 0 0 1) ∷ [])
+unfolding is_utf8 chars lib.Utf8.encode
+one_load = (refl, refl)
+
+load_without_path : IsFaulty (ended (codes "load P")) 1 Statement
+load_without_path = refl
+
+load_of_two_paths : IsFaulty (ended (codes "load P a b")) 1 Statement
+load_of_two_paths = refl
+
+load_of_no_name : IsFaulty (ended (codes "load 1P a")) 1 Statement
+load_of_no_name = refl
+
+load_of_a_taken_name : IsFaulty (ended (codes "vector v bool 1") ++ ended (codes "load v a")) 2 NameTaken
+unfolding is_utf8 chars lib.Utf8.encode
+load_of_a_taken_name = refl
+
+index_of_a_loaded_vector : IsFaulty (ended (codes "load P a") ++ ended (codes "get P 1")) 2 WrongKind
+unfolding is_utf8 chars lib.Utf8.encode
+index_of_a_loaded_vector = refl

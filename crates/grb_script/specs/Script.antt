@@ -1,19 +1,16 @@
--- The statements that a script spells (own): one for each line that is not skipped, with the numbers of its names.
-use Rattle.std.specs.Prelude.{ℕ, List, [], Option}
+-- What a script asks for (own): one command for each line that is not skipped, with the number of the line and the numbers of its names.
+use Rattle.std.specs.Prelude.{ℕ, ◌+◌, List, [], length, map}
 use Rattle.std.specs.List.{flat_map}
-use Rattle.std.specs.Option.{option_to_list}
-use Rattle.std.specs.Result.{result_ok}
-use Rattle.grb_script.specs.declared.statement.Statement.{Statement}
-use Rattle.grb_words.specs.Line.{lines_of}
+use Rattle.grb_script.specs.declared.command.Numbered.{Numbered}
+use Rattle.grb_words.specs.Line.{Line, lines_of}
+use Rattle.grb_script.specs.Command.{commands_on}
 use Rattle.grb_script.specs.Names.{Name}
-use Rattle.grb_words.specs.Form.{Form, form_on}
-use Rattle.grb_script.specs.Reading.{reading}
 use Rattle.grb_script.specs.ScriptFault.{names_of, with_before}
 
--- the statement on a line, if it has one
-abbrev pub statements_on : List Name → Option Form → List Statement
-statements_on names form = option_to_list (result_ok (reading names form))
+-- what the line of this number asks for, if it asks for something
+abbrev pub numbered_on : ℕ → List Name → Line → List Numbered
+numbered_on number names line = map (λ c. record { line = number; command = c }) (commands_on names line)
 
--- the statements of a text
-abbrev pub statements_of : List ℕ → List Statement
-statements_of text = flat_map (λ p. statements_on (names_of p.0) (form_on p.1)) (with_before [] (lines_of text))
+-- what a text asks for, whose lines count from 1
+abbrev pub commands_of : List ℕ → List Numbered
+commands_of text = flat_map (λ p. numbered_on (length p.0 + 1) (names_of p.0) p.1) (with_before [] (lines_of text))

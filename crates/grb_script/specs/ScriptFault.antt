@@ -13,13 +13,12 @@ use Rattle.grb_words.specs.declared.fault.Unread.{Unread}
 use Rattle.grb_words.specs.declared.fault.Unread.TheVariants as unread
 use Rattle.grb_words.specs.Line.{Line, Word, lines_of, words_of, has_allowed_bytes, is_skipped, is_section}
 use Rattle.grb_script.specs.Names.{Name}
-use Rattle.grb_words.specs.Form.{form_of, form_on}
-use Rattle.grb_script.specs.Reading.{reading, names_behind}
+use Rattle.grb_script.specs.Command.{asking, names_behind_line}
 
 -- the names that stand behind these lines, where these stood before: each line makes its own, where those before it made theirs
 abbrev pub names_behind_lines : List Name → List Line → List Name
 names_behind_lines names [] = names
-names_behind_lines names (line ∷ more) = names_behind_lines (names_behind names (form_on line)) more
+names_behind_lines names (line ∷ more) = names_behind_lines (names_behind_line names line) more
 
 -- the names that these lines make, in their order
 abbrev pub names_of : List Line → List Name
@@ -29,7 +28,7 @@ names_of lines = names_behind_lines [] lines
 abbrev pub wording_fault : List Name → List Word → Option FaultKind
 wording_fault names words =
     if is_skipped words then None
-    else (if is_section words then Some Section else result_err (reading names (form_of words)))
+    else (if is_section words then Some Section else result_err (asking names words))
 
 -- what is wrong with a line where these names stand
 abbrev pub line_fault : List Name → Line → Option FaultKind

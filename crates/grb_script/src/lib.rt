@@ -1,9 +1,11 @@
-//! Scripts: from the bytes of a text to its statements, or to its first fault.
+//! Scripts: from the bytes of a text to its commands, or to its first fault.
 //!
-//! One unit is a statement: one line of a script, which stands for one call. Names stand in it as numbers, so what a statement calls is
-//! determined by it and by the numbers of the objects that were made. Nothing here makes a call, and nothing here reads files or prints.
+//! One unit is a command: one line of a script, which is a statement of one call, or the load of a file. Names stand in it as numbers, so
+//! what a statement calls is determined by it and by the numbers of the objects that were made. Nothing here makes a call, and nothing here
+//! reads files or prints.
 #![tactic(auto)]
 
+mod command;
 mod ewise;
 mod fault;
 mod names;
@@ -11,6 +13,7 @@ mod product;
 mod script;
 mod statement;
 
+pub use command::{Command, FilePath, Numbered};
 pub use ewise::Elementwise;
 pub use fault::{ReadFault, ScriptFault};
 pub use grb_words::FaultKind;

@@ -93,6 +93,19 @@ fn same_vector(rt: &impl Abort, v: &SparseVector, list: &[Option<u64>]) {
     }
 }
 
+/// An entry is what the list stores at its place, from `next` on. Answers the place behind it.
+fn same_entry(rt: &impl Abort, list: &[Option<u64>], next: u64, at: u64, value: Value) -> u64 {
+    assert!(rt; next <= at);
+    assert_eq!(rt; number(Some(value)), stored(list, at));
+    at.wrapping_add(1)
+}
+
+/// So many entries were seen, and the list has no others.
+fn same_count(rt: &impl Abort, list: &[Option<u64>], seen: u64, pending: u64) {
+    assert_eq!(rt; seen, count(list));
+    assert_eq!(rt; pending, 0);
+}
+
 fn same_vector_entries(rt: &impl Abort, v: &SparseVector, list: &[Option<u64>]) {
     if !v.is_assembled() {
         return;
@@ -100,12 +113,10 @@ fn same_vector_entries(rt: &impl Abort, v: &SparseVector, list: &[Option<u64>]) 
     let mut next = 0;
     let mut seen = 0_u64;
     for (i, value) in v.entries() {
-        assert!(rt; next <= i);
-        assert_eq!(rt; number(Some(value)), stored(list, i));
-        next = i.wrapping_add(1);
+        next = same_entry(rt, list, next, i, value);
         seen = seen.wrapping_add(1);
     }
-    assert_eq!(rt; (seen, v.pending()), (count(list), 0));
+    same_count(rt, list, seen, v.pending());
 }
 
 fn set_vector(
@@ -254,13 +265,23 @@ fn same_matrix_entries(rt: &impl Abort, a: &SparseMatrix, list: &[Option<u64>]) 
     let mut next = 0;
     let mut seen = 0_u64;
     for ((i, j), value) in a.entries() {
-        let at = i.wrapping_mul(SIDE).wrapping_add(j);
-        assert!(rt; next <= at);
-        assert_eq!(rt; number(Some(value)), stored(list, at));
-        next = at.wrapping_add(1);
+        next = same_entry(rt, list, next, i.wrapping_mul(SIDE).wrapping_add(j), value);
         seen = seen.wrapping_add(1);
     }
-    assert_eq!(rt; (seen, a.pending()), (count(list), 0));
+    same_count(rt, list, seen, a.pending());
+}
+
+/// The entries of the row are what the list stores there. Answers how many they are.
+fn same_row(rt: &impl Abort, a: &SparseMatrix, list: &[Option<u64>], i: u64) -> u64 {
+    let mut seen = 0_u64;
+    if a.is_assembled() {
+        let first = i.wrapping_mul(SIDE);
+        for (j, value) in a.row(i) {
+            assert_eq!(rt; number(Some(value)), stored(list, first.wrapping_add(j)));
+            seen = seen.wrapping_add(1);
+        }
+    }
+    seen
 }
 
 fn same_rows(rt: &impl Abort, a: &SparseMatrix, list: &[Option<u64>]) {
@@ -269,13 +290,7 @@ fn same_rows(rt: &impl Abort, a: &SparseMatrix, list: &[Option<u64>]) {
     }
     let mut seen = 0_u64;
     for i in 0..SIDE {
-        for (j, value) in a.row(i) {
-            assert_eq!(rt;
-                number(Some(value)),
-                stored(list, i.wrapping_mul(SIDE).wrapping_add(j))
-            );
-            seen = seen.wrapping_add(1);
-        }
+        seen = seen.wrapping_add(same_row(rt, a, list, i));
     }
     assert_eq!(rt; seen, count(list));
 }

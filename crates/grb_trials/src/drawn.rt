@@ -1,5 +1,6 @@
 //! Element-wise operations of drawn objects beside plain tables: at each place the definition in words, with operators of its own.
 ghost use Rattle.std.specs.Prelude.{◌≡◌, ◌<◌};
+ghost use Rattle.grb_core.specs.Contents.{IsDimension};
 ghost use Rattle.grb_core.specs.Operator.{op_domain};
 
 use crate::options::{
@@ -14,13 +15,13 @@ use std::test::Fail;
 
 /// Numbers that look drawn by chance, the same in each run (Knuth's linear congruential generator).
 #[derive(Drop)]
-struct Draw {
-    state: u64,
+pub(crate) struct Draw {
+    pub(crate) state: u64,
 }
 
 impl Draw {
     /// The next number below `n`.
-    fn below(&mut self, n: u64) -> u64
+    pub(crate) fn below(&mut self, n: u64) -> u64
         requires { 0 < n }
         ensures { result < n }
     {
@@ -31,11 +32,11 @@ impl Draw {
         (self.state >> 33) % n
     }
 
-    fn truth(&mut self) -> bool {
+    pub(crate) fn truth(&mut self) -> bool {
         self.below(2) == 1
     }
 
-    fn domain(&mut self) -> Domain {
+    pub(crate) fn domain(&mut self) -> Domain {
         if self.truth() {
             Domain::Bool
         } else {
@@ -78,7 +79,7 @@ impl Draw {
         }
     }
 
-    fn op(&mut self, domain: Domain) -> BinaryOp
+    pub(crate) fn op(&mut self, domain: Domain) -> BinaryOp
         ensures { op_domain result ≡ domain }
     {
         match domain {
@@ -109,7 +110,12 @@ impl Draw {
     }
 
     /// A table that stores something at some of its places: at none, at a few, at most or at all of them.
-    fn table(&mut self, alloc: Global, domain: Domain, places: u64) -> Result<Table, AllocError> {
+    pub(crate) fn table(
+        &mut self,
+        alloc: Global,
+        domain: Domain,
+        places: u64,
+    ) -> Result<Table, AllocError> {
         let share = self.below(4);
         let mut table = Vec::new(alloc);
         for _ in 0..places {
@@ -123,17 +129,32 @@ impl Draw {
         Ok(table)
     }
 
+    pub(crate) fn two_tables(
+        &mut self,
+        alloc: Global,
+        domains: (Domain, Domain),
+        places: u64,
+    ) -> Result<(Table, Table), AllocError> {
+        let first = self.table(alloc, domains.0, places)?;
+        let second = self.table(alloc, domains.1, places)?;
+        Ok((first, second))
+    }
+
     fn tables(
         &mut self,
         alloc: Global,
         options: Options,
         places: u64,
     ) -> Result<Tables, AllocError> {
+        let domains = (options.domain, options.mask_domain);
+        let (output, mask) = self.two_tables(alloc, domains, places)?;
+        let domains = (options.domain, options.domain);
+        let (first, second) = self.two_tables(alloc, domains, places)?;
         Ok(Tables {
-            output: self.table(alloc, options.domain, places)?,
-            mask: self.table(alloc, options.mask_domain, places)?,
-            first: self.table(alloc, options.domain, places)?,
-            second: self.table(alloc, options.domain, places)?,
+            output,
+            mask,
+            first,
+            second,
         })
     }
 }
@@ -151,7 +172,7 @@ fn logical(op: BinaryOp, x: u64, y: u64) -> u64 {
 }
 
 /// What an operator makes of two numbers.
-fn applied(op: BinaryOp, x: u64, y: u64) -> u64 {
+pub(crate) fn applied(op: BinaryOp, x: u64, y: u64) -> u64 {
     match op {
         BinaryOp::Plus => x.wrapping_add(y),
         BinaryOp::Times => x.wrapping_mul(y),
@@ -212,6 +233,35 @@ fn wanted(alloc: Global, options: Options, tables: &Tables) -> Result<Table, All
     Ok(wanted)
 }
 
+fn expect_wanted_vector(
+    rt: &impl Abort,
+    alloc: Global,
+    options: Options,
+    size: u64,
+    tables: &Tables,
+    case: usize,
+) -> Result<(), AllocError>
+    requires { IsDimension size }
+{
+    let want = wanted(alloc, options, tables)?;
+    expect_combined_vector(rt, alloc, options, size, tables, &want, case)
+}
+
+fn expect_wanted_matrix(
+    rt: &impl Abort,
+    alloc: Global,
+    options: Options,
+    dims: (u64, u64),
+    tables: &Tables,
+    case: usize,
+) -> Result<(), AllocError>
+    requires rows { IsDimension dims.0 }
+    requires columns { IsDimension dims.1 }
+{
+    let want = wanted(alloc, options, tables)?;
+    expect_combined_matrix(rt, alloc, options, dims, tables, &want, case)
+}
+
 /// A drawn operation on drawn vectors of at most 12 places.
 fn try_vectors(
     rt: &impl Abort,
@@ -223,8 +273,7 @@ fn try_vectors(
     let options = draw.options(operation);
     let size = 1 + draw.below(12);
     let tables = draw.tables(alloc, options, size)?;
-    let want = wanted(alloc, options, &tables)?;
-    expect_combined_vector(rt, alloc, options, size, &tables, &want, case)
+    expect_wanted_vector(rt, alloc, options, size, &tables, case)
 }
 
 /// A drawn operation on drawn matrices of at most 5 rows and columns.
@@ -239,8 +288,7 @@ fn try_matrices(
     let nrows = 1 + draw.below(5);
     let ncols = 1 + draw.below(5);
     let tables = draw.tables(alloc, options, nrows * ncols)?;
-    let want = wanted(alloc, options, &tables)?;
-    expect_combined_matrix(rt, alloc, options, (nrows, ncols), &tables, &want, case)
+    expect_wanted_matrix(rt, alloc, options, (nrows, ncols), &tables, case)
 }
 
 #[test]

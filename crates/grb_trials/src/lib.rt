@@ -8,9 +8,13 @@ mod drawn;
 #[cfg(test)]
 mod edges;
 #[cfg(test)]
+mod multiplied;
+#[cfg(test)]
 mod options;
 #[cfg(test)]
 mod pictures;
+#[cfg(test)]
+mod products;
 #[cfg(test)]
 mod refused;
 #[cfg(test)]

@@ -56,6 +56,16 @@ pub(crate) struct Tables {
     pub(crate) second: Table,
 }
 
+fn two_tables(
+    alloc: Global,
+    first: &[Option<u64>],
+    second: &[Option<u64>],
+) -> Result<(Table, Table), AllocError> {
+    let one = Vec::from_slice(alloc, first)?;
+    let other = Vec::from_slice(alloc, second)?;
+    Ok((one, other))
+}
+
 /// Copies of four tables.
 pub(crate) fn tables_of(
     alloc: Global,
@@ -64,11 +74,13 @@ pub(crate) fn tables_of(
     first: &[Option<u64>],
     second: &[Option<u64>],
 ) -> Result<Tables, AllocError> {
+    let (output, mask) = two_tables(alloc, output, mask)?;
+    let (first, second) = two_tables(alloc, first, second)?;
     Ok(Tables {
-        output: Vec::from_slice(alloc, output)?,
-        mask: Vec::from_slice(alloc, mask)?,
-        first: Vec::from_slice(alloc, first)?,
-        second: Vec::from_slice(alloc, second)?,
+        output,
+        mask,
+        first,
+        second,
     })
 }
 
@@ -90,6 +102,27 @@ pub(crate) struct Vectors {
     ghost second_size: { second.vector.size ≡ output.vector.size },
 }
 
+/// The vectors that two tables stand for.
+fn two_vectors(
+    alloc: Global,
+    domains: (Domain, Domain),
+    size: u64,
+    first: &[Option<u64>],
+    second: &[Option<u64>],
+) -> Result<(SparseVector, SparseVector), AllocError>
+    requires { IsDimension size }
+    ensures first_domain { IfOk result (λ made. made.0.vector.domain ≡ domains.0) }
+    ensures second_domain { IfOk result (λ made. made.1.vector.domain ≡ domains.1) }
+    ensures first_size { IfOk result (λ made. made.0.vector.size ≡ size) }
+    ensures second_size { IfOk result (λ made. made.1.vector.size ≡ size) }
+    ensures first_assembled { IfOk result (λ made. made.0.assembled ≡ true) }
+    ensures second_assembled { IfOk result (λ made. made.1.assembled ≡ true) }
+{
+    let one = vector_of(alloc, domains.0, size, first)?;
+    let other = vector_of(alloc, domains.1, size, second)?;
+    Ok((one, other))
+}
+
 /// The vectors that four tables stand for.
 pub(crate) fn vectors_of(
     alloc: Global,
@@ -100,10 +133,10 @@ pub(crate) fn vectors_of(
     requires { IsDimension size }
     ensures { IfOk result (λ made. made.output.vector.domain ≡ options.domain) }
 {
-    let output = vector_of(alloc, options.domain, size, &tables.output)?;
-    let mask = vector_of(alloc, options.mask_domain, size, &tables.mask)?;
-    let first = vector_of(alloc, options.domain, size, &tables.first)?;
-    let second = vector_of(alloc, options.domain, size, &tables.second)?;
+    let domains = (options.domain, options.mask_domain);
+    let (output, mask) = two_vectors(alloc, domains, size, &tables.output, &tables.mask)?;
+    let domains = (options.domain, options.domain);
+    let (first, second) = two_vectors(alloc, domains, size, &tables.first, &tables.second)?;
     Ok(Vectors {
         output,
         mask,
@@ -135,6 +168,21 @@ pub(crate) fn combine_vectors(
     }
 }
 
+fn expect_made_vector(
+    rt: &impl Abort,
+    alloc: Global,
+    options: Options,
+    vectors: &Vectors,
+    want: &[Option<u64>],
+    case: usize,
+) -> Result<(), AllocError>
+    requires { vectors.now.output.vector.domain ≡ options.domain }
+{
+    let made = combine_vectors(alloc, options, vectors)?;
+    expect_vector(rt, &made, want, case);
+    Ok(())
+}
+
 /// An operation on the vectors of four tables stores what the table `want` does.
 pub(crate) fn expect_combined_vector(
     rt: &impl Abort,
@@ -148,9 +196,7 @@ pub(crate) fn expect_combined_vector(
     requires { IsDimension size }
 {
     let vectors = vectors_of(alloc, options, size, tables)?;
-    let made = combine_vectors(alloc, options, &vectors)?;
-    expect_vector(rt, &made, want, case);
-    Ok(())
+    expect_made_vector(rt, alloc, options, &vectors, want, case)
 }
 
 /// The output, the mask and both inputs of an operation on matrices.
@@ -174,6 +220,31 @@ pub(crate) struct Matrices {
     ghost second_columns: { second.matrix.ncols ≡ output.matrix.ncols },
 }
 
+/// The matrices that two tables stand for.
+fn two_matrices(
+    alloc: Global,
+    domains: (Domain, Domain),
+    nrows: u64,
+    ncols: u64,
+    first: &[Option<u64>],
+    second: &[Option<u64>],
+) -> Result<(SparseMatrix, SparseMatrix), AllocError>
+    requires rows { IsDimension nrows }
+    requires columns { IsDimension ncols }
+    ensures first_domain { IfOk result (λ made. made.0.matrix.domain ≡ domains.0) }
+    ensures second_domain { IfOk result (λ made. made.1.matrix.domain ≡ domains.1) }
+    ensures first_rows { IfOk result (λ made. made.0.matrix.nrows ≡ nrows) }
+    ensures second_rows { IfOk result (λ made. made.1.matrix.nrows ≡ nrows) }
+    ensures first_columns { IfOk result (λ made. made.0.matrix.ncols ≡ ncols) }
+    ensures second_columns { IfOk result (λ made. made.1.matrix.ncols ≡ ncols) }
+    ensures first_assembled { IfOk result (λ made. made.0.assembled ≡ true) }
+    ensures second_assembled { IfOk result (λ made. made.1.assembled ≡ true) }
+{
+    let one = matrix_of(alloc, domains.0, nrows, ncols, first)?;
+    let other = matrix_of(alloc, domains.1, nrows, ncols, second)?;
+    Ok((one, other))
+}
+
 /// The matrices that four tables stand for.
 pub(crate) fn matrices_of(
     alloc: Global,
@@ -186,10 +257,17 @@ pub(crate) fn matrices_of(
     requires columns { IsDimension ncols }
     ensures { IfOk result (λ made. made.output.matrix.domain ≡ options.domain) }
 {
-    let output = matrix_of(alloc, options.domain, nrows, ncols, &tables.output)?;
-    let mask = matrix_of(alloc, options.mask_domain, nrows, ncols, &tables.mask)?;
-    let first = matrix_of(alloc, options.domain, nrows, ncols, &tables.first)?;
-    let second = matrix_of(alloc, options.domain, nrows, ncols, &tables.second)?;
+    let domains = (options.domain, options.mask_domain);
+    let (output, mask) = two_matrices(alloc, domains, nrows, ncols, &tables.output, &tables.mask)?;
+    let domains = (options.domain, options.domain);
+    let (first, second) = two_matrices(
+        alloc,
+        domains,
+        nrows,
+        ncols,
+        &tables.first,
+        &tables.second,
+    )?;
     Ok(Matrices {
         output,
         mask,
@@ -221,6 +299,21 @@ pub(crate) fn combine_matrices(
     }
 }
 
+fn expect_made_matrix(
+    rt: &impl Abort,
+    alloc: Global,
+    options: Options,
+    matrices: &Matrices,
+    want: &[Option<u64>],
+    case: usize,
+) -> Result<(), AllocError>
+    requires { matrices.now.output.matrix.domain ≡ options.domain }
+{
+    let made = combine_matrices(alloc, options, matrices)?;
+    expect_matrix(rt, &made, want, case);
+    Ok(())
+}
+
 /// An operation on the matrices of four tables stores what the table `want` does.
 pub(crate) fn expect_combined_matrix(
     rt: &impl Abort,
@@ -235,7 +328,5 @@ pub(crate) fn expect_combined_matrix(
     requires columns { IsDimension dims.1 }
 {
     let matrices = matrices_of(alloc, options, dims.0, dims.1, tables)?;
-    let made = combine_matrices(alloc, options, &matrices)?;
-    expect_matrix(rt, &made, want, case);
-    Ok(())
+    expect_made_matrix(rt, alloc, options, &matrices, want, case)
 }

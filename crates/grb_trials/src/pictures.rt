@@ -137,17 +137,25 @@ fn table_of(alloc: Global, picture: &[u8]) -> Result<Table, AllocError> {
     Ok(table)
 }
 
+fn two_tables(alloc: Global, first: &[u8], second: &[u8]) -> Result<(Table, Table), AllocError> {
+    let one = table_of(alloc, first)?;
+    let other = table_of(alloc, second)?;
+    Ok((one, other))
+}
+
 /// Both inputs of the operation, of which the result is the same: an addition stores what one of them stores, a multiplication what both do.
 fn tables_for(alloc: Global, operation: Operation) -> Result<Tables, AllocError> {
     let (first, second) = match operation {
         Operation::Add => (b"..uu ..uu ..uu", b"..vv ..vv ..vv"),
         Operation::Mult => (b"uuuu u.uu .uuu", b"..vv .vvv v.vv"),
     };
+    let (output, mask) = two_tables(alloc, b".w.w .w.w .w.w", b".... 0000 1111")?;
+    let (first, second) = two_tables(alloc, first, second)?;
     Ok(Tables {
-        output: table_of(alloc, b".w.w .w.w .w.w")?,
-        mask: table_of(alloc, b".... 0000 1111")?,
-        first: table_of(alloc, first)?,
-        second: table_of(alloc, second)?,
+        output,
+        mask,
+        first,
+        second,
     })
 }
 
@@ -172,6 +180,33 @@ fn options_of(operation: Operation, mask_domain: Domain, case: usize) -> Options
     }
 }
 
+fn expect_vector_of_case(
+    rt: &impl Abort,
+    alloc: Global,
+    options: Options,
+    tables: &Tables,
+    case: usize,
+) -> Result<(), AllocError>
+    requires { case < 32 }
+{
+    let want = table_of(alloc, WANTED[case / 4].output[case % 4])?;
+    expect_combined_vector(rt, alloc, options, 12, tables, &want, case)
+}
+
+fn expect_each_vector(
+    rt: &impl Abort,
+    alloc: Global,
+    operation: Operation,
+    mask_domain: Domain,
+    tables: &Tables,
+) -> Result<(), AllocError> {
+    for case in 0..32 {
+        let options = options_of(operation, mask_domain, case);
+        expect_vector_of_case(rt, alloc, options, tables, case)?;
+    }
+    Ok(())
+}
+
 /// Each way to call the operation on vectors, by a mask of this domain.
 fn expect_vectors(
     rt: &impl Abort,
@@ -180,10 +215,32 @@ fn expect_vectors(
     mask_domain: Domain,
 ) -> Result<(), AllocError> {
     let tables = tables_for(alloc, operation)?;
+    expect_each_vector(rt, alloc, operation, mask_domain, &tables)
+}
+
+fn expect_matrix_of_case(
+    rt: &impl Abort,
+    alloc: Global,
+    options: Options,
+    tables: &Tables,
+    case: usize,
+) -> Result<(), AllocError>
+    requires { case < 32 }
+{
+    let want = table_of(alloc, WANTED[case / 4].output[case % 4])?;
+    expect_combined_matrix(rt, alloc, options, (3, 4), tables, &want, case)
+}
+
+fn expect_each_matrix(
+    rt: &impl Abort,
+    alloc: Global,
+    operation: Operation,
+    mask_domain: Domain,
+    tables: &Tables,
+) -> Result<(), AllocError> {
     for case in 0..32 {
         let options = options_of(operation, mask_domain, case);
-        let want = table_of(alloc, WANTED[case / 4].output[case % 4])?;
-        expect_combined_vector(rt, alloc, options, 12, &tables, &want, case)?;
+        expect_matrix_of_case(rt, alloc, options, tables, case)?;
     }
     Ok(())
 }
@@ -196,12 +253,7 @@ fn expect_matrices(
     mask_domain: Domain,
 ) -> Result<(), AllocError> {
     let tables = tables_for(alloc, operation)?;
-    for case in 0..32 {
-        let options = options_of(operation, mask_domain, case);
-        let want = table_of(alloc, WANTED[case / 4].output[case % 4])?;
-        expect_combined_matrix(rt, alloc, options, (3, 4), &tables, &want, case)?;
-    }
-    Ok(())
+    expect_each_matrix(rt, alloc, operation, mask_domain, &tables)
 }
 
 #[test]

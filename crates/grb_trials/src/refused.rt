@@ -9,6 +9,7 @@ use crate::options::{
 use crate::tables::{expect_matrix, expect_vector};
 use grb_call::Descriptor;
 use grb_core::{BinaryOp, Domain};
+use grb_sparse::{SparseMatrix, SparseVector};
 use std::alloc::{AllocError, Global};
 use std::process::Abort;
 use std::test::Fail;
@@ -65,6 +66,39 @@ fn expect_same_vectors(rt: &impl Abort, vectors: &Vectors) {
     expect_vector(rt, &vectors.second, &SECOND, 3);
 }
 
+/// Makes the operation. Where memory is refused nothing has changed, and it is made once more.
+fn combined_vectors(
+    rt: &impl Abort,
+    alloc: Global,
+    options: Options,
+    vectors: &Vectors,
+) -> Result<SparseVector, AllocError>
+    requires { vectors.now.output.vector.domain ≡ options.domain }
+{
+    match combine_vectors(alloc, options, vectors) {
+        Ok(made) => Ok(made),
+        Err(_) => {
+            expect_same_vectors(rt, vectors);
+            combine_vectors(alloc, options, vectors)
+        }
+    }
+}
+
+fn expect_made_vectors(
+    rt: &impl Abort,
+    alloc: Global,
+    options: Options,
+    vectors: &Vectors,
+    want: &[Option<u64>],
+) -> Result<(), AllocError>
+    requires { vectors.now.output.vector.domain ≡ options.domain }
+{
+    let made = combined_vectors(rt, alloc, options, vectors)?;
+    expect_same_vectors(rt, vectors);
+    expect_vector(rt, &made, want, 4);
+    Ok(())
+}
+
 fn expect_vectors_after_a_refusal(
     rt: &impl Abort,
     alloc: Global,
@@ -73,16 +107,7 @@ fn expect_vectors_after_a_refusal(
 ) -> Result<(), AllocError> {
     let options = options_of(operation);
     let vectors = vectors(alloc, options)?;
-    let made = match combine_vectors(alloc, options, &vectors) {
-        Ok(made) => made,
-        Err(_) => {
-            expect_same_vectors(rt, &vectors);
-            combine_vectors(alloc, options, &vectors)?
-        }
-    };
-    expect_same_vectors(rt, &vectors);
-    expect_vector(rt, &made, want, 4);
-    Ok(())
+    expect_made_vectors(rt, alloc, options, &vectors, want)
 }
 
 #[test]
@@ -114,6 +139,39 @@ fn expect_same_matrices(rt: &impl Abort, matrices: &Matrices) {
     expect_matrix(rt, &matrices.second, &SECOND, 3);
 }
 
+/// Makes the operation. Where memory is refused nothing has changed, and it is made once more.
+fn combined_matrices(
+    rt: &impl Abort,
+    alloc: Global,
+    options: Options,
+    matrices: &Matrices,
+) -> Result<SparseMatrix, AllocError>
+    requires { matrices.now.output.matrix.domain ≡ options.domain }
+{
+    match combine_matrices(alloc, options, matrices) {
+        Ok(made) => Ok(made),
+        Err(_) => {
+            expect_same_matrices(rt, matrices);
+            combine_matrices(alloc, options, matrices)
+        }
+    }
+}
+
+fn expect_made_matrices(
+    rt: &impl Abort,
+    alloc: Global,
+    options: Options,
+    matrices: &Matrices,
+    want: &[Option<u64>],
+) -> Result<(), AllocError>
+    requires { matrices.now.output.matrix.domain ≡ options.domain }
+{
+    let made = combined_matrices(rt, alloc, options, matrices)?;
+    expect_same_matrices(rt, matrices);
+    expect_matrix(rt, &made, want, 4);
+    Ok(())
+}
+
 fn expect_matrices_after_a_refusal(
     rt: &impl Abort,
     alloc: Global,
@@ -122,16 +180,7 @@ fn expect_matrices_after_a_refusal(
 ) -> Result<(), AllocError> {
     let options = options_of(operation);
     let matrices = matrices(alloc, options)?;
-    let made = match combine_matrices(alloc, options, &matrices) {
-        Ok(made) => made,
-        Err(_) => {
-            expect_same_matrices(rt, &matrices);
-            combine_matrices(alloc, options, &matrices)?
-        }
-    };
-    expect_same_matrices(rt, &matrices);
-    expect_matrix(rt, &made, want, 4);
-    Ok(())
+    expect_made_matrices(rt, alloc, options, &matrices, want)
 }
 
 #[test]

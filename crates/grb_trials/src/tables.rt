@@ -22,7 +22,7 @@ fn value_of(domain: Domain, n: u64) -> Value
 }
 
 /// A value as a number.
-fn number_of(value: Value) -> u64 {
+pub(crate) fn number_of(value: Value) -> u64 {
     match value {
         Value::Bool(b) => u64::from(b),
         Value::Uint64(n) => n,

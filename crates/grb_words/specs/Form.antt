@@ -1,6 +1,7 @@
 -- The forms of statements (own): what the words of a line say, whatever its names stand for.
-use Rattle.std.specs.Prelude.{ℕ, if◌then◌else◌, List, [], ◌∷◌, Option, Some, None}
+use Rattle.std.specs.Prelude.{ℕ, ◌&&◌, if◌then◌else◌, List, [], ◌∷◌, Option, Some, None}
 use Rattle.std.specs.Option.{option_and_then, option_map}
+use Rattle.std.specs.Str.{is_utf8}
 use Rattle.grb_core.specs.declared.domain.Domain.{Domain}
 use Rattle.grb_core.specs.declared.monoid.Monoid.{Monoid}
 use Rattle.grb_core.specs.declared.operator.BinaryOp.{BinaryOp}
@@ -16,7 +17,7 @@ use Rattle.grb_words.specs.declared.keyword.Whole.{Whole}
 use Rattle.grb_words.specs.declared.keyword.Whole.TheVariants as whole
 use Rattle.grb_words.specs.declared.indices.Indices.{Indices}
 use Rattle.grb_words.specs.declared.indices.Indices.TheVariants as indices
-use Rattle.grb_words.specs.Line.{Word, words_of, is_skipped, Line}
+use Rattle.grb_words.specs.Line.{Word}
 use Rattle.grb_words.specs.Options.{OptionWords, options_of}
 use Rattle.grb_words.specs.Word.{is_name, numeral_value, domain_of, value_of, monoid_of, operator_of, semiring_of, wait_mode_of, keyword_of}
 
@@ -148,6 +149,7 @@ abbrev pub form_of : List Word → Option Form
 form_of (word ∷ name ∷ others) = where_name name (option_and_then (λ k. form_with k name others) (keyword_of word))
 form_of _ = None
 
--- the form on a line, if it has one: a line that is skipped has none
-abbrev pub form_on : Line → Option Form
-form_on line = if is_skipped (words_of line.bytes) then None else form_of (words_of line.bytes)
+-- the name and the path of 'load NAME PATH', where PATH is any word that is UTF-8: on a line of allowed bytes each word is
+abbrev pub load_of : List Word → Option (Word × Word)
+load_of (word ∷ name ∷ path ∷ []) = if is_name name && is_utf8 path then Some (name, path) else None
+load_of _ = None

@@ -49,3 +49,8 @@ is_skipped (word ∷ words) = slice_index word 0 == 35
 abbrev pub is_section : List Word → Bool
 is_section [] = false
 is_section (word ∷ words) = bytes_eq word (codes "thread") || bytes_eq word (codes "finally")
+
+-- a line that begins with the word of a load
+abbrev pub is_load : List Word → Bool
+is_load [] = false
+is_load (word ∷ words) = bytes_eq word (codes "load")

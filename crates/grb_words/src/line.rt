@@ -1,5 +1,5 @@
 ghost use Rattle.std.specs.Prelude.{◌≡◌, ◌<◌, [], ◌∷◌, length, IfOk, IfSome, IfNone, map};
-ghost use Rattle.grb_words.specs.Line.{ended, unended, lines_of, words_of, has_allowed_bytes, is_skipped, is_section};
+ghost use Rattle.grb_words.specs.Line.{ended, unended, lines_of, words_of, has_allowed_bytes, is_skipped, is_section, is_load};
 
 use memchr::memchr;
 use std::alloc::{AllocError, Global};
@@ -47,5 +47,15 @@ pub fn is_section(words: &[&[u8]]) -> bool
     match words {
         [] => false,
         [word, ..] => matches!(*word, b"thread" | b"finally"),
+    }
+}
+
+/// Whether a line with these words begins with `load`.
+pub fn is_load(words: &[&[u8]]) -> bool
+    ensures { result ≡ is_load (map (λ word. word.now) words.now) }
+{
+    match words {
+        [] => false,
+        [word, ..] => matches!(*word, b"load"),
     }
 }

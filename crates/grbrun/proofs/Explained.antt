@@ -10,9 +10,11 @@ use Rattle.grb_call.specs.declared.reply.Reply.{Reply}
 use Rattle.grb_call.specs.Kinds.{enters}
 use Rattle.grb_call.specs.After.{refused}
 use Rattle.grb_call.specs.History.{History, store_of}
-use Rattle.grb_context.specs.Known.{Shared, Knowing, known, IsKnown, IsAlone}
+use Rattle.grb_context.specs.Known.{Shared, Knowing, known, IsAlone}
 use Rattle.grb_context.specs.Explains.{Answer, ground_of, history_after, IsGrounded, IsUnshown, ExplainsCall}
+use Rattle.grb_context.specs.Answered.{Promise, Answered}
 use Rattle.grb_context.proofs.Alone.{grounds-alone, known-alone, shown-alone}
+use Rattle.grb_context.proofs.Promised.{promise}
 use Rattle.grb_order.specs.Order.{room_of}
 use Rattle.grbrun.specs.Printed.{IsAnswer}
 
@@ -54,18 +56,20 @@ IsAnswer-grounded room old new h c (Err Panic) within shown (inr untaken) =
 IsAnswer-grounded room old new h c (Err x) within shown grounds = refused_anyway (refused (store_of h) c) (enters c) (length h == room) _ x grounds.answered
 
 -- a call of the one pass of a context: its answer, and what the pass knows
-pub explained : (context : Shared) (old new : Knowing) (c : Call) (a : Answer) → IsAlone old → IsKnown context new → ExplainsCall (room_of context.order) old new c a
+pub explained : (context : Shared) (old new : Knowing) (c : Call) (a : Answer) → IsAlone old → Answered context old new c a
     → IsAnswer (room_of context.order) (known old) c a × (known new ≡ history_after 0 c a (known old)) × IsAlone new
-explained context old new c a alone after explains =
+explained context old new c a alone promised =
     let room : ℕ = room_of context.order in
+    let is : Promise context old new c a = promise context old new c a promised in
+    let explains : ExplainsCall room old new c a = is.explains in
     let first : new.view.number ≡ 0 = explains.grown.number ∙ alone.number in
     let one : new.view.passes ≡ 1 = explains.grown.passes ∙ alone.passes in
     let known_after : known new ≡ history_after 0 c a (known old) = known-alone room old new c a alone.number alone.passes explains in
-    let few : length (known new) ≤ length new.view.words = after.few in
-    let wide : length new.view.words ≤ room = after.within in
+    let few : length (known new) ≤ length new.view.words = is.knows.few in
+    let wide : length new.view.words ≤ room = is.knows.within in
     let short : length (known new) ≤ room = omega (arith, few, wide) in
     let within : length (history_after 0 c a (known old)) ≤ room = subst (λ h. length h ≤ room) known_after short in (
-      IsAnswer-grounded room old new (known old) c a within (shown-alone context new first one after) (grounds-alone room old new c a alone.number alone.passes explains),
+      IsAnswer-grounded room old new (known old) c a within (shown-alone context new first one is.knows) (grounds-alone room old new c a alone.number alone.passes explains),
       known_after,
       record { number = first; passes = one },
     )

@@ -1,8 +1,7 @@
 -- What short scripts print, by computation.
-use Rattle.std.proofs.Common.{◌≡◌, refl, ℕ, List, [], ◌∷◌}
+use Rattle.std.proofs.Common.{◌≡◌, refl, ℕ, List, [], ◌∷◌, map}
 use Rattle.std.specs.Prelude.{codes, true, false, Option, Some, None}
 use Rattle.std.specs.Fmt.{digits}
-use Rattle.std.specs.List.{flat_map}
 use Rattle.grb_core.specs.declared.domain.Domain.TheVariants as domain
 use Rattle.grb_core.specs.declared.value.Value.TheVariants as value
 use Rattle.grb_core.specs.declared.monoid.Monoid.TheVariants as monoid
@@ -13,11 +12,12 @@ use Rattle.grb_script.specs.declared.ewise.Elementwise.{Elementwise}
 use Rattle.grb_script.specs.declared.names.Sort.TheVariants as sort
 use Rattle.grb_script.specs.declared.statement.Statement.{Statement}
 use Rattle.grb_script.specs.declared.statement.Statement.TheVariants.{Matrix, Vector, Dup, Free, Nvals, Size, Clear, SetMatrix, SetVector, RemoveVector, GetMatrix, GetVector, ResizeMatrix, BuildVector, EwiseAdd, EwiseMult}
-use Rattle.grbrun.specs.Printed.{answers_in}
-use Rattle.grb_lines.specs.ReplyLine.{reply_line}
+use Rattle.grb_market.specs.declared.loaded.Loaded.{Loaded}
+use Rattle.grbrun.specs.declared.loads.Step.TheVariants as step
+use Rattle.grbrun.specs.Printed.{printed}
 
 abbrev lines : ℕ → List Statement → List ℕ
-lines room statements = flat_map reply_line (answers_in room [] [] statements)
+lines room statements = printed room (map step.Statement statements)
 
 a_vector : lines 4096
     (Vector domain.Uint64 5 ∷ SetVector 0 2 (value.Uint64 7) ∷ GetVector 0 2 ∷ GetVector 0 3 ∷ Nvals 0 sort.Vector ∷ [])
@@ -143,3 +143,20 @@ refusals : lines 1
     ≡ codes "ok\nGrB_DOMAIN_MISMATCH\nGrB_UNINITIALIZED_OBJECT\nGrB_DOMAIN_MISMATCH\nOrderFull\n"
 unfolding digits
 refusals = refl
+
+-- a load makes one line; where its matrix is made and the build finds no room, the name stands for the empty matrix, and where it is not
+-- made for none
+abbrev a_file : Loaded
+a_file = record { domain = domain.Bool; nrows = 2; ncols = 3; tuples = (0, 1, value.Bool true) ∷ (1, 2, value.Bool true) ∷ [] }
+
+a_load : printed 4096 (step.Load a_file ∷ step.Statement (Nvals 0 sort.Matrix) ∷ step.Statement (GetMatrix 0 1 2) ∷ []) ≡ codes "ok\ncount 2\nvalue true\n"
+unfolding digits
+a_load = refl
+
+a_refused_build : printed 1 (step.Load a_file ∷ step.Statement (Nvals 0 sort.Matrix) ∷ step.Statement (Size 0 sort.Matrix) ∷ []) ≡ codes "OrderFull\ncount 0\nsize 2 3\n"
+unfolding digits
+a_refused_build = refl
+
+a_refused_load : printed 1 (step.Statement (Vector domain.Bool 1) ∷ step.Load a_file ∷ step.Statement (Nvals 1 sort.Matrix) ∷ []) ≡ codes "ok\nOrderFull\nGrB_UNINITIALIZED_OBJECT\n"
+unfolding digits
+a_refused_load = refl

@@ -18,12 +18,12 @@ fn command<'a>(alloc: Global) -> Result<Command<'a>, AllocError>
         .action(ArgAction::Set)
         .value_parser(value_parser!(u32).range(1..=4096))
         .default_value("4096")
-        .help("How many statements may change the store, from 1 to 4096");
+        .help("How many calls may change the store, two of each load, from 1 to 4096");
     let script = Arg::new(alloc, "script")
         .value_name("SCRIPT")
         .action(ArgAction::Set)
         .required(true)
-        .help("The script to run");
+        .help("The script to run; the paths of its loads begin in the working folder");
     Command::new(alloc, "grbrun")
         .about("Runs a script of GraphBLAS calls on one shared store")
         .no_binary_name(true)
@@ -74,8 +74,8 @@ mod tests {
 
     const HELP: &str = "Runs a script of GraphBLAS calls on one shared store\n\n\
         Usage: grbrun [OPTIONS] <SCRIPT>\n\n\
-        Arguments:\n  <SCRIPT>  The script to run\n\n\
-        Options:\n      --room <N>  How many statements may change the store, from 1 to 4096 [default: 4096]\n  \
+        Arguments:\n  <SCRIPT>  The script to run; the paths of its loads begin in the working folder\n\n\
+        Options:\n      --room <N>  How many calls may change the store, two of each load, from 1 to 4096 [default: 4096]\n  \
         -h, --help      Print help\n";
 
     const MISSING_SCRIPT: &str =

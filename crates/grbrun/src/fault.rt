@@ -3,7 +3,7 @@ ghost use Rattle.grbrun.specs.declared.fault.RunFault.TheVariants as run;
 ghost use Rattle.grbrun.specs.RunFault.{source_run_fault, read_run_fault};
 
 use crate::source::SourceFault;
-use grb_market::SinkFault;
+use grb_market::{MarketFault, SinkFault};
 use grb_script::{FaultKind, ReadFault, ScriptFault};
 use std::alloc::AllocError;
 use thiserror::Error;
@@ -18,12 +18,32 @@ pub enum RunFault {
         line: u64,
         kind: FaultKind,
     },
+    /// The file of the load on this line has a fault, and this is the first. The script and the files of the loads before it have none.
+    /// Nothing was run or written.
+    #[error("line {line}: load: line {}: {}", .fault.line, .fault.kind)]
+    Load {
+        /// The number of the script's line, from 1.
+        line: u64,
+        fault: MarketFault,
+    },
     /// The source could not read the script. Nothing was run or written.
     #[error("cannot read the script")]
     CannotReadScript,
+    /// The source could not read the file of the load on this line. Nothing was run or written.
+    #[error("line {line}: cannot read the file")]
+    CannotReadFile {
+        /// The number of the script's line, from 1.
+        line: u64,
+    },
     /// The source has a script of more than 1,048,576 bytes. Nothing was run or written.
     #[error("the script is too long")]
     ScriptTooLong,
+    /// The source has more than 67,108,864 bytes in the file of the load on this line. Nothing was run or written.
+    #[error("line {line}: the file is too long")]
+    FileTooLong {
+        /// The number of the script's line, from 1.
+        line: u64,
+    },
     /// Memory was refused outside of the calls: for the texts, the store or the answers. Nothing was written.
     #[error("out of memory")]
     OutOfMemory,

@@ -1,9 +1,9 @@
 //! The program `grbrun [--room N] SCRIPT`: it runs the script in a file on a store, and prints a line for each statement.
 //!
-//! A script is a text of statements. It is read whole, or its first fault is answered and nothing runs; then each statement is one
-//! call, and the lines of the answers are written when all are known. Where the bytes come from and go to, a `Source` and a `Sink`
-//! decide: here a file and standard output, in tests tables. The exit status is 0 where all lines were written, or help was; 1 where
-//! the run ended early, which standard error explains; and 2 where the command line is faulty.
+//! A script is a text of statements. It is read whole, and then each file that it loads, or the first fault is answered and nothing
+//! runs; then each statement is one call, a load two, and the lines of the answers are written when all are known. Where the bytes come
+//! from and go to, a `Source` and a `Sink` decide: here files and standard output, in tests tables. The exit status is 0 where all lines
+//! were written, or help was; 1 where the run ended early, which standard error explains; and 2 where the command line is faulty.
 #![tactic(auto)]
 
 ghost use Rattle.std.specs.Prelude.{◌<◌, ◌≤◌};
@@ -14,6 +14,7 @@ mod driver;
 mod fault;
 mod files;
 mod gate;
+mod loads;
 mod output;
 mod report;
 mod source;

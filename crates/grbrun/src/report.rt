@@ -46,6 +46,7 @@ mod tests {
     use super::{report_run, report_unread_words, report_words};
     use crate::command_line::options;
     use crate::fault::RunFault;
+    use grb_market::MarketFault;
     use grb_script::FaultKind;
     use std::cell::Cell;
     use std::fmt::Display;
@@ -147,10 +148,26 @@ mod tests {
             line: 1,
             kind: FaultKind::UnknownName,
         };
+        let load = RunFault::Load {
+            line: 12,
+            fault: MarketFault {
+                line: 3,
+                kind: grb_market::FaultKind::UpperTriangle,
+            },
+        };
         let rows = [
             (script, "grbrun: line 1: unknown name"),
+            (load, "grbrun: line 12: load: line 3: upper triangle"),
             (RunFault::CannotReadScript, "grbrun: cannot read the script"),
+            (
+                RunFault::CannotReadFile { line: 2 },
+                "grbrun: line 2: cannot read the file",
+            ),
             (RunFault::ScriptTooLong, "grbrun: the script is too long"),
+            (
+                RunFault::FileTooLong { line: 31 },
+                "grbrun: line 31: the file is too long",
+            ),
             (RunFault::OutOfMemory, "grbrun: out of memory"),
             (RunFault::CannotWrite, "grbrun: cannot write"),
         ];

@@ -2,6 +2,7 @@ mod elementwise;
 mod endings;
 mod examples;
 mod gates;
+mod loads;
 mod products;
 mod runs;
 mod sinks;

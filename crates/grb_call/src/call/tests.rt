@@ -1,4 +1,5 @@
 use super::*;
+use std::process::Abort;
 use std::test::Fail;
 
 const A: MatrixId = MatrixId(3);
@@ -13,14 +14,12 @@ const COMPLEMENT: Descriptor = Descriptor {
     replace: false,
 };
 
+fn expect_output(rt: &impl Abort, call: Call, output: Option<Object>) {
+    assert_eq!(rt; call.output(), output);
+}
+
 #[test]
 fn the_output_is_the_object_that_a_call_changes(rt: HostRuntime) -> Result<(), Fail> {
-    assert_eq!(rt;
-        Call::ClearMatrix { a: A }.output(),
-        Some(Object::Matrix(A))
-    );
-    assert_eq!(rt; Call::FreeVector { v: V }.output(), Some(Object::Vector(V)));
-    assert_eq!(rt; Call::DupVector { v: V }.output(), None);
     let sum = Call::EwiseAddVector {
         w: V,
         mask: Some(VectorId(1)),
@@ -30,148 +29,188 @@ fn the_output_is_the_object_that_a_call_changes(rt: HostRuntime) -> Result<(), F
         v: VectorId(3),
         d: COMPLEMENT,
     };
-    assert_eq!(rt; sum.output(), Some(Object::Vector(V)));
-    assert_eq!(rt; Call::NvalsMatrix { a: A }.output(), None);
+    expect_output(&rt, Call::ClearMatrix { a: A }, Some(Object::Matrix(A)));
+    expect_output(&rt, Call::FreeVector { v: V }, Some(Object::Vector(V)));
+    expect_output(&rt, Call::DupVector { v: V }, None);
+    expect_output(&rt, sum, Some(Object::Vector(V)));
+    expect_output(&rt, Call::NvalsMatrix { a: A }, None);
+    Ok(())
+}
+
+fn expect_copy(rt: &impl Abort, call: Call, enters: bool) -> Result<(), Fail> {
+    assert_eq!(rt; call.enters(), enters, "of {call:?}");
+    assert_eq!(rt; call.try_clone()?, call);
+    Ok(())
+}
+
+fn expect_calls_of_a_whole_matrix(rt: &impl Abort) -> Result<(), Fail> {
+    expect_copy(
+        rt,
+        Call::NewMatrix {
+            domain: Domain::Bool,
+            nrows: 1,
+            ncols: 2,
+        },
+        true,
+    )?;
+    expect_copy(rt, Call::FreeMatrix { a: A }, true)?;
+    expect_copy(rt, Call::SizeMatrix { a: A }, false)?;
+    expect_copy(rt, Call::ClearMatrix { a: A }, true)?;
+    expect_copy(
+        rt,
+        Call::ResizeMatrix {
+            a: A,
+            nrows: 1,
+            ncols: 2,
+        },
+        true,
+    )?;
+    expect_copy(rt, Call::DupMatrix { a: A }, true)?;
+    Ok(())
+}
+
+fn expect_calls_of_entries_of_a_matrix(rt: &impl Abort) -> Result<(), Fail> {
+    expect_copy(
+        rt,
+        Call::SetMatrix {
+            a: A,
+            i: 1,
+            j: 2,
+            value: TRUTH,
+        },
+        true,
+    )?;
+    expect_copy(rt, Call::RemoveMatrix { a: A, i: 1, j: 2 }, true)?;
+    expect_copy(rt, Call::GetMatrix { a: A, i: 1, j: 2 }, false)?;
+    expect_copy(rt, Call::NvalsMatrix { a: A }, false)?;
+    Ok(())
+}
+
+fn expect_a_build_and_operations_of_a_matrix<R: Abort + AllocGlobal>(rt: &R) -> Result<(), Fail> {
+    let tuples = MatrixTuples::from_vec(vec![in rt.alloc(); (1, 2, TRUTH), (0, 0, TRUTH)]?);
+    expect_copy(
+        rt,
+        Call::BuildMatrix {
+            a: A,
+            tuples,
+            dup: Monoid::Lor,
+        },
+        true,
+    )?;
+    expect_copy(
+        rt,
+        Call::EwiseAddMatrix {
+            c: A,
+            mask: None,
+            accum: Some(BinaryOp::Minus),
+            op: BinaryOp::Plus,
+            a: MatrixId(5),
+            b: MatrixId(6),
+            d: COMPLEMENT,
+        },
+        true,
+    )?;
+    expect_copy(
+        rt,
+        Call::EwiseMultMatrix {
+            c: A,
+            mask: Some(MatrixId(4)),
+            accum: None,
+            op: BinaryOp::First,
+            a: MatrixId(5),
+            b: MatrixId(6),
+            d: COMPLEMENT,
+        },
+        true,
+    )?;
     Ok(())
 }
 
 #[test]
 fn a_call_of_a_matrix_enters_or_reads_and_has_an_equal_copy(rt: HostRuntime) -> Result<(), Fail> {
-    let tuples = MatrixTuples::from_vec(vec![in rt.alloc(); (1, 2, TRUTH), (0, 0, TRUTH)]?);
-    for (call, enters) in [
-        (
-            Call::NewMatrix {
-                domain: Domain::Bool,
-                nrows: 1,
-                ncols: 2,
-            },
-            true,
-        ),
-        (Call::FreeMatrix { a: A }, true),
-        (
-            Call::SetMatrix {
-                a: A,
-                i: 1,
-                j: 2,
-                value: TRUTH,
-            },
-            true,
-        ),
-        (Call::RemoveMatrix { a: A, i: 1, j: 2 }, true),
-        (Call::GetMatrix { a: A, i: 1, j: 2 }, false),
-        (Call::NvalsMatrix { a: A }, false),
-        (Call::SizeMatrix { a: A }, false),
-        (Call::ClearMatrix { a: A }, true),
-        (
-            Call::ResizeMatrix {
-                a: A,
-                nrows: 1,
-                ncols: 2,
-            },
-            true,
-        ),
-        (Call::DupMatrix { a: A }, true),
-        (
-            Call::BuildMatrix {
-                a: A,
-                tuples,
-                dup: Monoid::Lor,
-            },
-            true,
-        ),
-        (
-            Call::EwiseAddMatrix {
-                c: A,
-                mask: None,
-                accum: Some(BinaryOp::Minus),
-                op: BinaryOp::Plus,
-                a: MatrixId(5),
-                b: MatrixId(6),
-                d: COMPLEMENT,
-            },
-            true,
-        ),
-        (
-            Call::EwiseMultMatrix {
-                c: A,
-                mask: Some(MatrixId(4)),
-                accum: None,
-                op: BinaryOp::First,
-                a: MatrixId(5),
-                b: MatrixId(6),
-                d: COMPLEMENT,
-            },
-            true,
-        ),
-    ] {
-        assert_eq!(rt; call.enters(), enters, "of {call:?}");
-        assert_eq!(rt; call.try_clone()?, call);
-    }
+    expect_calls_of_a_whole_matrix(&rt)?;
+    expect_calls_of_entries_of_a_matrix(&rt)?;
+    expect_a_build_and_operations_of_a_matrix(&rt)?;
+    Ok(())
+}
+
+fn expect_calls_of_a_whole_vector(rt: &impl Abort) -> Result<(), Fail> {
+    expect_copy(
+        rt,
+        Call::NewVector {
+            domain: Domain::Uint64,
+            size: 4_294_967_295,
+        },
+        true,
+    )?;
+    expect_copy(rt, Call::FreeVector { v: V }, true)?;
+    expect_copy(rt, Call::SizeVector { v: V }, false)?;
+    expect_copy(rt, Call::ClearVector { v: V }, true)?;
+    expect_copy(rt, Call::ResizeVector { v: V, size: 1 }, true)?;
+    expect_copy(rt, Call::DupVector { v: V }, true)?;
+    Ok(())
+}
+
+fn expect_calls_of_entries_of_a_vector(rt: &impl Abort) -> Result<(), Fail> {
+    expect_copy(
+        rt,
+        Call::SetVector {
+            v: V,
+            i: 1,
+            value: TRUTH,
+        },
+        true,
+    )?;
+    expect_copy(rt, Call::RemoveVector { v: V, i: 1 }, true)?;
+    expect_copy(rt, Call::GetVector { v: V, i: 1 }, false)?;
+    expect_copy(rt, Call::NvalsVector { v: V }, false)?;
+    Ok(())
+}
+
+fn expect_a_build_and_operations_of_a_vector<R: Abort + AllocGlobal>(rt: &R) -> Result<(), Fail> {
+    let tuples = VectorTuples::from_vec(vec![in rt.alloc(); (1, TRUTH), (0, TRUTH)]?);
+    expect_copy(
+        rt,
+        Call::BuildVector {
+            v: V,
+            tuples,
+            dup: Monoid::Land,
+        },
+        true,
+    )?;
+    expect_copy(
+        rt,
+        Call::EwiseAddVector {
+            w: V,
+            mask: None,
+            accum: Some(BinaryOp::Minus),
+            op: BinaryOp::Plus,
+            u: VectorId(5),
+            v: VectorId(6),
+            d: COMPLEMENT,
+        },
+        true,
+    )?;
+    expect_copy(
+        rt,
+        Call::EwiseMultVector {
+            w: V,
+            mask: Some(VectorId(7)),
+            accum: None,
+            op: BinaryOp::First,
+            u: VectorId(5),
+            v: VectorId(6),
+            d: COMPLEMENT,
+        },
+        true,
+    )?;
     Ok(())
 }
 
 #[test]
 fn a_call_of_a_vector_enters_or_reads_and_has_an_equal_copy(rt: HostRuntime) -> Result<(), Fail> {
-    let tuples = VectorTuples::from_vec(vec![in rt.alloc(); (1, TRUTH), (0, TRUTH)]?);
-    for (call, enters) in [
-        (
-            Call::NewVector {
-                domain: Domain::Uint64,
-                size: 4_294_967_295,
-            },
-            true,
-        ),
-        (Call::FreeVector { v: V }, true),
-        (
-            Call::SetVector {
-                v: V,
-                i: 1,
-                value: TRUTH,
-            },
-            true,
-        ),
-        (Call::RemoveVector { v: V, i: 1 }, true),
-        (Call::GetVector { v: V, i: 1 }, false),
-        (Call::NvalsVector { v: V }, false),
-        (Call::SizeVector { v: V }, false),
-        (Call::ClearVector { v: V }, true),
-        (Call::ResizeVector { v: V, size: 1 }, true),
-        (Call::DupVector { v: V }, true),
-        (
-            Call::BuildVector {
-                v: V,
-                tuples,
-                dup: Monoid::Land,
-            },
-            true,
-        ),
-        (
-            Call::EwiseAddVector {
-                w: V,
-                mask: None,
-                accum: Some(BinaryOp::Minus),
-                op: BinaryOp::Plus,
-                u: VectorId(5),
-                v: VectorId(6),
-                d: COMPLEMENT,
-            },
-            true,
-        ),
-        (
-            Call::EwiseMultVector {
-                w: V,
-                mask: Some(VectorId(7)),
-                accum: None,
-                op: BinaryOp::First,
-                u: VectorId(5),
-                v: VectorId(6),
-                d: COMPLEMENT,
-            },
-            true,
-        ),
-    ] {
-        assert_eq!(rt; call.enters(), enters, "of {call:?}");
-        assert_eq!(rt; call.try_clone()?, call);
-    }
+    expect_calls_of_a_whole_vector(&rt)?;
+    expect_calls_of_entries_of_a_vector(&rt)?;
+    expect_a_build_and_operations_of_a_vector(&rt)?;
     Ok(())
 }

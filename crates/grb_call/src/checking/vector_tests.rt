@@ -1,6 +1,8 @@
 use super::*;
 use crate::tuples::VectorTuples;
 use grb_core::Monoid;
+use std::alloc::{AllocError, Global};
+use std::process::Abort;
 use std::test::Fail;
 
 const MADE: VectorId = VectorId(0);
@@ -11,27 +13,27 @@ const NUMBER: Value = Value::Uint64(7);
 
 const TRUTH: Value = Value::Bool(true);
 
+const ENTERS: Result<Kind, Refusal> = Ok(Kind::Enters);
+
+const READS: Result<Kind, Refusal> = Ok(Kind::Reads);
+
+const INSIDE: Result<Kind, Refusal> = Ok(Kind::Build { in_bounds: true });
+
+const OUTSIDE: Result<Kind, Refusal> = Ok(Kind::Build { in_bounds: false });
+
+const UNINITIALIZED: Result<Kind, Refusal> = Err(Refusal::UninitializedObject);
+
+const VALUE: Result<Kind, Refusal> = Err(Refusal::InvalidValue);
+
+const INDEX: Result<Kind, Refusal> = Err(Refusal::InvalidIndex);
+
+const DOMAIN: Result<Kind, Refusal> = Err(Refusal::DomainMismatch);
+
 fn new(size: u64) -> Call {
     Call::NewVector {
         domain: Domain::Uint64,
         size,
     }
-}
-
-fn set(v: VectorId, i: u64, value: Value) -> Call {
-    Call::SetVector { v, i, value }
-}
-
-fn remove(v: VectorId, i: u64) -> Call {
-    Call::RemoveVector { v, i }
-}
-
-fn get(v: VectorId, i: u64) -> Call {
-    Call::GetVector { v, i }
-}
-
-fn resize(v: VectorId, size: u64) -> Call {
-    Call::ResizeVector { v, size }
 }
 
 fn build(v: VectorId, tuples: Vec<(u64, Value)>, dup: Monoid) -> Call {
@@ -42,125 +44,142 @@ fn build(v: VectorId, tuples: Vec<(u64, Value)>, dup: Monoid) -> Call {
     }
 }
 
+/// A call, without a list of its own.
+#[derive(Clone, Copy)]
+enum Asked {
+    New(u64),
+    Free(VectorId),
+    Set(VectorId, u64, Value),
+    Remove(VectorId, u64),
+    Get(VectorId, u64),
+    Nvals(VectorId),
+    Size(VectorId),
+    Clear(VectorId),
+    Resize(VectorId, u64),
+    Dup(VectorId),
+}
+
+fn call_of(asked: Asked) -> Call {
+    match asked {
+        Asked::New(size) => new(size),
+        Asked::Free(v) => Call::FreeVector { v },
+        Asked::Set(v, i, value) => Call::SetVector { v, i, value },
+        Asked::Remove(v, i) => Call::RemoveVector { v, i },
+        Asked::Get(v, i) => Call::GetVector { v, i },
+        Asked::Nvals(v) => Call::NvalsVector { v },
+        Asked::Size(v) => Call::SizeVector { v },
+        Asked::Clear(v) => Call::ClearVector { v },
+        Asked::Resize(v, size) => Call::ResizeVector { v, size },
+        Asked::Dup(v) => Call::DupVector { v },
+    }
+}
+
+fn open(alloc: Global) -> Result<Shapes, AllocError> {
+    let mut shapes = Shapes::open(alloc, 1)?;
+    shapes.absorb(&new(5));
+    Ok(shapes)
+}
+
+fn expect(rt: &impl Abort, shapes: &Shapes, call: &Call, want: Result<Kind, Refusal>) {
+    assert_eq!(rt; check(shapes, call), want, "of {call:?}");
+}
+
+const CHECKED: [(Asked, Result<Kind, Refusal>); 36] = [
+    // not refused
+    (Asked::New(1), ENTERS),
+    (Asked::New(4_294_967_295), ENTERS),
+    (Asked::Free(MADE), ENTERS),
+    (Asked::Set(MADE, 0, NUMBER), ENTERS),
+    (Asked::Set(MADE, 4, NUMBER), ENTERS),
+    (Asked::Remove(MADE, 4), ENTERS),
+    (Asked::Get(MADE, 4), READS),
+    (Asked::Nvals(MADE), READS),
+    (Asked::Size(MADE), READS),
+    (Asked::Clear(MADE), ENTERS),
+    (Asked::Resize(MADE, 4_294_967_295), ENTERS),
+    (Asked::Dup(MADE), ENTERS),
+    // each refusal
+    (Asked::Free(NEVER_MADE), UNINITIALIZED),
+    (Asked::Set(NEVER_MADE, 0, NUMBER), UNINITIALIZED),
+    (Asked::Remove(NEVER_MADE, 0), UNINITIALIZED),
+    (Asked::Get(NEVER_MADE, 0), UNINITIALIZED),
+    (Asked::Nvals(NEVER_MADE), UNINITIALIZED),
+    (Asked::Size(NEVER_MADE), UNINITIALIZED),
+    (Asked::Clear(NEVER_MADE), UNINITIALIZED),
+    (Asked::Resize(NEVER_MADE, 1), UNINITIALIZED),
+    (Asked::Dup(NEVER_MADE), UNINITIALIZED),
+    (Asked::New(0), VALUE),
+    (Asked::New(4_294_967_296), VALUE),
+    (Asked::Resize(MADE, 0), VALUE),
+    (Asked::Resize(MADE, 4_294_967_296), VALUE),
+    (Asked::Set(MADE, 5, NUMBER), INDEX),
+    (Asked::Remove(MADE, 5), INDEX),
+    (Asked::Get(MADE, 5), INDEX),
+    (Asked::Set(MADE, 4, TRUTH), DOMAIN),
+    // two refusals, and three
+    (Asked::Set(NEVER_MADE, 5, NUMBER), UNINITIALIZED),
+    (Asked::Set(NEVER_MADE, 0, TRUTH), UNINITIALIZED),
+    (Asked::Set(MADE, 5, TRUTH), INDEX),
+    (Asked::Set(NEVER_MADE, 5, TRUTH), UNINITIALIZED),
+    (Asked::Remove(NEVER_MADE, 5), UNINITIALIZED),
+    (Asked::Get(NEVER_MADE, 5), UNINITIALIZED),
+    (Asked::Resize(NEVER_MADE, 0), UNINITIALIZED),
+];
+
 #[test]
 fn a_check_answers_the_kind_or_the_first_refusal(rt: HostRuntime) -> Result<(), Fail> {
-    let mut shapes = Shapes::open(rt.alloc(), 1)?;
-    shapes.absorb(&new(5));
-    for (call, want) in [
-        // not refused
-        (new(1), Ok(Kind::Enters)),
-        (new(4_294_967_295), Ok(Kind::Enters)),
-        (Call::FreeVector { v: MADE }, Ok(Kind::Enters)),
-        (set(MADE, 0, NUMBER), Ok(Kind::Enters)),
-        (set(MADE, 4, NUMBER), Ok(Kind::Enters)),
-        (remove(MADE, 4), Ok(Kind::Enters)),
-        (get(MADE, 4), Ok(Kind::Reads)),
-        (Call::NvalsVector { v: MADE }, Ok(Kind::Reads)),
-        (Call::SizeVector { v: MADE }, Ok(Kind::Reads)),
-        (Call::ClearVector { v: MADE }, Ok(Kind::Enters)),
-        (resize(MADE, 4_294_967_295), Ok(Kind::Enters)),
-        (Call::DupVector { v: MADE }, Ok(Kind::Enters)),
-        // each refusal
-        (
-            Call::FreeVector { v: NEVER_MADE },
-            Err(Refusal::UninitializedObject),
-        ),
-        (
-            set(NEVER_MADE, 0, NUMBER),
-            Err(Refusal::UninitializedObject),
-        ),
-        (remove(NEVER_MADE, 0), Err(Refusal::UninitializedObject)),
-        (get(NEVER_MADE, 0), Err(Refusal::UninitializedObject)),
-        (
-            Call::NvalsVector { v: NEVER_MADE },
-            Err(Refusal::UninitializedObject),
-        ),
-        (
-            Call::SizeVector { v: NEVER_MADE },
-            Err(Refusal::UninitializedObject),
-        ),
-        (
-            Call::ClearVector { v: NEVER_MADE },
-            Err(Refusal::UninitializedObject),
-        ),
-        (resize(NEVER_MADE, 1), Err(Refusal::UninitializedObject)),
-        (
-            Call::DupVector { v: NEVER_MADE },
-            Err(Refusal::UninitializedObject),
-        ),
-        (new(0), Err(Refusal::InvalidValue)),
-        (new(4_294_967_296), Err(Refusal::InvalidValue)),
-        (resize(MADE, 0), Err(Refusal::InvalidValue)),
-        (resize(MADE, 4_294_967_296), Err(Refusal::InvalidValue)),
-        (set(MADE, 5, NUMBER), Err(Refusal::InvalidIndex)),
-        (remove(MADE, 5), Err(Refusal::InvalidIndex)),
-        (get(MADE, 5), Err(Refusal::InvalidIndex)),
-        (set(MADE, 4, TRUTH), Err(Refusal::DomainMismatch)),
-        // two refusals, and three
-        (
-            set(NEVER_MADE, 5, NUMBER),
-            Err(Refusal::UninitializedObject),
-        ),
-        (set(NEVER_MADE, 0, TRUTH), Err(Refusal::UninitializedObject)),
-        (set(MADE, 5, TRUTH), Err(Refusal::InvalidIndex)),
-        (set(NEVER_MADE, 5, TRUTH), Err(Refusal::UninitializedObject)),
-        (remove(NEVER_MADE, 5), Err(Refusal::UninitializedObject)),
-        (get(NEVER_MADE, 5), Err(Refusal::UninitializedObject)),
-        (resize(NEVER_MADE, 0), Err(Refusal::UninitializedObject)),
-    ] {
-        assert_eq!(rt; check(&shapes, &call), want, "of {call:?}");
+    let shapes = open(rt.alloc())?;
+    for (asked, want) in &CHECKED {
+        expect(&rt, &shapes, &call_of(*asked), *want);
     }
     Ok(())
 }
 
+fn expect_build<R: Abort + AllocGlobal>(
+    rt: &R,
+    shapes: &Shapes,
+    row: &BuildRow,
+) -> Result<(), AllocError> {
+    let (v, list, dup, want) = *row;
+    let call = build(v, Vec::from_slice(rt.alloc(), list)?, dup);
+    expect(rt, shapes, &call, want);
+    Ok(())
+}
+
+/// A vector, the list of a build, how it combines, and what a check answers.
+type BuildRow = (
+    VectorId,
+    &'static [(u64, Value)],
+    Monoid,
+    Result<Kind, Refusal>,
+);
+
+static BUILDS: [BuildRow; 8] = [
+    (MADE, &[], Monoid::Plus, INSIDE),
+    (
+        MADE,
+        &[(4, NUMBER), (0, NUMBER), (4, NUMBER)],
+        Monoid::Plus,
+        INSIDE,
+    ),
+    (
+        MADE,
+        &[(0, NUMBER), (5, NUMBER), (1, NUMBER)],
+        Monoid::Max,
+        OUTSIDE,
+    ),
+    (NEVER_MADE, &[(0, NUMBER)], Monoid::Plus, UNINITIALIZED),
+    (MADE, &[(0, NUMBER)], Monoid::Lor, DOMAIN),
+    (MADE, &[(0, NUMBER), (1, TRUTH)], Monoid::Plus, DOMAIN),
+    (NEVER_MADE, &[(0, TRUTH)], Monoid::Plus, UNINITIALIZED),
+    (MADE, &[(5, TRUTH)], Monoid::Plus, DOMAIN),
+];
+
 #[test]
 fn a_build_is_refused_or_tells_whether_its_indices_are_inside(rt: HostRuntime) -> Result<(), Fail> {
-    let alloc = rt.alloc();
-    let mut shapes = Shapes::open(alloc, 1)?;
-    shapes.absorb(&new(5));
-    for (call, want) in [
-        (
-            build(MADE, Vec::new(alloc), Monoid::Plus),
-            Ok(Kind::Build { in_bounds: true }),
-        ),
-        (
-            build(
-                MADE,
-                vec![in alloc; (4, NUMBER), (0, NUMBER), (4, NUMBER)]?,
-                Monoid::Plus,
-            ),
-            Ok(Kind::Build { in_bounds: true }),
-        ),
-        (
-            build(
-                MADE,
-                vec![in alloc; (0, NUMBER), (5, NUMBER), (1, NUMBER)]?,
-                Monoid::Max,
-            ),
-            Ok(Kind::Build { in_bounds: false }),
-        ),
-        (
-            build(NEVER_MADE, vec![in alloc; (0, NUMBER)]?, Monoid::Plus),
-            Err(Refusal::UninitializedObject),
-        ),
-        (
-            build(MADE, vec![in alloc; (0, NUMBER)]?, Monoid::Lor),
-            Err(Refusal::DomainMismatch),
-        ),
-        (
-            build(MADE, vec![in alloc; (0, NUMBER), (1, TRUTH)]?, Monoid::Plus),
-            Err(Refusal::DomainMismatch),
-        ),
-        (
-            build(NEVER_MADE, vec![in alloc; (0, TRUTH)]?, Monoid::Plus),
-            Err(Refusal::UninitializedObject),
-        ),
-        (
-            build(MADE, vec![in alloc; (5, TRUTH)]?, Monoid::Plus),
-            Err(Refusal::DomainMismatch),
-        ),
-    ] {
-        assert_eq!(rt; check(&shapes, &call), want, "of {call:?}");
+    let shapes = open(rt.alloc())?;
+    for row in &BUILDS {
+        expect_build(&rt, &shapes, row)?;
     }
     Ok(())
 }

@@ -3,6 +3,7 @@ use crate::checking::{Kind, check};
 use crate::descriptor::Descriptor;
 use grb_core::Refusal;
 use std::alloc::{AllocError, Global};
+use std::process::Abort;
 use std::test::Fail;
 
 const PLAIN: Descriptor = Descriptor {
@@ -140,95 +141,118 @@ fn mult_matrix(
     }
 }
 
+/// Output, mask, accumulator, operator, first and second input, and what a check answers.
+type Row = (
+    u32,
+    Option<u32>,
+    Option<BinaryOp>,
+    BinaryOp,
+    u32,
+    u32,
+    Result<Kind, Refusal>,
+);
+
+fn expect(rt: &impl Abort, shapes: &Shapes, call: &Call, want: Result<Kind, Refusal>) {
+    assert_eq!(rt; check(shapes, call), want, "of {call:?}");
+}
+
+fn expect_on_vectors(rt: &impl Abort, shapes: &Shapes, row: &Row) {
+    let (w, mask, accum, op, u, v, want) = *row;
+    expect(rt, shapes, &add_vector(w, mask, accum, op, u, v), want);
+    expect(rt, shapes, &mult_vector(w, mask, accum, op, u, v), want);
+}
+
+fn expect_on_matrices(rt: &impl Abort, shapes: &Shapes, row: &Row) {
+    let (c, mask, accum, op, a, b, want) = *row;
+    expect(rt, shapes, &add_matrix(c, mask, accum, op, a, b), want);
+    expect(rt, shapes, &mult_matrix(c, mask, accum, op, a, b), want);
+}
+
+const ON_VECTORS: [Row; 26] = [
+    // not refused: one object as all of them, and a mask of the other domain among them
+    (0, None, None, BinaryOp::Plus, 1, 1, ENTERS),
+    (0, Some(0), PLUS, BinaryOp::Plus, 0, 0, ENTERS),
+    (0, Some(2), None, BinaryOp::First, 1, 0, ENTERS),
+    (2, Some(1), LOR, BinaryOp::Lxor, 2, 2, ENTERS),
+    // never made: output, first input, second input, mask; and a mask that was freed
+    (9, None, None, BinaryOp::Plus, 0, 1, UNINITIALIZED),
+    (0, None, None, BinaryOp::Plus, 9, 1, UNINITIALIZED),
+    (0, None, None, BinaryOp::Plus, 1, 9, UNINITIALIZED),
+    (0, Some(9), None, BinaryOp::Plus, 1, 1, UNINITIALIZED),
+    (0, Some(FREED), None, BinaryOp::Plus, 1, 1, UNINITIALIZED),
+    // another domain: output, first input, second input, operator, accumulator
+    (2, None, None, BinaryOp::Plus, 0, 1, DOMAIN),
+    (0, None, None, BinaryOp::Plus, 2, 1, DOMAIN),
+    (0, None, None, BinaryOp::Plus, 1, 2, DOMAIN),
+    (0, None, None, BinaryOp::Lor, 1, 1, DOMAIN),
+    (0, None, LOR, BinaryOp::Plus, 1, 1, DOMAIN),
+    // another size: output, first input, second input, mask, and a mask of the other domain
+    (3, None, None, BinaryOp::Plus, 0, 1, DIMENSION),
+    (0, None, None, BinaryOp::Plus, 3, 1, DIMENSION),
+    (0, None, None, BinaryOp::Plus, 1, 4, DIMENSION),
+    (0, Some(3), None, BinaryOp::Plus, 1, 1, DIMENSION),
+    (0, Some(4), None, BinaryOp::Plus, 1, 1, DIMENSION),
+    (0, Some(5), None, BinaryOp::Plus, 1, 1, DIMENSION),
+    // two refusals, and three
+    (0, Some(9), LOR, BinaryOp::Plus, 1, 1, UNINITIALIZED),
+    (0, Some(9), None, BinaryOp::Plus, 3, 1, UNINITIALIZED),
+    (0, None, None, BinaryOp::Plus, 5, 1, DOMAIN),
+    (0, Some(3), LOR, BinaryOp::Plus, 1, 1, DOMAIN),
+    (5, Some(2), None, BinaryOp::Plus, 1, 0, DOMAIN),
+    (0, Some(9), LOR, BinaryOp::Land, 5, 3, UNINITIALIZED),
+];
+
 #[test]
 fn an_operation_on_vectors_enters_or_has_its_first_refusal(rt: HostRuntime) -> Result<(), Fail> {
     let shapes = vectors(rt.alloc())?;
-    let plus = BinaryOp::Plus;
-    for (w, mask, accum, op, u, v, want) in [
-        // not refused: one object as all of them, and a mask of the other domain among them
-        (0, None, None, plus, 1, 1, ENTERS),
-        (0, Some(0), PLUS, plus, 0, 0, ENTERS),
-        (0, Some(2), None, BinaryOp::First, 1, 0, ENTERS),
-        (2, Some(1), LOR, BinaryOp::Lxor, 2, 2, ENTERS),
-        // never made: output, first input, second input, mask; and a mask that was freed
-        (9, None, None, plus, 0, 1, UNINITIALIZED),
-        (0, None, None, plus, 9, 1, UNINITIALIZED),
-        (0, None, None, plus, 1, 9, UNINITIALIZED),
-        (0, Some(9), None, plus, 1, 1, UNINITIALIZED),
-        (0, Some(FREED), None, plus, 1, 1, UNINITIALIZED),
-        // another domain: output, first input, second input, operator, accumulator
-        (2, None, None, plus, 0, 1, DOMAIN),
-        (0, None, None, plus, 2, 1, DOMAIN),
-        (0, None, None, plus, 1, 2, DOMAIN),
-        (0, None, None, BinaryOp::Lor, 1, 1, DOMAIN),
-        (0, None, LOR, plus, 1, 1, DOMAIN),
-        // another size: output, first input, second input, mask, and a mask of the other domain
-        (3, None, None, plus, 0, 1, DIMENSION),
-        (0, None, None, plus, 3, 1, DIMENSION),
-        (0, None, None, plus, 1, 4, DIMENSION),
-        (0, Some(3), None, plus, 1, 1, DIMENSION),
-        (0, Some(4), None, plus, 1, 1, DIMENSION),
-        (0, Some(5), None, plus, 1, 1, DIMENSION),
-        // two refusals, and three
-        (0, Some(9), LOR, plus, 1, 1, UNINITIALIZED),
-        (0, Some(9), None, plus, 3, 1, UNINITIALIZED),
-        (0, None, None, plus, 5, 1, DOMAIN),
-        (0, Some(3), LOR, plus, 1, 1, DOMAIN),
-        (5, Some(2), None, plus, 1, 0, DOMAIN),
-        (0, Some(9), LOR, BinaryOp::Land, 5, 3, UNINITIALIZED),
-    ] {
-        let add = add_vector(w, mask, accum, op, u, v);
-        assert_eq!(rt; check(&shapes, &add), want, "of {add:?}");
-        let mult = mult_vector(w, mask, accum, op, u, v);
-        assert_eq!(rt; check(&shapes, &mult), want, "of {mult:?}");
+    for row in &ON_VECTORS {
+        expect_on_vectors(&rt, &shapes, row);
     }
     Ok(())
 }
 
+const ON_MATRICES: [Row; 29] = [
+    // not refused: one object as all of them, and a mask of the other domain among them
+    (0, None, None, BinaryOp::Plus, 1, 1, ENTERS),
+    (0, Some(0), PLUS, BinaryOp::Plus, 0, 0, ENTERS),
+    (0, Some(2), None, BinaryOp::First, 1, 0, ENTERS),
+    (2, Some(1), LOR, BinaryOp::Lxor, 2, 2, ENTERS),
+    // never made: output, first input, second input, mask; and a mask that was freed
+    (9, None, None, BinaryOp::Plus, 0, 1, UNINITIALIZED),
+    (0, None, None, BinaryOp::Plus, 9, 1, UNINITIALIZED),
+    (0, None, None, BinaryOp::Plus, 1, 9, UNINITIALIZED),
+    (0, Some(9), None, BinaryOp::Plus, 1, 1, UNINITIALIZED),
+    (0, Some(FREED), None, BinaryOp::Plus, 1, 1, UNINITIALIZED),
+    // another domain: output, first input, second input, operator, accumulator
+    (2, None, None, BinaryOp::Plus, 0, 1, DOMAIN),
+    (0, None, None, BinaryOp::Plus, 2, 1, DOMAIN),
+    (0, None, None, BinaryOp::Plus, 1, 2, DOMAIN),
+    (0, None, None, BinaryOp::Lor, 1, 1, DOMAIN),
+    (0, None, LOR, BinaryOp::Plus, 1, 1, DOMAIN),
+    // another number of rows, and of columns: output, first input, second input, mask
+    (3, None, None, BinaryOp::Plus, 0, 1, DIMENSION),
+    (4, None, None, BinaryOp::Plus, 0, 1, DIMENSION),
+    (0, None, None, BinaryOp::Plus, 3, 1, DIMENSION),
+    (0, None, None, BinaryOp::Plus, 4, 1, DIMENSION),
+    (0, None, None, BinaryOp::Plus, 1, 3, DIMENSION),
+    (0, None, None, BinaryOp::Plus, 1, 4, DIMENSION),
+    (0, Some(3), None, BinaryOp::Plus, 1, 1, DIMENSION),
+    (0, Some(4), None, BinaryOp::Plus, 1, 1, DIMENSION),
+    (0, Some(5), None, BinaryOp::Plus, 1, 1, DIMENSION),
+    // two refusals, and three
+    (0, Some(9), LOR, BinaryOp::Plus, 1, 1, UNINITIALIZED),
+    (0, Some(9), None, BinaryOp::Plus, 3, 1, UNINITIALIZED),
+    (0, None, None, BinaryOp::Plus, 5, 1, DOMAIN),
+    (0, Some(4), LOR, BinaryOp::Plus, 1, 1, DOMAIN),
+    (5, Some(2), None, BinaryOp::Plus, 1, 0, DOMAIN),
+    (0, Some(9), LOR, BinaryOp::Land, 5, 3, UNINITIALIZED),
+];
+
 #[test]
 fn an_operation_on_matrices_enters_or_has_its_first_refusal(rt: HostRuntime) -> Result<(), Fail> {
     let shapes = matrices(rt.alloc())?;
-    let plus = BinaryOp::Plus;
-    for (c, mask, accum, op, a, b, want) in [
-        // not refused: one object as all of them, and a mask of the other domain among them
-        (0, None, None, plus, 1, 1, ENTERS),
-        (0, Some(0), PLUS, plus, 0, 0, ENTERS),
-        (0, Some(2), None, BinaryOp::First, 1, 0, ENTERS),
-        (2, Some(1), LOR, BinaryOp::Lxor, 2, 2, ENTERS),
-        // never made: output, first input, second input, mask; and a mask that was freed
-        (9, None, None, plus, 0, 1, UNINITIALIZED),
-        (0, None, None, plus, 9, 1, UNINITIALIZED),
-        (0, None, None, plus, 1, 9, UNINITIALIZED),
-        (0, Some(9), None, plus, 1, 1, UNINITIALIZED),
-        (0, Some(FREED), None, plus, 1, 1, UNINITIALIZED),
-        // another domain: output, first input, second input, operator, accumulator
-        (2, None, None, plus, 0, 1, DOMAIN),
-        (0, None, None, plus, 2, 1, DOMAIN),
-        (0, None, None, plus, 1, 2, DOMAIN),
-        (0, None, None, BinaryOp::Lor, 1, 1, DOMAIN),
-        (0, None, LOR, plus, 1, 1, DOMAIN),
-        // another number of rows, and of columns: output, first input, second input, mask
-        (3, None, None, plus, 0, 1, DIMENSION),
-        (4, None, None, plus, 0, 1, DIMENSION),
-        (0, None, None, plus, 3, 1, DIMENSION),
-        (0, None, None, plus, 4, 1, DIMENSION),
-        (0, None, None, plus, 1, 3, DIMENSION),
-        (0, None, None, plus, 1, 4, DIMENSION),
-        (0, Some(3), None, plus, 1, 1, DIMENSION),
-        (0, Some(4), None, plus, 1, 1, DIMENSION),
-        (0, Some(5), None, plus, 1, 1, DIMENSION),
-        // two refusals, and three
-        (0, Some(9), LOR, plus, 1, 1, UNINITIALIZED),
-        (0, Some(9), None, plus, 3, 1, UNINITIALIZED),
-        (0, None, None, plus, 5, 1, DOMAIN),
-        (0, Some(4), LOR, plus, 1, 1, DOMAIN),
-        (5, Some(2), None, plus, 1, 0, DOMAIN),
-        (0, Some(9), LOR, BinaryOp::Land, 5, 3, UNINITIALIZED),
-    ] {
-        let add = add_matrix(c, mask, accum, op, a, b);
-        assert_eq!(rt; check(&shapes, &add), want, "of {add:?}");
-        let mult = mult_matrix(c, mask, accum, op, a, b);
-        assert_eq!(rt; check(&shapes, &mult), want, "of {mult:?}");
+    for row in &ON_MATRICES {
+        expect_on_matrices(&rt, &shapes, row);
     }
     Ok(())
 }

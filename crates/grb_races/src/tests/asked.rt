@@ -82,34 +82,6 @@ pub(super) enum Operation {
     ),
 }
 
-pub(super) fn new(domain: Domain, size: u64) -> Asked {
-    Asked::NewVector(domain, size)
-}
-
-pub(super) fn set(v: VectorId, i: u64, number: u64) -> Asked {
-    Asked::SetVector(v, i, Value::Uint64(number))
-}
-
-pub(super) fn get(v: VectorId, i: u64) -> Asked {
-    Asked::GetVector(v, i)
-}
-
-pub(super) fn nvals(v: VectorId) -> Asked {
-    Asked::NvalsVector(v)
-}
-
-pub(super) fn made(v: VectorId) -> Answer {
-    Ok(Reply::MadeVector(v))
-}
-
-pub(super) fn number(number: u64) -> Answer {
-    Ok(Reply::Value(Value::Uint64(number)))
-}
-
-pub(super) fn count(count: u64) -> Answer {
-    Ok(Reply::Count(count))
-}
-
 fn numbers(alloc: Global, list: &[(u64, u64)]) -> Result<VectorTuples, AllocError> {
     let mut tuples = Vec::new(alloc);
     for (i, number) in list {

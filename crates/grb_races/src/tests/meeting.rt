@@ -1,48 +1,68 @@
-use crate::tests::asked::FIRST;
+ghost use Rattle.grb_context.specs.Known.{IsPassOf};
+
+use crate::tests::asked::{Answer, DONE, FIRST};
 use crate::tests::rows::open_two;
 use grb_call::Reply;
+use grb_context::{Context, Pass};
 use grb_core::{Domain, Value};
+use std::process::Abort;
 use std::test::Fail;
 
 const SEVEN: Value = Value::Uint64(7);
 
 const NINE: Value = Value::Uint64(9);
 
+const MADE: Answer = Ok(Reply::MadeVector(FIRST));
+
+fn expect_answer(rt: &impl Abort, answer: Answer, expected: Answer) {
+    assert_eq!(rt; answer, expected);
+}
+
+/// How many calls and words the pass knows, and how many steps it made.
+fn expect_point(rt: &impl Abort, pass: &Pass, known: u32, words: u32, steps: u32) {
+    assert_eq!(rt;
+        (pass.known(), pass.words(), pass.steps()),
+        (known, words, steps)
+    );
+}
+
+fn expect_told(rt: &impl Abort, context: &Context, p: &mut Pass, q: &mut Pass)
+    requires first { IsPassOf context.now p.old }
+    requires second { IsPassOf context.now q.old }
+{
+    expect_answer(rt, context.new_vector(p, Domain::Uint64, 4), MADE);
+    expect_answer(rt, context.set_vector(q, FIRST, 1, NINE), DONE);
+    assert_eq!(rt; (p.known(), q.known()), (1, 2));
+    assert_eq!(rt; context.meet(p, q), Ok(()));
+    expect_point(rt, p, 2, 2, 1);
+    expect_point(rt, q, 2, 2, 3);
+    expect_answer(rt, context.get_vector(p, FIRST, 1), Ok(Reply::Value(NINE)));
+    assert_eq!(rt; p.known(), 2);
+}
+
 #[test]
 fn a_meeting_tells_what_the_other_pass_knows(rt: HostRuntime) -> Result<(), Fail> {
     let (context, mut p, mut q) = open_two(&rt, rt.alloc(), 8)?;
-    assert_eq!(rt;
-        context.new_vector(&mut p, Domain::Uint64, 4),
-        Ok(Reply::MadeVector(FIRST))
-    );
-    assert_eq!(rt; context.set_vector(&mut q, FIRST, 1, NINE), Ok(Reply::Done));
-    assert_eq!(rt; (p.known(), q.known()), (1, 2));
-    assert_eq!(rt; context.meet(&mut p, &mut q), Ok(()));
-    assert_eq!(rt; (p.known(), p.words(), p.steps()), (2, 2, 1));
-    assert_eq!(rt; (q.known(), q.words(), q.steps()), (2, 2, 3));
-    assert_eq!(rt;
-        context.get_vector(&mut p, FIRST, 1),
-        Ok(Reply::Value(NINE))
-    );
-    assert_eq!(rt; p.known(), 2);
+    expect_told(&rt, &context, &mut p, &mut q);
     Ok(())
+}
+
+fn expect_no_change(rt: &impl Abort, context: &Context, p: &mut Pass, q: &mut Pass)
+    requires first { IsPassOf context.now p.old }
+    requires second { IsPassOf context.now q.old }
+{
+    assert_eq!(rt; context.meet(p, q), Ok(()));
+    expect_point(rt, p, 0, 0, 0);
+    expect_answer(rt, context.new_vector(p, Domain::Uint64, 4), MADE);
+    expect_answer(rt, context.set_vector(p, FIRST, 0, SEVEN), DONE);
+    assert_eq!(rt; context.meet(p, q), Ok(()));
+    expect_point(rt, p, 2, 2, 0);
+    expect_point(rt, q, 0, 0, 0);
 }
 
 #[test]
 fn a_meeting_with_a_pass_that_knows_less_changes_nothing(rt: HostRuntime) -> Result<(), Fail> {
     let (context, mut p, mut q) = open_two(&rt, rt.alloc(), 4)?;
-    assert_eq!(rt; context.meet(&mut p, &mut q), Ok(()));
-    assert_eq!(rt; (p.known(), p.words(), p.steps()), (0, 0, 0));
-    assert_eq!(rt;
-        context.new_vector(&mut p, Domain::Uint64, 4),
-        Ok(Reply::MadeVector(FIRST))
-    );
-    assert_eq!(rt;
-        context.set_vector(&mut p, FIRST, 0, SEVEN),
-        Ok(Reply::Done)
-    );
-    assert_eq!(rt; context.meet(&mut p, &mut q), Ok(()));
-    assert_eq!(rt; (p.known(), p.words(), p.steps()), (2, 2, 0));
-    assert_eq!(rt; (q.known(), q.words(), q.steps()), (0, 0, 0));
+    expect_no_change(&rt, &context, &mut p, &mut q);
     Ok(())
 }

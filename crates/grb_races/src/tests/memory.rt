@@ -53,44 +53,52 @@ fn expect_all<R: Abort>(
     Ok(())
 }
 
+const FILLED: [(Asked, Answer); 6] = [
+    (
+        Asked::NewVector(Domain::Uint64, 9),
+        Ok(Reply::MadeVector(FIRST)),
+    ),
+    (
+        Asked::SetVector(FIRST, 1, Value::Uint64(5)),
+        Ok(Reply::Done),
+    ),
+    (
+        Asked::NewMatrix(Domain::Uint64, 2, 3),
+        Ok(Reply::MadeMatrix(MatrixId(0))),
+    ),
+    (
+        Asked::NewVector(Domain::Uint64, 9),
+        Ok(Reply::MadeVector(SECOND)),
+    ),
+    (
+        Asked::BuildVector(SECOND, [(8, 1), (0, 2), (8, 3)]),
+        Ok(Reply::Done),
+    ),
+    (
+        Asked::SetVector(SECOND, 4, Value::Uint64(7)),
+        Ok(Reply::Done),
+    ),
+];
+
+fn expect_filled<R: Abort>(
+    rt: &R,
+    alloc: Global,
+    context: &Context,
+    pass: &mut Pass,
+) -> Result<(), AllocError>
+    requires { IsPassOf context.now pass.old }
+{
+    let rows = FILLED;
+    expect_all(rt, alloc, context, pass, &rows)?;
+    let mut refusals = 0;
+    let asked = Asked::NvalsVector(SECOND);
+    let answer = answer_of(alloc, context, pass, asked, &mut refusals)?;
+    assert_eq!(rt; answer, Ok(Reply::Count(3)));
+    Ok(())
+}
+
 #[test]
 fn a_call_that_was_refused_memory_left_all_as_it_was(rt: HostRuntime) -> Result<(), AllocError> {
     let (context, mut p, _q) = open_two(&rt, rt.alloc(), 8)?;
-    let rows = [
-        (
-            Asked::NewVector(Domain::Uint64, 9),
-            Ok(Reply::MadeVector(FIRST)),
-        ),
-        (
-            Asked::SetVector(FIRST, 1, Value::Uint64(5)),
-            Ok(Reply::Done),
-        ),
-        (
-            Asked::NewMatrix(Domain::Uint64, 2, 3),
-            Ok(Reply::MadeMatrix(MatrixId(0))),
-        ),
-        (
-            Asked::NewVector(Domain::Uint64, 9),
-            Ok(Reply::MadeVector(SECOND)),
-        ),
-        (
-            Asked::BuildVector(SECOND, [(8, 1), (0, 2), (8, 3)]),
-            Ok(Reply::Done),
-        ),
-        (
-            Asked::SetVector(SECOND, 4, Value::Uint64(7)),
-            Ok(Reply::Done),
-        ),
-    ];
-    expect_all(&rt, rt.alloc(), &context, &mut p, &rows)?;
-    let mut refusals = 0;
-    let answer = answer_of(
-        rt.alloc(),
-        &context,
-        &mut p,
-        Asked::NvalsVector(SECOND),
-        &mut refusals,
-    )?;
-    assert_eq!(rt; answer, Ok(Reply::Count(3)));
-    Ok(())
+    expect_filled(&rt, rt.alloc(), &context, &mut p)
 }

@@ -1,7 +1,5 @@
-use crate::tests::asked::{
-    Answer, Asked, DONE, FIRST, Operation, SECOND, count, get, made, new, number, nvals, set,
-};
-use crate::tests::rows::{Counted, run};
+use crate::tests::asked::{Answer, Asked, DONE, FIRST, Operation, SECOND};
+use crate::tests::rows::{Counted, Row, run};
 use grb_call::{Descriptor, MatrixId, Reply, VectorId};
 use grb_core::{BinaryOp, Domain, Refusal, Value};
 use std::alloc::AllocError;
@@ -38,150 +36,272 @@ const COMP_REPLACE: Descriptor = Descriptor {
     replace: true,
 };
 
-/// `w` by eWiseAdd of `u` and `v`.
-fn add(
-    w: VectorId,
-    mask: Option<VectorId>,
-    op: BinaryOp,
-    u: VectorId,
-    v: VectorId,
-    d: Descriptor,
-) -> Asked {
-    Asked::Operation(Operation::EwiseAddVector(w, mask, None, op, u, v, d))
-}
-
-/// `w` by eWiseMult of `u` and `v`.
-fn mult(
-    w: VectorId,
-    mask: Option<VectorId>,
-    op: BinaryOp,
-    u: VectorId,
-    v: VectorId,
-    d: Descriptor,
-) -> Asked {
-    Asked::Operation(Operation::EwiseMultVector(w, mask, None, op, u, v, d))
-}
-
-fn made_matrix(a: MatrixId) -> Answer {
-    Ok(Reply::MadeMatrix(a))
-}
+const BY_VALUE: [Row; 9] = [
+    (
+        0,
+        Asked::NewVector(Domain::Uint64, 2),
+        Ok(Reply::MadeVector(FIRST)),
+        1,
+    ),
+    (
+        0,
+        Asked::NewVector(Domain::Uint64, 2),
+        Ok(Reply::MadeVector(SECOND)),
+        2,
+    ),
+    (
+        0,
+        Asked::NewVector(Domain::Uint64, 2),
+        Ok(Reply::MadeVector(THIRD)),
+        3,
+    ),
+    (0, Asked::SetVector(SECOND, 0, Value::Uint64(0)), DONE, 4),
+    (0, Asked::SetVector(THIRD, 0, Value::Uint64(9)), DONE, 5),
+    (
+        0,
+        Asked::Operation(Operation::EwiseAddVector(
+            FIRST,
+            Some(SECOND),
+            None,
+            BinaryOp::First,
+            THIRD,
+            THIRD,
+            PLAIN,
+        )),
+        DONE,
+        6,
+    ),
+    (1, Asked::NvalsVector(FIRST), Ok(Reply::Count(0)), 6),
+    (
+        1,
+        Asked::Operation(Operation::EwiseAddVector(
+            FIRST,
+            Some(SECOND),
+            None,
+            BinaryOp::First,
+            THIRD,
+            THIRD,
+            STRUCTURE,
+        )),
+        DONE,
+        7,
+    ),
+    (
+        0,
+        Asked::GetVector(FIRST, 0),
+        Ok(Reply::Value(Value::Uint64(9))),
+        7,
+    ),
+];
 
 #[test]
 fn a_mask_by_value_selects_no_stored_zero(rt: HostRuntime) -> Result<(), AllocError> {
-    let (c, m, a) = (FIRST, SECOND, THIRD);
-    let rows = [
-        (0, new(Domain::Uint64, 2), made(c), 1),
-        (0, new(Domain::Uint64, 2), made(m), 2),
-        (0, new(Domain::Uint64, 2), made(a), 3),
-        (0, set(m, 0, 0), DONE, 4),
-        (0, set(a, 0, 9), DONE, 5),
-        (0, add(c, Some(m), BinaryOp::First, a, a, PLAIN), DONE, 6),
-        (1, nvals(c), count(0), 6),
-        (
-            1,
-            add(c, Some(m), BinaryOp::First, a, a, STRUCTURE),
-            DONE,
-            7,
-        ),
-        (0, get(c, 0), number(9), 7),
-    ];
+    let rows = BY_VALUE;
     run(&rt, 16, Counted::Known, &rows)
 }
+
+const WITHOUT_MASK: [Row; 8] = [
+    (
+        0,
+        Asked::NewVector(Domain::Uint64, 2),
+        Ok(Reply::MadeVector(FIRST)),
+        1,
+    ),
+    (0, Asked::SetVector(FIRST, 1, Value::Uint64(4)), DONE, 2),
+    (
+        0,
+        Asked::NewVector(Domain::Uint64, 2),
+        Ok(Reply::MadeVector(SECOND)),
+        3,
+    ),
+    (0, Asked::SetVector(SECOND, 0, Value::Uint64(9)), DONE, 4),
+    (
+        0,
+        Asked::Operation(Operation::EwiseMultVector(
+            FIRST,
+            None,
+            None,
+            BinaryOp::First,
+            SECOND,
+            SECOND,
+            COMP,
+        )),
+        DONE,
+        5,
+    ),
+    (1, Asked::NvalsVector(FIRST), Ok(Reply::Count(1)), 5),
+    (
+        0,
+        Asked::Operation(Operation::EwiseMultVector(
+            FIRST,
+            None,
+            None,
+            BinaryOp::First,
+            SECOND,
+            SECOND,
+            COMP_REPLACE,
+        )),
+        DONE,
+        6,
+    ),
+    (1, Asked::NvalsVector(FIRST), Ok(Reply::Count(0)), 6),
+];
 
 #[test]
 fn the_complement_of_no_mask_lets_nothing_in(rt: HostRuntime) -> Result<(), AllocError> {
-    let (c, m) = (FIRST, SECOND);
-    let rows = [
-        (0, new(Domain::Uint64, 2), made(c), 1),
-        (0, set(c, 1, 4), DONE, 2),
-        (0, new(Domain::Uint64, 2), made(m), 3),
-        (0, set(m, 0, 9), DONE, 4),
-        (0, mult(c, None, BinaryOp::First, m, m, COMP), DONE, 5),
-        (1, nvals(c), count(1), 5),
-        (
-            0,
-            mult(c, None, BinaryOp::First, m, m, COMP_REPLACE),
-            DONE,
-            6,
-        ),
-        (1, nvals(c), count(0), 6),
-    ];
+    let rows = WITHOUT_MASK;
     run(&rt, 16, Counted::Known, &rows)
 }
+
+const DOUBLED: Operation = Operation::EwiseAddMatrix(
+    MATRIX,
+    None,
+    None,
+    BinaryOp::Plus,
+    MATRIX,
+    MATRIX,
+    PLAIN,
+);
+
+const SQUARED: Operation = Operation::EwiseMultMatrix(
+    MATRIX,
+    Some(COPY),
+    Some(BinaryOp::Minus),
+    BinaryOp::Times,
+    MATRIX,
+    COPY,
+    PLAIN,
+);
+
+const ONE_MATRIX: [Row; 7] = [
+    (
+        0,
+        Asked::NewMatrix(Domain::Uint64, 1, 1),
+        Ok(Reply::MadeMatrix(MATRIX)),
+        1,
+    ),
+    (0, Asked::SetMatrix(MATRIX, 0, 0, Value::Uint64(3)), DONE, 2),
+    (0, Asked::Operation(DOUBLED), DONE, 3),
+    (1, Asked::DupMatrix(MATRIX), Ok(Reply::MadeMatrix(COPY)), 4),
+    (0, Asked::Operation(SQUARED), DONE, 5),
+    (
+        1,
+        Asked::GetMatrix(COPY, 0, 0),
+        Ok(Reply::Value(Value::Uint64(6))),
+        5,
+    ),
+    // 6 - 6 * 6, modulo 2^64
+    (
+        1,
+        Asked::GetMatrix(MATRIX, 0, 0),
+        Ok(Reply::Value(Value::Uint64(18_446_744_073_709_551_586))),
+        5,
+    ),
+];
 
 #[test]
 fn one_matrix_is_output_and_both_inputs(rt: HostRuntime) -> Result<(), AllocError> {
-    let doubled = Operation::EwiseAddMatrix(
-        MATRIX,
-        None,
-        None,
-        BinaryOp::Plus,
-        MATRIX,
-        MATRIX,
-        PLAIN,
-    );
-    let squared = Operation::EwiseMultMatrix(
-        MATRIX,
-        Some(COPY),
-        Some(BinaryOp::Minus),
-        BinaryOp::Times,
-        MATRIX,
-        COPY,
-        PLAIN,
-    );
-    let rows = [
-        (
-            0,
-            Asked::NewMatrix(Domain::Uint64, 1, 1),
-            made_matrix(MATRIX),
-            1,
-        ),
-        (0, Asked::SetMatrix(MATRIX, 0, 0, Value::Uint64(3)), DONE, 2),
-        (0, Asked::Operation(doubled), DONE, 3),
-        (1, Asked::DupMatrix(MATRIX), made_matrix(COPY), 4),
-        (0, Asked::Operation(squared), DONE, 5),
-        (1, Asked::GetMatrix(COPY, 0, 0), number(6), 5),
-        // 6 - 6 * 6, modulo 2^64
-        (
-            1,
-            Asked::GetMatrix(MATRIX, 0, 0),
-            number(18_446_744_073_709_551_586),
-            5,
-        ),
-    ];
+    let rows = ONE_MATRIX;
     run(&rt, 16, Counted::Known, &rows)
 }
 
+const UNINITIALIZED: Answer = Err(Refusal::UninitializedObject);
+
+const DIMENSION: Answer = Err(Refusal::DimensionMismatch);
+
+const REFUSED: [Row; 8] = [
+    (
+        0,
+        Asked::NewVector(Domain::Uint64, 2),
+        Ok(Reply::MadeVector(FIRST)),
+        1,
+    ),
+    (
+        0,
+        Asked::NewVector(Domain::Bool, 3),
+        Ok(Reply::MadeVector(SECOND)),
+        2,
+    ),
+    (
+        0,
+        Asked::NewVector(Domain::Uint64, 3),
+        Ok(Reply::MadeVector(THIRD)),
+        3,
+    ),
+    (
+        1,
+        Asked::Operation(Operation::EwiseAddVector(
+            FIRST,
+            Some(NOT_MADE),
+            None,
+            BinaryOp::Lor,
+            THIRD,
+            SECOND,
+            PLAIN,
+        )),
+        UNINITIALIZED,
+        3,
+    ),
+    (
+        1,
+        Asked::Operation(Operation::EwiseAddVector(
+            FIRST,
+            Some(SECOND),
+            None,
+            BinaryOp::Lor,
+            THIRD,
+            THIRD,
+            PLAIN,
+        )),
+        Err(Refusal::DomainMismatch),
+        3,
+    ),
+    (
+        1,
+        Asked::Operation(Operation::EwiseMultVector(
+            FIRST,
+            Some(SECOND),
+            None,
+            BinaryOp::Plus,
+            FIRST,
+            FIRST,
+            PLAIN,
+        )),
+        DIMENSION,
+        3,
+    ),
+    (
+        1,
+        Asked::Operation(Operation::EwiseMultVector(
+            THIRD,
+            Some(SECOND),
+            None,
+            BinaryOp::Plus,
+            THIRD,
+            THIRD,
+            PLAIN,
+        )),
+        DONE,
+        4,
+    ),
+    (
+        1,
+        Asked::Operation(Operation::EwiseMultVector(
+            THIRD,
+            Some(SECOND),
+            None,
+            BinaryOp::Plus,
+            THIRD,
+            THIRD,
+            PLAIN,
+        )),
+        Err(Refusal::OrderFull),
+        4,
+    ),
+];
+
 #[test]
 fn an_operation_is_refused_for_the_first_reason(rt: HostRuntime) -> Result<(), AllocError> {
-    let (c, m, a) = (FIRST, SECOND, THIRD);
-    let (lor, plus) = (BinaryOp::Lor, BinaryOp::Plus);
-    let uninitialized = Err(Refusal::UninitializedObject);
-    let dimensions = Err(Refusal::DimensionMismatch);
-    let rows = [
-        (0, new(Domain::Uint64, 2), made(c), 1),
-        (0, new(Domain::Bool, 3), made(m), 2),
-        (0, new(Domain::Uint64, 3), made(a), 3),
-        (
-            1,
-            add(c, Some(NOT_MADE), lor, a, m, PLAIN),
-            uninitialized,
-            3,
-        ),
-        (
-            1,
-            add(c, Some(m), lor, a, a, PLAIN),
-            Err(Refusal::DomainMismatch),
-            3,
-        ),
-        (1, mult(c, Some(m), plus, c, c, PLAIN), dimensions, 3),
-        (1, mult(a, Some(m), plus, a, a, PLAIN), DONE, 4),
-        (
-            1,
-            mult(a, Some(m), plus, a, a, PLAIN),
-            Err(Refusal::OrderFull),
-            4,
-        ),
-    ];
+    let rows = REFUSED;
     run(&rt, 4, Counted::Known, &rows)
 }

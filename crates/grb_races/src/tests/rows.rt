@@ -17,7 +17,7 @@ pub(super) enum Counted {
 }
 
 /// Which of two passes makes the call, the call, its answer, and a count.
-type Row = (u32, Asked, Answer, u32);
+pub(super) type Row = (u32, Asked, Answer, u32);
 
 /// The pass of the highest number of those that are left.
 pub(super) fn next_pass(rt: &impl Abort, context: &Context, passes: &mut Vec<Pass>) -> Pass
@@ -140,7 +140,33 @@ fn expect_rows<R: Abort>(
     Ok(refusals)
 }
 
-// Makes the rows by the two passes of a new store with this room. How many calls were refused memory, or a record.
+fn expect_pass(rt: &impl Abort, pass: &Pass, number: u32, room: u32) {
+    assert_eq!(rt; pass.number(), number);
+    assert_eq!(rt; pass.room_left(), room.saturating_sub(pass.words()));
+}
+
+// Makes the rows by the two passes of a new store. How many calls were refused memory, or a record.
+fn refusals_by<R: Abort>(
+    rt: &R,
+    alloc: Global,
+    context: &Context,
+    p: &mut Pass,
+    q: &mut Pass,
+    room: u32,
+    counted: Counted,
+    rows: &[Row],
+) -> Result<u32, AllocError>
+    requires first { IsPassOf context.now p.old }
+    requires second { IsPassOf context.now q.old }
+{
+    assert_eq!(rt; (p.steps(), q.steps()), (0, 0));
+    let refusals = expect_rows(rt, alloc, context, p, q, counted, rows)?;
+    expect_pass(rt, p, 0, room);
+    expect_pass(rt, q, 1, room);
+    Ok(refusals)
+}
+
+// The same in a new store with this room.
 fn refusals_of<R: Abort + AllocGlobal>(
     rt: &R,
     room: u32,
@@ -150,12 +176,16 @@ fn refusals_of<R: Abort + AllocGlobal>(
     requires { (0 < room) × (room ≤ 4096) }
 {
     let (context, mut p, mut q) = open_two(rt, rt.alloc(), room)?;
-    assert_eq!(rt; (p.steps(), q.steps()), (0, 0));
-    let refusals = expect_rows(rt, rt.alloc(), &context, &mut p, &mut q, counted, rows)?;
-    assert_eq!(rt; (p.number(), q.number()), (0, 1));
-    assert_eq!(rt; p.room_left(), room.saturating_sub(p.words()));
-    assert_eq!(rt; q.room_left(), room.saturating_sub(q.words()));
-    Ok(refusals)
+    refusals_by(
+        rt,
+        rt.alloc(),
+        &context,
+        &mut p,
+        &mut q,
+        room,
+        counted,
+        rows,
+    )
 }
 
 /// Makes the rows twice, each time in a new store with this room. One refused allocation spoils one of the two runs at most: a store

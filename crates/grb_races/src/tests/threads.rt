@@ -21,12 +21,20 @@ fn set_hundred(context: &Context, mut pass: Pass)
     }
 }
 
+/// Makes the first vector, of numbers.
+fn make_first(rt: &impl Abort, context: &Context, pass: &mut Pass, size: u64)
+    requires { IsPassOf context.now pass.old }
+    ensures { IsPassOf context.now pass.new }
+{
+    let made = context.new_vector(pass, Domain::Uint64, size);
+    assert_eq!(rt; made, Ok(Reply::MadeVector(FIRST)));
+}
+
 /// A vector of 200 entries, set by two threads.
 fn set_by_two<R: Abort + Threads + Wait + Sync>(rt: &R, alloc: Global) -> Result<(), AllocError> {
     let (context, mut passes) = Context::open(alloc, 201, 3)?;
     let mut last = next_pass(rt, &context, &mut passes);
-    let made = context.new_vector(&mut last, Domain::Uint64, 200);
-    assert_eq!(rt; made, Ok(Reply::MadeVector(FIRST)));
+    make_first(rt, &context, &mut last, 200);
     map_vec(rt, passes, &|pass| set_hundred(&context, pass))?;
     let nvals = context.nvals_vector(&mut last, FIRST);
     assert_eq!(rt; nvals, Ok(Reply::Count(200)));
@@ -53,18 +61,22 @@ fn set_and_count<R: Wait>(rt: &R, all: &Barrier, context: &Context, mut pass: Pa
     context.nvals_vector(&mut pass, FIRST)
 }
 
+/// Two threads counted two entries each.
+fn expect_both(rt: &impl Abort, counts: &[Answer]) {
+    assert_eq!(rt; counts.len(), 2);
+    for count in counts {
+        assert_eq!(rt; *count, Ok(Reply::Count(2)));
+    }
+}
+
 /// Two threads put a record each, and both are shown both.
 fn put_by_two<R: Abort + Threads + Wait + Sync>(rt: &R, alloc: Global) -> Result<(), AllocError> {
     let (context, mut passes) = Context::open(alloc, 3, 3)?;
     let mut last = next_pass(rt, &context, &mut passes);
-    let made = context.new_vector(&mut last, Domain::Uint64, 2);
-    assert_eq!(rt; made, Ok(Reply::MadeVector(FIRST)));
+    make_first(rt, &context, &mut last, 2);
     let all = Barrier::new(2);
     let counts = map_vec(rt, passes, &|pass| set_and_count(rt, &all, &context, pass))?;
-    assert_eq!(rt; counts.len(), 2);
-    for count in &counts {
-        assert_eq!(rt; *count, Ok(Reply::Count(2)));
-    }
+    expect_both(rt, &counts);
     Ok(())
 }
 
@@ -101,18 +113,31 @@ fn winner_of(rt: &impl Abort, answers: &[Answer], refused: Answer) -> u64 {
     winner
 }
 
+/// Of four calls one was entered: the first entry is the number of its pass. The others had this answer.
+fn expect_winner(
+    rt: &impl Abort,
+    context: &Context,
+    pass: &mut Pass,
+    answers: &[Answer],
+    refused: Answer,
+)
+    requires { IsPassOf context.now pass.old }
+    ensures { IsPassOf context.now pass.new }
+{
+    assert_eq!(rt; answers.len(), 4);
+    let winner = winner_of(rt, answers, refused);
+    let value = context.get_vector(pass, FIRST, 0);
+    assert_eq!(rt; value, Ok(Reply::Value(Value::Uint64(winner))));
+}
+
 /// Four threads enter a call where one word is left.
 fn race<R: Abort + Threads + Wait + Sync>(rt: &R, alloc: Global) -> Result<(), AllocError> {
     let (context, mut passes) = Context::open(alloc, 2, 5)?;
     let mut last = next_pass(rt, &context, &mut passes);
-    let made = context.new_vector(&mut last, Domain::Uint64, 1);
-    assert_eq!(rt; made, Ok(Reply::MadeVector(FIRST)));
+    make_first(rt, &context, &mut last, 1);
     let all = Barrier::new(4);
     let answers = map_vec(rt, passes, &|pass| set_own(rt, &all, &context, pass))?;
-    assert_eq!(rt; answers.len(), 4);
-    let winner = winner_of(rt, &answers, Err(Refusal::OrderFull));
-    let value = context.get_vector(&mut last, FIRST, 0);
-    assert_eq!(rt; value, Ok(Reply::Value(Value::Uint64(winner))));
+    expect_winner(rt, &context, &mut last, &answers, Err(Refusal::OrderFull));
     Ok(())
 }
 
@@ -150,18 +175,20 @@ fn race_of_builds<R: Abort + Threads + Wait + Sync>(
 ) -> Result<(), AllocError> {
     let (context, mut passes) = Context::open(alloc, 8, 5)?;
     let mut last = next_pass(rt, &context, &mut passes);
-    let made = context.new_vector(&mut last, Domain::Uint64, 1);
-    assert_eq!(rt; made, Ok(Reply::MadeVector(FIRST)));
+    make_first(rt, &context, &mut last, 1);
     let all = Barrier::new(4);
     let answers = map_vec(
         rt,
         passes,
         &|pass| build_own(rt, alloc, &all, &context, pass),
     )?;
-    assert_eq!(rt; answers.len(), 4);
-    let winner = winner_of(rt, &answers, Err(Refusal::OutputNotEmpty));
-    let value = context.get_vector(&mut last, FIRST, 0);
-    assert_eq!(rt; value, Ok(Reply::Value(Value::Uint64(winner))));
+    expect_winner(
+        rt,
+        &context,
+        &mut last,
+        &answers,
+        Err(Refusal::OutputNotEmpty),
+    );
     assert_eq!(rt; last.known(), 2);
     Ok(())
 }

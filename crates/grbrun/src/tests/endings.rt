@@ -138,6 +138,7 @@ fn a_script_is_at_most_a_mebibyte(rt: HostRuntime) -> Result<(), Fail> {
             alloc: rt.alloc(),
             text: &text,
             fault: None,
+            files: &[],
             cannot_read: 0,
             too_long: 0,
             out_of_memory: 0,

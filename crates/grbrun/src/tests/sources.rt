@@ -1,21 +1,35 @@
 ghost use Rattle.std.specs.Prelude.{◌≡◌, Some, None};
 ghost use Rattle.grbrun.specs.Source.{AreCountable, counted};
 
-use crate::source::{MAX_SCRIPT, Source, SourceFault};
+use crate::source::{MAX_FILE, MAX_SCRIPT, Source, SourceFault};
 use std::alloc::Global;
 
-/// Gives this text, or always this fault.
+/// A path, and its file or why there is none.
+pub(super) type NamedFile<'a> = (&'a str, Result<&'a [u8], SourceFault>);
+
+/// Gives this text, or always this fault, and these files.
 #[derive(Drop)]
 pub(super) struct TextSource<'a> {
     pub(super) alloc: Global,
     pub(super) text: &'a [u8],
     pub(super) fault: Option<SourceFault>,
+    pub(super) files: &'a [NamedFile<'a>],
     pub(super) cannot_read: u64,
     pub(super) too_long: u64,
     pub(super) out_of_memory: u64,
 }
 
-impl TextSource<'_> {
+impl<'a> TextSource<'a> {
+    /// The file of this path, or why there is none.
+    fn named(&self, path: &str) -> Result<&'a [u8], SourceFault> {
+        for (name, file) in self.files {
+            if *name == path {
+                return *file;
+            }
+        }
+        Err(SourceFault::CannotRead)
+    }
+
     fn count(&mut self, fault: SourceFault) -> SourceFault
         requires { AreCountable (record { cannot_read = self.old.cannot_read; too_long = self.old.too_long; out_of_memory = self.old.out_of_memory }) }
         ensures fault { result ≡ fault }
@@ -52,7 +66,17 @@ impl Source for TextSource<'_> {
         }
     }
 
-    fn file(&mut self, _path: &str) -> Result<Vec<u8>, SourceFault> {
-        Err(self.count(SourceFault::CannotRead))
+    fn file(&mut self, path: &str) -> Result<Vec<u8>, SourceFault> {
+        let bytes = match self.named(path) {
+            Ok(bytes) => bytes,
+            Err(fault) => return Err(self.count(fault)),
+        };
+        if bytes.len() > MAX_FILE {
+            return Err(self.count(SourceFault::TooLong));
+        }
+        match bytes.to_vec(self.alloc) {
+            Ok(bytes) => Ok(bytes),
+            Err(_) => Err(self.count(SourceFault::OutOfMemory)),
+        }
     }
 }

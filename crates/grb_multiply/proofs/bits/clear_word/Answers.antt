@@ -1,5 +1,5 @@
 use Rattle.std.proofs.Common.{◌≡◌, ◌<◌, ◌+◌, ℕ, true, false, ap, sym, ◌∙◌, arith, length, refl}
-use Rattle.std.specs.Prelude.{nat_eq, Some}
+use Rattle.std.specs.Prelude.{nat_eq}
 use Rattle.std.proofs.lemmas.Nat.Bits.{bit_at-zero}
 use Rattle.grb_core.specs.Monoid.{identity_of}
 use Rattle.grb_multiply.specs.Bits.{has_bit}

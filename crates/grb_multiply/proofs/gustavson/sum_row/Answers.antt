@@ -1,4 +1,4 @@
-use Rattle.std.proofs.Common.{◌≡◌, ◌<◌, ℕ, List, Bool, ap, sym, subst, ◌∙◌, length, get_or}
+use Rattle.std.proofs.Common.{◌≡◌, ◌<◌, ℕ, ap, sym, subst, ◌∙◌, length, get_or}
 use Rattle.std.specs.Prelude.{Some, Option}
 use Rattle.grb_core.specs.declared.value.Value.{Value}
 use Rattle.std.specs.List.{AllByRecursion}

@@ -1,12 +1,9 @@
-use Rattle.std.proofs.Common.{◌≡◌, Bool, ap, sym, subst, ◌∙◌, refl}
-use Rattle.grb_core.specs.declared.domain.Domain.TheVariants as domain
+use Rattle.std.proofs.Common.{Bool, ap, sym, ◌∙◌, refl}
 use Rattle.grb_core.specs.declared.value.Value.TheVariants as value
-use Rattle.grb_core.specs.Entries.{MatrixEntries}
-use Rattle.grb_core.specs.Contents.{IsMatrix}
 use Rattle.grb_rows.specs.Cells.{codes_of, decoded}
 use Rattle.grb_ops.proofs.Lent.{entries-paired}
 use Rattle.grb_ops.proofs.RowEntries.{codes_in_order}
-use Rattle.grb_ops.proofs.WholeMatrix.{matrix_of, same_matrix, whole-same}
+use Rattle.grb_ops.proofs.WholeMatrix.{same_matrix, whole-same}
 use Rattle.grb_multiply.proofs.multiply.keep_bools.Goals as goal
 
 pub from_bools-lists-requires-clause-ordered : goal.from_bools-lists-requires-clause-ordered

@@ -1,12 +1,11 @@
-use Rattle.std.proofs.Common.{◌≡◌, ◌<◌, ◌+◌, ap, sym, subst, ◌∙◌, length, get_or, map, take, drop}
+use Rattle.std.proofs.Common.{◌<◌, ◌+◌, ap, sym, subst, ◌∙◌, length, get_or, map, take, drop}
 use Rattle.std.specs.Prelude.{IsTrue}
 use Rattle.std.specs.Ordering.{nat_cmp}
 use Rattle.std.specs.FinMap.{is_sorted}
 use Rattle.std.proofs.lemmas.List.{length-map}
 use Rattle.std.proofs.lemmas.List.Elements.{recursion_from_All}
-use Rattle.grb_core.specs.Entries.{VectorEntries, values_of}
+use Rattle.grb_core.specs.Entries.{VectorEntries}
 use Rattle.grb_core.specs.Results.{row_of}
-use Rattle.grb_kernels.specs.Typed.{entries_of}
 use Rattle.grb_rows.specs.Cells.{decoded}
 use Rattle.grb_ops.proofs.Lent.{lent-same}
 use Rattle.grb_ops.proofs.RowEntries.{row_in_order}

@@ -1,4 +1,4 @@
-use Rattle.std.proofs.Common.{◌≡◌, ◌<◌, ℕ, [], List, ap, sym, subst, ◌∙◌, length, get_or, take, arith}
+use Rattle.std.proofs.Common.{◌≡◌, ◌<◌, ℕ, List, ap, sym, subst, ◌∙◌, length, get_or, take, arith}
 use Rattle.grb_core.specs.Semiring.{SemiringParts}
 use Rattle.grb_core.specs.Entries.{VectorEntries}
 use Rattle.grb_core.specs.Results.{row_of, mxm_of}
@@ -7,7 +7,7 @@ use Rattle.grb_ops.proofs.Lent.{lent, lent-same, lent-rising}
 use Rattle.grb_ops.proofs.RowEntries.{row_in_order}
 use Rattle.grb_multiply.specs.Rows.{product_row}
 use Rattle.grb_multiply.proofs.ProductRows.{sorted-mxm, row_of-mxm, no_row-mxm}
-use Rattle.grb_multiply.proofs.Making.{making_begins, made_row, making_ends, same_taken, IsMaking}
+use Rattle.grb_multiply.proofs.Making.{making_begins, made_row, making_ends, same_taken}
 use Rattle.grb_multiply.proofs.rows.multiply_rows.Goals as goal
 
 rise_as : (numbers listed : List ℕ) → numbers ≡ listed → ((i j : ℕ) → i < j → j < length listed → get_or listed i 0 < get_or listed j 0) → (i j : ℕ) → i < j → j < length numbers → get_or numbers i 0 < get_or numbers j 0

@@ -1,7 +1,6 @@
-use super::first_fault;
+use super::{first_fault, statements_of};
 use crate::ewise::Elementwise;
 use crate::names::Sort;
-use crate::script::read_script;
 use crate::statement::Statement;
 use grb_call::Descriptor;
 use grb_core::BinaryOp;
@@ -32,7 +31,7 @@ fn element_wise_statements_are_read(rt: HostRuntime) -> Result<(), Fail> {
         ewiseadd C A B lor\newisemult C A B second_bool\n\
         ewisemult mask mask mask minus mask mask structure comp accum max replace\n\
         ewiseadd C B A lxor  comp \n ewiseadd C A B lor mask A accum land\n";
-    let statements = read_script(rt.alloc(), text)?;
+    let statements = statements_of(rt.alloc(), text)?;
     let all_one = Elementwise {
         sort: Sort::Vector,
         output: 3,
@@ -107,7 +106,7 @@ fn each_choice_of_options_is_read(rt: HostRuntime) -> Result<(), Fail> {
             descriptor,
             ..plain(Sort::Vector, BinaryOp::Plus)
         });
-        let statements = read_script(rt.alloc(), text.as_bytes())?;
+        let statements = statements_of(rt.alloc(), text.as_bytes())?;
         assert!(rt; statements.last() == Some(&expected), "{text}");
     }
     Ok(())
@@ -138,7 +137,7 @@ fn each_operator_is_read_by_its_word(rt: HostRuntime) -> Result<(), Fail> {
             accum: Some(op),
             ..plain(Sort::Vector, op)
         });
-        let statements = read_script(rt.alloc(), text.as_bytes())?;
+        let statements = statements_of(rt.alloc(), text.as_bytes())?;
         assert!(rt; statements.last() == Some(&expected), "{word}");
     }
     Ok(())

@@ -1,7 +1,6 @@
-use super::first_fault;
+use super::{first_fault, statements_of};
 use crate::names::Sort;
 use crate::product::{Product, Reduction};
-use crate::script::read_script;
 use crate::statement::Statement;
 use grb_call::{Descriptor, WaitMode};
 use grb_core::{BinaryOp, Monoid, Semiring};
@@ -63,7 +62,7 @@ fn a_product_is_read_with_its_semiring_and_options(rt: HostRuntime) -> Result<()
             right: 2,
             descriptor,
         });
-        let statements = read_script(rt.alloc(), text.as_bytes())?;
+        let statements = statements_of(rt.alloc(), text.as_bytes())?;
         assert!(rt; statements.last() == Some(&expected), "{words}");
     }
     Ok(())
@@ -120,7 +119,7 @@ fn products_of_matrices_reductions_and_waits_are_read(rt: HostRuntime) -> Result
             mode: WaitMode::Materialize,
         },
     ];
-    let statements = read_script(rt.alloc(), text)?;
+    let statements = statements_of(rt.alloc(), text)?;
     assert_eq!(rt; statements.len(), 9);
     for (statement, expected) in statements.iter().skip(3).zip(&expected) {
         assert_eq!(rt; statement, expected);

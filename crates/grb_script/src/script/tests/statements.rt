@@ -1,5 +1,5 @@
+use super::statements_of;
 use crate::names::Sort;
-use crate::script::read_script;
 use crate::statement::Statement;
 use grb_call::{MatrixTuples, VectorTuples};
 use grb_core::{Domain, Monoid, Value};
@@ -10,7 +10,7 @@ fn names_are_numbered_in_the_order_of_making(rt: HostRuntime) -> Result<(), Fail
     let text =
         b"vector a bool 1\n  matrix   b_2 uint64 4294967295 7 \nset b_2 7 0 18446744073709551615\n\
         dup c a\nset a 0 false\nset c 0 true\nget b_2 7 0\nfree b_2\nnvals a\n";
-    let statements = read_script(rt.alloc(), text)?;
+    let statements = statements_of(rt.alloc(), text)?;
     let expected = [
         Statement::Vector {
             domain: Domain::Bool,
@@ -63,7 +63,7 @@ fn names_are_numbered_in_the_order_of_making(rt: HostRuntime) -> Result<(), Fail
 fn each_form_on_a_matrix_is_read(rt: HostRuntime) -> Result<(), Fail> {
     let text = b"matrix A bool 3 4\nset A 1 2 true\nremove A 0 3\nget A 2 1\nresize A 5 6\n\
         build A land 1 0 true 0 1 false\nnvals A\nsize A\nclear A\ndup B A\nfree B\n";
-    let statements = read_script(rt.alloc(), text)?;
+    let statements = statements_of(rt.alloc(), text)?;
     let tuples = vec![in rt.alloc(); (1, 0, Value::Bool(true)), (0, 1, Value::Bool(false))]?;
     let expected = [
         Statement::Matrix {
@@ -126,7 +126,7 @@ fn each_form_on_a_matrix_is_read(rt: HostRuntime) -> Result<(), Fail> {
 fn each_form_on_a_vector_is_read(rt: HostRuntime) -> Result<(), Fail> {
     let text = b"vector v uint64 5\nset v 4 9\nremove v 4\nget v 3\nresize v 7\n\
         build v max 2 5 0 true 2 6\nbuild v plus\nnvals v\nsize v\nclear v\nfree v\n";
-    let statements = read_script(rt.alloc(), text)?;
+    let statements = statements_of(rt.alloc(), text)?;
     let tuples = vec![in rt.alloc();
         (2, Value::Uint64(5)),
         (0, Value::Bool(true)),
@@ -190,7 +190,7 @@ fn each_monoid_is_read_by_its_word(rt: HostRuntime) -> Result<(), Fail> {
         Monoid::Min,
         Monoid::Max,
     ];
-    let statements = read_script(rt.alloc(), text)?;
+    let statements = statements_of(rt.alloc(), text)?;
     assert_eq!(rt; statements.len(), 9);
     for (statement, expected) in statements.iter().skip(1).zip(monoids) {
         assert!(rt;

@@ -11,14 +11,18 @@ pub returns-clause-answer : goal.returns-clause-answer
 returns-clause-answer c =
     subst (λ call. IsAnswer (room_of c.args.context.now.order) (known c.args.pass.now) call c.call-answer.result)
     (c.call_of.ensures ∙ ap (λ objects. call_of objects c.args.statement) c.deref.ensures.value)
-    (explained c.args.context.now c.args.pass.now c.call-answer.new.pass _ _ c.requires.alone c.call-answer.ensures.knows c.call-answer.ensures.explains).0
+    (explained c.args.context.now c.args.pass.now c.call-answer.new.pass _ _ c.requires.alone c.call-answer.ensures.answered).0
 
 pub returns-clause-known : goal.returns-clause-known
 returns-clause-known c =
     subst (λ call. known c.call-answer.new.pass ≡ history_after 0 call c.call-answer.result (known c.args.pass.now))
     (c.call_of.ensures ∙ ap (λ objects. call_of objects c.args.statement) c.deref.ensures.value)
-    (explained c.args.context.now c.args.pass.now c.call-answer.new.pass _ _ c.requires.alone c.call-answer.ensures.knows c.call-answer.ensures.explains).1
+    (explained c.args.context.now c.args.pass.now c.call-answer.new.pass _ _ c.requires.alone c.call-answer.ensures.answered).1
 
 pub returns-clause-alone : goal.returns-clause-alone
 returns-clause-alone c =
-    (explained c.args.context.now c.args.pass.now c.call-answer.new.pass _ _ c.requires.alone c.call-answer.ensures.knows c.call-answer.ensures.explains).2
+    (explained c.args.context.now c.args.pass.now c.call-answer.new.pass _ _ c.requires.alone c.call-answer.ensures.answered).2
+
+pub returns-in_err-keep_object-clause-alone : goal.returns-in_err-keep_object-clause-alone
+returns-in_err-keep_object-clause-alone c =
+    (explained c.args.context.now c.args.pass.now c.call-answer.new.pass _ _ c.requires.alone c.call-answer.ensures.answered).2

@@ -1,112 +1,39 @@
-use Rattle.std.proofs.Common.{◌≡◌, ◌^◌, ◌<◌, sym, subst, ap, arith, ◌∙◌}
+use Rattle.std.proofs.Common.{sym, subst}
 use Rattle.std.specs.Prelude.{Err}
 use Rattle.std.proofs.lemmas.Result.{err_from_is_err_and}
-use Rattle.grb_order.specs.Word.{order_word}
 use Rattle.grb_order.specs.Order.{room_of}
-use Rattle.grb_records.specs.Token.{Shown, IsOf}
 use Rattle.grb_call.specs.declared.call.Call.{Call}
-use Rattle.grb_call.specs.After.{reply_of}
-use Rattle.grb_call.specs.History.{store_of}
-use Rattle.grb_pass.specs.Known.{Knowing, known}
+use Rattle.grb_pass.specs.Known.{Knowing}
 use Rattle.grb_pass.specs.Counting.{CountsCall}
 use Rattle.grb_pass.specs.Explains.{ExplainsCall, IsCaughtUp, ground_of}
-use Rattle.grb_pass.specs.Learning.{IsReady, IsRefused, Learns}
-use Rattle.grb_pass.proofs.Learnt.{learns_then, pass_push}
-use Rattle.grb_pass.proofs.Answering.{refused_put, explains_refused, explains_won, known_entered, learns_lost, refused_before, ready_before}
-use Rattle.grb_pass.proofs.Counted.{counts_then, counts_won, counts_refused, counts_looked, looks_again, steps_near, steps_lost}
+use Rattle.grb_pass.proofs.Answering.{refused_put, explains_refused, explains_before}
+use Rattle.grb_pass.proofs.Counted.{counts_looked}
 use Rattle.grb_pass.proofs.shared.Shared.enter_record.Goals as goal
+
+pub returns-in_err-ready-clause-counts : goal.returns-in_err-ready-clause-counts
+returns-in_err-ready-clause-counts c = counts_looked c.args.pass.now c.ready.new.pass c.ready.ensures.learns c.ready.ensures.counts c.requires.begun c.ready.ensures.few
 
 pub returns-in_err-token-clause-explains : goal.returns-in_err-token-clause-explains
 returns-in_err-token-clause-explains c =
     let room = room_of c.args.self.now.order in let old = c.args.pass.now in let mid = c.ready.new.pass in let call = c.args.call in
     let p = err_from_is_err_and c.from_residual-in_err-token.result c.from_residual-in_err-token.ensures.1 in
-    let is = explains_refused room old mid call _ c.ready.ensures.learns (refused_put room old mid call _ c.in_err-token.ensures.refused c.requires.enters c.in_ok-ready.ensures.ready) in
+    let is = explains_refused room old mid call _ c.ready.ensures.learns (refused_put room old mid call _ c.in_err-token.ensures.refused c.requires.enters c.in_ok-ready.ensures.ready c.in_ok-ready.ensures.looked) in
     rw (p.1, p.2) (subst (λ (k : Knowing). ExplainsCall room old k call (Err c.in_err-token.field-0.0)) (sym c.put.ensures.same) is)
-
-pub enter-requires-clause-few : goal.enter-requires-clause-few
-enter-requires-clause-few c =
-    let now = c.tries.invariant in let room_left = now.ready.room_left in
-    let n : c.tries.pass.steps < 2 ^ 29 = steps_near c.args.pass.now c.tries.pass now.counts c.requires.begun now.looks (omega (arith, room_left, now.small)) in omega (arith, n)
-
-pub ready-requires-in-tries-clause-few : goal.ready-requires-in-tries-clause-few
-ready-requires-in-tries-clause-few c =
-    let back = c.in-Some.ensures.enters in let now = c.tries.invariant in let room_left = now.ready.room_left in
-    steps_lost c.tries.pass c.enter.new.self back.2 c.enter.ensures.counts back.3
-    (steps_near c.args.pass.now c.tries.pass now.counts c.requires.begun now.looks (omega (arith, room_left, now.small)))
 
 pub returns-in_err-token-clause-caught_up : goal.returns-in_err-token-clause-caught_up
 returns-in_err-token-clause-caught_up c =
     let room = room_of c.args.self.now.order in let old = c.args.pass.now in let mid = c.ready.new.pass in let call = c.args.call in
     let p = err_from_is_err_and c.from_residual-in_err-token.result c.from_residual-in_err-token.ensures.1 in
-    let is = refused_put room old mid call _ c.in_err-token.ensures.refused c.requires.enters c.in_ok-ready.ensures.ready in
+    let is = refused_put room old mid call _ c.in_err-token.ensures.refused c.requires.enters c.in_ok-ready.ensures.ready c.in_ok-ready.ensures.looked in
     rw (p.1, p.2) (subst (λ (k : Knowing). IsCaughtUp (ground_of (Err c.in_err-token.field-0.0)) k) (sym c.put.ensures.same) is.caught_up)
-
-pub returns-in_default-clause-pass : goal.returns-in_default-clause-pass
-returns-in_default-clause-pass c =
-    let token = c.call_of-call.new.token in
-    pass_push c.args.self.now c.tries.pass c.enter.new.self token c.enter.ensures.order c.in_default.ensures.enters.1 (subst (λ (t : Shown). IsOf c.args.self.now.records t) (sym c.call_of-call.ensures.same) c.tries.invariant.of) c.tries.invariant.pass
-
-pub returns-in_default-clause-explains : goal.returns-in_default-clause-explains
-returns-in_default-clause-explains c =
-    let room = room_of c.args.self.now.order in let old = c.args.pass.now in let mid = c.tries.pass in let now = c.tries.invariant in
-    let is : c.call_of-call.result.now ≡ c.args.call = subst (λ (x : Call). c.call_of-call.result.now ≡ x) now.call c.call_of-call.ensures.call in
-    let same = c.call_of-call.ensures.same in
-    explains_won room old mid c.enter.new.self c.args.call c.call_of-call.new.token c.reply-reply.result now.learns now.ready c.requires.enters (ap (λ (t : Shown). t.call) same ∙ now.call) (rw same now.index)
-    c.in_default.ensures.enters.0 c.in_default.ensures.enters.1
-    (subst (λ (x : Call). c.reply-reply.result ≡ reply_of (store_of (known c.pass.inside.reader)) x) is c.reply-reply.ensures ∙ ap (λ (k : Knowing). reply_of (store_of (known k)) c.args.call) c.pass.view_is)
-
-pub returns-in_default-clause-caught_up : goal.returns-in_default-clause-caught_up
-returns-in_default-clause-caught_up c =
-    known_entered c.tries.pass c.enter.new.self c.call_of-call.new.token (room_of c.args.self.now.order) c.args.pass.now c.args.call c.tries.invariant.ready (rw c.call_of-call.ensures.same c.tries.invariant.index) c.in_default.ensures.enters.0 c.in_default.ensures.enters.1
-
-pub tries-preserved : goal.tries-preserved
-tries-preserved c =
-    let room = room_of c.args.self.now.order in let old = c.args.pass.now in let mid = c.tries.pass in let lost = c.enter.new.self in let new = c.ready-in-tries.new.pass in
-    let now = c.tries.invariant in let back = c.in-Some.ensures.enters in
-    let is : c.call_of-call.result.now ≡ c.args.call = subst (λ (x : Call). c.call_of-call.result.now ≡ x) now.call c.call_of-call.ensures.call in
-    let first : Learns old lost = learns_lost room old mid lost c.args.call back.2 now.learns now.ready back.1 back.3 in
-    let all : Learns old new = learns_then old lost new first c.ready-in-tries.ensures.learns in
-    let token = back.0 ∙ c.call_of-call.ensures.same in
-    record {
-      pass = c.ready-in-tries.ensures.pass;
-      learns = all;
-      of = subst (λ (t : Shown). IsOf c.args.self.now.records t) (sym token) now.of;
-      own = ap (λ (t : Shown). t.pass) token ∙ now.own ∙ now.learns.grown.number ∙ sym all.grown.number;
-      index = rw token now.index;
-      call = ap (λ (t : Shown). t.call) token ∙ now.call;
-      ready = ready_before room old lost new c.args.call first (subst (λ (x : Call). IsReady room lost new x) is c.in_ok-ready-2.ensures.ready);
-      small = now.small;
-      counts = counts_then old lost new (counts_then old mid lost now.counts c.enter.ensures.counts) c.ready-in-tries.ensures.counts;
-      looks = looks_again old mid lost new back.2 now.looks back.3 c.ready-in-tries.ensures.learns c.ready-in-tries.ensures.few;
-    }
-
-pub returns-in_default-clause-counts : goal.returns-in_default-clause-counts
-returns-in_default-clause-counts c =
-    let old = c.args.pass.now in let mid = c.tries.pass in let now = c.tries.invariant in
-    counts_won old mid c.enter.new.self (order_word mid.view.number c.call_of-call.new.token.index) now.learns now.counts c.enter.ensures.counts c.requires.begun c.in_default.ensures.enters.0 now.looks
-
-pub returns-in_err-ready-2-clause-counts : goal.returns-in_err-ready-2-clause-counts
-returns-in_err-ready-2-clause-counts c =
-    let room = room_of c.args.self.now.order in let old = c.args.pass.now in let mid = c.tries.pass in let lost = c.enter.new.self in let new = c.ready-in-tries.new.pass in
-    let now = c.tries.invariant in let back = c.in-Some.ensures.enters in
-    let first : Learns old lost = learns_lost room old mid lost c.args.call back.2 now.learns now.ready back.1 back.3 in
-    let all : Learns old new = learns_then old lost new first c.ready-in-tries.ensures.learns in
-    counts_refused old new all (counts_then old lost new (counts_then old mid lost now.counts c.enter.ensures.counts) c.ready-in-tries.ensures.counts) c.requires.begun
-    (looks_again old mid lost new back.2 now.looks back.3 c.ready-in-tries.ensures.learns c.ready-in-tries.ensures.few)
-
-pub returns-in_err-ready-clause-counts : goal.returns-in_err-ready-clause-counts
-returns-in_err-ready-clause-counts c = counts_looked c.args.pass.now c.ready.new.pass c.ready.ensures.learns c.ready.ensures.counts c.requires.begun c.ready.ensures.few
 
 pub returns-in_err-token-clause-counts : goal.returns-in_err-token-clause-counts
 returns-in_err-token-clause-counts c =
     subst (λ (k : Knowing). CountsCall c.args.pass.now k) (sym c.put.ensures.same) (counts_looked c.args.pass.now c.ready.new.pass c.ready.ensures.learns c.ready.ensures.counts c.requires.begun c.ready.ensures.few)
 
-pub returns-in_err-ready-2-clause-explains : goal.returns-in_err-ready-2-clause-explains
-returns-in_err-ready-2-clause-explains c =
-    let room = room_of c.args.self.now.order in let old = c.args.pass.now in let mid = c.tries.pass in let lost = c.enter.new.self in let new = c.ready-in-tries.new.pass in
-    let now = c.tries.invariant in let back = c.in-Some.ensures.enters in
-    let is : c.call_of-call.result.now ≡ c.args.call = subst (λ (x : Call). c.call_of-call.result.now ≡ x) now.call c.call_of-call.ensures.call in
-    let first : Learns old lost = learns_lost room old mid lost c.args.call back.2 now.learns now.ready back.1 back.3 in
-    let p = err_from_is_err_and c.from_residual-in_err-ready-2.result c.from_residual-in_err-ready-2.ensures.1 in
-    rw (p.1, p.2) (explains_refused room old new c.args.call _ (learns_then old lost new first c.ready-in-tries.ensures.learns)
-    (refused_before room old lost new c.args.call first _ (subst (λ (x : Call). IsRefused room lost new x c.in_err-ready-2.field-0.0) is c.in_err-ready-2.ensures.refused)))
+pub returns-clause-explains : goal.returns-clause-explains
+returns-clause-explains c =
+    let room = room_of c.args.self.now.order in let old = c.args.pass.now in let mid = c.ready.new.pass in let new = c.enter_token.new.pass in let answer = c.enter_token.result in
+    let after : ExplainsCall room c.put.new.self new c.in_ok-token.token.call answer = c.enter_token.ensures.explains in
+    let same : ExplainsCall room mid new c.args.call answer = subst (λ (y : Knowing × Call). ExplainsCall room y.0 new y.1 answer) (λ i. (c.put.ensures.same i, c.in_ok-token.ensures.put.1 i)) after in
+    explains_before room old mid new c.args.call answer c.ready.ensures.learns same

@@ -44,3 +44,18 @@ returns-clause-spans c =
     ∙ ap (λ n. in_row (drop (get_or starts k 0) (take (get_or starts (k + 1) n) m))) (sym count) in
     subst (λ (s : List ℕ). (k : ℕ) → k < length c.args.self.now.rows → row_of (get_or c.args.self.now.rows k 0) (decoded c.args.self.now.entries) ≡ in_row (drop (get_or s k 0) (take (get_or s (k + 1) (length c.args.self.now.entries)) c.args.self.now.entries))) (sym c.deref.ensures.value)
     (subst (λ (r : RowView). (k : ℕ) → k < length r.rows → row_of (get_or r.rows k 0) (decoded r.entries) ≡ in_row (drop (get_or starts k 0) (take (get_or starts (k + 1) (length r.entries)) r.entries))) c.self.view_is here)
+
+pub returns-clause-within : goal.returns-clause-within
+returns-clause-within c =
+    let x = c.self.inside in
+    let rows = x.rows.items in
+    let starts = x.starts.items in
+    let columns = x.columns.items in
+    let vs = values_list x.values in
+    let same = c.self.invariant.0 in
+    let flat = c.self.invariant.2 in
+    let m = paired (codes_of rows starts columns) vs in
+    let count : length m ≡ length columns = length-paired (codes_of rows starts columns) vs same ∙ length-codes rows starts columns flat in
+    let here : (k : ℕ) → k < length starts → get_or starts k 0 < length m = λ k l. subst (λ n. get_or starts k 0 < n) (sym count) (flat.inside k l) in
+    subst (λ (s : List ℕ). (k : ℕ) → k < length s → get_or s k 0 < length c.args.self.now.entries) (sym c.deref.ensures.value)
+    (subst (λ (r : RowView). (k : ℕ) → k < length starts → get_or starts k 0 < length r.entries) c.self.view_is here)

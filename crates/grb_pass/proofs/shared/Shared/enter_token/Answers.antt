@@ -1,0 +1,104 @@
+use Rattle.std.proofs.Common.{◌≡◌, ◌^◌, ◌<◌, ◌≤◌, refl, sym, subst, ap, arith, ◌∙◌}
+use Rattle.std.proofs.lemmas.Result.{err_from_is_err_and}
+use Rattle.grb_order.specs.Word.{order_word}
+use Rattle.grb_order.specs.Holding.{TableId}
+use Rattle.grb_order.specs.Order.{room_of}
+use Rattle.grb_records.specs.Token.{Shown, IsOf}
+use Rattle.grb_call.specs.declared.call.Call.{Call}
+use Rattle.grb_call.specs.After.{reply_of}
+use Rattle.grb_call.specs.History.{store_of}
+use Rattle.grb_pass.specs.Known.{Knowing, known}
+use Rattle.grb_pass.specs.Learning.{IsReady, IsRefused, Learns}
+use Rattle.grb_pass.proofs.Learnt.{learns_refl, learns_then, pass_push}
+use Rattle.grb_pass.proofs.Answering.{explains_refused, explains_won, known_entered, learns_lost, refused_before}
+use Rattle.grb_pass.proofs.Counted.{counts_then, counts_same, counts_won, counts_lost, looks_again, steps_near, steps_lost}
+use Rattle.grb_pass.proofs.shared.Shared.enter_token.Goals as goal
+
+pub tries-init : goal.tries-init
+tries-init c =
+    let pass = c.args.pass.now in record {
+      pass = c.requires.pass;
+      learns = learns_refl pass;
+      of = c.requires.of;
+      own = c.requires.own;
+      index = c.requires.index;
+      call = refl;
+      ready = c.requires.ready;
+      small = subst (λ (o : TableId). room_of o ≤ 4096) c.requires.pass.order c.requires.steady.small;
+      counts = counts_same pass pass refl refl;
+      looks = omega arith;
+    }
+
+pub enter-requires-clause-few : goal.enter-requires-clause-few
+enter-requires-clause-few c =
+    let now = c.tries.invariant in let room_left = now.ready.room_left in
+    let n : c.tries.pass.steps < 2 ^ 29 = steps_near c.args.pass.now c.tries.pass now.counts c.requires.few now.looks (omega (arith, room_left, now.small)) in omega (arith, n)
+
+pub ready-requires-clause-few : goal.ready-requires-clause-few
+ready-requires-clause-few c =
+    let back = c.in-Some.ensures.enters in let now = c.tries.invariant in let room_left = now.ready.room_left in
+    steps_lost c.tries.pass c.enter.new.self back.2 c.enter.ensures.counts back.3
+    (steps_near c.args.pass.now c.tries.pass now.counts c.requires.few now.looks (omega (arith, room_left, now.small)))
+
+pub returns-in_default-clause-pass : goal.returns-in_default-clause-pass
+returns-in_default-clause-pass c =
+    let token = c.call_of-call.new.token in
+    pass_push c.args.self.now c.tries.pass c.enter.new.self token c.enter.ensures.order c.in_default.ensures.enters.1 (subst (λ (t : Shown). IsOf c.args.self.now.records t) (sym c.call_of-call.ensures.same) c.tries.invariant.of) c.tries.invariant.pass
+
+pub returns-in_default-clause-explains : goal.returns-in_default-clause-explains
+returns-in_default-clause-explains c =
+    let room = room_of c.args.self.now.order in let old = c.args.pass.now in let mid = c.tries.pass in let now = c.tries.invariant in let call = c.args.token.call in
+    let is : c.call_of-call.result.now ≡ call = subst (λ (x : Call). c.call_of-call.result.now ≡ x) now.call c.call_of-call.ensures.call in
+    let same = c.call_of-call.ensures.same in
+    explains_won room old mid c.enter.new.self call c.call_of-call.new.token c.reply-reply.result now.learns now.ready c.requires.enters (ap (λ (t : Shown). t.call) same ∙ now.call) (rw same now.index)
+    c.in_default.ensures.enters.0 c.in_default.ensures.enters.1
+    (subst (λ (x : Call). c.reply-reply.result ≡ reply_of (store_of (known c.pass.inside.reader)) x) is c.reply-reply.ensures ∙ ap (λ (k : Knowing). reply_of (store_of (known k)) call) c.pass.view_is)
+
+pub returns-in_default-clause-caught_up : goal.returns-in_default-clause-caught_up
+returns-in_default-clause-caught_up c =
+    known_entered c.tries.pass c.enter.new.self c.call_of-call.new.token (room_of c.args.self.now.order) c.args.token.call c.tries.invariant.ready (rw c.call_of-call.ensures.same c.tries.invariant.index) c.in_default.ensures.enters.0 c.in_default.ensures.enters.1
+
+pub returns-in_default-clause-counts : goal.returns-in_default-clause-counts
+returns-in_default-clause-counts c =
+    let old = c.args.pass.now in let mid = c.tries.pass in let now = c.tries.invariant in
+    counts_won old mid c.enter.new.self (order_word mid.view.number c.call_of-call.new.token.index) now.learns now.counts c.enter.ensures.counts c.in_default.ensures.enters.0 now.looks
+
+pub tries-preserved : goal.tries-preserved
+tries-preserved c =
+    let room = room_of c.args.self.now.order in let old = c.args.pass.now in let mid = c.tries.pass in let lost = c.enter.new.self in let new = c.ready.new.pass in
+    let now = c.tries.invariant in let back = c.in-Some.ensures.enters in
+    let is : c.call_of-call.result.now ≡ c.args.token.call = subst (λ (x : Call). c.call_of-call.result.now ≡ x) now.call c.call_of-call.ensures.call in
+    let first : Learns old lost = learns_lost room old mid lost c.args.token.call back.2 now.learns now.ready back.1 back.3 in
+    let all : Learns old new = learns_then old lost new first c.ready.ensures.learns in
+    let token = back.0 ∙ c.call_of-call.ensures.same in
+    record {
+      pass = c.ready.ensures.pass;
+      learns = all;
+      of = subst (λ (t : Shown). IsOf c.args.self.now.records t) (sym token) now.of;
+      own = ap (λ (t : Shown). t.pass) token ∙ now.own ∙ now.learns.grown.number ∙ sym all.grown.number;
+      index = rw token now.index;
+      call = ap (λ (t : Shown). t.call) token ∙ now.call;
+      ready = subst (λ (x : Call). IsReady room new x) is c.in_ok-ready.ensures.ready;
+      small = now.small;
+      counts = counts_then old lost new (counts_then old mid lost now.counts c.enter.ensures.counts) c.ready.ensures.counts;
+      looks = looks_again old mid lost new back.2 now.looks back.3 c.ready.ensures.learns c.ready.ensures.few;
+    }
+
+pub returns-in_err-ready-clause-counts : goal.returns-in_err-ready-clause-counts
+returns-in_err-ready-clause-counts c =
+    let room = room_of c.args.self.now.order in let old = c.args.pass.now in let mid = c.tries.pass in let lost = c.enter.new.self in let new = c.ready.new.pass in
+    let now = c.tries.invariant in let back = c.in-Some.ensures.enters in
+    let first : Learns old lost = learns_lost room old mid lost c.args.token.call back.2 now.learns now.ready back.1 back.3 in
+    let all : Learns old new = learns_then old lost new first c.ready.ensures.learns in
+    counts_lost old new all (counts_then old lost new (counts_then old mid lost now.counts c.enter.ensures.counts) c.ready.ensures.counts)
+    (looks_again old mid lost new back.2 now.looks back.3 c.ready.ensures.learns c.ready.ensures.few)
+
+pub returns-in_err-ready-clause-explains : goal.returns-in_err-ready-clause-explains
+returns-in_err-ready-clause-explains c =
+    let room = room_of c.args.self.now.order in let old = c.args.pass.now in let mid = c.tries.pass in let lost = c.enter.new.self in let new = c.ready.new.pass in
+    let now = c.tries.invariant in let back = c.in-Some.ensures.enters in let call = c.args.token.call in
+    let is : c.call_of-call.result.now ≡ call = subst (λ (x : Call). c.call_of-call.result.now ≡ x) now.call c.call_of-call.ensures.call in
+    let first : Learns old lost = learns_lost room old mid lost call back.2 now.learns now.ready back.1 back.3 in
+    let p = err_from_is_err_and c.from_residual.result c.from_residual.ensures.1 in
+    rw (p.1, p.2) (explains_refused room old new call _ (learns_then old lost new first c.ready.ensures.learns)
+    (refused_before room old lost new call first _ (subst (λ (x : Call). IsRefused room lost new x c.in_err-ready.field-0.0) is c.in_err-ready.ensures.refused)))

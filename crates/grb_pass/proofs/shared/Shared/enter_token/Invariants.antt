@@ -1,0 +1,24 @@
+use Rattle.std.proofs.Common.{◌≡◌, ◌+◌, ◌<◌, ◌≤◌, ◌-◌, ◌^◌, length}
+use Rattle.grb_order.specs.Order.{room_of}
+use Rattle.grb_records.specs.Token.{IsOf}
+use Rattle.grb_pass.specs.Known.{IsPassOf}
+use Rattle.grb_pass.specs.Counting.{Counts}
+use Rattle.grb_pass.specs.Learning.{IsReady, Learns}
+use Rattle.grb_pass.proofs.shared.Shared.enter_token.Given as goal
+
+abbrev pub invariant-tries : goal.invariant-tries
+invariant-tries l = record {
+  pass : IsPassOf l.self l.pass;
+  learns : Learns l.fn.pass l.pass;
+  of : IsOf l.self.records l.token;
+  own : l.token.pass ≡ l.pass.view.number;
+  index : l.token.index < 2 ^ 48;
+  call : l.token.call ≡ l.fn.token.call;
+  ready : IsReady (room_of l.self.order) l.pass l.fn.token.call;
+  small : room_of l.self.order ≤ 4096;
+  counts : Counts l.fn.pass l.pass;
+  looks : length l.pass.view.looks + length l.fn.pass.view.words ≤ length l.fn.pass.view.looks + length l.pass.view.words;
+}
+
+abbrev pub decreases-tries : goal.decreases-tries
+decreases-tries l = room_of l.self.order - length l.pass.view.words

@@ -1,0 +1,125 @@
+//! An example to read, outside the product: a graph that five threads share. Four of them change it, the fifth asks for degrees and
+//! neighbours meanwhile, and at the end one pass reads what they made. Each thread has a pass of its own, and each call takes effect
+//! at one moment between its start and its reply; so what the program prints is the same in every run.
+//!
+//! The graph is a ring of 32 vertices, each of which an edge ties to the hub in the middle; one of the four threads cuts its edges to
+//! the hub again.
+#![tactic(auto)]
+
+ghost use Rattle.std.specs.Prelude.{All, IfSome};
+ghost use Rattle.grb_context.specs.Known.{IsPassOf};
+
+mod graph;
+mod work;
+
+use crate::graph::{Graph, HUB, RING};
+use crate::work::work;
+use grb_context::{Context, Pass};
+use grb_core::Refusal;
+use std::alloc::Global;
+use std::io;
+use std::test::Fail;
+use std::thread::{Threads, map_vec};
+
+/// The calls that the history has room for; a run enters some three hundred.
+const ROOM: u32 = 1024;
+
+/// A pass for each of the five threads.
+const THREADS: u32 = 5;
+
+/// What one pass reads of the graph at the end.
+#[derive(Drop)]
+struct Summary {
+    edges: u64,
+    degree: u64,
+    neighbours: Vec<u64>,
+    triangles: u64,
+}
+
+/// The vertices of the ring that have an edge to the hub, in rising order.
+fn neighbours(
+    alloc: Global,
+    context: &Context,
+    pass: &mut Pass,
+    graph: Graph,
+) -> Result<Vec<u64>, Refusal>
+    requires { IsPassOf context.now pass.old }
+    ensures { IsPassOf context.now pass.new }
+{
+    let mut found = Vec::new(alloc);
+    'vertices: for i in 0..RING {
+        if graph.is_neighbour(context, pass, HUB, i)? && found.push(i).is_err() {
+            return Err(Refusal::OutOfMemory);
+        }
+    }
+    Ok(found)
+}
+
+/// Reads it.
+fn read(alloc: Global, context: &Context, pass: &mut Pass, graph: Graph) -> Result<Summary, Refusal>
+    requires { IsPassOf context.now pass.old }
+    ensures { IsPassOf context.now pass.new }
+{
+    let edges = graph.edges(context, pass)?;
+    let degree = graph.degree(context, pass, HUB)?;
+    let neighbours = neighbours(alloc, context, pass, graph)?;
+    let triangles = graph.triangles(context, pass)?;
+    Ok(Summary {
+        edges,
+        degree,
+        neighbours,
+        triangles,
+    })
+}
+
+/// Takes the pass of the highest number out of these.
+fn last_pass(context: &Context, passes: &mut Vec<Pass>) -> Option<Pass>
+    requires { All (IsPassOf context.now) passes.old.items }
+    ensures pass { IfSome result (IsPassOf context.now) }
+    ensures rest { All (IsPassOf context.now) passes.new.items }
+{
+    passes.pop()
+}
+
+/// Has the threads work on a graph, and reads it when all have ended: what they made, and how many replies were wrong. A call that
+/// was refused ends it with its refusal.
+fn serve<R: Threads + Sync + AllocGlobal>(rt: &R) -> Result<(Summary, u32), Refusal> {
+    let (context, mut passes) = match Context::open(rt.alloc(), ROOM, THREADS + 1) {
+        Ok(opened) => opened,
+        Err(_) => return Err(Refusal::OutOfMemory),
+    };
+    let Some(mut own) = last_pass(&context, &mut passes) else {
+        return Err(Refusal::Panic);
+    };
+    let graph = Graph::new(&context, &mut own)?;
+    let ends = match map_vec(rt, passes, &|pass| work(&context, pass, graph)) {
+        Ok(ends) => ends,
+        Err(_) => return Err(Refusal::OutOfMemory),
+    };
+    let mut wrong = 0u32;
+    for end in &ends {
+        wrong = wrong.saturating_add((*end)?);
+    }
+    Ok((read(rt.alloc(), &context, &mut own, graph)?, wrong))
+}
+
+/// Writes a line for each thing that was read.
+fn write_summary(rt: &impl Print, summary: &Summary, wrong: u32) -> io::Result<()> {
+    println!(rt; "edges: {}", summary.edges)?;
+    println!(rt; "degree of the hub: {}", summary.degree)?;
+    print!(rt; "neighbours of the hub:")?;
+    for i in &summary.neighbours {
+        print!(rt; " {i}")?;
+    }
+    println!(rt; "")?;
+    println!(rt; "triangles: {}", summary.triangles)?;
+    println!(rt; "wrong replies meanwhile: {wrong}")
+}
+
+fn main(rt: HostRuntime) -> Result<(), Fail> {
+    match serve(&rt) {
+        Ok((summary, wrong)) => write_summary(&rt, &summary, wrong)?,
+        Err(refusal) => println!(&rt; "refused: {}", refusal.name())?,
+    }
+    Ok(())
+}

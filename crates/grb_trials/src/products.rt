@@ -1,0 +1,408 @@
+//! Products and reductions by plain loops over tables, and the calls that are held against them.
+ghost use Rattle.std.specs.Prelude.{◌≡◌, true};
+ghost use Rattle.grb_core.specs.Contents.{IsDimension};
+ghost use Rattle.grb_core.specs.Operator.{op_domain};
+ghost use Rattle.grb_core.specs.Monoid.{monoid_domain};
+ghost use Rattle.grb_core.specs.Written.{AccumulatesIn};
+
+use crate::drawn::applied;
+use crate::tables::{Table, expect_matrix, expect_vector, matrix_of, number_of, stored, vector_of};
+use grb_call::Descriptor;
+use grb_core::{BinaryOp, Domain, Monoid, Semiring, Value};
+use grb_multiply::mxm;
+use grb_products::{mxv, reduce_matrix, reduce_rows, reduce_vector};
+use grb_sparse::{SparseMatrix, SparseVector};
+use std::alloc::{AllocError, Global};
+use std::process::Abort;
+
+/// The operator of a monoid.
+pub(crate) fn operator_of(monoid: Monoid) -> BinaryOp {
+    match monoid {
+        Monoid::Lor => BinaryOp::Lor,
+        Monoid::Land => BinaryOp::Land,
+        Monoid::Lxor => BinaryOp::Lxor,
+        Monoid::Lxnor => BinaryOp::Lxnor,
+        Monoid::Plus => BinaryOp::Plus,
+        Monoid::Times => BinaryOp::Times,
+        Monoid::Min => BinaryOp::Min,
+        Monoid::Max => BinaryOp::Max,
+    }
+}
+
+/// The number that a monoid has for no values.
+fn neutral(monoid: Monoid) -> u64 {
+    match monoid {
+        Monoid::Lor | Monoid::Lxor | Monoid::Plus | Monoid::Max => 0,
+        Monoid::Land | Monoid::Lxnor | Monoid::Times => 1,
+        Monoid::Min => 18_446_744_073_709_551_615,
+    }
+}
+
+/// Both numbers combined, else the one that there is.
+fn either(op: BinaryOp, x: Option<u64>, y: Option<u64>) -> Option<u64> {
+    match (x, y) {
+        (Some(x), Some(y)) => Some(applied(op, x, y)),
+        _ => x.or(y),
+    }
+}
+
+/// Both numbers combined, where there are both.
+fn both(op: BinaryOp, x: Option<u64>, y: Option<u64>) -> Option<u64> {
+    match (x, y) {
+        (Some(x), Some(y)) => Some(applied(op, x, y)),
+        _ => None,
+    }
+}
+
+/// A product as it is called.
+#[derive(Clone, Copy)]
+pub(crate) struct Choice {
+    /// That of all objects, the mask aside.
+    pub(crate) domain: Domain,
+    pub(crate) mask_domain: Domain,
+    /// With the mask, and not without one.
+    pub(crate) masked: bool,
+    /// With the accumulator, and not without one.
+    pub(crate) accumulated: bool,
+    pub(crate) accum: BinaryOp,
+    pub(crate) monoid: Monoid,
+    pub(crate) op: BinaryOp,
+    pub(crate) descriptor: Descriptor,
+    ghost of_accum: { op_domain accum ≡ domain },
+    ghost of_monoid: { monoid_domain monoid ≡ domain },
+    ghost of_op: { op_domain op ≡ domain },
+}
+
+/// The accumulator of a call, if it has one.
+pub(crate) fn accum_of(choice: Choice) -> Option<BinaryOp>
+    ensures { AccumulatesIn choice.domain result }
+{
+    if choice.accumulated {
+        return Some(choice.accum);
+    }
+    None
+}
+
+/// The semiring of a call.
+pub(crate) fn semiring_of(rt: &impl Abort, choice: Choice) -> Semiring
+    ensures { op_domain result.op ≡ choice.domain }
+{
+    let (monoid, op) = (choice.monoid, choice.op);
+    let Ok(semiring) = Semiring::new(monoid, op) else {
+        panic!(rt; "{monoid:?} and {op:?} make no semiring");
+    };
+    semiring
+}
+
+/// How many rows and columns the objects have: the first matrix `rows` and `inner`, the second `inner` and `columns`.
+#[derive(Clone, Copy)]
+pub(crate) struct Dims {
+    pub(crate) rows: u64,
+    pub(crate) inner: u64,
+    pub(crate) columns: u64,
+    ghost has_rows: { IsDimension rows },
+    ghost has_inner: { IsDimension inner },
+    ghost has_columns: { IsDimension columns },
+}
+
+/// What the output, the mask and both inputs store.
+#[derive(Drop)]
+pub(crate) struct Tables {
+    pub(crate) output: Table,
+    pub(crate) mask: Table,
+    pub(crate) first: Table,
+    pub(crate) second: Table,
+}
+
+/// The product at a row and a column, by one loop over the places between.
+fn product_at(choice: Choice, dims: Dims, tables: &Tables, i: u64, j: u64) -> Option<u64> {
+    let mut sum = None;
+    'places: for k in 0..dims.inner {
+        let x = stored(
+            &tables.first,
+            i.wrapping_mul(dims.inner).wrapping_add(k) as usize,
+        );
+        let y = stored(
+            &tables.second,
+            k.wrapping_mul(dims.columns).wrapping_add(j) as usize,
+        );
+        sum = either(operator_of(choice.monoid), sum, both(choice.op, x, y));
+    }
+    sum
+}
+
+/// The fold of a row of the first matrix.
+fn fold_at(choice: Choice, dims: Dims, tables: &Tables, i: u64) -> Option<u64> {
+    let mut sum = None;
+    'places: for k in 0..dims.inner {
+        let x = stored(
+            &tables.first,
+            i.wrapping_mul(dims.inner).wrapping_add(k) as usize,
+        );
+        sum = either(operator_of(choice.monoid), sum, x);
+    }
+    sum
+}
+
+/// The fold of all that a table stores.
+fn fold_of(choice: Choice, table: &[Option<u64>]) -> u64 {
+    let mut sum = neutral(choice.monoid);
+    'places: for number in table {
+        if let Some(n) = number {
+            sum = applied(operator_of(choice.monoid), sum, *n);
+        }
+    }
+    sum
+}
+
+/// Whether a place is inside, by what the mask stores there.
+fn is_inside(choice: Choice, mask: Option<u64>) -> bool {
+    let selected = match mask {
+        Some(number) => choice.descriptor.structure || number != 0,
+        None => false,
+    };
+    (selected || !choice.masked) != choice.descriptor.comp
+}
+
+/// What the output stores at a place after a call that computed `computed` there.
+fn written_at(choice: Choice, tables: &Tables, at: usize, computed: Option<u64>) -> Option<u64> {
+    let old = stored(&tables.output, at);
+    if !is_inside(choice, stored(&tables.mask, at)) {
+        return if choice.descriptor.replace { None } else { old };
+    }
+    match accum_of(choice) {
+        None => computed,
+        Some(accum) => either(accum, old, computed),
+    }
+}
+
+/// What the output of a product stores after the call; with `columns` 1, that of a matrix and a vector.
+fn wanted_product(
+    alloc: Global,
+    choice: Choice,
+    dims: Dims,
+    tables: &Tables,
+) -> Result<Table, AllocError> {
+    let mut wanted = Vec::new(alloc);
+    for at in 0..dims.rows.wrapping_mul(dims.columns) {
+        let i = at / dims.columns.max(1);
+        let j = at % dims.columns.max(1);
+        let computed = product_at(choice, dims, tables, i, j);
+        wanted.push(written_at(choice, tables, at as usize, computed))?;
+    }
+    Ok(wanted)
+}
+
+/// What the output of a reduction of rows stores after the call.
+fn wanted_folds(
+    alloc: Global,
+    choice: Choice,
+    dims: Dims,
+    tables: &Tables,
+) -> Result<Table, AllocError> {
+    let mut wanted = Vec::new(alloc);
+    for i in 0..dims.rows {
+        let computed = fold_at(choice, dims, tables, i);
+        wanted.push(written_at(choice, tables, i as usize, computed))?;
+    }
+    Ok(wanted)
+}
+
+/// mxm of the matrices of the first two tables.
+fn product(
+    rt: &impl Abort,
+    alloc: Global,
+    choice: Choice,
+    dims: Dims,
+    tables: &Tables,
+    output: &SparseMatrix,
+    mask: &SparseMatrix,
+) -> Result<SparseMatrix, AllocError>
+    requires domain { output.now.matrix.domain ≡ choice.domain }
+    requires rows { output.now.matrix.nrows ≡ dims.rows }
+    requires columns { output.now.matrix.ncols ≡ dims.columns }
+    requires assembled { output.now.assembled ≡ true }
+    requires mask_rows { mask.now.matrix.nrows ≡ dims.rows }
+    requires mask_columns { mask.now.matrix.ncols ≡ dims.columns }
+    requires mask_assembled { mask.now.assembled ≡ true }
+{
+    let (rows, inner, columns) = (dims.rows, dims.inner, dims.columns);
+    let a = matrix_of(alloc, choice.domain, rows, inner, &tables.first)?;
+    let b = matrix_of(alloc, choice.domain, inner, columns, &tables.second)?;
+    let mask = if choice.masked { Some(mask) } else { None };
+    let (accum, semiring) = (accum_of(choice), semiring_of(rt, choice));
+    mxm(
+        alloc,
+        output,
+        mask,
+        accum,
+        semiring,
+        &a,
+        &b,
+        choice.descriptor,
+    )
+}
+
+fn expect_product(
+    rt: &impl Abort,
+    alloc: Global,
+    choice: Choice,
+    dims: Dims,
+    tables: &Tables,
+    made: &SparseMatrix,
+    case: usize,
+) -> Result<(), AllocError> {
+    let want = wanted_product(alloc, choice, dims, tables)?;
+    expect_matrix(rt, made, &want, case);
+    Ok(())
+}
+
+/// mxm stores what a plain loop does.
+pub(crate) fn expect_mxm(
+    rt: &impl Abort,
+    alloc: Global,
+    choice: Choice,
+    dims: Dims,
+    tables: &Tables,
+    case: usize,
+) -> Result<(), AllocError> {
+    let (rows, columns) = (dims.rows, dims.columns);
+    let output = matrix_of(alloc, choice.domain, rows, columns, &tables.output)?;
+    let mask = matrix_of(alloc, choice.mask_domain, rows, columns, &tables.mask)?;
+    let made = product(rt, alloc, choice, dims, tables, &output, &mask)?;
+    expect_product(rt, alloc, choice, dims, tables, &made, case)
+}
+
+/// mxv of the matrix of the first table and the vector of the second.
+fn column(
+    rt: &impl Abort,
+    alloc: Global,
+    choice: Choice,
+    dims: Dims,
+    tables: &Tables,
+    output: &SparseVector,
+    mask: &SparseVector,
+) -> Result<SparseVector, AllocError>
+    requires domain { output.now.vector.domain ≡ choice.domain }
+    requires size { output.now.vector.size ≡ dims.rows }
+    requires assembled { output.now.assembled ≡ true }
+    requires mask_size { mask.now.vector.size ≡ dims.rows }
+    requires mask_assembled { mask.now.assembled ≡ true }
+{
+    let (rows, inner) = (dims.rows, dims.inner);
+    let a = matrix_of(alloc, choice.domain, rows, inner, &tables.first)?;
+    let u = vector_of(alloc, choice.domain, inner, &tables.second)?;
+    let mask = if choice.masked { Some(mask) } else { None };
+    let (accum, semiring) = (accum_of(choice), semiring_of(rt, choice));
+    mxv(
+        alloc,
+        output,
+        mask,
+        accum,
+        semiring,
+        &a,
+        &u,
+        choice.descriptor,
+    )
+}
+
+fn expect_column(
+    rt: &impl Abort,
+    alloc: Global,
+    choice: Choice,
+    dims: Dims,
+    tables: &Tables,
+    made: &SparseVector,
+    case: usize,
+) -> Result<(), AllocError> {
+    let want = wanted_product(alloc, choice, dims, tables)?;
+    expect_vector(rt, made, &want, case);
+    Ok(())
+}
+
+/// mxv stores what a plain loop does, where the second input has one column.
+pub(crate) fn expect_mxv(
+    rt: &impl Abort,
+    alloc: Global,
+    choice: Choice,
+    dims: Dims,
+    tables: &Tables,
+    case: usize,
+) -> Result<(), AllocError> {
+    let output = vector_of(alloc, choice.domain, dims.rows, &tables.output)?;
+    let mask = vector_of(alloc, choice.mask_domain, dims.rows, &tables.mask)?;
+    let made = column(rt, alloc, choice, dims, tables, &output, &mask)?;
+    expect_column(rt, alloc, choice, dims, tables, &made, case)
+}
+
+/// The reduction of the rows of the matrix of the first table.
+fn folds(
+    alloc: Global,
+    choice: Choice,
+    dims: Dims,
+    tables: &Tables,
+    output: &SparseVector,
+    mask: &SparseVector,
+) -> Result<SparseVector, AllocError>
+    requires domain { output.now.vector.domain ≡ choice.domain }
+    requires size { output.now.vector.size ≡ dims.rows }
+    requires assembled { output.now.assembled ≡ true }
+    requires mask_size { mask.now.vector.size ≡ dims.rows }
+    requires mask_assembled { mask.now.assembled ≡ true }
+{
+    let a = matrix_of(alloc, choice.domain, dims.rows, dims.inner, &tables.first)?;
+    let mask = if choice.masked { Some(mask) } else { None };
+    let (accum, monoid) = (accum_of(choice), choice.monoid);
+    reduce_rows(alloc, output, mask, accum, monoid, &a, choice.descriptor)
+}
+
+fn expect_folded(
+    rt: &impl Abort,
+    alloc: Global,
+    choice: Choice,
+    dims: Dims,
+    tables: &Tables,
+    made: &SparseVector,
+    case: usize,
+) -> Result<(), AllocError> {
+    let want = wanted_folds(alloc, choice, dims, tables)?;
+    expect_vector(rt, made, &want, case);
+    Ok(())
+}
+
+/// The reduction of rows stores what a plain loop does.
+pub(crate) fn expect_folds(
+    rt: &impl Abort,
+    alloc: Global,
+    choice: Choice,
+    dims: Dims,
+    tables: &Tables,
+    case: usize,
+) -> Result<(), AllocError> {
+    let output = vector_of(alloc, choice.domain, dims.rows, &tables.output)?;
+    let mask = vector_of(alloc, choice.mask_domain, dims.rows, &tables.mask)?;
+    let made = folds(alloc, choice, dims, tables, &output, &mask)?;
+    expect_folded(rt, alloc, choice, dims, tables, &made, case)
+}
+
+fn expect_total(rt: &impl Abort, total: Value, want: u64, case: usize) {
+    assert_eq!(rt; number_of(total), want, "case {case}");
+}
+
+/// The totals of the first matrix and of the second input as a vector are what a plain loop makes.
+pub(crate) fn expect_totals(
+    rt: &impl Abort,
+    alloc: Global,
+    choice: Choice,
+    dims: Dims,
+    tables: &Tables,
+    case: usize,
+) -> Result<(), AllocError> {
+    let a = matrix_of(alloc, choice.domain, dims.rows, dims.inner, &tables.first)?;
+    let of_matrix = reduce_matrix(&a, choice.monoid);
+    expect_total(rt, of_matrix, fold_of(choice, &tables.first), case);
+    let u = vector_of(alloc, choice.domain, dims.inner, &tables.second)?;
+    let of_vector = reduce_vector(&u, choice.monoid);
+    expect_total(rt, of_vector, fold_of(choice, &tables.second), case);
+    Ok(())
+}

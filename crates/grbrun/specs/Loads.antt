@@ -1,0 +1,72 @@
+-- What the loads of a script give (own): the file of each is read and checked, in the order of the script, before anything runs.
+use Rattle.std.specs.Prelude.{◌≡◌, ℕ, List, [], ◌∷◌, ◌++◌, Option, Some}
+use Rattle.grb_market.specs.declared.fault.MarketFault.{MarketFault}
+use Rattle.grb_market.specs.declared.loaded.Loaded.{Loaded}
+use Rattle.grb_market.specs.Fault.{market_fault}
+use Rattle.grb_market.specs.Loaded.{matrix_loaded}
+use Rattle.grb_market.specs.Spells.{Spells}
+use Rattle.grb_script.specs.declared.command.Command.{Command}
+use Rattle.grb_script.specs.declared.command.Command.TheVariants as command
+use Rattle.grb_script.specs.declared.command.Numbered.{Numbered}
+use Rattle.grbrun.specs.declared.fault.RunFault.{RunFault}
+use Rattle.grbrun.specs.declared.fault.RunFault.TheVariants as run
+use Rattle.grbrun.specs.declared.loads.Step.{Step}
+use Rattle.grbrun.specs.declared.loads.Step.TheVariants as step
+use Rattle.grbrun.specs.declared.source.TheConstants.{MAX_FILE}
+use Rattle.grbrun.specs.Source.{IsGiven}
+
+-- the bytes of the file of each path, where a source tells them
+abbrev pub Files : Type 0
+Files = List ℕ → Option (List ℕ)
+
+-- a file was given, and it spells this matrix
+pub record IsLoaded (told : Option (List ℕ)) (m : Loaded) : Type 0 where
+  pub text : List ℕ
+  pub given : IsGiven told MAX_FILE text
+  pub spells : Spells text (matrix_loaded m)
+
+-- a file was given, and its first fault is this
+pub record IsFaulty (told : Option (List ℕ)) (fault : MarketFault) : Type 0 where
+  pub text : List ℕ
+  pub given : IsGiven told MAX_FILE text
+  pub first : market_fault text ≡ Some fault
+
+-- what a line asks for as a step: a statement as it is, and a load as the matrix of its file
+abbrev pub IsStep : Files → Command → Step → Type 0
+IsStep files (command.Statement s) (step.Statement t) = t ≡ s
+IsStep files (command.Load path) (step.Load m) = IsLoaded (files path) m
+IsStep files _ _ = ⊥
+
+-- the same of line after line
+abbrev pub AreSteps : Files → List Numbered → List Step → Type 0
+AreSteps files [] [] = Unit {0}
+AreSteps files (asked ∷ more) (s ∷ steps) = IsStep files asked.command s × AreSteps files more steps
+AreSteps files _ _ = ⊥
+
+-- the load on this line ends with this fault: its file has a fault, was not read, or is too long; or memory was refused
+abbrev pub IsLoadFault : Option (List ℕ) → ℕ → RunFault → Type 0
+IsLoadFault told line (run.Load at fault) = (at ≡ line) × IsFaulty told fault
+IsLoadFault told line (run.CannotReadFile at) = at ≡ line
+IsLoadFault told line (run.FileTooLong at) = at ≡ line
+IsLoadFault told line run.OutOfMemory = Unit {0}
+IsLoadFault told line _ = ⊥
+
+-- what a line asks for ends with this fault, which a load alone does
+abbrev pub IsStepFault : Files → ℕ → Command → RunFault → Type 0
+IsStepFault files line (command.Load path) fault = IsLoadFault (files path) line fault
+IsStepFault files line (command.Statement s) fault = ⊥
+
+-- the first load of these lines that ends with a fault does so with this one: the file of each load before it spells a matrix
+pub record StopsWith (files : Files) (commands : List Numbered) (fault : RunFault) : Type 0 where
+  pub before : List Numbered
+  pub asked : Numbered
+  pub behind : List Numbered
+  pub are : commands ≡ before ++ asked ∷ behind
+  pub steps : List Step
+  pub loaded : AreSteps files before steps
+  pub stops : IsStepFault files asked.line asked.command fault
+
+-- why not all lines are steps: the first load that ends with a fault, or want of memory
+abbrev pub IsWhyNotLoaded : Files → List Numbered → RunFault → Type 0
+IsWhyNotLoaded files commands run.OutOfMemory = Unit {0}
+IsWhyNotLoaded files commands fault = StopsWith files commands fault
