@@ -32,6 +32,33 @@ fn rising_lines(alloc: Global) -> Result<Vec<Line>, AllocError> {
     Ok(lines)
 }
 
+/// The entry lines of the lower triangle of a symmetric matrix, four in a row and in rising order of their places.
+fn lower_lines(alloc: Global) -> Result<Vec<Line>, AllocError> {
+    let mut numbers = Numbers::new();
+    let mut lines = Vec::with_capacity(alloc, LINES as usize)?;
+    for k in 0..LINES {
+        let k = u64::from(k);
+        let row = 4 + k / 4;
+        let quarter = 1 + k / 16;
+        let column = (k % 4)
+            .wrapping_mul(quarter)
+            .wrapping_add(numbers.below(quarter));
+        let value = numbers.next();
+        lines.push((1 + row, column.wrapping_add(1), value))?;
+    }
+    Ok(lines)
+}
+
+/// The lines of a whole matrix, in rising order of their places, of those of its lower triangle with none on the diagonal.
+fn whole_lines(alloc: Global, lower: &[Line]) -> Result<Vec<Line>, AllocError> {
+    let mut lines = Vec::from_slice(alloc, lower)?;
+    for (i, j, value) in lower {
+        lines.push((*j, *i, *value))?;
+    }
+    lines.sort()?;
+    Ok(lines)
+}
+
 /// Puts the lines in a drawn order.
 fn shuffle(lines: &mut [Line]) {
     let mut numbers = Numbers::new();
@@ -41,11 +68,11 @@ fn shuffle(lines: &mut [Line]) {
     }
 }
 
-/// The text of these lines.
-fn text_of(alloc: Global, lines: &[Line]) -> Result<String, AllocError> {
+/// The text of these lines, behind this first line.
+fn text_of(alloc: Global, first: &str, lines: &[Line]) -> Result<String, AllocError> {
     let count = lines.len();
     let mut text = String::new(alloc);
-    text.push_str("%%MatrixMarket matrix coordinate integer general\n")?;
+    text.push_str(first)?;
     write!(text, "{SIDE} {SIDE} {count}\n")?;
     for (i, j, value) in lines {
         write!(text, "{i} {j} {value}\n")?;
@@ -70,7 +97,8 @@ fn number_at(text: &[u8], first: usize) -> (u64, usize)
     (number, at)
 }
 
-/// The sum of the numbers of a text, modulo 2^64.
+/// The sum of the numbers of a text, modulo 2^64. It is compiled by itself, so that its loop is the same wherever it is called.
+#[inline(never)]
 fn sum_of_numbers(text: &[u8]) -> u64 {
     let mut sum: u64 = 0;
     let mut at: usize = 0;
@@ -121,36 +149,91 @@ fn timed_read<R: Clock + AllocGlobal>(rt: &R, text: &[u8], lines: &[Line]) -> Op
     holds.then_some(nanos)
 }
 
-/// Times readings of two Matrix Market texts of one matrix, with its entry lines in rising and in drawn order, beside a plain scan of the numbers of
-/// the same text.
-pub fn run<R: Clock + Print + Eprint + AllocGlobal>(rt: &R) -> Result<(), Fail> {
-    let lines = rising_lines(rt.alloc())?;
-    let rising = text_of(rt.alloc(), &lines)?;
-    let mut drawn = Vec::from_slice(rt.alloc(), &lines)?;
+/// The least times of a scan and of a reading of one text.
+#[derive(Clone, Copy)]
+struct Trial {
+    scan: Least,
+    read: Least,
+}
+
+impl Trial {
+    fn none() -> Trial {
+        Trial {
+            scan: Least::none(),
+            read: Least::none(),
+        }
+    }
+
+    /// One scan, and one reading; whether the scan found this sum, and the reading just the entries that these lines state.
+    fn take<R: Clock + AllocGlobal>(
+        &mut self,
+        rt: &R,
+        text: &[u8],
+        sum: u64,
+        stated: &[Line],
+    ) -> bool {
+        let (nanos, found) = timed_scan(rt, text);
+        self.scan.take(nanos);
+        self.read.take_if(timed_read(rt, text, stated)) && found == sum
+    }
+}
+
+/// Times a text of these lines and one of the same lines in drawn order; whether each reading gave just the entries that `stated` has.
+fn run_both<R: Clock + Print + Eprint + AllocGlobal>(
+    rt: &R,
+    first: &str,
+    lines: &[Line],
+    stated: &[Line],
+) -> Result<bool, Fail> {
+    let rising = text_of(rt.alloc(), first, lines)?;
+    let mut drawn = Vec::from_slice(rt.alloc(), lines)?;
     shuffle(&mut drawn);
-    let shuffled = text_of(rt.alloc(), &drawn)?;
-    let sum = sum_of_lines(&lines);
-    let mut scan = Least::none();
-    let mut scan_shuffled = Least::none();
-    let mut read_rising = Least::none();
-    let mut read_shuffled = Least::none();
+    let shuffled = text_of(rt.alloc(), first, &drawn)?;
+    let sum = sum_of_lines(lines);
+    let mut in_order = Trial::none();
+    let mut out_of_order = Trial::none();
     let mut holds = true;
     for _ in 0..RUNS {
-        let (nanos, found) = timed_scan(rt, rising.as_bytes());
-        scan.take(nanos);
-        holds &= found == sum;
-        holds &= read_rising.take_if(timed_read(rt, rising.as_bytes(), &lines));
-        let (nanos, found) = timed_scan(rt, shuffled.as_bytes());
-        scan_shuffled.take(nanos);
-        holds &= found == sum;
-        holds &= read_shuffled.take_if(timed_read(rt, shuffled.as_bytes(), &lines));
+        holds &= in_order.take(rt, rising.as_bytes(), sum, stated);
+        holds &= out_of_order.take(rt, shuffled.as_bytes(), sum, stated);
     }
-    scan.write(rt, "market: scan, rising", LINES)?;
-    read_rising.write(rt, "market: read, rising", LINES)?;
-    scan_shuffled.write(rt, "market: scan, shuffled", LINES)?;
-    read_shuffled.write(rt, "market: read, shuffled", LINES)?;
-    read_rising.write_ratio(rt, "market: read / scan, rising", scan)?;
-    read_shuffled.write_ratio(rt, "market: read / scan, shuffled", scan_shuffled)?;
-    write_check(rt, "market", holds)?;
+    in_order.scan.write(rt, "market: scan, rising", LINES)?;
+    in_order.read.write(rt, "market: read, rising", LINES)?;
+    out_of_order
+        .scan
+        .write(rt, "market: scan, shuffled", LINES)?;
+    out_of_order
+        .read
+        .write(rt, "market: read, shuffled", LINES)?;
+    in_order
+        .read
+        .write_ratio(rt, "market: read / scan, rising", in_order.scan)?;
+    out_of_order
+        .read
+        .write_ratio(rt, "market: read / scan, shuffled", out_of_order.scan)?;
+    Ok(holds)
+}
+
+/// Times readings of Matrix Market texts beside plain scans of their numbers: a general and a symmetric one, each with its entry lines
+/// in rising and in drawn order.
+pub fn run<R: Clock + Print + Eprint + AllocGlobal>(rt: &R) -> Result<(), Fail> {
+    let lines = rising_lines(rt.alloc())?;
+    let general = run_both(
+        rt,
+        "%%MatrixMarket matrix coordinate integer general\n",
+        &lines,
+        &lines,
+    )?;
+    write_check(rt, "market", general)?;
+    eprintln!(rt; "symmetric:")?;
+    let lower = lower_lines(rt.alloc())?;
+    let whole = whole_lines(rt.alloc(), &lower)?;
+    let symmetric = run_both(
+        rt,
+        "%%MatrixMarket matrix coordinate integer symmetric\n",
+        &lower,
+        &whole,
+    )?;
+    write_check(rt, "symmetric market", symmetric)?;
     Ok(())
 }

@@ -169,8 +169,3 @@ pub(crate) fn has_fitting_dims(shapes: &Shapes, call: &Call) -> bool
         _ => true,
     }
 }
-
-#[cfg(test)]
-mod product_tests;
-#[cfg(test)]
-mod tests;

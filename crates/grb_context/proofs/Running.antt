@@ -5,8 +5,9 @@ use Rattle.grb_call.specs.declared.call.Call.{Call}
 use Rattle.grb_pass.specs.Known.{Shared, Knowing, known, calls_by}
 use Rattle.grb_pass.specs.Explains.{Answer, Explains, entered_calls}
 use Rattle.grb_pass.specs.Answered.{Promise, Answered}
+use Rattle.grb_pass.specs.Statuses.{status_at}
 use Rattle.grb_pass.proofs.Promised.{promise}
-use Rattle.grb_context.specs.Ran.{AreAnswered, Ran, all_entered}
+use Rattle.grb_context.specs.Ran.{AreAnswered, Ran, all_entered, all_statuses}
 
 -- the list so far, and one call more
 pub answered_more : (context : Shared) (old mid new : Knowing) (cs : List Call) (rs : List Answer) (c : Call) (r : Answer) → AreAnswered context old cs rs mid → Answered context mid new c r
@@ -36,10 +37,20 @@ own_all context old new (c ∷ cs) (r ∷ rs) is =
     subst (λ (n : ℕ). calls_by n (known new) ≡ calls_by n (known next) ++ all_entered cs rs) number rest in
     here ∙ ap (λ (l : List Call). l ++ all_entered cs rs) one.own ∙ append_assoc (calls_by old.view.number (known old)) (entered_calls c r) (all_entered cs rs)
 
+statuses_all : (context : Shared) (old new : Knowing) (cs : List Call) (rs : List Answer) → AreAnswered context old cs rs new
+    → status_at new.statuses ≡ all_statuses (room_of context.order) cs rs (status_at old.statuses)
+statuses_all context old new [] [] is = ap (λ (p : Knowing). status_at p.statuses) is
+statuses_all context old new [] (r ∷ rs) is = absurd is
+statuses_all context old new (c ∷ cs) [] is = absurd is
+statuses_all context old new (c ∷ cs) (r ∷ rs) is =
+    let one : Promise context old is.0 c r = promise context old is.0 c r is.1 in
+    statuses_all context is.0 new cs rs is.2 ∙ ap (all_statuses (room_of context.order) cs rs) one.statuses
+
 -- a list of calls that were all made has run
 pub ran : (context : Shared) (old new : Knowing) (cs : List Call) (rs : List Answer) → AreAnswered context old cs rs new → Ran context old new cs rs
 ran context old new cs rs is = record {
   explains = explains_all context old new cs rs is;
   own = own_all context old new cs rs is;
+  statuses = statuses_all context old new cs rs is;
   each = is;
 }

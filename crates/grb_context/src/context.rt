@@ -1,6 +1,6 @@
 ghost use Rattle.std.specs.Prelude.{◌≡◌, ◌<◌, ◌≤◌, All, IfOk};
 ghost use Rattle.grb_order.specs.Order.{room_of};
-ghost use Rattle.grb_context.specs.Known.{AreNew, IsPassOf};
+ghost use Rattle.grb_context.specs.Known.{AreNew, HasNoStatus, IsPassOf};
 ghost use Rattle.grb_context.specs.Answered.{Answered};
 ghost use Rattle.grb_context.specs.Meeting.{Met};
 
@@ -27,8 +27,8 @@ impl Model for Context {
 }
 
 impl Context {
-    /// A context whose history takes `room` calls, from 1 to 4,096, and its passes, from 1 to 64, which know no call: the one at index
-    /// k has the number k. After this only the records of entered calls and the evaluation of reads and builds take memory.
+    /// A context whose history takes `room` calls, from 1 to 4,096, and its passes, from 1 to 64, which know no call and have no status: the one
+    /// at index k has the number k. After this only the records of entered calls and the evaluation of reads and builds take memory.
     /// `AllocError` where memory is refused.
     pub fn open(alloc: Global, room: u32, passes: u32) -> Result<(Context, Vec<Pass>), AllocError>
         requires room { (0 < room) × (room ≤ 4096) }
@@ -36,6 +36,7 @@ impl Context {
         ensures room { IfOk result (λ opened. room_of opened.0.order ≡ room) }
         ensures passes { IfOk result (λ opened. AreNew opened.0.order passes opened.1.items passes) }
         ensures ours { IfOk result (λ opened. All (IsPassOf opened.0) opened.1.items) }
+        ensures statuses { IfOk result (λ opened. All HasNoStatus opened.1.items) }
     {
         let (shared, opened) = Shared::open(alloc, room, passes)?;
         Ok((Context { shared, alloc }, opened))
@@ -45,7 +46,7 @@ impl Context {
     /// lowest of those that apply, at the end of the history), by a build's object, `OrderFull` where the history has no room for a call
     /// that would be entered, `OutOfMemory` where the record of an entered call or the evaluation of a read or of a build's object is
     /// refused memory, and `Panic` where a record could not be put, or the record of an earlier call is not shown yet; the next call
-    /// asks for it again.
+    /// asks for it again. The answer is kept as the status of the call's object, as [`Pass::last_info`] says.
     ///
     /// Source: GraphBLAS C API 2.0, "Execution modes"; Herlihy, "Wait-free synchronization", 1991.
     #[inline(always)]

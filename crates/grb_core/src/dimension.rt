@@ -12,21 +12,3 @@ pub fn is_dimension(n: u64) -> bool
 {
     0 < n && n <= MAX_DIMENSION
 }
-
-#[cfg(test)]
-mod tests {
-    use super::*;
-
-    #[test]
-    fn a_dimension_is_neither_0_nor_4294967296(rt: HostRuntime) {
-        for (n, want) in [
-            (0, false),
-            (1, true),
-            (4_294_967_295, true),
-            (4_294_967_296, false),
-            (18_446_744_073_709_551_615, false),
-        ] {
-            assert_eq!(rt; is_dimension(n), want, "of {n}");
-        }
-    }
-}

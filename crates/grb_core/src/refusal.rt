@@ -60,26 +60,3 @@ pub enum Info {
     /// The call was refused.
     Refused(Refusal),
 }
-
-#[cfg(test)]
-mod tests {
-    use super::*;
-
-    #[test]
-    fn a_refusal_has_the_name_of_the_standards_status(rt: HostRuntime) {
-        for (refusal, name) in [
-            (Refusal::UninitializedObject, "GrB_UNINITIALIZED_OBJECT"),
-            (Refusal::InvalidValue, "GrB_INVALID_VALUE"),
-            (Refusal::InvalidIndex, "GrB_INVALID_INDEX"),
-            (Refusal::DomainMismatch, "GrB_DOMAIN_MISMATCH"),
-            (Refusal::DimensionMismatch, "GrB_DIMENSION_MISMATCH"),
-            (Refusal::OutputNotEmpty, "GrB_OUTPUT_NOT_EMPTY"),
-            (Refusal::IndexOutOfBounds, "GrB_INDEX_OUT_OF_BOUNDS"),
-            (Refusal::OrderFull, "OrderFull"),
-            (Refusal::OutOfMemory, "GrB_OUT_OF_MEMORY"),
-            (Refusal::Panic, "GrB_PANIC"),
-        ] {
-            assert_eq!(rt; refusal.name(), name, "of {refusal:?}");
-        }
-    }
-}

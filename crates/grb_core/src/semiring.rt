@@ -71,39 +71,3 @@ impl Semiring {
         self.monoid.domain()
     }
 }
-
-#[cfg(test)]
-mod tests {
-    use super::*;
-
-    #[test]
-    fn a_semiring_is_made_of_parts_of_one_domain_alone(rt: HostRuntime) {
-        for (monoid, op, domain) in [
-            (Monoid::Plus, BinaryOp::Times, Some(Domain::Uint64)),
-            (Monoid::Min, BinaryOp::Plus, Some(Domain::Uint64)),
-            (Monoid::Max, BinaryOp::Second, Some(Domain::Uint64)),
-            (Monoid::Lor, BinaryOp::Land, Some(Domain::Bool)),
-            (Monoid::Lxnor, BinaryOp::FirstBool, Some(Domain::Bool)),
-            (Monoid::Plus, BinaryOp::Land, None),
-            (Monoid::Min, BinaryOp::FirstBool, None),
-            (Monoid::Lor, BinaryOp::Times, None),
-            (Monoid::Land, BinaryOp::First, None),
-        ] {
-            match Semiring::new(monoid, op) {
-                Ok(semiring) => {
-                    assert_eq!(rt; semiring.monoid(), monoid, "of {monoid:?} and {op:?}");
-                    assert_eq!(rt; semiring.op(), op, "of {monoid:?} and {op:?}");
-                    assert_eq!(rt; Some(semiring.domain()), domain, "of {monoid:?} and {op:?}");
-                }
-                Err(refusal) => {
-                    assert_eq!(rt;
-                        refusal,
-                        Refusal::DomainMismatch,
-                        "of {monoid:?} and {op:?}"
-                    );
-                    assert_eq!(rt; None, domain, "of {monoid:?} and {op:?}");
-                }
-            }
-        }
-    }
-}

@@ -25,20 +25,3 @@ impl Value {
         }
     }
 }
-
-#[cfg(test)]
-mod tests {
-    use super::*;
-
-    #[test]
-    fn a_stored_false_or_zero_has_a_domain_like_any_value(rt: HostRuntime) {
-        for (value, domain) in [
-            (Value::Bool(false), Domain::Bool),
-            (Value::Bool(true), Domain::Bool),
-            (Value::Uint64(0), Domain::Uint64),
-            (Value::Uint64(18_446_744_073_709_551_615), Domain::Uint64),
-        ] {
-            assert_eq!(rt; value.domain(), domain, "of {value:?}");
-        }
-    }
-}

@@ -37,10 +37,10 @@ values_at-append q (e ∷ es) fs =
     ]
 
 -- one entry more in front
-values_at-tied : (q : Cell) (e : Cell × Value) (es : MatrixEntries) → eq_by_cmp cell_cmp q e.0 ≡ true → values_at cell_cmp q (e ∷ es) ≡ e.1 ∷ values_at cell_cmp q es
+pub values_at-tied : (q : Cell) (e : Cell × Value) (es : MatrixEntries) → eq_by_cmp cell_cmp q e.0 ≡ true → values_at cell_cmp q (e ∷ es) ≡ e.1 ∷ values_at cell_cmp q es
 values_at-tied q e es t = ap (λ b. values_of (cond b (e ∷ restricted (λ l. eq_by_cmp cell_cmp q l) es) (restricted (λ l. eq_by_cmp cell_cmp q l) es))) t
 
-values_at-apart : (q : Cell) (e : Cell × Value) (es : MatrixEntries) → eq_by_cmp cell_cmp q e.0 ≡ false → values_at cell_cmp q (e ∷ es) ≡ values_at cell_cmp q es
+pub values_at-apart : (q : Cell) (e : Cell × Value) (es : MatrixEntries) → eq_by_cmp cell_cmp q e.0 ≡ false → values_at cell_cmp q (e ∷ es) ≡ values_at cell_cmp q es
 values_at-apart q e es t = ap (λ b. values_of (cond b (e ∷ restricted (λ l. eq_by_cmp cell_cmp q l) es) (restricted (λ l. eq_by_cmp cell_cmp q l) es))) t
 
 none_there : (q : Cell) (es : MatrixEntries) → has_place es q ≡ false → values_at cell_cmp q es ≡ []
@@ -119,7 +119,7 @@ both_hold : (a b : Bool) → T (a && b) → T a × T b
 both_hold true b p = (tt, p)
 both_hold false b p = absurd p
 
-once-sorted : (es : MatrixEntries) → T (is_sorted cell_cmp es) → AreOnce es
+pub once-sorted : (es : MatrixEntries) → T (is_sorted cell_cmp es) → AreOnce es
 once-sorted [] h q = omega arith
 once-sorted (e ∷ es) h q =
     let parts = both_hold (below_all cell_cmp e.0 es) (is_sorted cell_cmp es) h in

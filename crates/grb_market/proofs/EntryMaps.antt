@@ -3,7 +3,6 @@ use Rattle.std.proofs.Common.{not, ◌≡◌, ◌≢◌, Bool, true, false, ◌|
 use Rattle.std.specs.declared.cmp.Ordering.{Ordering}
 use Rattle.std.specs.declared.cmp.Ordering.TheVariants.{Less, Equal, Greater}
 use Rattle.std.specs.BTreeMap.{insert_entry}
-use Rattle.std.specs.Prelude.{◌&&◌}
 use Rattle.std.specs.Option.{option_or}
 use Rattle.std.specs.List.{list_any}
 use Rattle.std.specs.FinMap.{find, put, is_sorted}
@@ -12,10 +11,9 @@ use Rattle.std.specs.Ordering.{eq_by_cmp, is_eq, match_ordering, ordering_revers
 use lib.Dec.{T}
 use Rattle.grb_core.specs.declared.value.Value.{Value}
 use Rattle.grb_core.specs.Entries.{Cell, cell_cmp, MatrixEntries, map_from}
-use Rattle.grb_core.specs.Laws.{set_all}
 use Rattle.std.specs.Prelude.{IsTrue}
 use Rattle.grb_rows.proofs.Places.{passes}
-use Rattle.grb_core.proofs.Maps.{cell_cmp_total, cell_cmp-IsAntisymmetric, find-append_maps, find-map_from, find-tied_below, is_sorted-map_from}
+use Rattle.grb_core.proofs.Maps.{cell_cmp_total, cell_cmp-IsAntisymmetric, find-append_maps, find-map_from, is_sorted-map_from}
 use Rattle.grb_market.specs.declared.head.Head.{Head}
 use Rattle.grb_market.specs.Spells.{mirrored, written_out}
 
@@ -60,23 +58,6 @@ apart_cells p q h = by (eq_by_cmp cell_cmp p q) refl
     by true e = absurd (h (tied_cells p q e))
     by false e = refl
 
--- a list in which no place stands twice
-abbrev pub Apart : MatrixEntries → Type 0
-Apart [] = Unit {0}
-Apart (e ∷ es) = (find cell_cmp e.0 es ≡ None) × Apart es
-
-first : (a b : Bool) → T (a && b) → T a
-first true b p = tt
-first false b p = absurd p
-
-second : (a b : Bool) → T (a && b) → T b
-second true b p = p
-second false b p = absurd p
-
-pub Apart-sorted : (es : MatrixEntries) → T (is_sorted cell_cmp es) → Apart es
-Apart-sorted [] h = tt
-Apart-sorted (e ∷ es) h = (find-tied_below cell_cmp cell_cmp_total e.0 e.0 es (first _ _ h) (same_cell e.0), Apart-sorted es (second _ _ h))
-
 -- one entry more, at another place
 pub map_from-push : (es : MatrixEntries) (e : Cell × Value) → find cell_cmp e.0 (map_from cell_cmp es) ≡ None → put cell_cmp e.0 e.1 (map_from cell_cmp es) ≡ map_from cell_cmp (es ++ e ∷ [])
 map_from-push es e h =
@@ -107,29 +88,11 @@ is_some-found q (e ∷ es) = by (eq_by_cmp cell_cmp q e.0) (is_some-found q es)
 pub is_some-map_from : (q : Cell) (es : MatrixEntries) → is_some (find cell_cmp q (map_from cell_cmp es)) ≡ list_any (λ e. eq_by_cmp cell_cmp q e.0) es
 is_some-map_from q es = ap is_some (find-map_from cell_cmp cell_cmp_total q es) ∙ is_some-found q es
 
--- each of these entries is set in turn
-pub find-set_all : (q : Cell) (m es : MatrixEntries) → Apart es → find cell_cmp q (set_all cell_cmp m es) ≡ option_or (find cell_cmp q es) (find cell_cmp q m)
-find-set_all q m [] h = refl
-find-set_all q m (e ∷ es) h =
-    find-set_all q (put cell_cmp e.0 e.1 m) es h.1
-    ∙ ap (option_or (find cell_cmp q es)) (find-put cell_cmp cell_cmp_total q e.0 e.1 m)
-    ∙ by (eq_by_cmp cell_cmp q e.0) refl (find cell_cmp q es) refl
-  where
-    by : (b : Bool) → eq_by_cmp cell_cmp q e.0 ≡ b → (o : Option Value) → find cell_cmp q es ≡ o → option_or o (cond b (Some e.1) (find cell_cmp q m)) ≡ option_or (cond b (Some e.1) o) (find cell_cmp q m)
-    by true t None is = refl
-    by true t (Some v) is = let here : find cell_cmp q es ≡ None = ap (λ p. find cell_cmp p es) (tied_cells q e.0 t) ∙ h.0 in cc
-    by false t None is = refl
-    by false t (Some v) is = refl
-
-pub is_sorted-set_all : (m es : MatrixEntries) → T (is_sorted cell_cmp m) → T (is_sorted cell_cmp (set_all cell_cmp m es))
-is_sorted-set_all m [] h = h
-is_sorted-set_all m (e ∷ es) h = is_sorted-set_all (put cell_cmp e.0 e.1 m) es (is_sorted-put cell_cmp cell_cmp_total e.0 e.1 m h)
-
 -- the other side of the diagonal
 abbrev pub swapped : Cell → Cell
 swapped q = (q.1, q.0)
 
-swapped_ties : (p q : Cell) → eq_by_cmp cell_cmp p (swapped q) ≡ eq_by_cmp cell_cmp (swapped p) q
+pub swapped_ties : (p q : Cell) → eq_by_cmp cell_cmp p (swapped q) ≡ eq_by_cmp cell_cmp (swapped p) q
 swapped_ties p q = by (eq_by_cmp cell_cmp p (swapped q)) refl (eq_by_cmp cell_cmp (swapped p) q) refl
   where
     by : (a : Bool) → eq_by_cmp cell_cmp p (swapped q) ≡ a → (b : Bool) → eq_by_cmp cell_cmp (swapped p) q ≡ b → a ≡ b
@@ -142,26 +105,13 @@ pub find-mirrored : (q : Cell) (es : MatrixEntries) → find cell_cmp q (map mir
 find-mirrored q [] = refl
 find-mirrored q (e ∷ es) = (λ j. cond (swapped_ties q e.0 j) (Some e.1) (find-mirrored q es j))
 
-pub Apart-mirrored : (es : MatrixEntries) → Apart es → Apart (map mirrored es)
-Apart-mirrored [] h = tt
-Apart-mirrored (e ∷ es) h = (find-mirrored (swapped e.0) es ∙ h.0, Apart-mirrored es h.1)
-
 -- what a symmetric matrix has at a place
-find-both : (q : Cell) (es : MatrixEntries) → find cell_cmp q (es ++ map mirrored es) ≡ option_or (find cell_cmp q es) (find cell_cmp (swapped q) es)
+pub find-both : (q : Cell) (es : MatrixEntries) → find cell_cmp q (es ++ map mirrored es) ≡ option_or (find cell_cmp q es) (find cell_cmp (swapped q) es)
 find-both q es = find-append_maps cell_cmp q es (map mirrored es) ∙ ap (option_or (find cell_cmp q es)) (find-mirrored q es)
 
-or_none : (o : Option Value) → option_or o None ≡ o
+pub or_none : (o : Option Value) → option_or o None ≡ o
 or_none None = refl
 or_none (Some v) = refl
-
--- the other side is set first, and then each entry itself
-pub set_both : (es : MatrixEntries) → T (is_sorted cell_cmp es) → set_all cell_cmp (set_all cell_cmp [] (map mirrored es)) es ≡ map_from cell_cmp (es ++ map mirrored es)
-set_both es h =
-    let apart = Apart-sorted es h in
-    same_map _ _ (is_sorted-set_all _ es (is_sorted-set_all [] (map mirrored es) tt)) (is_sorted-map_from cell_cmp cell_cmp_total (es ++ map mirrored es))
-    (λ q. find-set_all q (set_all cell_cmp [] (map mirrored es)) es apart
-    ∙ ap (option_or (find cell_cmp q es)) (find-set_all q [] (map mirrored es) (Apart-mirrored es apart) ∙ or_none _ ∙ find-mirrored q es)
-    ∙ sym (find-both q es) ∙ sym (find-map_from cell_cmp cell_cmp_total q (es ++ map mirrored es)))
 
 -- a map in order is the map of its entries
 pub map_from-sorted : (es : MatrixEntries) → T (is_sorted cell_cmp es) → map_from cell_cmp es ≡ es
@@ -186,17 +136,13 @@ when_not : (b : Bool) → not b ≡ true → b ≡ false
 when_not true h = cc
 when_not false h = refl
 
-unless_not : (b : Bool) → not b ≡ false → b ≡ true
+pub unless_not : (b : Bool) → not b ≡ false → b ≡ true
 unless_not true h = refl
 unless_not false h = cc
 
 -- a matrix that is not symmetric is as it stands
 pub written_out-general : (h : Head) (es : MatrixEntries) → not h.is_symmetric ≡ true → T (is_sorted cell_cmp es) → es ≡ map_from cell_cmp (written_out h es)
 written_out-general h es g s = sym (ap (λ b. map_from cell_cmp (if b then es ++ map mirrored es else es)) (when_not h.is_symmetric g) ∙ map_from-sorted es s)
-
--- and a symmetric one has both sides
-pub written_out-symmetric : (h : Head) (es : MatrixEntries) → not h.is_symmetric ≡ false → T (is_sorted cell_cmp es) → set_all cell_cmp (set_all cell_cmp [] (map mirrored es)) es ≡ map_from cell_cmp (written_out h es)
-written_out-symmetric h es g s = set_both es s ∙ sym (ap (λ b. map_from cell_cmp (if b then es ++ map mirrored es else es)) (unless_not h.is_symmetric g))
 
 pub sorted-map_from : (es : MatrixEntries) → IsTrue (is_sorted cell_cmp (map_from cell_cmp es))
 sorted-map_from es = passes _ (is_sorted-map_from cell_cmp cell_cmp_total es)

@@ -6,8 +6,11 @@ pub mod MarketLemmas
 pub mod SpellsLemmas
 pub mod WholeLemmas
 pub mod NextLineLemmas
+pub mod PlainLemmas
 pub mod NumberLemmas
 pub mod Taken
 pub mod WrittenLemmas
 pub mod CanonicalLemmas
 pub mod FrontLemmas
+pub mod SideLemmas
+pub mod RowOrderLemmas

@@ -1,6 +1,8 @@
 -- Entries as their lines come: each line by itself, and then their places together.
-use Rattle.std.specs.Prelude.{◌≡◌, ℕ, ◌+◌, ◌≤◌, Bool, false, nat_lt, ◌==◌, ◌&&◌, ◌||◌, if◌then◌else◌, List, [], ◌∷◌, ◌++◌, length, map, Option, Some, None, ⊤}
+use Rattle.std.specs.Prelude.{◌≡◌, ℕ, ◌+◌, ◌<◌, ◌≤◌, Bool, false, nat_lt, ◌==◌, ◌&&◌, ◌||◌, if◌then◌else◌, List, [], ◌∷◌, ◌++◌, length, map, Option, Some, None, ⊤}
+use Rattle.std.specs.declared.result.Result.{Result}
 use Rattle.std.specs.declared.result.Result.TheVariants.{Ok}
+use Rattle.grb_core.specs.declared.value.Value.{Value}
 use Rattle.std.specs.List.{list_any}
 use Rattle.std.specs.Ordering.{eq_by_cmp}
 use Rattle.std.specs.Result.{result_err}
@@ -28,6 +30,13 @@ count_apart earlier (e ∷ es) = if has_place earlier e.0 then 0 else count_apar
 -- no two of these entries stand at one place
 abbrev pub are_apart : MatrixEntries → Bool
 are_apart es = count_apart [] es == length es
+
+-- the first line of a text states this, or has this wrong with it by itself, and `rest` is behind its end
+pub record IsEntryLine (h : Head) (s : Size) (text : List ℕ) (stated : Result (Cell × Value) FaultKind) (rest : List ℕ) : Type 0 where
+  pub line : List ℕ
+  pub first : lines_of text ≡ ended line ∷ lines_of rest
+  pub is : stated ≡ entry_of h s line
+  pub shorter : length rest < length text
 
 -- each of these lines spells its entry
 abbrev pub AreSpelled : Head → Size → List (List ℕ) → MatrixEntries → Type 0

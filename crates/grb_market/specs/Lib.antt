@@ -11,3 +11,4 @@ pub mod Sink
 pub mod Canonical
 pub mod Written
 pub mod Gathered
+pub mod Sides

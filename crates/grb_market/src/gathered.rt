@@ -1,8 +1,6 @@
-ghost use Rattle.std.specs.Prelude.{◌≡◌, [], ◌∷◌, ◌++◌, map, true, IfOk, OnOk, is_some};
+ghost use Rattle.std.specs.Prelude.{◌≡◌, [], ◌∷◌, ◌++◌, true, IfOk, OnOk, is_some};
 ghost use Rattle.std.specs.FinMap.{find, put, is_sorted};
 ghost use Rattle.grb_core.specs.Entries.{cell_cmp, cells_of, map_from};
-ghost use Rattle.grb_core.specs.Laws.{set_all};
-ghost use Rattle.grb_market.specs.Spells.{mirrored};
 ghost use Rattle.grb_market.specs.Gathered.{comes_before, count_apart, are_apart};
 
 use grb_core::Value;
@@ -17,7 +15,7 @@ fn comes_before(p: (u64, u64), q: (u64, u64)) -> bool
 }
 
 /// Whether each place comes before the next.
-fn is_rising(tuples: &[(u64, u64, Value)]) -> bool
+pub(crate) fn is_rising(tuples: &[(u64, u64, Value)]) -> bool
     ensures { result ≡ is_sorted cell_cmp (cells_of tuples.now) }
 {
     let [first, rest @ ..] = tuples else {
@@ -86,46 +84,4 @@ fn store(
         Ok(old) => Ok(old.is_some()),
         Err(refused) => Err(AllocError::from(refused)),
     }
-}
-
-/// The entries in rising order.
-pub(crate) fn tuples(
-    alloc: Global,
-    entries: &BTreeMap<(u64, u64), Value>,
-) -> Result<Vec<(u64, u64, Value)>, AllocError>
-    ensures { IfOk result (λ tuples. cells_of tuples.items ≡ entries.now.entries) }
-{
-    let mut tuples = Vec::new(alloc);
-    for (cell, value) in entries {
-        tuples
-            .push((cell.0, cell.1, *value))
-            .map_err(AllocError::from)?;
-    }
-    Ok(tuples)
-}
-
-/// Stores each of these entries on the other side of the diagonal.
-pub(crate) fn store_mirrored(
-    entries: &mut BTreeMap<(u64, u64), Value>,
-    lower: &[(u64, u64, Value)],
-) -> Result<(), AllocError>
-    ensures { OnOk result (entries.new.entries ≡ set_all cell_cmp entries.old.entries (map mirrored (cells_of lower.now))) }
-{
-    for (i, j, value) in lower {
-        store(entries, (*j, *i), *value)?;
-    }
-    Ok(())
-}
-
-/// Stores each of these entries.
-pub(crate) fn store_all(
-    entries: &mut BTreeMap<(u64, u64), Value>,
-    lower: &[(u64, u64, Value)],
-) -> Result<(), AllocError>
-    ensures { OnOk result (entries.new.entries ≡ set_all cell_cmp entries.old.entries (cells_of lower.now)) }
-{
-    for (i, j, value) in lower {
-        store(entries, (*i, *j), *value)?;
-    }
-    Ok(())
 }

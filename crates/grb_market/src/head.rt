@@ -9,7 +9,7 @@ use grb_core::{Domain, Value, is_dimension};
 
 /// What the first line of a file says.
 #[derive(Clone, Copy, Debug, PartialEq, Eq)]
-pub struct Head {
+pub(crate) struct Head {
     /// The domain of the values: `Uint64` of an integer file, `Bool` of a pattern file.
     pub domain: Domain,
     /// Each entry off the diagonal stands for two.
@@ -18,7 +18,7 @@ pub struct Head {
 
 /// What the size line of a file says.
 #[derive(Clone, Copy, Debug, PartialEq, Eq)]
-pub struct Size {
+pub(crate) struct Size {
     pub nrows: u64,
     pub ncols: u64,
     /// The number of entry lines.
@@ -26,7 +26,7 @@ pub struct Size {
 }
 
 /// What the first line says, if it is one of the four.
-pub fn head_of(line: &[u8]) -> Option<Head>
+pub(crate) fn head_of(line: &[u8]) -> Option<Head>
     ensures { result ≡ head_of line.now }
 {
     let (domain, is_symmetric) = if line
@@ -83,7 +83,7 @@ fn size_with(
 }
 
 /// The size that a line states, or what is wrong with it.
-pub fn size_of(head: Head, line: &[u8]) -> Result<Size, FaultKind>
+pub(crate) fn size_of(head: Head, line: &[u8]) -> Result<Size, FaultKind>
     ensures is { result ≡ size_of head line.now }
     ensures rows { IfOk result (λ s. IsDimension s.nrows) }
     ensures columns { IfOk result (λ s. IsDimension s.ncols) }
@@ -100,7 +100,8 @@ fn is_in(most: u64, n: u64) -> bool
     1 <= n && n <= most
 }
 
-fn entry_from(
+/// The entry at this row and column, counted from 1, or what is wrong with it. `None` is a number above 2^64 - 1.
+pub(crate) fn entry_from(
     head: Head,
     size: Size,
     i: Option<u64>,
@@ -153,7 +154,11 @@ fn pattern_entry(head: Head, size: Size, line: &[u8]) -> Result<((u64, u64), Val
 }
 
 /// The entry that a line states, or what is wrong with it by itself.
-pub fn entry_of(head: Head, size: Size, line: &[u8]) -> Result<((u64, u64), Value), FaultKind>
+pub(crate) fn entry_of(
+    head: Head,
+    size: Size,
+    line: &[u8],
+) -> Result<((u64, u64), Value), FaultKind>
     ensures is { result ≡ entry_of head size line.now }
     ensures row { IfOk result (λ e. e.0.0 < size.nrows) }
     ensures column { IfOk result (λ e. e.0.1 < size.ncols) }

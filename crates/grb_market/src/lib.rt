@@ -1,6 +1,7 @@
 //! Matrix Market files: from the bytes of a text to the matrix that it spells, or to its first fault.
 #![tactic(auto)]
 
+mod entry;
 mod fault;
 mod gathered;
 mod head;
@@ -9,6 +10,7 @@ mod line;
 mod loaded;
 mod numbers;
 mod reader;
+mod sides;
 mod sink;
 mod writing;
 

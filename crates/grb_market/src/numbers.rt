@@ -1,28 +1,12 @@
 ghost use Rattle.std.specs.Prelude.{◌≡◌, ◌≢◌, ◌<◌, ◌≤◌, List, length, take, drop, Some, [], ◌∷◌, IfSome, IfNone, false, true};
 ghost use Rattle.std.specs.List.{list_all};
 ghost use Rattle.grb_market.specs.Numbers.{is_digit, is_blank, Number, number_of, numbers_of, begins_blank};
-ghost use Rattle.grb_market.specs.Front.{begins_digit, behind, before, has_number, IsNumberFront, IsBlankFront};
+ghost use Rattle.grb_market.specs.Front.{begins_digit, behind, before, has_number, IsNumberFront, IsBlankFront, IsNumberBefore, IsNumberLine};
 
 fn is_blank(b: u8) -> bool
     ensures { result ≡ is_blank b }
 {
     b == b' ' || b == b'\t'
-}
-
-/// How many digits stand first.
-fn digits(text: &[u8]) -> usize
-    ensures within { result ≤ length text.now }
-    ensures digits { list_all is_digit (take result text.now) ≡ true }
-    ensures behind { begins_digit (drop result text.now) ≡ false }
-{
-    let mut count: usize = 0;
-    for b in text {
-        if !b.is_ascii_digit() {
-            return count;
-        }
-        count += 1;
-    }
-    count
 }
 
 /// How many blanks stand first.
@@ -54,21 +38,20 @@ fn number(word: &[u8]) -> Option<u64>
     Some(number)
 }
 
-/// The digits that stand first, at most 19 of them, and the number that they spell.
+/// How many digits stand first, and the number that they spell, where they are at most 19.
 fn first_digits(text: &[u8]) -> (usize, u64)
     ensures within { result.0 ≤ length text.now }
-    ensures few { result.0 ≤ 19 }
     ensures digits { list_all is_digit (take result.0 text.now) ≡ true }
-    ensures number { Some result.1 ≡ number_of (take result.0 text.now) }
-    ensures behind { result.0 < 19 → begins_digit (drop result.0 text.now) ≡ false }
+    ensures number { result.0 ≤ 19 → Some result.1 ≡ number_of (take result.0 text.now) }
+    ensures behind { begins_digit (drop result.0 text.now) ≡ false }
 {
     let mut count: usize = 0;
     let mut number: u64 = 0;
     for b in text {
-        if count == 19 || !b.is_ascii_digit() {
+        if !b.is_ascii_digit() {
             return (count, number);
         }
-        number = number * 10 + u64::from(*b - b'0');
+        number = number.wrapping_mul(10).wrapping_add(u64::from(*b - b'0'));
         count += 1;
     }
     (count, number)
@@ -83,11 +66,42 @@ fn front_number(text: &[u8]) -> Option<(Option<u64>, &[u8])>
     if end == 0 {
         return None;
     }
-    if end < 19 {
-        return Some((Some(short), &text[end..]));
+    let number = if end <= 19 {
+        Some(short)
+    } else {
+        number(&text[..end])
+    };
+    Some((number, &text[end..]))
+}
+
+/// The number of at most 19 digits that stands first, where this byte is behind it, and the text behind that byte.
+fn number_before(text: &[u8], mark: u8) -> Option<(u64, &[u8])>
+    ensures { IfSome result (λ p. IsNumberBefore text.now mark p.0 p.1.now) }
+{
+    let (end, number) = first_digits(text);
+    if end == 0 || end > 19 || end == text.len() || text[end] != mark {
+        return None;
     }
-    let end = digits(text);
-    Some((number(&text[..end]), &text[end..]))
+    Some((number, &text[end + 1..]))
+}
+
+/// The two numbers of a first line that has these with one space between them, each of at most 19 digits, and the text behind it.
+pub(crate) fn two_plain(text: &[u8]) -> Option<(u64, u64, &[u8])>
+    ensures { IfSome result (λ p. IsNumberLine text.now (Some p.0 ∷ Some p.1 ∷ []) p.2.now) }
+{
+    let (i, rest) = number_before(text, b' ')?;
+    let (j, rest) = number_before(rest, b'\n')?;
+    Some((i, j, rest))
+}
+
+/// The same of three numbers.
+pub(crate) fn three_plain(text: &[u8]) -> Option<(u64, u64, u64, &[u8])>
+    ensures { IfSome result (λ p. IsNumberLine text.now (Some p.0 ∷ Some p.1 ∷ Some p.2 ∷ []) p.3.now) }
+{
+    let (i, rest) = number_before(text, b' ')?;
+    let (j, rest) = number_before(rest, b' ')?;
+    let (value, rest) = number_before(rest, b'\n')?;
+    Some((i, j, value, rest))
 }
 
 /// The text behind the blanks that stand first.
@@ -126,7 +140,7 @@ fn two_first(line: &[u8]) -> Option<(Option<u64>, Option<u64>, &[u8])>
 }
 
 /// The two numbers of a line that has these and nothing else. A number above 2^64 - 1 is `None`.
-pub fn two_numbers(line: &[u8]) -> Option<(Option<u64>, Option<u64>)>
+pub(crate) fn two_numbers(line: &[u8]) -> Option<(Option<u64>, Option<u64>)>
     ensures some { IfSome result (λ p. numbers_of line.now ≡ Some (p.0 ∷ p.1 ∷ [])) }
     ensures none { IfNone result ((i j : Number) → numbers_of line.now ≢ Some (i ∷ j ∷ [])) }
 {
@@ -138,7 +152,7 @@ pub fn two_numbers(line: &[u8]) -> Option<(Option<u64>, Option<u64>)>
 }
 
 /// The three numbers of a line that has these and nothing else. A number above 2^64 - 1 is `None`.
-pub fn three_numbers(line: &[u8]) -> Option<(Option<u64>, Option<u64>, Option<u64>)>
+pub(crate) fn three_numbers(line: &[u8]) -> Option<(Option<u64>, Option<u64>, Option<u64>)>
     ensures some { IfSome result (λ p. numbers_of line.now ≡ Some (p.0 ∷ p.1 ∷ p.2 ∷ [])) }
     ensures none { IfNone result ((i j k : Number) → numbers_of line.now ≢ Some (i ∷ j ∷ k ∷ [])) }
 {

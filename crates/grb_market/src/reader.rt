@@ -1,4 +1,4 @@
-ghost use Rattle.std.specs.Prelude.{◌≡◌, ◌+◌, ◌<◌, ◌≤◌, [], length, Some, IfOk, IfErr, IsTrue, Ok};
+ghost use Rattle.std.specs.Prelude.{◌≡◌, ◌+◌, ◌<◌, ◌≤◌, [], length, Some, IfOk, IfErr, IsTrue, Ok, true};
 ghost use Rattle.std.specs.FinMap.{is_sorted};
 ghost use Rattle.std.specs.Result.{result_err};
 ghost use Rattle.grb_core.specs.Contents.{IsDimension};
@@ -13,15 +13,17 @@ ghost use Rattle.grb_market.specs.Spells.{Spells, written_out};
 ghost use Rattle.grb_market.specs.Loaded.{matrix_loaded};
 ghost use Rattle.grb_market.specs.Stands.{Stands, IsRead};
 ghost use Rattle.grb_market.specs.Gathered.{AreAllGathered, IsTwice};
+ghost use Rattle.grb_market.specs.Sides.{AreLower};
 
+use crate::entry::next_entry;
 use crate::fault::{FaultKind, MarketFault, ReadError};
-use crate::gathered::{append, count_apart, put_in_order, store_all, store_mirrored, tuples};
-use crate::head::{Head, Size, entry_of, head_of, size_of};
+use crate::gathered::{append, count_apart, put_in_order};
+use crate::head::{Head, Size, head_of, size_of};
 use crate::line::{is_comment, next_line};
 use crate::loaded::{Loaded, Tuples};
+use crate::sides::whole;
 use grb_core::Value;
 use std::alloc::{AllocError, Global};
-use std::collections::BTreeMap;
 
 fn fault(line: u64, kind: FaultKind) -> ReadError
     ensures { result ≡ read.Fault (fault_at line kind) }
@@ -87,13 +89,13 @@ fn gather(
     let mut rest = behind;
     let mut left = size.count;
     while !rest.is_empty() {
-        let Some((line, after)) = next_line(rest) else {
+        let Some((entry, after)) = next_entry(head, size, rest) else {
             return Ok((tuples, Some(FaultKind::UnendedLine)));
         };
         if left == 0 {
             return Ok((tuples, Some(FaultKind::TooMany)));
         }
-        match entry_of(head, size, line) {
+        match entry {
             Ok((cell, value)) => append(&mut tuples, cell, value)?,
             Err(kind) => return Ok((tuples, Some(kind))),
         }
@@ -158,15 +160,13 @@ fn written_out(
     lower: Vec<(u64, u64, Value)>,
 ) -> Result<Vec<(u64, u64, Value)>, AllocError>
     requires rising { IsTrue (is_sorted cell_cmp (cells_of lower.items)) }
+    requires lower { head.is_symmetric ≡ true → AreLower (cells_of lower.items) }
     ensures { IfOk result (λ tuples. cells_of tuples.items ≡ map_from cell_cmp (written_out head (cells_of lower.items))) }
 {
     if !head.is_symmetric {
         return Ok(lower);
     }
-    let mut entries = BTreeMap::new(alloc);
-    store_mirrored(&mut entries, &lower)?;
-    store_all(&mut entries, &lower)?;
-    tuples(alloc, &entries)
+    whole(alloc, &lower)
 }
 
 /// The matrix that a Matrix Market text spells, or the first fault of the text.
@@ -196,6 +196,3 @@ pub fn read(alloc: Global, text: &[u8]) -> Result<Loaded, ReadError>
         tuples: Tuples::from_vec(tuples),
     })
 }
-
-#[cfg(test)]
-mod tests;

@@ -127,6 +127,3 @@ pub fn write<W: Sink>(alloc: Global, matrix: &SparseMatrix, sink: &mut W) -> Res
     let text = head_text(alloc, matrix)?;
     write_entries(text, matrix.entries(), sink)
 }
-
-#[cfg(test)]
-mod tests;

@@ -1,4 +1,5 @@
 pub mod LowestBit
+pub mod MarksOf
 pub mod WordByWord
 pub mod Cleared
 pub mod Renamed
@@ -12,4 +13,3 @@ pub mod MaskedSums
 pub mod MaskedProduct
 pub mod Tables
 pub mod Names
-pub mod ProductLaws

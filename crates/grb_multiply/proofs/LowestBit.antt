@@ -50,6 +50,14 @@ no_bits name bit at base zero t h = refl
 no_bits name bit at base (suc n) t h =
     ap (λ b. before_entries (name (base + t)) (cond b (at (base + t)) None) (bits_from name bit at base n (t + 1))) (h t) ∙ no_bits name bit at base n (t + 1) h
 
+-- values that are the same from the base on
+pub same_bits : (name : ℕ → ℕ) (bit : ℕ → Bool) (at at' : ℕ → Option Value) (base n t : ℕ) → ((i : ℕ) → base ≤ i → at i ≡ at' i) → bits_from name bit at base n t ≡ bits_from name bit at' base n t
+unfolding bits_from
+same_bits name bit at at' base zero t h = refl
+same_bits name bit at at' base (suc n) t h =
+    ap (λ w. before_entries (name (base + t)) (cond (bit t) w None) (bits_from name bit at base n (t + 1))) (h (base + t) (omega arith))
+    ∙ ap (before_entries (name (base + t)) (cond (bit t) (at' (base + t)) None)) (same_bits name bit at at' base n (t + 1) h)
+
 pub value-read : {V : Type 0} (value : V → Value) (vs : List V) (j : ℕ) (x : V) → j < length vs → x ≡ get_or vs j x → Some (value x) ≡ value_at value vs j
 value-read value [] j x h is = absurd (omega arith)
 value-read value (v ∷ vs) zero x h is = ap (λ w. Some (value w)) is

@@ -1,5 +1,5 @@
 -- Values picked by the bits of a word (own): bit t of the word stands for the place base + t.
-use Rattle.std.specs.Prelude.{ℕ, zero, suc, ◌+◌, ◌*◌, ◌<◌, ◌≡◌, Bool, true, false, slice_index, slice_index_or, length, nat_eq, if◌then◌else◌, List, [], ◌∷◌, Option, Some, None}
+use Rattle.std.specs.Prelude.{ℕ, zero, suc, ◌+◌, ◌*◌, ◌/◌, ◌%◌, ◌<◌, ◌≡◌, Bool, true, false, slice_index, slice_index_or, length, nat_eq, if◌then◌else◌, List, [], ◌∷◌, Option, Some, None}
 use Rattle.std.specs.Int.{bit_at}
 use Rattle.grb_core.specs.declared.value.Value.{Value}
 use Rattle.grb_core.specs.Entries.{VectorEntries, before_entries}
@@ -22,6 +22,19 @@ bits_from name bit at base (suc n) t = before_entries (name (base + t)) (if bit 
 -- the bits of these words are these marks, 64 a word
 abbrev pub AreMarks : List Bool → List ℕ → Type 0
 AreMarks marks words = (w t : ℕ) → t < 64 → has_bit (slice_index words w) t ≡ slice_index_or marks (64 * w + t) false
+
+-- the marks of n places, the first of which is j, as these words have them
+abbrev pub marks_from : List ℕ → ℕ → ℕ → List Bool
+marks_from words j zero = []
+marks_from words j (suc n) = has_bit (slice_index words (j / 64)) (j % 64) ∷ marks_from words (j + 1) n
+
+-- the marks of the first n places
+abbrev pub marks_of : ℕ → List ℕ → List Bool
+marks_of n words = marks_from words 0 n
+
+-- at each place there is this value
+abbrev pub HoldAll : {V : Type 0} → (V → Value) → Value → List V → Type 0
+HoldAll value v values = (p : ℕ) → p < length values → value_at value values p ≡ Some v
 
 -- at each place without a mark there is this value
 abbrev pub HoldUnmarked : {V : Type 0} → (V → Value) → Value → List Bool → List V → Type 0

@@ -1,4 +1,3 @@
 pub mod Rows
 pub mod Bits
 pub mod Open
-pub mod Laws

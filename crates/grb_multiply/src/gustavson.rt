@@ -1,5 +1,5 @@
 //! One row of the product of two matrices: the sum of rows of the second, each times a value of the first (Gustavson 1978).
-ghost use Rattle.std.specs.Prelude.{◌≡◌, ◌+◌, ◌<◌, ◌≤◌, ℕ, ◌^◌, ◌*◌, length, false, Option, Some, None, IsTrue, All, slice_index_or};
+ghost use Rattle.std.specs.Prelude.{◌≡◌, ◌+◌, ◌<◌, ◌≤◌, ℕ, ◌^◌, ◌*◌, length, Option, Some, None, IsTrue, All, slice_index};
 ghost use Rattle.std.specs.List.{AllByRecursion};
 ghost use Rattle.std.specs.Ordering.{nat_cmp};
 ghost use Rattle.std.specs.FinMap.{is_sorted, find};
@@ -14,40 +14,38 @@ ghost use Rattle.grb_rows.specs.Cells.{decoded};
 ghost use Rattle.grb_products.specs.Open.{marked_at};
 ghost use Rattle.grb_products.specs.Products.{products};
 ghost use Rattle.grb_multiply.specs.Rows.{name_in, product_row};
-ghost use Rattle.grb_multiply.specs.Bits.{AreMarks, HoldUnmarked};
+ghost use Rattle.grb_multiply.specs.Bits.{marks_of, AreMarks, HoldAll, HoldUnmarked};
 
-use crate::bits::{clear_words, emit_words, mark};
+use crate::bits::{mark, take_words};
 use crate::ranked::RankedRows;
 use grb_kernels::Operator;
 use grb_products::{MonoidOver, Stored};
 
-/// Adds a row, times `x`, to the sums: at place `c` there is a sum where `marks[c]` says so, and elsewhere the identity.
+/// Adds a row, times `x`, to the sums: at a place there is a sum where its bit of `words` is set, and elsewhere the identity.
 fn add_row<T: Stored, M: MonoidOver<T>, O: Operator<T>>(
     x: T,
     places: &[u32],
     values: &[T],
-    marks: &mut [bool],
     sums: &mut [T],
     words: &mut [u64],
 )
     requires same { length places.now ≡ length values.now }
     requires rising { IsTrue (is_sorted nat_cmp (entries_of T.value places.now values.now)) }
-    requires in_range { All (λ p. p < length marks.old) places.now }
-    requires room { length marks.old ≡ length sums.old }
-    requires enough { length marks.old ≤ 64 * length words.old }
-    requires bits { AreMarks marks.old words.old }
-    requires clear { HoldUnmarked T.value (identity_of M.monoid) marks.old sums.old }
-    ensures added { (p : ℕ) → marked_at T.value marks.new sums.new p ≡ either_value (value_of_op (monoid_op M.monoid)) (marked_at T.value marks.old sums.old p) (both_values (value_of_op O.op) (Some (T.value x)) (find nat_cmp p (entries_of T.value places.now values.now))) }
+    requires in_range { All (λ p. p < length sums.old) places.now }
+    requires enough { length sums.old ≤ 64 * length words.old }
+    requires bits { AreMarks (marks_of (length sums.old) words.old) words.old }
+    requires clear { HoldUnmarked T.value (identity_of M.monoid) (marks_of (length sums.old) words.old) sums.old }
+    ensures added { (p : ℕ) → marked_at T.value (marks_of (length sums.new) words.new) sums.new p ≡ either_value (value_of_op (monoid_op M.monoid)) (marked_at T.value (marks_of (length sums.old) words.old) sums.old p) (both_values (value_of_op O.op) (Some (T.value x)) (find nat_cmp p (entries_of T.value places.now values.now))) }
     ensures of_domain { AllByRecursion (λ e. IsValueOf T.domain (value_of_op O.op (T.value x) e.1)) (entries_of T.value places.now values.now) }
-    ensures bits { AreMarks marks.new words.new }
-    ensures clear { HoldUnmarked T.value (identity_of M.monoid) marks.new sums.new }
+    ensures bits { AreMarks (marks_of (length sums.new) words.new) words.new }
+    ensures clear { HoldUnmarked T.value (identity_of M.monoid) (marks_of (length sums.new) words.new) sums.new }
 {
     'row: for i in 0..places.len() {
         let at = places[i] as usize;
         let made = O::apply(x, values[i]);
         let product = made.read();
         sums[at] = M::add(sums[at], product);
-        mark(marks, words, at);
+        mark(words, at);
     }
 }
 
@@ -56,24 +54,21 @@ fn sum_row<T: Stored, M: MonoidOver<T>, O: Operator<T>>(
     columns: &[u32],
     values: &[T],
     b: &RankedRows<T>,
-    marks: &mut [bool],
     sums: &mut [T],
     words: &mut [u64],
 )
     requires same { length columns.now ≡ length values.now }
-    requires room { length marks.old ≡ length sums.old }
     requires named { length sums.old ≡ length b.now.names.now }
-    requires enough { length marks.old ≤ 64 * length words.old }
-    requires bits { AreMarks marks.old words.old }
-    requires none { (p : ℕ) → slice_index_or marks.old p false ≡ false }
-    requires clear { HoldUnmarked T.value (identity_of M.monoid) marks.old sums.old }
-    ensures sums { (p : ℕ) → p < length b.now.names.now → marked_at T.value marks.new sums.new p ≡ fold_of_some M.monoid (products O.op (λ k. find nat_cmp (name_in b.now.names.now p) (row_of k (decoded b.now.lists.now.entries))) (entries_of T.value columns.now values.now)) }
-    ensures bits { AreMarks marks.new words.new }
-    ensures clear { HoldUnmarked T.value (identity_of M.monoid) marks.new sums.new }
+    requires enough { length sums.old ≤ 64 * length words.old }
+    requires none { (w : ℕ) → slice_index words.old w ≡ 0 }
+    requires clear { HoldAll T.value (identity_of M.monoid) sums.old }
+    ensures sums { (p : ℕ) → p < length b.now.names.now → marked_at T.value (marks_of (length sums.new) words.new) sums.new p ≡ fold_of_some M.monoid (products O.op (λ k. find nat_cmp (name_in b.now.names.now p) (row_of k (decoded b.now.lists.now.entries))) (entries_of T.value columns.now values.now)) }
+    ensures bits { AreMarks (marks_of (length sums.new) words.new) words.new }
+    ensures clear { HoldUnmarked T.value (identity_of M.monoid) (marks_of (length sums.new) words.new) sums.new }
 {
     'entries: for i in 0..columns.len() {
         let row = (&*b).row(columns[i]);
-        add_row::<T, M, O>(values[i], row.indices, row.values, marks, sums, words);
+        add_row::<T, M, O>(values[i], row.indices, row.values, sums, words);
     }
 }
 
@@ -83,7 +78,6 @@ pub(crate) fn multiply_row<T: Stored, M: MonoidOver<T>, O: Operator<T>>(
     columns: &[u32],
     values: &[T],
     b: &RankedRows<T>,
-    marks: &mut [bool],
     sums: &mut [T],
     words: &mut [u64],
     made_columns: &mut [u32],
@@ -91,23 +85,18 @@ pub(crate) fn multiply_row<T: Stored, M: MonoidOver<T>, O: Operator<T>>(
 ) -> usize
     requires same { length columns.now ≡ length values.now }
     requires rising { IsTrue (is_sorted nat_cmp (entries_of T.value columns.now values.now)) }
-    requires open { length marks.old ≡ length sums.old }
     requires named { length sums.old ≡ length b.now.names.now }
-    requires enough { length marks.old ≤ 64 * length words.old }
+    requires enough { length sums.old ≤ 64 * length words.old }
     requires words_few { length words.old ≤ 2 ^ 58 }
-    requires bits { AreMarks marks.old words.old }
-    requires none { (p : ℕ) → slice_index_or marks.old p false ≡ false }
-    requires clear { HoldUnmarked T.value (identity_of M.monoid) marks.old sums.old }
-    requires room { length marks.old ≤ length made_columns.old }
+    requires none { (w : ℕ) → slice_index words.old w ≡ 0 }
+    requires clear { HoldAll T.value (identity_of M.monoid) sums.old }
+    requires room { length sums.old ≤ length made_columns.old }
     requires room_same { length made_columns.old ≡ length made_values.old }
     ensures entries { first_entries T.value result made_columns.new made_values.new ≡ product_row (record { monoid = M.monoid; op = O.op }) (entries_of T.value columns.now values.now) (decoded b.now.lists.now.entries) }
-    ensures bits { AreMarks marks.new words.new }
-    ensures none { (p : ℕ) → slice_index_or marks.new p false ≡ false }
-    ensures clear { HoldUnmarked T.value (identity_of M.monoid) marks.new sums.new }
-    ensures most { result ≤ length marks.old }
+    ensures none { (w : ℕ) → slice_index words.new w ≡ 0 }
+    ensures clear { HoldAll T.value (identity_of M.monoid) sums.new }
+    ensures most { result ≤ length sums.old }
 {
-    sum_row::<T, M, O>(columns, values, &*b, marks, sums, words);
-    let count = emit_words(words, marks, b.names, sums, made_columns, made_values);
-    clear_words::<T, M>(words, marks, sums);
-    count
+    sum_row::<T, M, O>(columns, values, &*b, sums, words);
+    take_words::<T, M>(words, b.names, sums, made_columns, made_values)
 }

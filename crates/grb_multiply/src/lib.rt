@@ -7,7 +7,6 @@
 
 mod bits;
 mod gustavson;
-mod laws;
 mod mask_rows;
 mod masked;
 mod masked_rows;
@@ -17,9 +16,6 @@ mod places;
 mod ranked;
 mod ranks;
 mod rows;
-#[cfg(test)]
-mod tests;
 mod whole;
 
-pub use laws::{a_total_is_that_of_the_rows, mxv_is_mxm_with_one_column};
 pub use multiply::mxm;

@@ -1,12 +1,12 @@
 //! The product of two matrices, row by row.
-ghost use Rattle.std.specs.Prelude.{◌≡◌, ◌+◌, ◌*◌, ◌<◌, ◌≤◌, ◌^◌, ◌++◌, ℕ, [], ◌∷◌, length, false, IsTrue, IfOk, OnOk, slice_index, slice_index_or};
+ghost use Rattle.std.specs.Prelude.{◌≡◌, ◌+◌, ◌*◌, ◌<◌, ◌≤◌, ◌^◌, ◌++◌, ℕ, [], ◌∷◌, length, IsTrue, IfOk, OnOk, slice_index};
 ghost use Rattle.std.specs.FinMap.{is_sorted};
 ghost use Rattle.grb_core.specs.Entries.{cell_cmp};
 ghost use Rattle.grb_core.specs.Monoid.{identity_of};
 ghost use Rattle.grb_core.specs.Results.{mxm_of};
 ghost use Rattle.grb_rows.specs.Cells.{decoded, IsFlat};
 ghost use Rattle.grb_ops.specs.Rows.{flat_entries};
-ghost use Rattle.grb_multiply.specs.Bits.{AreMarks, HoldUnmarked};
+ghost use Rattle.grb_multiply.specs.Bits.{HoldAll};
 
 use crate::gustavson::multiply_row;
 use crate::ranked::RankedRows;
@@ -56,7 +56,6 @@ pub(crate) fn multiply_rows<T: Stored + Drop, M: MonoidOver<T>, O: Operator<T>>(
     alloc: Global,
     a: &FlatRows,
     b: &RankedRows<T>,
-    marks: &mut [bool],
     sums: &mut [T],
     words: &mut [u64],
     made_columns: &mut [u32],
@@ -64,14 +63,12 @@ pub(crate) fn multiply_rows<T: Stored + Drop, M: MonoidOver<T>, O: Operator<T>>(
 ) -> Result<MadeRows<T>, AllocError>
     requires domain { a.now.domain ≡ T.domain }
     requires ordered { IsTrue (is_sorted cell_cmp (decoded a.now.entries)) }
-    requires open { length marks.old ≡ length sums.old }
     requires named { length sums.old ≡ length b.now.names.now }
-    requires enough { length marks.old ≤ 64 * length words.old }
+    requires enough { length sums.old ≤ 64 * length words.old }
     requires words_few { length words.old ≤ 2 ^ 58 }
-    requires bits { AreMarks marks.old words.old }
-    requires none { (p : ℕ) → slice_index_or marks.old p false ≡ false }
-    requires clear { HoldUnmarked T.value (identity_of M.monoid) marks.old sums.old }
-    requires room { length marks.old ≤ length made_columns.old }
+    requires none { (w : ℕ) → slice_index words.old w ≡ 0 }
+    requires clear { HoldAll T.value (identity_of M.monoid) sums.old }
+    requires room { length sums.old ≤ length made_columns.old }
     requires room_same { length made_columns.old ≡ length made_values.old }
     ensures flat { IfOk result (λ made. IsFlat made.rows.items made.starts.items made.columns.items) }
     ensures same { IfOk result (λ made. length made.values.items ≡ length made.columns.items) }
@@ -87,7 +84,6 @@ pub(crate) fn multiply_rows<T: Stored + Drop, M: MonoidOver<T>, O: Operator<T>>(
             a.row_columns(place),
             T::of_row(a, place),
             &*b,
-            marks,
             sums,
             words,
             made_columns,

@@ -31,7 +31,6 @@ fn multiply_ranked<T: Stored + Drop, M: MonoidOver<T>, O: Operator<T>>(
     ensures entries { IfOk result (λ made. flat_entries T.value made.rows.items made.starts.items made.columns.items made.values.items ≡ mxm_of (record { monoid = M.monoid; op = O.op }) (decoded a.now.entries) (decoded b.now.lists.now.entries)) }
 {
     let count = b.names.len();
-    let mut marks = vec![in alloc; false; count]?;
     let mut sums = vec![in alloc; T::any(); count]?;
     let mut words = vec![in alloc; 0u64; count / 64 + 1]?;
     let mut columns = vec![in alloc; 0u32; count]?;
@@ -42,7 +41,6 @@ fn multiply_ranked<T: Stored + Drop, M: MonoidOver<T>, O: Operator<T>>(
         alloc,
         a,
         &*b,
-        marks.as_mut_slice(),
         open_sums,
         words.as_mut_slice(),
         columns.as_mut_slice(),

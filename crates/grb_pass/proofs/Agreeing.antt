@@ -1,6 +1,6 @@
 -- Two passes whose words begin one another, and whose records have one call each, know histories that begin one another.
 use Rattle.std.proofs.Common.{◌≡◌, ℕ, zero, suc, ◌≤◌, List, [], ◌∷◌, ◌++◌, length, refl, sym, subst, ◌∙◌, arith, inl, inr}
-use Rattle.std.specs.Prelude.{◌⊎◌, Contains}
+use Rattle.std.specs.Prelude.{◌⊎◌}
 use Rattle.std.proofs.lemmas.List.Elements.{Contains-append_left, Contains-append_right, Contains-push}
 use Rattle.grb_order.specs.Word.{number_of, StartsWith}
 use Rattle.grb_order.specs.Laws.{PlacesAgree}

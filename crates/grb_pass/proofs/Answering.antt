@@ -159,10 +159,10 @@ module _ (room : ℕ) (a b c : Knowing) (call : Call) (first : Learns a b) where
   refused_before r is = record { grounds = grounded_before (Err r) (known c) (ground_of (Err r)) is.grounds; caught_up = is.caught_up }
 
 -- a lost try: the word of another pass is learnt
-pub learns_lost : (room : ℕ) (old mid lost : Knowing) (c : Call) (word : ℕ) → Learns old mid → IsReady room mid c → lost.shown ≡ mid.shown → lost.view ≡ learns mid.view word → Learns old lost
-learns_lost room old mid lost c word l ready shown is =
+pub learns_lost : (room : ℕ) (old mid lost : Knowing) (c : Call) (word : ℕ) → Learns old mid → IsReady room mid c → lost.shown ≡ mid.shown → lost.statuses ≡ mid.statuses → lost.view ≡ learns mid.view word → Learns old lost
+learns_lost room old mid lost c word l ready shown statuses is =
     let all : length mid.shown ≡ length mid.view.words = ready.all in let few : length mid.shown ≤ length mid.view.words = omega arith in
-    learns_then old mid lost l (learns_word mid lost few shown word is)
+    learns_then old mid lost l (learns_word mid lost few shown statuses word is)
 
 -- a call that is refused where the pass learnt what it knows now
 pub explains_refused : (room : ℕ) (old new : Knowing) (c : Call) (r : Refusal) → Learns old new → IsRefused room old new c r → ExplainsCall room old new c (Err r)

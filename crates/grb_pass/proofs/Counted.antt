@@ -103,6 +103,7 @@ learns_begun p = record {
   known_is = sym (append-nil (known p));
   others = All-nil _;
   passes = All-nil _;
+  statuses = refl;
 }
 
 -- what a call explains once it has begun to count, it explains

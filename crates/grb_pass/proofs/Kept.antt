@@ -17,6 +17,7 @@ use Rattle.grb_call.specs.Shapes.{ObjectShapes, RoomyShapes}
 use Rattle.grb_call.specs.Refused.{shapes_after}
 use Rattle.grb_call.specs.Store.{shapes_of}
 use Rattle.grb_call.specs.History.{History, store_of}
+use Rattle.grb_pass.specs.Statuses.{StatusRows}
 use Rattle.grb_pass.specs.Known.{Knowing, spelled}
 use Rattle.grb_pass.specs.Learning.{IsNextUnshown, IsSteady}
 use Rattle.grb_pass.specs.Reading.{IsKept}
@@ -166,9 +167,9 @@ pub sound_order : (t t' : TableId) (v : View) → t' ≡ t → IsSound t'.words 
 sound_order t t' v e s = subst (λ (y : TableId). IsSound y.words v) e s
 
 -- what a caller learns of it
-module _ (number size : ℕ) (place : Holding) (shown : List Shown) (capacity : ℕ) (shapes : RoomyShapes) (k : IsKept number size place shown capacity shapes) (steps : ℕ) where
+module _ (number size : ℕ) (place : Holding) (shown : List Shown) (capacity : ℕ) (shapes : RoomyShapes) (k : IsKept number size place shown capacity shapes) (steps : ℕ) (statuses : StatusRows) where
   abbrev seen : Knowing
-  seen = record { order = place.table_id; view = place.view; shown = shown; steps = steps }
+  seen = record { order = place.table_id; view = place.view; shown = shown; steps = steps; statuses = statuses }
 
   pub steady : IsSteady seen
   steady = record { records = k.records; few = k.few; sound = k.sound; others = k.others; small = k.small }

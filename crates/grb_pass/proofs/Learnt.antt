@@ -47,7 +47,7 @@ pub grows_enters : (v w : View) (word : ℕ) → w ≡ enters_word v word → Gr
 grows_enters v w word is = grows_is v (enters_word v word) w is (record { number = refl; passes = refl; words = (word ∷ [], refl); own = (length v.words ∷ [], refl); looks = starts_refl v.looks })
 
 -- nothing more is known, since no record was shown
-module _ (p q : Knowing) (few : length p.shown ≤ length p.view.words) (shown : q.shown ≡ p.shown) where
+module _ (p q : Knowing) (few : length p.shown ≤ length p.view.words) (shown : q.shown ≡ p.shown) (statuses : q.statuses ≡ p.statuses) where
   unshown : (v : View) → q.view ≡ v → Grows p.view v → v.own ≡ p.view.own → spelled v.words p.shown ≡ known p → Learns p q
   unshown v is grown own same = record {
     grown = grows_is p.view v q.view is grown;
@@ -56,6 +56,7 @@ module _ (p q : Knowing) (few : length p.shown ≤ length p.view.words) (shown :
     known_is = (λ i. spelled (is i).words (shown i)) ∙ same ∙ sym (append-nil (known p));
     others = All-nil (λ e. e.0 ≢ p.view.number);
     passes = All-nil (λ e. e.0 < p.view.passes);
+    statuses = statuses;
   }
 
   -- a word of others was learnt, whose record was not shown yet
@@ -80,6 +81,7 @@ learns_refl p = record {
   known_is = sym (append-nil (known p));
   others = All-nil (λ e. e.0 ≢ p.view.number);
   passes = All-nil (λ e. e.0 < p.view.passes);
+  statuses = refl;
 }
 
 pub learns_then : (a b c : Knowing) → Learns a b → Learns b c → Learns a c
@@ -90,6 +92,7 @@ learns_then a b c first next = record {
   known_is = next.known_is ∙ ap (λ (h : History). h ++ next.learnt) first.known_is ∙ append_assoc (known a) first.learnt next.learnt;
   others = All-append (λ e. e.0 ≢ a.view.number) first.learnt next.learnt first.others (subst (λ (n : ℕ). IsOfOthers n next.learnt) first.grown.number next.others);
   passes = All-append (λ e. e.0 < a.view.passes) first.learnt next.learnt first.passes (subst (λ (n : ℕ). IsOfPasses n next.learnt) first.grown.passes next.passes);
+  statuses = next.statuses ∙ first.statuses;
 }
 
 -- the record of the next word was shown
@@ -103,6 +106,7 @@ learns_shown p q token word next is =
       known_is = spelled_push p.view.words p.shown token next.within ∙ ap (λ (w : ℕ). known p ++ (number_of w, token.call) ∷ []) (sym next.word_is);
       others = All-cons (λ e. e.0 ≢ p.view.number) e [] next.others.1 (All-nil (λ e. e.0 ≢ p.view.number));
       passes = All-cons (λ e. e.0 < p.view.passes) e [] next.others.0.1 (All-nil (λ e. e.0 < p.view.passes));
+      statuses = refl;
     }
 
 -- the pass stays one of the context's

@@ -11,3 +11,4 @@ mod Opening
 mod Owning
 pub mod Promised
 mod Spelling
+mod StatusRows

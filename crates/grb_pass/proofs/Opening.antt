@@ -8,9 +8,11 @@ use Rattle.std.proofs.lemmas.List.{length_push}
 use Rattle.std.proofs.lemmas.List.Elements.{All-nil}
 use Rattle.grb_order.specs.View.{fresh}
 use Rattle.grb_order.specs.Holding.{Holding, TableId}
-use Rattle.grb_order.specs.Order.{AreFresh}
+use Rattle.grb_order.specs.Order.{AreFresh, room_of}
 use Rattle.grb_records.specs.Token.{IsOf}
-use Rattle.grb_pass.specs.Known.{Shared, Knowing, AreNew, IsPassOf}
+use Rattle.grb_pass.specs.Statuses.{no_rows}
+use Rattle.grb_pass.specs.Known.{Shared, Knowing, AreNew, HasNoStatus, IsPassOf}
+use Rattle.grb_pass.proofs.StatusRows.{none_at}
 
 get_before : {A : Type 0} (xs : List A) (y : A) (k : ℕ) → k < length xs → slice_get (xs ++ y ∷ []) k ≡ slice_get xs k
 get_before [] y k lt = absurd (omega arith)
@@ -32,7 +34,7 @@ abbrev pub fresh_at : TableId → ℕ → ℕ → Holding
 fresh_at order passes number = record { table_id = order; view = fresh number passes }
 
 abbrev pub new_at : TableId → ℕ → ℕ → Knowing
-new_at order passes number = record { order = order; view = fresh number passes; shown = []; steps = 0 }
+new_at order passes number = record { order = order; view = fresh number passes; shown = []; steps = 0; statuses = no_rows (room_of order) }
 
 same_some : {A : Type 0} (o : Option A) (x y : A) → o ≡ Some x → o ≡ Some y → x ≡ y
 same_some o x y e f = cc
@@ -82,3 +84,10 @@ all_ours context passes opened are = λ k d lt.
     let near : k < passes = subst (λ (n : ℕ). k < n) are.count lt in
     let ours : IsPassOf context (new_at context.order passes k) = record { order = refl; records = All-nil (IsOf context.records) } in
     subst (IsPassOf context) (sym (get_at opened k d (new_at context.order passes k) (are.each k near))) ours
+
+-- and has no status
+pub all_blank : (order : TableId) (passes : ℕ) (opened : List Knowing) → AreNew order passes opened passes → All HasNoStatus opened
+all_blank order passes opened are = λ k d lt.
+    let near : k < passes = subst (λ (n : ℕ). k < n) are.count lt in
+    let blank : HasNoStatus (new_at order passes k) = none_at (room_of order) in
+    subst HasNoStatus (sym (get_at opened k d (new_at order passes k) (are.each k near))) blank

@@ -9,3 +9,4 @@ pub mod Meeting
 pub mod Point
 pub mod Putting
 pub mod Reading
+pub mod Statuses

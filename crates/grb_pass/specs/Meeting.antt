@@ -3,7 +3,6 @@ use Rattle.std.specs.Prelude.{◌≡◌, ℕ, ◌+◌, List, length, Result, Ok,
 use Rattle.grb_core.specs.declared.refusal.Refusal.{Refusal}
 use Rattle.grb_core.specs.declared.refusal.Refusal.TheVariants.{Panic}
 use Rattle.grb_records.specs.Token.{Shown, IsSameRecord}
-use Rattle.grb_call.specs.History.{History}
 use Rattle.grb_pass.specs.Known.{Shared, Knowing, known, calls_by, IsKnown, IsPassOf}
 use Rattle.grb_pass.specs.Explains.{IsUnshown}
 use Rattle.grb_pass.specs.Laws.{Begins}
@@ -19,7 +18,7 @@ IsMet new other (Ok _) = Begins (known other) (known new)
 IsMet new other (Err r) = (r ≡ Panic) × IsUnshown new
 
 -- A meeting of a pass with another, with what it knows before and after. It is still a pass of the context. It learnt entries of
--- others alone, behind what it knew, and its own calls are those of before. Its steps on the order are the words that it learnt
+-- others alone, behind what it knew, and its own calls and its statuses are those of before. Its steps on the order are the words that it learnt
 pub record Met (context : Shared) (old new other : Knowing) (r : Result (Unit {0}) Refusal) : Type 0 where
   pub pass : IsPassOf context new
   pub met : IsMet new other r

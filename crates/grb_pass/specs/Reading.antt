@@ -19,7 +19,7 @@ use Rattle.grb_replay.specs.State.{RoomyStore}
 use Rattle.grb_pass.specs.declared.reader.Reader.TheInside.{Inside}
 
 abbrev pub knowing : Inside → Knowing
-knowing r = record { order = r.place.table_id; view = r.place.view; shown = r.tokens.items; steps = r.steps }
+knowing r = record { order = r.place.table_id; view = r.place.view; shown = r.tokens.items; steps = r.steps; statuses = r.statuses.rows }
 
 -- a reader with these tokens and shapes; the words whose records were not shown yet are of others
 pub record IsKept (number size : ℕ) (place : Holding) (shown : List Shown) (capacity : ℕ) (shapes : RoomyShapes) : Type 0 where
@@ -35,7 +35,7 @@ pub record IsKept (number size : ℕ) (place : Holding) (shown : List Shown) (ca
   pub small : place.table_id.words ≤ 4096
 
 abbrev pub IsReader : Inside → Type 0
-IsReader r = IsKept r.number r.room r.place r.tokens.items (vec_capacity r.tokens) r.shapes
+IsReader r = IsKept r.number r.statuses.room r.place r.tokens.items (vec_capacity r.tokens) r.shapes
 
 -- the store is the one after so many of the calls
 pub record IsEvaluated (calls : List Call) (evaluated : ℕ) (store : Store) : Type 0 where

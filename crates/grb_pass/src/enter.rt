@@ -54,6 +54,7 @@ impl Shared {
         requires ready { IsReady (room_of self.now.order) pass.old token.call }
         requires few { pass.old.steps < 2 ^ 28 }
         ensures pass { IsPassOf self.now pass.new }
+        ensures statuses { pass.new.statuses ≡ pass.old.statuses }
         ensures counts { CountsTries pass.old pass.new }
         ensures explains { ExplainsCall (room_of self.now.order) pass.old pass.new token.call result }
         ensures steady { IsSteady pass.new }
@@ -78,6 +79,7 @@ impl Shared {
         requires enters { enters call ≡ true }
         requires begun { pass.old.steps ≡ 0 }
         ensures pass { IsPassOf self.now pass.new }
+        ensures statuses { pass.new.statuses ≡ pass.old.statuses }
         ensures counts { CountsCall pass.old pass.new }
         ensures explains { ExplainsCall (room_of self.now.order) pass.old pass.new call result }
         ensures steady { IsSteady pass.new }
@@ -94,6 +96,7 @@ impl Shared {
         requires enters { enters call.now ≡ true }
         requires begun { pass.old.steps ≡ 0 }
         ensures pass { IsPassOf self.now pass.new }
+        ensures statuses { pass.new.statuses ≡ pass.old.statuses }
         ensures counts { CountsCall pass.old pass.new }
         ensures explains { ExplainsCall (room_of self.now.order) pass.old pass.new call.now result }
         ensures steady { IsSteady pass.new }
@@ -117,7 +120,10 @@ impl Shared {
         ensures answered { Answered self.now pass.old pass.new call result }
     {
         pass.begin();
-        self.enter_record(pass, call)
+        let object = call.object();
+        let answer = self.enter_record(pass, call);
+        pass.keep(object, &answer);
+        answer
     }
 
     /// Enters a copy of a call that changes the store, as `enter` does. Takes memory for the list of a build too, once the build is found
@@ -129,6 +135,8 @@ impl Shared {
         ensures answered { Answered self.now pass.old pass.new call.now result }
     {
         pass.begin();
-        self.enter_record_of_copy(pass, call)
+        let answer = self.enter_record_of_copy(pass, call);
+        pass.keep(call.object(), &answer);
+        answer
     }
 }

@@ -15,6 +15,7 @@ mod read;
 mod reader;
 mod row;
 mod shared;
+mod statuses;
 
 pub use pass::Pass;
 pub use shared::Shared;

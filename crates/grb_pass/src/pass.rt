@@ -1,4 +1,5 @@
 ghost use Rattle.std.specs.Prelude.{◌≡◌, ◌<◌, ◌≤◌, ◌+◌, ◌^◌, ◌⊎◌, false, [], length, All, IfOk, IfErr, OnOk, OnErr};
+ghost use Rattle.std.specs.Option.{option_or};
 ghost use Rattle.grb_order.specs.View.{fresh, LookedLast};
 ghost use Rattle.grb_order.specs.Order.{room_of};
 ghost use Rattle.grb_records.specs.Token.{IsOf};
@@ -7,6 +8,8 @@ ghost use Rattle.grb_call.specs.Refused.{is_in_bounds};
 ghost use Rattle.grb_call.specs.Store.{shapes_of};
 ghost use Rattle.grb_call.specs.After.{refused, reply_of};
 ghost use Rattle.grb_call.specs.History.{store_of};
+ghost use Rattle.grb_call.specs.Status.{info_of, made_by, with_status};
+ghost use Rattle.grb_pass.specs.Statuses.{no_rows, status_at};
 ghost use Rattle.grb_pass.specs.Known.{known};
 ghost use Rattle.grb_pass.specs.Counting.{Counts};
 ghost use Rattle.grb_pass.specs.Learning.{Enters, IsSteady};
@@ -15,8 +18,8 @@ ghost use Rattle.grb_pass.specs.Reading.{IsBuildChecked, IsChecked, IsPass};
 use crate::back_off::BackOff;
 use crate::reader::Reader;
 use crate::row::Row;
-use grb_call::{Call, Kind, Reply};
-use grb_core::Refusal;
+use grb_call::{Call, Kind, Object, Reply};
+use grb_core::{Info, Refusal};
 use grb_order::{Order, Place};
 use grb_records::{Records, Token};
 use grb_replay::State;
@@ -78,7 +81,7 @@ impl Pass {
         requires number { (number ≡ place.view.number) × (number < place.view.passes) }
         requires room { (room ≡ room_of place.table_id) × (room ≤ 4096) }
         requires fresh { place.view ≡ fresh number place.view.passes }
-        ensures { IfOk result (λ pass. pass ≡ record { order = place.table_id; view = place.view; shown = []; steps = 0 }) }
+        ensures { IfOk result (λ pass. pass ≡ record { order = place.table_id; view = place.view; shown = []; steps = 0; statuses = no_rows (room_of place.table_id) }) }
     {
         Ok(Pass {
             reader: Reader::open(alloc, number, place, room)?,
@@ -115,6 +118,26 @@ impl Pass {
         ensures { result ≡ self.now.steps }
     {
         self.reader.steps()
+    }
+
+    /// The status of the object: `Success` where the pass's last call on it was answered, `NoValue` where that call asked for an entry that
+    /// is not stored, or its refusal. A call is on the object that it changes, reads or has changes done of, an operation on its output, a
+    /// new or a dup on the object that it makes; one that is refused is on none. `None` before the first call on the object, and for a
+    /// number that is not below the room. Takes no memory.
+    ///
+    /// Source: GraphBLAS C API 2.0, "Error model"; that each pass has statuses of its own calls is own.
+    pub fn last_info(&self, object: Object) -> Option<Info>
+        ensures { result ≡ status_at self.now.statuses object }
+    {
+        self.reader.last_info(object)
+    }
+
+    /// Keeps the status that this answer leaves on the target of its call, which is about that object.
+    pub(crate) fn keep(&mut self, object: Option<Object>, answer: &Result<Reply, Refusal>)
+        ensures same { self.new ≡ record self.old { statuses = self.new.statuses } }
+        ensures kept { status_at self.new.statuses ≡ with_status (room_of self.old.order) (option_or object (made_by answer.now)) (info_of answer.now) (status_at self.old.statuses) }
+    {
+        self.reader.keep(object, answer);
     }
 
     /// Begins to count the steps of a call.
@@ -231,6 +254,7 @@ impl Pass {
         requires call { call.now ≡ token.call }
         requires few { self.old.steps < 2 ^ 31 }
         ensures order { self.new.order ≡ self.old.order }
+        ensures statuses { self.new.statuses ≡ self.old.statuses }
         ensures enters { Enters (room_of order.now) token self.old result self.new }
         ensures steady { IsSteady self.new }
         ensures counts { Counts self.old self.new }

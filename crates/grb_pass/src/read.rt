@@ -19,6 +19,7 @@ impl Shared {
         requires reads { enters call.now ≡ false }
         requires begun { pass.old.steps ≡ 0 }
         ensures pass { IsPassOf self.now pass.new }
+        ensures statuses { pass.new.statuses ≡ pass.old.statuses }
         ensures counts { CountsCall pass.old pass.new }
         ensures explains { ExplainsCall (room_of self.now.order) pass.old pass.new call.now result }
         ensures steady { IsSteady pass.new }
@@ -38,6 +39,8 @@ impl Shared {
         ensures answered { Answered self.now pass.old pass.new call.now result }
     {
         pass.begin();
-        self.read_at_end(pass, call)
+        let answer = self.read_at_end(pass, call);
+        pass.keep(call.object(), &answer);
+        answer
     }
 }

@@ -1,4 +1,5 @@
 ghost use Rattle.std.specs.Prelude.{◌≡◌, ◌<◌, ◌≤◌, ◌+◌, ◌^◌, true, [], ◌∷◌, ◌++◌, length, All, Some, slice_get, slice_index, MatchOption, IfOk};
+ghost use Rattle.std.specs.Option.{option_or};
 ghost use Rattle.grb_order.specs.Word.{number_of, index_of, StartsWith};
 ghost use Rattle.grb_order.specs.View.{fresh, is_told, LookedLast};
 ghost use Rattle.grb_order.specs.Order.{room_of};
@@ -9,30 +10,34 @@ ghost use Rattle.grb_call.specs.Refused.{check_of};
 ghost use Rattle.grb_call.specs.Store.{shapes_of};
 ghost use Rattle.grb_call.specs.After.{reply_of};
 ghost use Rattle.grb_call.specs.History.{calls_of, store_of};
+ghost use Rattle.grb_call.specs.Status.{info_of, made_by, with_status};
+ghost use Rattle.grb_pass.specs.Statuses.{no_rows, status_at};
 ghost use Rattle.grb_pass.specs.Known.{known};
 ghost use Rattle.grb_pass.specs.Learning.{Enters, IsNextUnshown, IsSteady};
 ghost use Rattle.grb_pass.specs.Counting.{Counts, look_steps};
 ghost use Rattle.grb_pass.specs.Meeting.{SharesCallAt};
 
-use grb_call::{Call, Kind, MatrixId, Reply, Shapes, VectorId, check};
-use grb_core::Refusal;
+use crate::statuses::Statuses;
+use grb_call::{Call, Kind, MatrixId, Object, Reply, Shapes, VectorId, check, info_of, target_of};
+use grb_core::{Info, Refusal};
 use grb_order::{Entered, Look, Order, Place};
 use grb_records::{Records, Token};
 use std::alloc::{AllocError, Global};
 use std::marker::Model;
 
-/// What a pass has read of the order: its words, the records behind the first of them, and the shapes that their calls leave.
+/// What a pass has read of the order: its words, the records behind the first of them, the shapes that their calls leave,
+/// and the status that each object has of the calls of the pass.
 #[derive(Drop)]
 pub(crate) struct Reader {
     number: u32,
-    // How many words the order has.
-    room: u32,
     place: Place,
     // The records of the first words learnt, with room for all words of the order.
     tokens: Vec<Token>,
     shapes: Shapes,
     // The steps of the last call.
     steps: u32,
+    // The status of each object, whose number is below that of the words that the order has.
+    statuses: Statuses,
 }
 
 impl Model for Reader {
@@ -69,17 +74,18 @@ impl Reader {
         requires number { (number ≡ place.view.number) × (number < place.view.passes) }
         requires room { (room ≡ room_of place.table_id) × (room ≤ 4096) }
         requires fresh { place.view ≡ fresh number place.view.passes }
-        ensures { IfOk result (λ reader. reader ≡ record { order = place.table_id; view = place.view; shown = []; steps = 0 }) }
+        ensures { IfOk result (λ reader. reader ≡ record { order = place.table_id; view = place.view; shown = []; steps = 0; statuses = no_rows (room_of place.table_id) }) }
     {
         let tokens = Vec::with_capacity(alloc, room as usize)?;
         let shapes = Shapes::open(alloc, room)?;
+        let statuses = Statuses::open(alloc, room)?;
         Ok(Reader {
             number,
-            room,
             place,
             tokens,
             shapes,
             steps: 0,
+            statuses,
         })
     }
 
@@ -103,6 +109,22 @@ impl Reader {
         self.steps
     }
 
+    /// The status of the object.
+    pub(crate) fn last_info(&self, object: Object) -> Option<Info>
+        ensures { result ≡ status_at self.now.statuses object }
+    {
+        self.statuses.find(object)
+    }
+
+    /// Keeps the status that this answer leaves on the target of its call, which is about that object.
+    pub(crate) fn keep(&mut self, object: Option<Object>, answer: &Result<Reply, Refusal>)
+        ensures same { self.new ≡ record self.old { statuses = self.new.statuses } }
+        ensures kept { status_at self.new.statuses ≡ with_status (room_of self.old.order) (option_or object (made_by answer.now)) (info_of answer.now) (status_at self.old.statuses) }
+    {
+        self.statuses
+            .keep(target_of(object, answer), info_of(answer));
+    }
+
     /// How many words the pass has learnt.
     pub(crate) fn words(&self) -> u32
         ensures { result ≡ length self.now.view.words }
@@ -114,7 +136,7 @@ impl Reader {
     pub(crate) fn room_left(&self) -> u32
         ensures { result + length self.now.view.words ≡ room_of self.now.order }
     {
-        self.room - self.words()
+        self.statuses.room() - self.words()
     }
 
     /// How many records were shown.
@@ -167,6 +189,7 @@ impl Reader {
         requires few { self.old.steps < 2 ^ 31 }
         ensures order { self.new.order ≡ self.old.order }
         ensures shown { self.new.shown ≡ self.old.shown }
+        ensures statuses { self.new.statuses ≡ self.old.statuses }
         ensures look { Looks (room_of order.now) self.old.view result self.new.view }
         ensures steady { IsSteady self.new }
         ensures counts { Counts self.old self.new }
@@ -183,6 +206,7 @@ impl Reader {
         requires begun { self.old.steps ≡ 0 }
         ensures order { self.new.order ≡ self.old.order }
         ensures shown { self.new.shown ≡ self.old.shown }
+        ensures statuses { self.new.statuses ≡ self.old.statuses }
         ensures told { self.new.view ≡ is_told self.old.view other.old.view.words }
         ensures words { StartsWith self.new.view.words other.old.view.words }
         ensures other { other.new ≡ other.old }
@@ -260,6 +284,7 @@ impl Reader {
         requires call { call.now ≡ token.call }
         requires few { self.old.steps < 2 ^ 31 }
         ensures order { self.new.order ≡ self.old.order }
+        ensures statuses { self.new.statuses ≡ self.old.statuses }
         ensures enters { Enters (room_of order.now) token self.old result self.new }
         ensures steady { IsSteady self.new }
         ensures counts { Counts self.old self.new }

@@ -1,6 +1,6 @@
 ghost use Rattle.std.specs.Prelude.{◌≡◌, ◌<◌, ◌≤◌, All, IfOk};
 ghost use Rattle.grb_order.specs.Order.{room_of, AreFresh};
-ghost use Rattle.grb_pass.specs.Known.{AreNew, IsPassOf};
+ghost use Rattle.grb_pass.specs.Known.{AreNew, HasNoStatus, IsPassOf};
 
 use crate::pass::Pass;
 use grb_order::{Order, Place};
@@ -53,6 +53,7 @@ impl Shared {
         ensures room { IfOk result (λ opened. room_of opened.0.order ≡ room) }
         ensures passes { IfOk result (λ opened. AreNew opened.0.order passes opened.1.items passes) }
         ensures ours { IfOk result (λ opened. All (IsPassOf opened.0) opened.1.items) }
+        ensures statuses { IfOk result (λ opened. All HasNoStatus opened.1.items) }
     {
         let (order, places) = Order::open(alloc, room, passes)?;
         let records = Records::open(alloc, passes, room)?;

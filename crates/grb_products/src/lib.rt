@@ -12,8 +12,6 @@ mod multiply;
 mod row_folds;
 mod row_products;
 mod rows;
-#[cfg(test)]
-mod samples;
 mod stored;
 mod totals;
 

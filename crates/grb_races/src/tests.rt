@@ -6,5 +6,6 @@ mod memory;
 mod operations;
 mod products;
 mod rows;
+mod statuses;
 mod steps;
 mod threads;

@@ -1,5 +1,5 @@
 ghost use Rattle.std.specs.Prelude.{◌≡◌, ◌<◌, ℕ, [], ◌∷◌, ◌++◌, Some, true, is_some, OnOk, OnErr, IfOk, IfSome, slice_set, vec_len, vec_capacity};
-ghost use Rattle.std.specs.Option.{option_map};
+ghost use Rattle.std.specs.Option.{option_map, option_map_or};
 ghost use Rattle.grb_call.specs.Output.{matrix_after, matrix_left};
 ghost use Rattle.grb_call.specs.Shapes.{object_at};
 ghost use Rattle.grb_call.specs.Store.{empty_store};
@@ -105,6 +105,16 @@ pub(crate) fn matrix_of(matrices: &[Option<SparseMatrix>], a: MatrixId) -> Optio
     ensures { option_map (λ x. x.now.matrix) result ≡ object_at (stored_matrices matrices.now) a.0 }
 {
     matrices.get(a.0 as usize)?.as_ref()
+}
+
+/// Whether no change waits in the matrix with this number; true where it is not there. Takes no memory.
+pub(crate) fn is_assembled_matrix(matrices: &[Option<SparseMatrix>], a: MatrixId) -> bool
+    ensures { result ≡ option_map_or (λ m. m.assembled) (object_at matrices.now a.0) true }
+{
+    match matrices.get(a.0 as usize) {
+        Some(Some(matrix)) => matrix.is_assembled(),
+        _ => true,
+    }
 }
 
 /// Assembles the matrix of this place, if there is one. `AllocError` where memory is refused; its entries are as before in any case.

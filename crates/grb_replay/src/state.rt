@@ -13,11 +13,13 @@ ghost use Rattle.grb_replay.specs.Settled.{AreAllAssembled, HasWaited, IsSettled
 ghost use Rattle.grb_replay.specs.State.{stored, is_assembled};
 
 use crate::matrices::{
-    assemble_all_matrices, assemble_matrix, dup_matrix, edit_matrix, lent_matrix, matrix_of,
+    assemble_all_matrices, assemble_matrix, dup_matrix, edit_matrix, is_assembled_matrix,
+    lent_matrix, matrix_of,
 };
 use crate::operations::{is_operation, operate};
 use crate::vectors::{
-    assemble_all_vectors, assemble_vector, dup_vector, edit_vector, lent_vector, vector_of,
+    assemble_all_vectors, assemble_vector, dup_vector, edit_vector, is_assembled_vector,
+    lent_vector, vector_of,
 };
 use grb_call::{Call, Kind, MatrixId, Object, Reply, Shapes, VectorId, WaitMode, check};
 use grb_core::{Monoid, Refusal, Value};
@@ -183,7 +185,7 @@ impl State {
     }
 
     /// Why the call is refused in this store, if it is. Takes no memory.
-    fn refused(&self, call: &Call) -> Option<Refusal>
+    pub fn refused(&self, call: &Call) -> Option<Refusal>
         ensures { result ≡ refused self.now.store call.now }
     {
         match check(&self.shapes, call) {
@@ -191,6 +193,16 @@ impl State {
             Ok(Kind::Build { in_bounds }) => self.refused_build(call, in_bounds),
             Ok(Kind::Enters) => None,
             Ok(Kind::Reads) => None,
+        }
+    }
+
+    /// Whether no change waits in the object; true of one that was freed or never made. Takes no memory (own).
+    pub fn is_assembled(&self, object: Object) -> bool
+        ensures { result ≡ is_assembled self.now.matrices self.now.vectors object }
+    {
+        match object {
+            Object::Matrix(a) => is_assembled_matrix(&self.matrices, a),
+            Object::Vector(v) => is_assembled_vector(&self.vectors, v),
         }
     }
 
@@ -299,6 +311,3 @@ impl State {
         Ok(())
     }
 }
-
-#[cfg(test)]
-mod tests;

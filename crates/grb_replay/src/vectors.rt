@@ -1,5 +1,5 @@
 ghost use Rattle.std.specs.Prelude.{◌≡◌, ◌<◌, ℕ, [], ◌∷◌, ◌++◌, Some, true, is_some, OnOk, OnErr, IfOk, IfSome, slice_set, vec_len, vec_capacity};
-ghost use Rattle.std.specs.Option.{option_map};
+ghost use Rattle.std.specs.Option.{option_map, option_map_or};
 ghost use Rattle.grb_call.specs.Output.{vector_after, vector_left};
 ghost use Rattle.grb_call.specs.Shapes.{object_at};
 ghost use Rattle.grb_call.specs.Store.{empty_store};
@@ -105,6 +105,16 @@ pub(crate) fn vector_of(vectors: &[Option<SparseVector>], v: VectorId) -> Option
     ensures { option_map (λ x. x.now.vector) result ≡ object_at (stored_vectors vectors.now) v.0 }
 {
     vectors.get(v.0 as usize)?.as_ref()
+}
+
+/// Whether no change waits in the vector with this number; true where it is not there. Takes no memory.
+pub(crate) fn is_assembled_vector(vectors: &[Option<SparseVector>], v: VectorId) -> bool
+    ensures { result ≡ option_map_or (λ x. x.assembled) (object_at vectors.now v.0) true }
+{
+    match vectors.get(v.0 as usize) {
+        Some(Some(vector)) => vector.is_assembled(),
+        _ => true,
+    }
 }
 
 /// Assembles the vector of this place, if there is one. `AllocError` where memory is refused; its entries are as before in any case.

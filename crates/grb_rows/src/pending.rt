@@ -16,11 +16,21 @@ use std::collections::HashMap;
 use std::marker::Model;
 
 /// Changes of single indices, in the order in which they came: a value that is stored, or `None` where it is taken away.
-#[derive(Drop)]
 pub struct Pending {
     changes: Vec<(u64, Option<Value>)>,
     latest: HashMap<u64, Option<Value>>,
     reserved: u64,
+}
+
+/// One call drops the list and the table, in place of one for each wherever changes go.
+impl Drop for Pending {
+    fn drop(self) {
+        let Pending {
+            changes: _,
+            latest: _,
+            reserved: _,
+        } = self;
+    }
 }
 
 impl Model for Pending {

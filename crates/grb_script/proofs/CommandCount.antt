@@ -1,24 +1,22 @@
 -- A text has at most one command more than it has bytes.
-use Rattle.std.proofs.Common.{Bool, true, false, if◌then◌else◌, ◌≡◌, ℕ, ◌+◌, ◌≤◌, ◌==◌, List, [], ◌∷◌, ◌++◌, length, arith, length-append}
+use Rattle.std.proofs.Common.{Bool, true, false, if◌then◌else◌, cond, not, is_some, ◌≡◌, ℕ, ◌+◌, ◌≤◌, ◌==◌, List, [], ◌∷◌, ◌++◌, Option, Some, None, length, refl, ap, arith, length-append}
 use Rattle.std.specs.Prelude.{Result, Ok, Err}
 use Rattle.std.specs.Option.{option_to_list}
 use Rattle.std.specs.Result.{result_ok}
-use Rattle.std.specs.List.{flat_map, slice_split}
-use Rattle.std.proofs.lemmas.List.Sums.{count_by-le-length}
+use Rattle.std.specs.List.{flat_map, slice_split, take_while}
+use Rattle.std.proofs.lemmas.List.Sums.{count_by-le-length, take_while-cons}
 use Rattle.std.proofs.lemmas.List.{length-map}
 use Rattle.std.proofs.lemmas.List.Splits.{length-slice_split}
+use Rattle.grb_words.specs.declared.section.Section.{Section}
+use Rattle.grb_words.specs.declared.section.Section.TheVariants as section
 use Rattle.grb_words.specs.Line.{Line, lines_from, lines_of, is_skipped, words_of}
 use Rattle.grb_words.specs.declared.fault.FaultKind.{FaultKind}
 use Rattle.grb_script.specs.declared.command.Command.{Command}
 use Rattle.grb_script.specs.declared.command.Numbered.{Numbered}
 use Rattle.grb_script.specs.Command.{asking, commands_on}
 use Rattle.grb_script.specs.Names.{Name}
-use Rattle.grb_script.specs.ScriptFault.{with_before, names_of}
-use Rattle.grb_script.specs.Script.{numbered_on, commands_of}
-
-length-flat_map-le : {X A : Type 0} (f : X → List A) → ((x : X) → length (f x) ≤ 1) → (xs : List X) → length (flat_map f xs) ≤ length xs
-length-flat_map-le f few [] = omega arith
-length-flat_map-le f few (x ∷ xs) = omega (arith, few x, length-flat_map-le f few xs, length-append (f x) (flat_map f xs))
+use Rattle.grb_script.specs.Scope.{section_on, scope_of}
+use Rattle.grb_script.specs.Script.{with_before, numbered_on, asked_at, asked_in_section, thread_part, finally_part, threads_in, finally_in, Sections, sections_in, sections_of}
 
 length-with_before : (before lines : List Line) → length (with_before before lines) ≡ length lines
 length-with_before before [] = omega arith
@@ -49,11 +47,35 @@ length-numbered_on number names line =
       none_or_one (is_skipped (words_of line.bytes)) (asking names (words_of line.bytes)),
     )
 
-pub length-commands_of : (text : List ℕ) → length (commands_of text) ≤ length text + 1
-length-commands_of text =
+-- how many commands the thread sections have
+abbrev pub count_of : List (List Numbered) → ℕ
+count_of [] = 0
+count_of (asked ∷ more) = length asked + count_of more
+
+-- and all sections
+abbrev pub count_in : Sections → ℕ
+count_in s = length s.main + count_of s.threads + length s.finally
+
+count_with : (own : Option Section) (p : List Line × Line) (more : List (List Line × Line)) (rest : List Numbered) → count_in (sections_in more) ≤ length more → rest ≡ asked_in_section more
+    → length (flat_map asked_at (cond (not (is_some own)) (p ∷ take_while (λ q. not (is_some (section_on q.1))) more) [])) + count_of (thread_part own rest ++ threads_in more) + length (finally_part own rest ++ finally_in more) ≤ length more + 1
+count_with None p more rest few is = omega (arith, few, length-numbered_on (length p.0 + 1) (scope_of p.0).names p.1, length-append (asked_at p) (asked_in_section more))
+count_with (Some (section.Thread k)) p more rest few is = omega (arith, few, ap length is)
+count_with (Some section.Finally) p more rest few is = omega (arith, few, ap length is, length-append rest (finally_in more))
+
+count-le-length : (lines : List (List Line × Line)) → count_in (sections_in lines) ≤ length lines
+count-le-length [] = omega arith
+count-le-length (p ∷ more) =
     omega (
       arith,
-      length-flat_map-le (λ p. numbered_on (length p.0 + 1) (names_of p.0) p.1) (λ p. length-numbered_on (length p.0 + 1) (names_of p.0) p.1) (with_before [] (lines_of text)),
+      ap (λ l. length (flat_map asked_at l)) (take_while-cons (λ q. not (is_some (section_on q.1))) p more),
+      count_with (section_on p.1) p more (asked_in_section more) (count-le-length more) refl,
+    )
+
+pub length-sections_of : (text : List ℕ) → count_in (sections_of text) ≤ length text + 1
+length-sections_of text =
+    omega (
+      arith,
+      count-le-length (with_before [] (lines_of text)),
       length-with_before [] (lines_of text),
       length-lines_from (slice_split (λ b. b == 10) text),
       length-slice_split (λ b. b == 10) text,

@@ -1,5 +1,7 @@
-mod ScriptRows
 pub mod CommandCount
 pub mod FormLemmas
+pub mod LawLemmas
 pub mod NamesLemmas
+pub mod ScopeLemmas
 pub mod ScriptLemmas
+mod ScriptRows

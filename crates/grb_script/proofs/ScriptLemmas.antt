@@ -1,79 +1,207 @@
--- The first fault of a script and what it asks for, line by line from the names so far.
-use Rattle.std.proofs.Common.{◌≡◌, ℕ, ◌+◌, List, [], ◌∷◌, ◌++◌, Option, Some, None, length, refl, sym, ap, ◌∙◌, append_assoc, length-append, arith}
-use Rattle.std.specs.List.{flat_map}
+-- The first fault of a script and what its sections ask for, line by line from where the lines so far leave it.
+use Rattle.std.proofs.Common.{◌≡◌, ℕ, ◌+◌, ◌≤◌, true, not, cond, List, [], ◌∷◌, ◌++◌, Option, Some, None, is_some, length, map, refl, sym, ap, ◌∙◌, true≢false, append_assoc, length-append, arith}
+use Rattle.std.specs.List.{flat_map, take_while}
 use Rattle.std.specs.Option.{option_map_or}
-use Rattle.grb_words.specs.declared.fault.FaultKind.{FaultKind}
+use Rattle.std.proofs.lemmas.Bool.{eqb-true}
+use Rattle.std.proofs.lemmas.Bool.Decides.{nat_tests}
+use Rattle.std.proofs.lemmas.List.{append-nil}
+use Rattle.std.proofs.lemmas.List.Sums.{take_while-cons}
+use Rattle.grb_words.specs.declared.section.Section.{Section}
+use Rattle.grb_words.specs.declared.section.Section.TheVariants as section
+use Rattle.grb_words.specs.Line.{Line, ended, lines_of, words_of}
+use Rattle.grb_words.specs.Section.{section_of}
+use Rattle.grb_script.specs.declared.command.Command.{Command}
+use Rattle.grb_script.specs.declared.command.Numbered.{Numbered}
 use Rattle.grb_script.specs.declared.fault.ReadFault.{ReadFault}
 use Rattle.grb_script.specs.declared.fault.ReadFault.TheVariants as read
-use Rattle.grb_script.specs.declared.fault.ScriptFault.{ScriptFault}
-use Rattle.grb_script.specs.declared.command.Numbered.{Numbered}
-use Rattle.grb_words.specs.Line.{Line, lines_of}
-use Rattle.grb_script.specs.Names.{Name}
-use Rattle.grb_script.specs.Command.{names_behind_line}
-use Rattle.grb_script.specs.ScriptFault.{names_behind_lines, names_of, line_fault, with_before, first_fault, script_fault, IsWhyLineUnread, IsWhyTextUnread}
-use Rattle.grb_script.specs.Script.{numbered_on, commands_of}
+use Rattle.grb_script.specs.declared.line.Said.{Said}
+use Rattle.grb_script.specs.declared.line.Said.TheVariants as said
+use Rattle.grb_script.specs.Command.{commands_in, names_behind_words}
+use Rattle.grb_script.specs.Said.{IsTaken, Says}
+use Rattle.grb_script.specs.Scope.{Scope, at_start, begun, with_names, may_follow, section_on, scope_behind_line, scope_behind_lines, scope_behind_words, scope_of}
+use Rattle.grb_script.specs.Script.{with_before, asked_at, asked_in_section, thread_part, finally_part, main_part, part_of, threads_in, finally_in, Sections, sections_in, sections_of, joined}
+use Rattle.grb_script.specs.ScriptFault.{line_fault, first_fault, script_fault, IsWhyLineUnread, IsWhyTextUnread}
 
--- the first fault of these lines, the first of which has this number, where these names stand
-abbrev pub fault_from : ℕ → List Name → List Line → Option ScriptFault
-fault_from number names [] = None
-fault_from number names (line ∷ more) =
-    option_map_or (λ kind. Some (record { line = number; kind = kind })) (line_fault names line) (fault_from (number + 1) (names_behind_line names line) more)
+-- where the next line stands, behind one line more
+pub scope_behind_lines-push : (scope : Scope) (before : List Line) (line : Line) → scope_behind_lines scope (before ++ line ∷ []) ≡ scope_behind_line (scope_behind_lines scope before) line
+scope_behind_lines-push scope [] line = refl
+scope_behind_lines-push scope (first ∷ more) line = scope_behind_lines-push (scope_behind_line scope first) more line
 
--- what these lines ask for, the first of which has this number, where these names stand
-abbrev pub commands_from : ℕ → List Name → List Line → List Numbered
-commands_from number names [] = []
-commands_from number names (line ∷ more) = numbered_on number names line ++ commands_from (number + 1) (names_behind_line names line) more
+-- what a script asks for in all: what its ended sections ask for, this section so far, and these lines behind that
+abbrev pub total : Sections → Option Section → List Numbered → List (List Line × Line) → Sections
+total ended section asked lines =
+    joined ended (joined (part_of section (asked ++ asked_in_section lines)) (record { main = []; threads = threads_in lines; finally = finally_in lines }))
 
--- the names after one line more
-names_behind_lines-push : (names : List Name) (before : List Line) (line : Line) → names_behind_lines names (before ++ line ∷ []) ≡ names_behind_line (names_behind_lines names before) line
-names_behind_lines-push names [] line = refl
-names_behind_lines-push names (first ∷ more) line = names_behind_lines-push (names_behind_line names first) more line
+abbrev pub nothing : Sections
+nothing = record { main = []; threads = []; finally = [] }
 
--- the definitions, along the lines behind the first ones
-first_fault-with_before : (number : ℕ) (before lines : List Line) → first_fault number (with_before before lines) ≡ fault_from number (names_of before) lines
-first_fault-with_before number before [] = refl
-first_fault-with_before number before (line ∷ more) =
-    ap (λ later. option_map_or (λ kind. Some (record { line = number; kind = kind })) (line_fault (names_of before) line) later)
-    (first_fault-with_before (number + 1) (before ++ line ∷ []) more ∙ ap (λ names. fault_from (number + 1) names more) (names_behind_lines-push [] before line))
+total-start : (lines : List (List Line × Line)) → total nothing None [] lines ≡ sections_in lines
+total-start lines = λ j. record { main = append-nil (asked_in_section lines) j; threads = threads_in lines; finally = finally_in lines }
 
-flat_map-with_before : (before lines : List Line) → flat_map (λ p. numbered_on (length p.0 + 1) (names_of p.0) p.1) (with_before before lines) ≡ commands_from (length before + 1) (names_of before) lines
-flat_map-with_before before [] = refl
-flat_map-with_before before (line ∷ more) =
-    let number : length (before ++ line ∷ []) + 1 ≡ length before + 1 + 1 = omega (arith, length-append before (line ∷ [])) in
-    ap (λ later. numbered_on (length before + 1) (names_of before) line ++ later)
-    (flat_map-with_before (before ++ line ∷ []) more ∙ (λ j. commands_from (number j) (names_behind_lines-push [] before line j) more))
+main_part-nil : (here : Option Section) (asked : List Numbered) → main_part here (asked ++ []) ++ [] ≡ main_part here asked
+main_part-nil here asked = append-nil (main_part here (asked ++ [])) ∙ ap (main_part here) (append-nil asked)
 
--- the same of a whole text
-pub fault_from-text : (text : List ℕ) → fault_from 1 [] (lines_of text) ≡ script_fault text
-fault_from-text text = sym (first_fault-with_before 1 [] (lines_of text))
+total-end : (ended : Sections) (here : Option Section) (asked : List Numbered) → total ended here asked [] ≡ joined ended (part_of here asked)
+total-end ended here asked = λ j. record {
+  main = ended.main ++ main_part-nil here asked j;
+  threads = ended.threads ++ (append-nil (thread_part here (asked ++ [])) ∙ ap (thread_part here) (append-nil asked)) j;
+  finally = ended.finally ++ (append-nil (finally_part here (asked ++ [])) ∙ ap (finally_part here) (append-nil asked)) j;
+}
 
-pub commands_from-text : (text : List ℕ) → commands_from 1 [] (lines_of text) ≡ commands_of text
-commands_from-text text = sym (flat_map-with_before [] (lines_of text))
+module _ (p : List Line × Line) (more : List (List Line × Line)) where
+  pub in_section : asked_in_section (p ∷ more) ≡ flat_map asked_at (cond (not (is_some (section_on p.1))) (p ∷ take_while (λ q. not (is_some (section_on q.1))) more) [])
+  in_section = ap (flat_map asked_at) (take_while-cons (λ q. not (is_some (section_on q.1))) p more)
 
-module _ (number : ℕ) (names : List Name) (line : Line) (more : List Line) where
-  -- a line's own fault comes first, and then those behind it
-  fault_from-here : (kind : FaultKind) → line_fault names line ≡ Some kind → fault_from number names (line ∷ more) ≡ Some (record { line = number; kind = kind })
-  fault_from-here kind h = ap (λ o. option_map_or (λ k. Some (record { line = number; kind = k })) o (fault_from (number + 1) (names_behind_line names line) more)) h
+  -- behind a line that begins no section
+  total-line : (ended : Sections) (here : Option Section) (asked : List Numbered) → section_on p.1 ≡ None → total ended here asked (p ∷ more) ≡ total ended here (asked ++ asked_at p) more
+  total-line ended here asked none =
+      let own : asked ++ asked_in_section (p ∷ more) ≡ (asked ++ asked_at p) ++ asked_in_section more =
+      ap (λ l. asked ++ l) (in_section ∙ ap (λ s. flat_map asked_at (cond (not (is_some s)) (p ∷ take_while (λ q. not (is_some (section_on q.1))) more) [])) none)
+      ∙ sym (append_assoc asked (asked_at p) (asked_in_section more)) in
+      λ j. joined ended (joined (part_of here (own j)) (record {
+        main = [];
+        threads = thread_part (none j) (asked_in_section more) ++ threads_in more;
+        finally = finally_part (none j) (asked_in_section more) ++ finally_in more;
+      }))
 
-  fault_from-later : line_fault names line ≡ None → fault_from number names (line ∷ more) ≡ fault_from (number + 1) (names_behind_line names line) more
-  fault_from-later h = ap (λ o. option_map_or (λ k. Some (record { line = number; kind = k })) o (fault_from (number + 1) (names_behind_line names line) more)) h
+  -- behind one that begins a section
+  total-section : (ended : Sections) (here : Option Section) (next : Section) (asked : List Numbered) → section_on p.1 ≡ Some next
+      → total ended here asked (p ∷ more) ≡ total (joined ended (part_of here asked)) (Some next) [] more
+  total-section ended here next asked is =
+      let own : asked ++ asked_in_section (p ∷ more) ≡ asked =
+      ap (λ l. asked ++ l) (in_section ∙ ap (λ s. flat_map asked_at (cond (not (is_some s)) (p ∷ take_while (λ q. not (is_some (section_on q.1))) more) [])) is)
+      ∙ append-nil asked in
+      (λ j. joined ended (joined (part_of here (own j)) (record {
+        main = [];
+        threads = thread_part (is j) (asked_in_section more) ++ threads_in more;
+        finally = finally_part (is j) (asked_in_section more) ++ finally_in more;
+      })))
+      ∙ (λ j. record {
+        main = sym (append_assoc ended.main (main_part here asked) []) j;
+        threads = sym (append_assoc ended.threads (thread_part here asked) (thread_part (Some next) (asked_in_section more) ++ threads_in more)) j;
+        finally = sym (append_assoc ended.finally (finally_part here asked) (finally_part (Some next) (asked_in_section more) ++ finally_in more)) j;
+      })
 
-  module _ (text rest : List ℕ) (are : lines_of rest ≡ line ∷ more) where
-    -- a line that is not read is why the text is not read
-    pub unread : (e : ReadFault) → fault_from number names (lines_of rest) ≡ script_fault text → IsWhyLineUnread number names line e → IsWhyTextUnread text e
-    unread (read.Fault f) so_far h =
-        sym so_far ∙ ap (fault_from number names) are ∙ fault_from-here f.kind h.1 ∙ (λ j. Some (record { line = sym h.0 j; kind = f.kind }))
-    unread read.OutOfMemory so_far h = tt
+-- the thread sections so far are numbered in their order, and there are at most 63
+abbrev pub IsCounted : Option Section → ℕ → Type 0
+IsCounted None count = count ≡ 0
+IsCounted (Some (section.Thread k)) count = (count + 1 ≡ k) × (k ≤ 63)
+IsCounted (Some section.Finally) count = count ≤ 63
 
-    -- the first fault comes behind a line without one
-    pub fault_from-next : (after : List ℕ) (later : List Name) → more ≡ lines_of after → fault_from number names (lines_of rest) ≡ script_fault text → line_fault names line ≡ None → later ≡ names_behind_line names line
-        → fault_from (number + 1) later (lines_of after) ≡ script_fault text
-    fault_from-next after later same so_far none made =
-        (λ j. fault_from (number + 1) (made j) (sym same j)) ∙ sym (fault_from-later none) ∙ ap (fault_from number names) (sym are) ∙ so_far
+counted-thread : (here : Option Section) (asked : List Numbered) (count k : ℕ) → IsCounted here count → may_follow here (section.Thread k) ≡ true → (count + length (thread_part here asked) + 1 ≡ k) × (k ≤ 63)
+counted-thread None asked count k c f = let e = eqb-true k 1 f in (omega (arith, c, e), omega (arith, e))
+counted-thread (Some (section.Thread n)) asked count k c f = (grind (arith, nat_tests), grind (arith, nat_tests))
+counted-thread (Some section.Finally) asked count k c f = absurd (true≢false (sym f))
 
-    -- and so does what is asked for behind that line
-    pub commands_from-next : (after : List ℕ) (later : List Name) (commands now : List Numbered) → more ≡ lines_of after → commands ++ commands_from number names (lines_of rest) ≡ commands_of text
-        → now ≡ commands ++ numbered_on number names line → later ≡ names_behind_line names line → now ++ commands_from (number + 1) later (lines_of after) ≡ commands_of text
-    commands_from-next after later commands now same so_far own made =
-        (λ j. own j ++ commands_from (number + 1) (made j) (sym same j)) ∙ append_assoc commands (numbered_on number names line) _
-        ∙ ap (λ ls. commands ++ commands_from number names ls) (sym are) ∙ so_far
+counted-here : (here : Option Section) (asked : List Numbered) (count : ℕ) → IsCounted here count → count + length (thread_part here asked) ≤ 63
+counted-here None asked count c = omega (arith, c)
+counted-here (Some (section.Thread n)) asked count c = omega (arith, c.0, c.1)
+counted-here (Some section.Finally) asked count c = omega (arith, c)
+
+-- a section more
+pub IsCounted-next : (here : Option Section) (next : Section) (ended : Sections) (asked : List Numbered) → IsCounted here (length ended.threads) → may_follow here next ≡ true
+    → IsCounted (Some next) (length (joined ended (part_of here asked)).threads)
+IsCounted-next here (section.Thread k) ended asked c f =
+    let t = counted-thread here asked (length ended.threads) k c f in (omega (arith, t.0, length-append ended.threads (thread_part here asked)), t.1)
+IsCounted-next here section.Finally ended asked c f = omega (arith, counted-here here asked (length ended.threads) c, length-append ended.threads (thread_part here asked))
+
+pub few-threads : (here : Option Section) (ended : Sections) (asked : List Numbered) → IsCounted here (length ended.threads) → length (joined ended (part_of here asked)).threads ≤ 63
+few-threads here ended asked c = omega (arith, counted-here here asked (length ended.threads) c, length-append ended.threads (thread_part here asked))
+
+-- how far a text is read: these lines are, and the rest leaves the first fault and what the text asks for
+pub record Reached (text rest : List ℕ) (number : ℕ) (scope : Scope) (ended : Sections) (asked : List Numbered) : Type 0 where
+  pub before : List Line
+  pub stands : scope ≡ scope_of before
+  pub numbered : number ≡ length before + 1
+  pub fault : first_fault number (with_before before (lines_of rest)) ≡ script_fault text
+  pub sections : total ended scope.section asked (with_before before (lines_of rest)) ≡ sections_of text
+  pub counted : IsCounted scope.section (length ended.threads)
+
+pub Reached-start : (text : List ℕ) (scope : Scope) (ended : Sections) (asked : List Numbered) → scope ≡ scope_of [] → ended ≡ nothing → asked ≡ [] → Reached text text 1 scope ended asked
+Reached-start text scope ended asked at none empty = record {
+  before = [];
+  stands = at;
+  numbered = refl;
+  fault = refl;
+  sections = (λ j. total (none j) (at j).section (empty j) (with_before [] (lines_of text))) ∙ total-start (with_before [] (lines_of text));
+  counted = rw (at, none) refl;
+}
+
+pub Reached-end : (text rest : List ℕ) (number : ℕ) (scope : Scope) (ended : Sections) (asked : List Numbered) → length rest ≡ 0 → Reached text rest number scope ended asked
+    → (script_fault text ≡ None) × (joined ended (part_of scope.section asked) ≡ sections_of text)
+Reached-end text [] number scope ended asked empty reached = (sym reached.fault, sym (total-end ended scope.section asked) ∙ reached.sections)
+Reached-end text (b ∷ bs) number scope ended asked empty reached = absurd (omega arith)
+
+module _ (text rest : List ℕ) (number : ℕ) (scope : Scope) (whole : Sections) (asked : List Numbered) (reached : Reached text rest number scope whole asked) where
+  -- a line that is not read is why the text is not read
+  pub unread : (line : Line) (later : List Line) → lines_of rest ≡ line ∷ later → (e : ReadFault) → IsWhyLineUnread number scope line e → IsWhyTextUnread text e
+  unread line later are (read.Fault f) h =
+      sym reached.fault ∙ ap (λ ls. first_fault number (with_before reached.before ls)) are
+      ∙ ap (λ o. option_map_or (λ kind. Some (record { line = number; kind = kind })) o (first_fault (number + 1) (with_before (reached.before ++ line ∷ []) later)))
+      (ap (λ s. line_fault s line) (sym reached.stands) ∙ h.1)
+      ∙ (λ j. Some (record { line = sym h.0 j; kind = f.kind }))
+  unread line later are read.OutOfMemory h = tt
+
+  module _ (after bytes : List ℕ) (are : lines_of rest ≡ ended bytes ∷ lines_of after) (faultless : line_fault scope (ended bytes) ≡ None)
+      (next_scope : Scope) (behind : next_scope ≡ scope_behind_words scope (words_of bytes)) where
+    abbrev line : Line
+    line = ended bytes
+
+    abbrev later : List (List Line × Line)
+    later = with_before (reached.before ++ line ∷ []) (lines_of after)
+
+    next-stands : next_scope ≡ scope_of (reached.before ++ line ∷ [])
+    next-stands = behind ∙ ap (λ s. scope_behind_line s line) reached.stands ∙ sym (scope_behind_lines-push at_start reached.before line)
+
+    next-numbered : number + 1 ≡ length (reached.before ++ line ∷ []) + 1
+    next-numbered = omega (arith, reached.numbered, length-append reached.before (line ∷ []))
+
+    next-fault : first_fault (number + 1) later ≡ script_fault text
+    next-fault =
+        ap (λ o. option_map_or (λ kind. Some (record { line = number; kind = kind })) o (first_fault (number + 1) later)) (sym faultless ∙ ap (λ s. line_fault s line) reached.stands)
+        ∙ ap (λ ls. first_fault number (with_before reached.before ls)) (sym are) ∙ reached.fault
+
+    so-far : total whole scope.section asked ((reached.before, line) ∷ later) ≡ sections_of text
+    so-far = ap (λ ls. total whole scope.section asked (with_before reached.before ls)) (sym are) ∙ reached.sections
+
+    asked-is : asked_at (reached.before, line) ≡ map (λ c. record { line = number; command = c }) (commands_in scope.names (words_of bytes))
+    asked-is = λ j. map (λ c. record { line = sym reached.numbered j; command = c }) (commands_in (sym reached.stands j).names (words_of bytes))
+
+    -- the line begins no section, and asks for these
+    next-asked : (commands : List Command) (next_asked : List Numbered) → section_of (words_of bytes) ≡ None → commands_in scope.names (words_of bytes) ≡ commands
+        → next_asked ≡ asked ++ map (λ c. record { line = number; command = c }) commands → Reached text after (number + 1) next_scope whole next_asked
+    next-asked commands next_asked none are_commands is =
+        let same : next_scope.section ≡ scope.section =
+        ap (λ s. s.section) behind ∙ ap (λ o. (option_map_or (begun scope) o (with_names scope (names_behind_words scope.names (words_of bytes)))).section) none in
+        let own : next_asked ≡ asked ++ asked_at (reached.before, line) =
+        is ∙ ap (λ cs. asked ++ map (λ c. record { line = number; command = c }) cs) (sym are_commands) ∙ ap (λ l. asked ++ l) (sym asked-is) in
+        record {
+          before = reached.before ++ line ∷ [];
+          stands = next-stands;
+          numbered = next-numbered;
+          fault = next-fault;
+          sections = (λ j. total whole (same j) (own j) later) ∙ sym (total-line (reached.before, line) later whole scope.section asked none) ∙ so-far;
+          counted = rw same reached.counted;
+        }
+
+    -- the line begins a section
+    next-section : (next : Section) (next_whole : Sections) (next_asked : List Numbered) → section_of (words_of bytes) ≡ Some next → may_follow scope.section next ≡ true
+        → next_whole ≡ joined whole (part_of scope.section asked) → next_asked ≡ [] → Reached text after (number + 1) next_scope next_whole next_asked
+    next-section next next_whole next_asked is follows ends empty =
+        let begins : next_scope.section ≡ Some next =
+        ap (λ s. s.section) behind ∙ ap (λ o. (option_map_or (begun scope) o (with_names scope (names_behind_words scope.names (words_of bytes)))).section) is in
+        record {
+          before = reached.before ++ line ∷ [];
+          stands = next-stands;
+          numbered = next-numbered;
+          fault = next-fault;
+          sections = (λ j. total (ends j) (begins j) (empty j) later) ∙ sym (total-section (reached.before, line) later whole scope.section next asked is) ∙ so-far;
+          counted = rw (begins, ends) (IsCounted-next scope.section next whole asked reached.counted follows);
+        }
+
+    -- one line more
+    pub Reached-next : (says : Option Said) (next_whole : Sections) (next_asked : List Numbered) → Says scope (words_of bytes) says → IsTaken number scope.section says whole asked next_whole next_asked
+        → Reached text after (number + 1) next_scope next_whole next_asked
+    Reached-next None next_whole next_asked s t = rw t.0 (next-asked [] next_asked s.0 s.1 (t.1 ∙ sym (append-nil asked)))
+    Reached-next (Some (said.Section next)) next_whole next_asked s t = next-section next next_whole next_asked s.0 s.1 t.0 t.1
+    Reached-next (Some (said.Command command)) next_whole next_asked s t = rw t.0 (next-asked (command ∷ []) next_asked s.0 s.1 t.1)

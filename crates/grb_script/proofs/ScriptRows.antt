@@ -13,12 +13,16 @@ use Rattle.grb_script.specs.declared.command.Numbered.{Numbered}
 use Rattle.grb_script.specs.declared.names.Sort.TheVariants as sort
 use Rattle.grb_script.specs.declared.statement.Statement.{Statement as SaidStatement}
 use Rattle.grb_script.specs.declared.statement.Statement.TheVariants as statement
-use Rattle.grb_script.specs.Script.{commands_of}
+use Rattle.grb_script.specs.Script.{sections_of}
 use Rattle.grb_script.specs.ScriptFault.{script_fault}
 
 -- the text has this first fault
 abbrev IsFaulty : List ℕ → ℕ → FaultKind → Type 0
 IsFaulty text line kind = script_fault text ≡ Some (record { line = line; kind = kind })
+
+-- what main asks for
+abbrev main_of : List ℕ → List Numbered
+main_of text = (sections_of text).main
 
 -- a statement on the line of this number, and a load
 abbrev says : ℕ → SaidStatement → Numbered
@@ -35,20 +39,20 @@ ended line = line ++ 10 ∷ []
 abbrev first : List ℕ
 first = ended (codes "vector v uint64 5") ++ ended (codes "set v 2 7") ++ ended (codes "get v 2") ++ ended (codes "nvals v")
 
-no_text : (script_fault [] ≡ None) × (commands_of [] ≡ [])
+no_text : (script_fault [] ≡ None) × (main_of [] ≡ [])
 no_text = (refl, refl)
 
-one_empty_line : (script_fault (10 ∷ []) ≡ None) × (commands_of (10 ∷ []) ≡ [])
+one_empty_line : (script_fault (10 ∷ []) ≡ None) × (main_of (10 ∷ []) ≡ [])
 one_empty_line = (refl, refl)
 
-first_script : (script_fault first ≡ None) × (commands_of first ≡ says 1 (statement.Vector domain.Uint64 5) ∷ says 2 (statement.SetVector 0 2 (value.Uint64 7)) ∷ says 3 (statement.GetVector 0 2) ∷ says 4 (statement.Nvals 0 sort.Vector) ∷ [])
+first_script : (script_fault first ≡ None) × (main_of first ≡ says 1 (statement.Vector domain.Uint64 5) ∷ says 2 (statement.SetVector 0 2 (value.Uint64 7)) ∷ says 3 (statement.GetVector 0 2) ∷ says 4 (statement.Nvals 0 sort.Vector) ∷ [])
 first_script = (refl, refl)
 
 -- names count from 0 in the order of making; comments, lines of spaces and many spaces are skipped
 abbrev two_names : List ℕ
 two_names = ended (codes "# names") ++ ended (codes "vector a bool 1") ++ ended (codes "   ") ++ ended (codes "  vector   b_2 uint64 18446744073709551615 ") ++ ended (codes "  # more") ++ ended (codes "set a 0 false") ++ ended (codes "get b_2 18446744073709551615")
 
-numbered : (script_fault two_names ≡ None) × (commands_of two_names ≡ says 2 (statement.Vector domain.Bool 1) ∷ says 4 (statement.Vector domain.Uint64 18446744073709551615) ∷ says 6 (statement.SetVector 0 0 (value.Bool false)) ∷ says 7 (statement.GetVector 1 18446744073709551615) ∷ [])
+numbered : (script_fault two_names ≡ None) × (main_of two_names ≡ says 2 (statement.Vector domain.Bool 1) ∷ says 4 (statement.Vector domain.Uint64 18446744073709551615) ∷ says 6 (statement.SetVector 0 0 (value.Bool false)) ∷ says 7 (statement.GetVector 1 18446744073709551615) ∷ [])
 numbered = (refl, refl)
 
 unended : IsFaulty (ended (codes "vector v uint64 5") ++ codes "nvals v") 2 UnendedLine
@@ -60,10 +64,10 @@ carriage_return = refl
 delete_in_a_comment : IsFaulty (ended (ended [] ++ codes "# " ++ 127 ∷ [])) 2 BadByte
 delete_in_a_comment = refl
 
-section : IsFaulty (ended (codes "thread 1")) 1 Section
+section : IsFaulty (ended (codes "thread 2")) 1 Section
 section = refl
 
-section_behind_a_space : IsFaulty (ended (codes " finally")) 1 Section
+section_behind_a_space : IsFaulty (ended (codes " finally x")) 1 Section
 section_behind_a_space = refl
 
 leading_zero : IsFaulty (ended (codes "vector v uint64 05")) 1 Statement
@@ -101,6 +105,49 @@ earlier_line = refl
 unended_before_bad_byte : IsFaulty (codes "thread" ++ 0 ∷ []) 1 UnendedLine
 unended_before_bad_byte = refl
 
+-- main, two thread sections and `finally`: the names of main stand in each, and each section has its own
+abbrev sectioned : List ℕ
+sectioned =
+    ended (codes "vector v bool 1") ++ ended (codes "thread 1") ++ ended (codes "vector w bool 2") ++ ended (codes "nvals w") ++ ended (codes " thread  2")
+    ++ ended (codes "matrix w bool 3 3") ++ ended (codes "nvals v") ++ ended (codes "finally") ++ ended (codes "# the end") ++ ended (codes "vector w bool 4") ++ ended (codes "free w")
+
+four_sections : (script_fault sectioned ≡ None) × (sections_of sectioned ≡ record {
+  main = says 1 (statement.Vector domain.Bool 1) ∷ [];
+  threads =
+      (says 3 (statement.Vector domain.Bool 2) ∷ says 4 (statement.Nvals 1 sort.Vector) ∷ [])
+      ∷ (says 6 (statement.Matrix domain.Bool 3 3) ∷ says 7 (statement.Nvals 0 sort.Vector) ∷ []) ∷ [];
+  finally = says 10 (statement.Vector domain.Bool 4) ∷ says 11 (statement.Free 1 sort.Vector) ∷ [];
+})
+four_sections = (refl, refl)
+
+-- a section may be empty
+empty_sections : (script_fault (ended (codes "thread 1") ++ ended (codes "thread 2") ++ ended (codes "finally")) ≡ None)
+    × (sections_of (ended (codes "thread 1") ++ ended (codes "thread 2") ++ ended (codes "finally")) ≡ record { main = []; threads = [] ∷ [] ∷ []; finally = [] })
+empty_sections = (refl, refl)
+
+-- names of one section in another
+name_of_another_section : IsFaulty (ended (codes "thread 1") ++ ended (codes "vector w bool 2") ++ ended (codes "thread 2") ++ ended (codes "nvals w")) 4 UnknownName
+name_of_another_section = refl
+
+name_of_main_made_again : IsFaulty (ended (codes "vector v bool 1") ++ ended (codes "thread 1") ++ ended (codes "vector v bool 1")) 3 NameTaken
+name_of_main_made_again = refl
+
+-- sections out of their order
+thread_left_out : IsFaulty (ended (codes "thread 1") ++ ended (codes "thread 3")) 2 Section
+thread_left_out = refl
+
+thread_twice : IsFaulty (ended (codes "thread 1") ++ ended (codes "thread 1")) 2 Section
+thread_twice = refl
+
+finally_twice : IsFaulty (ended (codes "finally") ++ ended (codes "finally")) 2 Section
+finally_twice = refl
+
+thread_behind_finally : IsFaulty (ended (codes "thread 1") ++ ended (codes "finally") ++ ended (codes "thread 2")) 3 Section
+thread_behind_finally = refl
+
+thread_of_a_leading_zero : IsFaulty (ended (codes "thread 01")) 1 Section
+thread_of_a_leading_zero = refl
+
 bad_byte_before_section : IsFaulty (ended (codes "thread" ++ 0 ∷ [])) 1 BadByte
 bad_byte_before_section = refl
 
@@ -114,7 +161,7 @@ statement_before_name_taken : IsFaulty (ended (codes "vector v bool 1") ++ ended
 statement_before_name_taken = refl
 
 -- a word of sections is one only where it begins a line
-name_of_a_section : (script_fault (ended (codes "vector thread uint64 5")) ≡ None) × (commands_of (ended (codes "vector thread uint64 5")) ≡ says 1 (statement.Vector domain.Uint64 5) ∷ [])
+name_of_a_section : (script_fault (ended (codes "vector thread uint64 5")) ≡ None) × (main_of (ended (codes "vector thread uint64 5")) ≡ says 1 (statement.Vector domain.Uint64 5) ∷ [])
 name_of_a_section = (refl, refl)
 
 longer_word : IsFaulty (ended (codes "threads")) 1 Statement
@@ -127,7 +174,7 @@ matrices =
     ++ ended (codes "get A 0 1") ++ ended (codes "resize A 5 6") ++ ended (codes "build A plus 1 0 8 0 1 true") ++ ended (codes "dup B A") ++ ended (codes "free A")
     ++ ended (codes "get A 0 0") ++ ended (codes "size B") ++ ended (codes "clear v")
 
-matrix_statements : (script_fault matrices ≡ None) × (commands_of matrices ≡ says 1 (statement.Vector domain.Bool 9) ∷ says 2 (statement.Matrix domain.Uint64 3 4) ∷ says 3 (statement.SetMatrix 1 2 3 (value.Uint64 7))
+matrix_statements : (script_fault matrices ≡ None) × (main_of matrices ≡ says 1 (statement.Vector domain.Bool 9) ∷ says 2 (statement.Matrix domain.Uint64 3 4) ∷ says 3 (statement.SetMatrix 1 2 3 (value.Uint64 7))
     ∷ says 4 (statement.RemoveMatrix 1 2 0) ∷ says 5 (statement.GetMatrix 1 0 1) ∷ says 6 (statement.ResizeMatrix 1 5 6)
     ∷ says 7 (statement.BuildMatrix 1 ((1, 0, value.Uint64 8) ∷ (0, 1, value.Bool true) ∷ []) monoid.Plus) ∷ says 8 (statement.Dup 1 sort.Matrix) ∷ says 9 (statement.Free 1 sort.Matrix)
     ∷ says 10 (statement.GetMatrix 1 0 0) ∷ says 11 (statement.Size 2 sort.Matrix) ∷ says 12 (statement.Clear 0 sort.Vector) ∷ [])
@@ -137,7 +184,7 @@ matrix_statements = (refl, refl)
 abbrev builds : List ℕ
 builds = ended (codes "vector v uint64 5") ++ ended (codes "build v plus") ++ ended (codes "build v min 2 5 0 false 2 6") ++ ended (codes "resize v 6") ++ ended (codes "remove v 5")
 
-vector_builds : (script_fault builds ≡ None) × (commands_of builds ≡ says 1 (statement.Vector domain.Uint64 5) ∷ says 2 (statement.BuildVector 0 [] monoid.Plus)
+vector_builds : (script_fault builds ≡ None) × (main_of builds ≡ says 1 (statement.Vector domain.Uint64 5) ∷ says 2 (statement.BuildVector 0 [] monoid.Plus)
     ∷ says 3 (statement.BuildVector 0 ((2, value.Uint64 5) ∷ (0, value.Bool false) ∷ (2, value.Uint64 6) ∷ []) monoid.Min) ∷ says 4 (statement.ResizeVector 0 6) ∷ says 5 (statement.RemoveVector 0 5) ∷ [])
 vector_builds = (refl, refl)
 
@@ -196,7 +243,7 @@ three = ended (codes "vector c uint64 3") ++ ended (codes "vector a uint64 3") +
 abbrev sums : List ℕ
 sums = three ++ ended (codes "ewiseadd c a c plus") ++ ended (codes "ewisemult M M M first mask M accum minus") ++ ended (codes "ewiseadd c a a second mask c structure comp accum max replace")
 
-element_wise : (script_fault sums ≡ None) × (commands_of sums ≡ says 1 (statement.Vector domain.Uint64 3) ∷ says 2 (statement.Vector domain.Uint64 3) ∷ says 3 (statement.Matrix domain.Uint64 3 3)
+element_wise : (script_fault sums ≡ None) × (main_of sums ≡ says 1 (statement.Vector domain.Uint64 3) ∷ says 2 (statement.Vector domain.Uint64 3) ∷ says 3 (statement.Matrix domain.Uint64 3 3)
     ∷ says 4 (statement.EwiseAdd (record { sort = sort.Vector; output = 0; mask = None; accum = None; op = op.Plus; left = 1; right = 0; descriptor = plain }))
     ∷ says 5 (statement.EwiseMult (record { sort = sort.Matrix; output = 2; mask = Some 2; accum = Some op.Minus; op = op.First; left = 2; right = 2; descriptor = plain }))
     ∷ says 6 (statement.EwiseAdd (record { sort = sort.Vector; output = 0; mask = Some 0; accum = Some op.Max; op = op.Second; left = 1; right = 1; descriptor = record { structure = true; comp = true; replace = true } })) ∷ [])
@@ -233,7 +280,7 @@ sort_of_mask = refl
 abbrev loaded : List ℕ
 loaded = ended (codes "# a graph") ++ ended (codes " load  P ../a-b/s.mtx ") ++ ended (codes "get P 0 1")
 
-one_load : (script_fault loaded ≡ None) × (commands_of loaded ≡ loads 2 (codes "../a-b/s.mtx") ∷ says 3 (statement.GetMatrix 0 0 1) ∷ [])
+one_load : (script_fault loaded ≡ None) × (main_of loaded ≡ loads 2 (codes "../a-b/s.mtx") ∷ says 3 (statement.GetMatrix 0 0 1) ∷ [])
 unfolding is_utf8 chars lib.Utf8.encode
 one_load = (refl, refl)
 

@@ -40,13 +40,16 @@ asking names words = if is_load words then asks_load (loading names (load_of wor
 abbrev pub names_asked : List Name → List Word → List Name
 names_asked names words = if is_load words then names_behind_load names (load_of words) else names_behind names (form_of words)
 
--- what a line asks for, if it asks for something: a line that is skipped does not
-abbrev pub commands_on : List Name → Line → List Command
-commands_on names line = if is_skipped (words_of line.bytes) then [] else option_to_list (result_ok (asking names (words_of line.bytes)))
+-- what the words of a line ask for, if they ask for something: those of a line that is skipped do not
+abbrev pub commands_in : List Name → List Word → List Command
+commands_in names words = if is_skipped words then [] else option_to_list (result_ok (asking names words))
 
--- the names that stand behind a line
-abbrev pub names_behind_line : List Name → Line → List Name
-names_behind_line names line = if is_skipped (words_of line.bytes) then names else names_asked names (words_of line.bytes)
+abbrev pub commands_on : List Name → Line → List Command
+commands_on names line = commands_in names (words_of line.bytes)
+
+-- the names that stand behind the words of a line
+abbrev pub names_behind_words : List Name → List Word → List Name
+names_behind_words names words = if is_skipped words then names else names_asked names words
 
 -- this is the path that a load asks for, and these are the names behind it
 pub record IsLoading (names : List Name) (load : Option (Word × Word)) (path : Word) (after : List Name) : Type 0 where

@@ -1,16 +1,80 @@
--- What a script asks for (own): one command for each line that is not skipped, with the number of the line and the numbers of its names.
-use Rattle.std.specs.Prelude.{ℕ, ◌+◌, List, [], length, map}
-use Rattle.std.specs.List.{flat_map}
+-- What a script asks for (own): one command for each line that is not skipped and begins no section, with the number of the line and
+-- the numbers of its names; the commands of main, of each thread section and of 'finally'.
+use Rattle.std.specs.Prelude.{ℕ, ◌+◌, not, List, [], ◌∷◌, ◌++◌, Option, Some, None, length, map, is_some}
+use Rattle.std.specs.List.{flat_map, take_while}
 use Rattle.grb_script.specs.declared.command.Numbered.{Numbered}
+use Rattle.grb_script.specs.declared.script.Script.{Script}
+use Rattle.grb_words.specs.declared.section.Section.{Section}
+use Rattle.grb_words.specs.declared.section.Section.TheVariants as section
 use Rattle.grb_words.specs.Line.{Line, lines_of}
 use Rattle.grb_script.specs.Command.{commands_on}
 use Rattle.grb_script.specs.Names.{Name}
-use Rattle.grb_script.specs.ScriptFault.{names_of, with_before}
+use Rattle.grb_script.specs.Scope.{section_on, scope_of}
+
+-- each line, behind the lines before it
+abbrev pub with_before : List Line → List Line → List (List Line × Line)
+with_before before [] = []
+with_before before (line ∷ more) = (before, line) ∷ with_before (before ++ line ∷ []) more
 
 -- what the line of this number asks for, if it asks for something
 abbrev pub numbered_on : ℕ → List Name → Line → List Numbered
 numbered_on number names line = map (λ c. record { line = number; command = c }) (commands_on names line)
 
--- what a text asks for, whose lines count from 1
-abbrev pub commands_of : List ℕ → List Numbered
-commands_of text = flat_map (λ p. numbered_on (length p.0 + 1) (names_of p.0) p.1) (with_before [] (lines_of text))
+-- what a line asks for behind the lines before it, which count from 1
+abbrev pub asked_at : List Line × Line → List Numbered
+asked_at p = numbered_on (length p.0 + 1) (scope_of p.0).names p.1
+
+-- what lines ask for, up to the first that begins a section
+abbrev pub asked_in_section : List (List Line × Line) → List Numbered
+asked_in_section lines = flat_map asked_at (take_while (λ p. not (is_some (section_on p.1))) lines)
+
+-- this, if it is asked for in a thread section, or in 'finally'
+abbrev pub thread_part : Option Section → List Numbered → List (List Numbered)
+thread_part (Some (section.Thread k)) asked = asked ∷ []
+thread_part (Some section.Finally) asked = []
+thread_part None asked = []
+
+abbrev pub finally_part : Option Section → List Numbered → List Numbered
+finally_part (Some (section.Thread k)) asked = []
+finally_part (Some section.Finally) asked = asked
+finally_part None asked = []
+
+-- what each thread section of these lines asks for, in their order
+abbrev pub threads_in : List (List Line × Line) → List (List Numbered)
+threads_in [] = []
+threads_in (p ∷ more) = thread_part (section_on p.1) (asked_in_section more) ++ threads_in more
+
+-- what stands behind 'finally' in these lines asks for
+abbrev pub finally_in : List (List Line × Line) → List Numbered
+finally_in [] = []
+finally_in (p ∷ more) = finally_part (section_on p.1) (asked_in_section more) ++ finally_in more
+
+-- what a script asks for, by its sections
+pub record Sections : Type 0 where
+  pub main : List Numbered
+  pub threads : List (List Numbered)
+  pub finally : List Numbered
+
+-- what these lines ask for, the first of which stands in main
+abbrev pub sections_in : List (List Line × Line) → Sections
+sections_in lines = record { main = asked_in_section lines; threads = threads_in lines; finally = finally_in lines }
+
+-- what a text asks for
+abbrev pub sections_of : List ℕ → Sections
+sections_of text = sections_in (with_before [] (lines_of text))
+
+-- a script as it is read, by its lists
+abbrev pub listed : Script → Sections
+listed script = record { main = script.main.items; threads = map (λ asked. asked.items) script.threads.items; finally = script.finally.items }
+
+-- what one section asks for, or main, as a part of a script
+abbrev pub main_part : Option Section → List Numbered → List Numbered
+main_part None asked = asked
+main_part (Some section) asked = []
+
+abbrev pub part_of : Option Section → List Numbered → Sections
+part_of section asked = record { main = main_part section asked; threads = thread_part section asked; finally = finally_part section asked }
+
+-- what two parts ask for, the second behind the first
+abbrev pub joined : Sections → Sections → Sections
+joined one other = record { main = one.main ++ other.main; threads = one.threads ++ other.threads; finally = one.finally ++ other.finally }

@@ -33,7 +33,7 @@ pub struct Elementwise {
 }
 
 /// Whether both sorts are one.
-pub fn is_same_sort(one: Sort, other: Sort) -> bool
+pub(crate) fn is_same_sort(one: Sort, other: Sort) -> bool
     ensures { result ≡ same_sort one other }
 {
     matches!(
@@ -43,7 +43,7 @@ pub fn is_same_sort(one: Sort, other: Sort) -> bool
 }
 
 /// Whether the object of the mask is of this sort, where one is given.
-pub fn mask_is_of(sort: Sort, mask: Option<(usize, Sort)>) -> bool
+pub(crate) fn mask_is_of(sort: Sort, mask: Option<(usize, Sort)>) -> bool
     ensures { result ≡ mask_is_of sort mask }
 {
     match mask {
@@ -53,7 +53,7 @@ pub fn mask_is_of(sort: Sort, mask: Option<(usize, Sort)>) -> bool
 }
 
 /// Whether these two objects, and that of the mask where one is given, are of this sort.
-pub fn are_of(
+pub(crate) fn are_of(
     sort: Sort,
     left: (usize, Sort),
     right: (usize, Sort),
@@ -74,7 +74,10 @@ fn statement_of(ewise: Ewise, says: Elementwise) -> Statement
 }
 
 /// The number and the sort of the name of the mask, where one is given.
-pub fn used_mask(mask: Option<&[u8]>, names: &Names) -> Result<Option<(usize, Sort)>, FaultKind>
+pub(crate) fn used_mask(
+    mask: Option<&[u8]>,
+    names: &Names,
+) -> Result<Option<(usize, Sort)>, FaultKind>
     ensures { result ≡ mask_found names.now (option_map (λ name. name.now) mask.entry) }
 {
     match mask {
@@ -131,7 +134,7 @@ fn ewise_of(
 }
 
 /// `ewiseadd NAME NAME NAME OP OPTIONS` or `ewisemult NAME NAME NAME OP OPTIONS`, where `output` is the first name.
-pub fn ewise(
+pub(crate) fn ewise(
     ewise: Ewise,
     output: &[u8],
     others: &[&[u8]],

@@ -1,4 +1,4 @@
-//! Scripts: from the bytes of a text to its commands, or to its first fault.
+//! Scripts: from the bytes of a text to its sections and their commands, or to its first fault.
 //!
 //! One unit is a command: one line of a script, which is a statement of one call, or the load of a file. Names stand in it as numbers, so
 //! what a statement calls is determined by it and by the numbers of the objects that were made. Nothing here makes a call, and nothing here
@@ -8,8 +8,11 @@
 mod command;
 mod ewise;
 mod fault;
+mod laws;
+mod line;
 mod names;
 mod product;
+mod scope;
 mod script;
 mod statement;
 
@@ -17,7 +20,8 @@ pub use command::{Command, FilePath, Numbered};
 pub use ewise::Elementwise;
 pub use fault::{ReadFault, ScriptFault};
 pub use grb_words::FaultKind;
+pub use laws::a_script_without_threads_is_read_line_by_line;
 pub use names::Sort;
 pub use product::{Product, Reduction};
-pub use script::read_script;
+pub use script::{Script, read_script};
 pub use statement::Statement;

@@ -1,4 +1,4 @@
-ghost use Rattle.std.specs.Prelude.{◌≡◌, [], ◌∷◌, ◌++◌, OnOk, OnErr, false};
+ghost use Rattle.std.specs.Prelude.{◌≡◌, [], ◌∷◌, ◌++◌, OnOk, OnErr, false, length, take};
 ghost use Rattle.grb_script.specs.Names.{stands, name_found};
 
 use indexmap::IndexMap;
@@ -14,10 +14,10 @@ pub enum Sort {
     Vector,
 }
 
-/// The names that a script has made so far, in the order of making, each with the sort of the object that it stands for. A name's
-/// number is its place, from 0.
+/// The names that stand in a section of a script, in the order of making, each with the sort of the object that it stands for: those of
+/// main, and then those of the section. A name's number is its place, from 0.
 #[derive(Drop)]
-pub struct Names {
+pub(crate) struct Names {
     sorts: IndexMap<Vec<u8>, Sort>,
 }
 
@@ -32,7 +32,7 @@ impl Model for Names {
 
 impl Names {
     /// No names.
-    pub fn new(alloc: Global) -> Names
+    pub(crate) fn new(alloc: Global) -> Names
         ensures { result ≡ [] }
     {
         Names {
@@ -41,15 +41,29 @@ impl Names {
     }
 
     /// The number and the sort of a name, if it stands.
-    pub fn find(&self, name: &[u8]) -> Option<(usize, Sort)>
+    pub(crate) fn find(&self, name: &[u8]) -> Option<(usize, Sort)>
         ensures { result ≡ name_found self.now name.now }
     {
         let (number, _, sort) = self.sorts.get_full(name)?;
         Some((number, *sort))
     }
 
+    /// How many names stand.
+    pub(crate) fn len(&self) -> usize
+        ensures { result ≡ length self.now }
+    {
+        self.sorts.len()
+    }
+
+    /// Keeps this many of the names, the first ones. Takes no memory.
+    pub(crate) fn truncate(&mut self, count: usize)
+        ensures { self.new ≡ take count self.old }
+    {
+        self.sorts.truncate(count);
+    }
+
     /// Makes a name for an object of this sort. Its number is how many names stood before.
-    pub fn make(&mut self, name: &[u8], sort: Sort) -> Result<(), AllocError>
+    pub(crate) fn make(&mut self, name: &[u8], sort: Sort) -> Result<(), AllocError>
         requires { stands self.old name.now ≡ false }
         ensures made { OnOk result (self.new ≡ self.old ++ (name.now, sort) ∷ []) }
         ensures err { OnErr result (self.new ≡ self.old) }

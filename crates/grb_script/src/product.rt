@@ -122,7 +122,7 @@ fn product_of(
 }
 
 /// `mxv NAME NAME NAME SEMIRING OPTIONS` or `mxm NAME NAME NAME SEMIRING OPTIONS`, where `output` is the first name.
-pub fn read_product(
+pub(crate) fn read_product(
     multiply: Multiply,
     output: &[u8],
     others: &[&[u8]],
@@ -171,7 +171,7 @@ fn reduction_of(
 }
 
 /// `reduce NAME NAME MONOID OPTIONS`, where `output` is the first name.
-pub fn read_reduction(
+pub(crate) fn read_reduction(
     output: &[u8],
     others: &[&[u8]],
     names: &Names,

@@ -15,8 +15,8 @@ use grb_words::{
 };
 use std::alloc::Global;
 
-/// One statement of a script. Names stand as their numbers: the n-th name that the script makes, for a matrix or a vector, has the
-/// number n, from 0. Indices begin at 0.
+/// One statement of a script. Names stand as their numbers: the n-th name that stands in the section, for a matrix or a vector, has the
+/// number n, from 0, those of main before those of the section. Indices begin at 0.
 #[derive(Debug, PartialEq, Eq, Drop)]
 pub enum Statement {
     /// `matrix NAME DOMAIN R C` makes a matrix, and the next name for it.
@@ -138,7 +138,7 @@ pub enum Statement {
 }
 
 /// The number and the sort of the name that a statement uses.
-pub fn used(name: &[u8], names: &Names) -> Result<(usize, Sort), FaultKind>
+pub(crate) fn used(name: &[u8], names: &Names) -> Result<(usize, Sort), FaultKind>
     ensures { result ≡ ok_or (name_found names.now name.now) FaultKind.UnknownName }
 {
     names.find(name).ok_or(FaultKind::UnknownName)
@@ -337,7 +337,7 @@ fn wait(name: &[u8], others: &[&[u8]], names: &Names) -> Result<Statement, Fault
 }
 
 /// The statement that these words spell where these names stand, or what is wrong with it. The name that it makes joins the names.
-pub fn read_statement(
+pub(crate) fn read_statement(
     alloc: Global,
     words: &[&[u8]],
     names: &mut Names,

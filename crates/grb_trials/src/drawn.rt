@@ -3,6 +3,7 @@ ghost use Rattle.std.specs.Prelude.{◌≡◌, ◌<◌};
 ghost use Rattle.grb_core.specs.Contents.{IsDimension};
 ghost use Rattle.grb_core.specs.Operator.{op_domain};
 
+use crate::choices::op_of;
 use crate::options::{
     Operation, Options, Tables, accum_of, expect_combined_matrix, expect_combined_vector,
 };
@@ -52,39 +53,12 @@ impl Draw {
         }
     }
 
-    fn logical_op(&mut self) -> BinaryOp
-        ensures { op_domain result ≡ Domain.Bool }
-    {
-        match self.below(6) {
-            0 => BinaryOp::Lor,
-            1 => BinaryOp::Land,
-            2 => BinaryOp::Lxor,
-            3 => BinaryOp::Lxnor,
-            4 => BinaryOp::FirstBool,
-            _ => BinaryOp::SecondBool,
-        }
-    }
-
-    fn number_op(&mut self) -> BinaryOp
-        ensures { op_domain result ≡ Domain.Uint64 }
-    {
-        match self.below(7) {
-            0 => BinaryOp::Plus,
-            1 => BinaryOp::Times,
-            2 => BinaryOp::Min,
-            3 => BinaryOp::Max,
-            4 => BinaryOp::Minus,
-            5 => BinaryOp::First,
-            _ => BinaryOp::Second,
-        }
-    }
-
     pub(crate) fn op(&mut self, domain: Domain) -> BinaryOp
         ensures { op_domain result ≡ domain }
     {
         match domain {
-            Domain::Bool => self.logical_op(),
-            Domain::Uint64 => self.number_op(),
+            Domain::Bool => op_of(domain, self.below(6)),
+            Domain::Uint64 => op_of(domain, self.below(7)),
         }
     }
 

@@ -1,14 +1,14 @@
 //! Element-wise operations at their edges: one object in every part, objects that store nothing, one row, the last cell, each operator.
-ghost use Rattle.std.specs.Prelude.{◌≡◌, true, IfOk};
+ghost use Rattle.std.specs.Prelude.{◌≡◌};
 
 use crate::options::{
-    Operation, Options, expect_combined_matrix, expect_combined_vector, tables_of,
+    Operation, Options, combine_matrix_with_itself, combine_vector_with_itself,
+    expect_combined_matrix, expect_combined_vector, tables_of,
 };
 use crate::tables::{expect_matrix, expect_vector, matrix_of, vector_of};
+use crate::tuples::{expect_matrix_tuples, matrix_of_tuples};
 use grb_call::Descriptor;
-use grb_core::{BinaryOp, Domain, Monoid, Value};
-use grb_ops::{ewise_add_matrix, ewise_add_vector, ewise_mult_matrix, ewise_mult_vector};
-use grb_sparse::SparseMatrix;
+use grb_core::{BinaryOp, Domain};
 use std::alloc::{AllocError, Global};
 use std::process::Abort;
 use std::test::Fail;
@@ -38,61 +38,87 @@ static SUMS: [Option<u64>; 4] = [
 
 static PRODUCTS: [Option<u64>; 4] = [Some(25), None, None, Some(4)];
 
+/// A sum taken from the output where the mask lets it through.
+fn taken_away() -> Options
+    ensures { result.domain ≡ Domain.Uint64 }
+{
+    Options {
+        operation: Operation::Add,
+        domain: Domain::Uint64,
+        mask_domain: Domain::Uint64,
+        masked: true,
+        accumulated: true,
+        accum: BinaryOp::Minus,
+        op: BinaryOp::Plus,
+        descriptor: PLAIN,
+    }
+}
+
+/// A product in place of what the output stores.
+fn in_its_place() -> Options
+    ensures { result.domain ≡ Domain.Uint64 }
+{
+    Options {
+        operation: Operation::Mult,
+        domain: Domain::Uint64,
+        mask_domain: Domain::Uint64,
+        masked: true,
+        accumulated: false,
+        accum: BinaryOp::Plus,
+        op: BinaryOp::Times,
+        descriptor: REPLACE,
+    }
+}
+
+/// An operation on one vector in all places, which stays as it was.
+fn expect_of_vector(
+    rt: &impl Abort,
+    alloc: Global,
+    options: Options,
+    want: &[Option<u64>],
+) -> Result<(), AllocError> {
+    let w = vector_of(alloc, options.domain, 4, &ONE)?;
+    let made = combine_vector_with_itself(alloc, options, &w)?;
+    expect_vector(rt, &made, want, 0);
+    expect_vector(rt, &w, &ONE, 1);
+    Ok(())
+}
+
 #[test]
 fn one_vector_may_be_output_mask_and_both_inputs(rt: HostRuntime) -> Result<(), Fail> {
-    let w = vector_of(rt.alloc(), Domain::Uint64, 4, &ONE)?;
-    let accum = Some(BinaryOp::Minus);
-    let made = ewise_add_vector(
-        rt.alloc(),
-        &w,
-        Some(&w),
-        accum,
-        BinaryOp::Plus,
-        &w,
-        &w,
-        PLAIN,
-    )?;
-    expect_vector(&rt, &made, &SUMS, 0);
-    expect_vector(&rt, &w, &ONE, 1);
+    expect_of_vector(&rt, rt.alloc(), taken_away(), &SUMS)?;
     Ok(())
 }
 
 #[test]
 fn one_vector_may_be_multiplied_with_itself_into_itself(rt: HostRuntime) -> Result<(), Fail> {
-    let w = vector_of(rt.alloc(), Domain::Uint64, 4, &ONE)?;
-    let op = BinaryOp::Times;
-    let made = ewise_mult_vector(rt.alloc(), &w, Some(&w), None, op, &w, &w, REPLACE)?;
-    expect_vector(&rt, &made, &PRODUCTS, 0);
-    expect_vector(&rt, &w, &ONE, 1);
+    expect_of_vector(&rt, rt.alloc(), in_its_place(), &PRODUCTS)?;
+    Ok(())
+}
+
+/// An operation on one matrix in all places, which stays as it was.
+fn expect_of_matrix(
+    rt: &impl Abort,
+    alloc: Global,
+    options: Options,
+    want: &[Option<u64>],
+) -> Result<(), AllocError> {
+    let c = matrix_of(alloc, options.domain, 2, 2, &ONE)?;
+    let made = combine_matrix_with_itself(alloc, options, &c)?;
+    expect_matrix(rt, &made, want, 0);
+    expect_matrix(rt, &c, &ONE, 1);
     Ok(())
 }
 
 #[test]
 fn one_matrix_may_be_output_mask_and_both_inputs(rt: HostRuntime) -> Result<(), Fail> {
-    let c = matrix_of(rt.alloc(), Domain::Uint64, 2, 2, &ONE)?;
-    let accum = Some(BinaryOp::Minus);
-    let made = ewise_add_matrix(
-        rt.alloc(),
-        &c,
-        Some(&c),
-        accum,
-        BinaryOp::Plus,
-        &c,
-        &c,
-        PLAIN,
-    )?;
-    expect_matrix(&rt, &made, &SUMS, 0);
-    expect_matrix(&rt, &c, &ONE, 1);
+    expect_of_matrix(&rt, rt.alloc(), taken_away(), &SUMS)?;
     Ok(())
 }
 
 #[test]
 fn one_matrix_may_be_multiplied_with_itself_into_itself(rt: HostRuntime) -> Result<(), Fail> {
-    let c = matrix_of(rt.alloc(), Domain::Uint64, 2, 2, &ONE)?;
-    let op = BinaryOp::Times;
-    let made = ewise_mult_matrix(rt.alloc(), &c, Some(&c), None, op, &c, &c, REPLACE)?;
-    expect_matrix(&rt, &made, &PRODUCTS, 0);
-    expect_matrix(&rt, &c, &ONE, 1);
+    expect_of_matrix(&rt, rt.alloc(), in_its_place(), &PRODUCTS)?;
     Ok(())
 }
 
@@ -186,37 +212,34 @@ fn each_operator_combines_in_its_order(rt: HostRuntime) -> Result<(), Fail> {
     Ok(())
 }
 
-/// A matrix of the largest dimensions that stores 1, 2 and 9 in the last row or column.
-fn large_matrix(alloc: Global) -> Result<SparseMatrix, AllocError>
-    ensures domain { IfOk result (λ a. a.matrix.domain ≡ Domain.Uint64) }
-    ensures rows { IfOk result (λ a. a.matrix.nrows ≡ 4294967295) }
-    ensures columns { IfOk result (λ a. a.matrix.ncols ≡ 4294967295) }
-    ensures assembled { IfOk result (λ a. a.assembled ≡ true) }
-{
-    let tuples = [
-        (0, 4_294_967_294, Value::Uint64(1)),
-        (4_294_967_294, 0, Value::Uint64(2)),
-        (4_294_967_294, 4_294_967_294, Value::Uint64(9)),
-    ];
-    let mut a = SparseMatrix::new(alloc, Domain::Uint64, 4_294_967_295, 4_294_967_295);
-    a.build(&tuples, Monoid::Plus)?;
-    Ok(a)
-}
+/// The last index of the largest dimension.
+const LAST: u64 = 4_294_967_294;
 
-/// It stores three numbers, these, in the last row and column.
-fn expect_last(rt: &impl Abort, a: &SparseMatrix, above: u64, left: u64, corner: u64) {
-    let last = 4_294_967_294;
-    assert_eq!(rt; a.nvals(), 3);
-    assert_eq!(rt; a.get(0, last), Some(Value::Uint64(above)));
-    assert_eq!(rt; a.get(last, 0), Some(Value::Uint64(left)));
-    assert_eq!(rt; a.get(last, last), Some(Value::Uint64(corner)));
+const AT_THE_LAST: [(u64, u64, u64); 3] = [(0, LAST, 1), (LAST, 0, 2), (LAST, LAST, 9)];
+
+const TWICE: [(u64, u64, u64); 3] = [(0, LAST, 2), (LAST, 0, 4), (LAST, LAST, 18)];
+
+/// A sum with itself where it stores something other than 0.
+fn added_to_itself() -> Options
+    ensures { result.domain ≡ Domain.Uint64 }
+{
+    Options {
+        operation: Operation::Add,
+        domain: Domain::Uint64,
+        mask_domain: Domain::Uint64,
+        masked: true,
+        accumulated: false,
+        accum: BinaryOp::Plus,
+        op: BinaryOp::Plus,
+        descriptor: PLAIN,
+    }
 }
 
 #[test]
 fn the_last_row_and_column_take_part(rt: HostRuntime) -> Result<(), Fail> {
-    let a = large_matrix(rt.alloc())?;
-    let op = BinaryOp::Plus;
-    let sum = ewise_add_matrix(rt.alloc(), &a, Some(&a), None, op, &a, &a, PLAIN)?;
-    expect_last(&rt, &sum, 2, 4, 18);
+    let size = 4_294_967_295;
+    let a = matrix_of_tuples(rt.alloc(), Domain::Uint64, size, size, &AT_THE_LAST)?;
+    let sum = combine_matrix_with_itself(rt.alloc(), added_to_itself(), &a)?;
+    expect_matrix_tuples(&rt, &sum, Domain::Uint64, &TWICE, 0);
     Ok(())
 }

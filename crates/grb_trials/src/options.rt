@@ -168,6 +168,23 @@ pub(crate) fn combine_vectors(
     }
 }
 
+/// Calls an operation on one vector as output, mask and both inputs.
+pub(crate) fn combine_vector_with_itself(
+    alloc: Global,
+    options: Options,
+    w: &SparseVector,
+) -> Result<SparseVector, AllocError>
+    requires domain { w.now.vector.domain ≡ options.domain }
+    requires assembled { w.now.assembled ≡ true }
+{
+    let (mask, accum) = (Some(w), accum_of(options));
+    let (op, descriptor) = (options.op, options.descriptor);
+    match options.operation {
+        Operation::Add => ewise_add_vector(alloc, w, mask, accum, op, w, w, descriptor),
+        Operation::Mult => ewise_mult_vector(alloc, w, mask, accum, op, w, w, descriptor),
+    }
+}
+
 fn expect_made_vector(
     rt: &impl Abort,
     alloc: Global,
@@ -296,6 +313,23 @@ pub(crate) fn combine_matrices(
     match options.operation {
         Operation::Add => ewise_add_matrix(alloc, output, mask, accum, op, a, b, descriptor),
         Operation::Mult => ewise_mult_matrix(alloc, output, mask, accum, op, a, b, descriptor),
+    }
+}
+
+/// Calls an operation on one matrix as output, mask and both inputs.
+pub(crate) fn combine_matrix_with_itself(
+    alloc: Global,
+    options: Options,
+    c: &SparseMatrix,
+) -> Result<SparseMatrix, AllocError>
+    requires domain { c.now.matrix.domain ≡ options.domain }
+    requires assembled { c.now.assembled ≡ true }
+{
+    let (mask, accum) = (Some(c), accum_of(options));
+    let (op, descriptor) = (options.op, options.descriptor);
+    match options.operation {
+        Operation::Add => ewise_add_matrix(alloc, c, mask, accum, op, c, c, descriptor),
+        Operation::Mult => ewise_mult_matrix(alloc, c, mask, accum, op, c, c, descriptor),
     }
 }
 

@@ -208,6 +208,43 @@ fn wanted_folds(
     Ok(wanted)
 }
 
+/// mxm of these matrices.
+pub(crate) fn multiplied(
+    rt: &impl Abort,
+    alloc: Global,
+    choice: Choice,
+    output: &SparseMatrix,
+    mask: &SparseMatrix,
+    a: &SparseMatrix,
+    b: &SparseMatrix,
+) -> Result<SparseMatrix, AllocError>
+    requires domain { output.now.matrix.domain ≡ choice.domain }
+    requires assembled { output.now.assembled ≡ true }
+    requires mask_rows { mask.now.matrix.nrows ≡ output.now.matrix.nrows }
+    requires mask_columns { mask.now.matrix.ncols ≡ output.now.matrix.ncols }
+    requires mask_assembled { mask.now.assembled ≡ true }
+    requires a_domain { a.now.matrix.domain ≡ choice.domain }
+    requires a_rows { a.now.matrix.nrows ≡ output.now.matrix.nrows }
+    requires a_assembled { a.now.assembled ≡ true }
+    requires b_domain { b.now.matrix.domain ≡ choice.domain }
+    requires b_rows { b.now.matrix.nrows ≡ a.now.matrix.ncols }
+    requires b_columns { b.now.matrix.ncols ≡ output.now.matrix.ncols }
+    requires b_assembled { b.now.assembled ≡ true }
+{
+    let mask = if choice.masked { Some(mask) } else { None };
+    let (accum, semiring) = (accum_of(choice), semiring_of(rt, choice));
+    mxm(
+        alloc,
+        output,
+        mask,
+        accum,
+        semiring,
+        a,
+        b,
+        choice.descriptor,
+    )
+}
+
 /// mxm of the matrices of the first two tables.
 fn product(
     rt: &impl Abort,
@@ -229,18 +266,7 @@ fn product(
     let (rows, inner, columns) = (dims.rows, dims.inner, dims.columns);
     let a = matrix_of(alloc, choice.domain, rows, inner, &tables.first)?;
     let b = matrix_of(alloc, choice.domain, inner, columns, &tables.second)?;
-    let mask = if choice.masked { Some(mask) } else { None };
-    let (accum, semiring) = (accum_of(choice), semiring_of(rt, choice));
-    mxm(
-        alloc,
-        output,
-        mask,
-        accum,
-        semiring,
-        &a,
-        &b,
-        choice.descriptor,
-    )
+    multiplied(rt, alloc, choice, output, mask, &a, &b)
 }
 
 fn expect_product(
@@ -273,6 +299,41 @@ pub(crate) fn expect_mxm(
     expect_product(rt, alloc, choice, dims, tables, &made, case)
 }
 
+/// mxv of this matrix and this vector.
+pub(crate) fn column_of(
+    rt: &impl Abort,
+    alloc: Global,
+    choice: Choice,
+    output: &SparseVector,
+    mask: &SparseVector,
+    a: &SparseMatrix,
+    u: &SparseVector,
+) -> Result<SparseVector, AllocError>
+    requires domain { output.now.vector.domain ≡ choice.domain }
+    requires assembled { output.now.assembled ≡ true }
+    requires mask_size { mask.now.vector.size ≡ output.now.vector.size }
+    requires mask_assembled { mask.now.assembled ≡ true }
+    requires a_domain { a.now.matrix.domain ≡ choice.domain }
+    requires a_rows { a.now.matrix.nrows ≡ output.now.vector.size }
+    requires a_assembled { a.now.assembled ≡ true }
+    requires u_domain { u.now.vector.domain ≡ choice.domain }
+    requires u_size { u.now.vector.size ≡ a.now.matrix.ncols }
+    requires u_assembled { u.now.assembled ≡ true }
+{
+    let mask = if choice.masked { Some(mask) } else { None };
+    let (accum, semiring) = (accum_of(choice), semiring_of(rt, choice));
+    mxv(
+        alloc,
+        output,
+        mask,
+        accum,
+        semiring,
+        a,
+        u,
+        choice.descriptor,
+    )
+}
+
 /// mxv of the matrix of the first table and the vector of the second.
 fn column(
     rt: &impl Abort,
@@ -292,18 +353,7 @@ fn column(
     let (rows, inner) = (dims.rows, dims.inner);
     let a = matrix_of(alloc, choice.domain, rows, inner, &tables.first)?;
     let u = vector_of(alloc, choice.domain, inner, &tables.second)?;
-    let mask = if choice.masked { Some(mask) } else { None };
-    let (accum, semiring) = (accum_of(choice), semiring_of(rt, choice));
-    mxv(
-        alloc,
-        output,
-        mask,
-        accum,
-        semiring,
-        &a,
-        &u,
-        choice.descriptor,
-    )
+    column_of(rt, alloc, choice, output, mask, &a, &u)
 }
 
 fn expect_column(
@@ -335,6 +385,27 @@ pub(crate) fn expect_mxv(
     expect_column(rt, alloc, choice, dims, tables, &made, case)
 }
 
+/// The reduction of the rows of this matrix.
+pub(crate) fn folds_of(
+    alloc: Global,
+    choice: Choice,
+    output: &SparseVector,
+    mask: &SparseVector,
+    a: &SparseMatrix,
+) -> Result<SparseVector, AllocError>
+    requires domain { output.now.vector.domain ≡ choice.domain }
+    requires assembled { output.now.assembled ≡ true }
+    requires mask_size { mask.now.vector.size ≡ output.now.vector.size }
+    requires mask_assembled { mask.now.assembled ≡ true }
+    requires a_domain { a.now.matrix.domain ≡ choice.domain }
+    requires a_rows { a.now.matrix.nrows ≡ output.now.vector.size }
+    requires a_assembled { a.now.assembled ≡ true }
+{
+    let mask = if choice.masked { Some(mask) } else { None };
+    let (accum, monoid) = (accum_of(choice), choice.monoid);
+    reduce_rows(alloc, output, mask, accum, monoid, a, choice.descriptor)
+}
+
 /// The reduction of the rows of the matrix of the first table.
 fn folds(
     alloc: Global,
@@ -351,9 +422,7 @@ fn folds(
     requires mask_assembled { mask.now.assembled ≡ true }
 {
     let a = matrix_of(alloc, choice.domain, dims.rows, dims.inner, &tables.first)?;
-    let mask = if choice.masked { Some(mask) } else { None };
-    let (accum, monoid) = (accum_of(choice), choice.monoid);
-    reduce_rows(alloc, output, mask, accum, monoid, &a, choice.descriptor)
+    folds_of(alloc, choice, output, mask, &a)
 }
 
 fn expect_folded(

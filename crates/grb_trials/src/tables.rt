@@ -12,7 +12,7 @@ use std::process::Abort;
 pub(crate) type Table = Vec<Option<u64>>;
 
 /// A number as a value of a domain.
-fn value_of(domain: Domain, n: u64) -> Value
+pub(crate) fn value_of(domain: Domain, n: u64) -> Value
     ensures { value_domain result ≡ domain }
 {
     match domain {

@@ -45,7 +45,7 @@ abbrev pub is_skipped : List Word → Bool
 is_skipped [] = true
 is_skipped (word ∷ words) = slice_index word 0 == 35
 
--- a line that begins with one of the words of sections, which no script has yet
+-- a line that begins with one of the words of sections
 abbrev pub is_section : List Word → Bool
 is_section [] = false
 is_section (word ∷ words) = bytes_eq word (codes "thread") || bytes_eq word (codes "finally")

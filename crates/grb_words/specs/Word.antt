@@ -68,13 +68,16 @@ monoids =
 abbrev pub monoid_of : Word → Option Monoid
 monoid_of word = lookup (bytes_eq word) monoids
 
--- OP
+-- OP: on numbers, and on both domains
+abbrev pub uint64_operators : List (Word × BinaryOp)
+uint64_operators =
+    (codes "plus", op.Plus) ∷ (codes "times", op.Times) ∷ (codes "min", op.Min) ∷ (codes "max", op.Max)
+    ∷ (codes "minus", op.Minus) ∷ (codes "first", op.First) ∷ (codes "second", op.Second) ∷ []
+
 abbrev pub operators : List (Word × BinaryOp)
 operators =
     (codes "lor", op.Lor) ∷ (codes "land", op.Land) ∷ (codes "lxor", op.Lxor) ∷ (codes "lxnor", op.Lxnor)
-    ∷ (codes "first_bool", op.FirstBool) ∷ (codes "second_bool", op.SecondBool)
-    ∷ (codes "plus", op.Plus) ∷ (codes "times", op.Times) ∷ (codes "min", op.Min) ∷ (codes "max", op.Max)
-    ∷ (codes "minus", op.Minus) ∷ (codes "first", op.First) ∷ (codes "second", op.Second) ∷ []
+    ∷ (codes "first_bool", op.FirstBool) ∷ (codes "second_bool", op.SecondBool) ∷ uint64_operators
 
 abbrev pub operator_of : Word → Option BinaryOp
 operator_of word = lookup (bytes_eq word) operators
@@ -124,17 +127,23 @@ wait_mode_of word =
     if bytes_eq word (codes "complete") then Some mode.Complete
     else (if bytes_eq word (codes "materialize") then Some mode.Materialize else None)
 
--- the first words of statements
+-- the first words of statements: of operations; those and the ones of entries and sizes; all
+abbrev pub operation_keywords : List (Word × Keyword)
+operation_keywords =
+    (codes "ewiseadd", keyword.Ewise ewise.Add) ∷ (codes "ewisemult", keyword.Ewise ewise.Mult)
+    ∷ (codes "mxv", keyword.Multiply multiply.Mxv) ∷ (codes "mxm", keyword.Multiply multiply.Mxm)
+    ∷ (codes "reduce", keyword.Reduce) ∷ (codes "total", keyword.Total) ∷ (codes "wait", keyword.Wait) ∷ []
+
+abbrev pub entry_keywords : List (Word × Keyword)
+entry_keywords =
+    (codes "remove", keyword.Placed placed.Remove) ∷ (codes "get", keyword.Placed placed.Get)
+    ∷ (codes "resize", keyword.Placed placed.Resize) ∷ (codes "set", keyword.Set) ∷ (codes "build", keyword.Build) ∷ operation_keywords
+
 abbrev pub keywords : List (Word × Keyword)
 keywords =
     (codes "matrix", keyword.Matrix) ∷ (codes "vector", keyword.Vector) ∷ (codes "dup", keyword.Dup)
     ∷ (codes "free", keyword.Whole whole.Free) ∷ (codes "nvals", keyword.Whole whole.Nvals)
-    ∷ (codes "size", keyword.Whole whole.Size) ∷ (codes "clear", keyword.Whole whole.Clear)
-    ∷ (codes "remove", keyword.Placed placed.Remove) ∷ (codes "get", keyword.Placed placed.Get)
-    ∷ (codes "resize", keyword.Placed placed.Resize) ∷ (codes "set", keyword.Set) ∷ (codes "build", keyword.Build)
-    ∷ (codes "ewiseadd", keyword.Ewise ewise.Add) ∷ (codes "ewisemult", keyword.Ewise ewise.Mult)
-    ∷ (codes "mxv", keyword.Multiply multiply.Mxv) ∷ (codes "mxm", keyword.Multiply multiply.Mxm)
-    ∷ (codes "reduce", keyword.Reduce) ∷ (codes "total", keyword.Total) ∷ (codes "wait", keyword.Wait) ∷ []
+    ∷ (codes "size", keyword.Whole whole.Size) ∷ (codes "clear", keyword.Whole whole.Clear) ∷ entry_keywords
 
 abbrev pub keyword_of : Word → Option Keyword
 keyword_of word = lookup (bytes_eq word) keywords

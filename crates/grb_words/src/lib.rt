@@ -11,6 +11,7 @@ mod laws;
 mod line;
 mod load;
 mod options;
+mod section;
 mod tuples;
 pub mod word;
 
@@ -21,4 +22,5 @@ pub use laws::{options_are_read_as_spelled, semirings_are_read_as_spelled};
 pub use line::{has_allowed_bytes, is_load, is_section, is_skipped, next_line, words};
 pub use load::load_of;
 pub use options::{Options, options_of};
+pub use section::{Section, section_of};
 pub use tuples::{matrix_tuples, values, vector_tuples};

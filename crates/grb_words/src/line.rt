@@ -40,13 +40,13 @@ pub fn is_skipped(words: &[&[u8]]) -> bool
     }
 }
 
-/// Whether a line with these words begins a section.
+/// Whether a line with these words begins with the word of a section, `thread` or `finally`.
 pub fn is_section(words: &[&[u8]]) -> bool
     ensures { result ≡ is_section (map (λ word. word.now) words.now) }
 {
     match words {
         [] => false,
-        [word, ..] => matches!(*word, b"thread" | b"finally"),
+        [word, ..] => *word == b"thread".as_slice() || *word == b"finally".as_slice(),
     }
 }
 
@@ -56,6 +56,6 @@ pub fn is_load(words: &[&[u8]]) -> bool
 {
     match words {
         [] => false,
-        [word, ..] => matches!(*word, b"load"),
+        [word, ..] => *word == b"load".as_slice(),
     }
 }

@@ -1,7 +1,9 @@
 ghost use Rattle.std.specs.Prelude.{◌≡◌};
 ghost use Rattle.std.specs.Option.{option_map};
 ghost use Rattle.std.specs.List.{list_all};
-ghost use Rattle.grb_words.specs.Word.{is_digit, is_name_byte, is_name, is_numeral, numeral_value, value_of, domain_of, monoid_of, operator_of, at_dot, semiring_of, wait_mode_of, keyword_of};
+ghost use Rattle.grb_words.specs.Word.{is_digit, is_name_byte, is_name, is_numeral, numeral_value, value_of, domain_of, monoid_of, operator_of, at_dot, semiring_of, wait_mode_of, operation_keywords, entry_keywords, uint64_operators, keyword_of};
+ghost use Rattle.std.specs.Map.{lookup};
+ghost use Rattle.std.specs.Str.{bytes_eq};
 
 use crate::keyword::{Ewise, Keyword, Multiply, Placed, Whole};
 use grb_call::WaitMode;
@@ -93,16 +95,47 @@ pub fn domain(word: &[u8]) -> Option<Domain>
 pub fn monoid(word: &[u8]) -> Option<Monoid>
     ensures { result ≡ monoid_of word.now }
 {
-    match word {
-        b"lor" => Some(Monoid::Lor),
-        b"land" => Some(Monoid::Land),
-        b"lxor" => Some(Monoid::Lxor),
-        b"lxnor" => Some(Monoid::Lxnor),
-        b"plus" => Some(Monoid::Plus),
-        b"times" => Some(Monoid::Times),
-        b"min" => Some(Monoid::Min),
-        b"max" => Some(Monoid::Max),
-        _ => None,
+    if word == b"lor".as_slice() {
+        Some(Monoid::Lor)
+    } else if word == b"land".as_slice() {
+        Some(Monoid::Land)
+    } else if word == b"lxor".as_slice() {
+        Some(Monoid::Lxor)
+    } else if word == b"lxnor".as_slice() {
+        Some(Monoid::Lxnor)
+    } else if word == b"plus".as_slice() {
+        Some(Monoid::Plus)
+    } else if word == b"times".as_slice() {
+        Some(Monoid::Times)
+    } else if word == b"min".as_slice() {
+        Some(Monoid::Min)
+    } else if word == b"max".as_slice() {
+        Some(Monoid::Max)
+    } else {
+        None
+    }
+}
+
+/// The operator on numbers that the word names, if it names one.
+fn uint64_operator(word: &[u8]) -> Option<BinaryOp>
+    ensures { result ≡ lookup (bytes_eq word.now) uint64_operators }
+{
+    if word == b"plus".as_slice() {
+        Some(BinaryOp::Plus)
+    } else if word == b"times".as_slice() {
+        Some(BinaryOp::Times)
+    } else if word == b"min".as_slice() {
+        Some(BinaryOp::Min)
+    } else if word == b"max".as_slice() {
+        Some(BinaryOp::Max)
+    } else if word == b"minus".as_slice() {
+        Some(BinaryOp::Minus)
+    } else if word == b"first".as_slice() {
+        Some(BinaryOp::First)
+    } else if word == b"second".as_slice() {
+        Some(BinaryOp::Second)
+    } else {
+        None
     }
 }
 
@@ -122,22 +155,8 @@ pub fn operator(word: &[u8]) -> Option<BinaryOp>
         Some(BinaryOp::FirstBool)
     } else if word == b"second_bool".as_slice() {
         Some(BinaryOp::SecondBool)
-    } else if word == b"plus".as_slice() {
-        Some(BinaryOp::Plus)
-    } else if word == b"times".as_slice() {
-        Some(BinaryOp::Times)
-    } else if word == b"min".as_slice() {
-        Some(BinaryOp::Min)
-    } else if word == b"max".as_slice() {
-        Some(BinaryOp::Max)
-    } else if word == b"minus".as_slice() {
-        Some(BinaryOp::Minus)
-    } else if word == b"first".as_slice() {
-        Some(BinaryOp::First)
-    } else if word == b"second".as_slice() {
-        Some(BinaryOp::Second)
     } else {
-        None
+        uint64_operator(word)
     }
 }
 
@@ -173,6 +192,48 @@ pub fn wait_mode(word: &[u8]) -> Option<WaitMode>
     }
 }
 
+/// The keyword of an operation that the word is, if it is one.
+fn operation_keyword(word: &[u8]) -> Option<Keyword>
+    ensures { result ≡ lookup (bytes_eq word.now) operation_keywords }
+{
+    if word == b"ewiseadd".as_slice() {
+        Some(Keyword::Ewise(Ewise::Add))
+    } else if word == b"ewisemult".as_slice() {
+        Some(Keyword::Ewise(Ewise::Mult))
+    } else if word == b"mxv".as_slice() {
+        Some(Keyword::Multiply(Multiply::Mxv))
+    } else if word == b"mxm".as_slice() {
+        Some(Keyword::Multiply(Multiply::Mxm))
+    } else if word == b"reduce".as_slice() {
+        Some(Keyword::Reduce)
+    } else if word == b"total".as_slice() {
+        Some(Keyword::Total)
+    } else if word == b"wait".as_slice() {
+        Some(Keyword::Wait)
+    } else {
+        None
+    }
+}
+
+/// The same, or the keyword of entries, of a size or of a list that the word is.
+fn entry_keyword(word: &[u8]) -> Option<Keyword>
+    ensures { result ≡ lookup (bytes_eq word.now) entry_keywords }
+{
+    if word == b"remove".as_slice() {
+        Some(Keyword::Placed(Placed::Remove))
+    } else if word == b"get".as_slice() {
+        Some(Keyword::Placed(Placed::Get))
+    } else if word == b"resize".as_slice() {
+        Some(Keyword::Placed(Placed::Resize))
+    } else if word == b"set".as_slice() {
+        Some(Keyword::Set)
+    } else if word == b"build".as_slice() {
+        Some(Keyword::Build)
+    } else {
+        operation_keyword(word)
+    }
+}
+
 /// The keyword that the word is, if it is one.
 pub fn keyword(word: &[u8]) -> Option<Keyword>
     ensures { result ≡ keyword_of word.now }
@@ -191,31 +252,7 @@ pub fn keyword(word: &[u8]) -> Option<Keyword>
         Some(Keyword::Whole(Whole::Size))
     } else if word == b"clear".as_slice() {
         Some(Keyword::Whole(Whole::Clear))
-    } else if word == b"remove".as_slice() {
-        Some(Keyword::Placed(Placed::Remove))
-    } else if word == b"get".as_slice() {
-        Some(Keyword::Placed(Placed::Get))
-    } else if word == b"resize".as_slice() {
-        Some(Keyword::Placed(Placed::Resize))
-    } else if word == b"set".as_slice() {
-        Some(Keyword::Set)
-    } else if word == b"build".as_slice() {
-        Some(Keyword::Build)
-    } else if word == b"ewiseadd".as_slice() {
-        Some(Keyword::Ewise(Ewise::Add))
-    } else if word == b"ewisemult".as_slice() {
-        Some(Keyword::Ewise(Ewise::Mult))
-    } else if word == b"mxv".as_slice() {
-        Some(Keyword::Multiply(Multiply::Mxv))
-    } else if word == b"mxm".as_slice() {
-        Some(Keyword::Multiply(Multiply::Mxm))
-    } else if word == b"reduce".as_slice() {
-        Some(Keyword::Reduce)
-    } else if word == b"total".as_slice() {
-        Some(Keyword::Total)
-    } else if word == b"wait".as_slice() {
-        Some(Keyword::Wait)
     } else {
-        None
+        entry_keyword(word)
     }
 }

@@ -2,9 +2,9 @@
 use Rattle.std.specs.declared.io.ErrorKind.{ErrorKind}
 use Rattle.std.specs.declared.io.ErrorKind.TheVariants as kind
 use Rattle.grbrun.specs.declared.files.FileSource.{FileSource}
-use Rattle.grbrun.specs.declared.source.SourceFault.{SourceFault}
-use Rattle.grbrun.specs.declared.source.SourceFault.TheVariants.{CannotRead, OutOfMemory}
-use Rattle.grbrun.specs.Source.{FaultCounts}
+use Rattle.grb_driver.specs.declared.source.SourceFault.{SourceFault}
+use Rattle.grb_driver.specs.declared.source.SourceFault.TheVariants.{CannotRead, OutOfMemory}
+use Rattle.grb_driver.specs.Source.{FaultCounts}
 
 -- how often each fault came
 abbrev pub counts_of : {R : Type 0} → FileSource R → FaultCounts

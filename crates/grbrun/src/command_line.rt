@@ -3,9 +3,9 @@ ghost use Rattle.clap.specs.Words.{FailsBy, app_of, kind_of};
 ghost use Rattle.grbrun.specs.CommandLine.{GivesOptions, command_line, faults_of, status_of_kind};
 
 use crate::arguments::Options;
-use crate::fault::RunFault;
 use clap::error::ErrorKind;
 use clap::{Arg, ArgAction, Command, Error, value_parser};
+use grb_driver::RunFault;
 use std::alloc::{AllocError, Global};
 
 /// The command `[--room N] SCRIPT`.
@@ -68,7 +68,7 @@ pub fn status_of_words(error: &Error) -> u8
 mod tests {
     use super::{options, status_of_run, status_of_words};
     use crate::arguments::Options;
-    use crate::fault::RunFault;
+    use grb_driver::RunFault;
     use grb_script::FaultKind;
     use std::test::Fail;
 

@@ -1,9 +1,9 @@
 ghost use Rattle.std.specs.Prelude.{◌≡◌, ◌-◌, ◌<◌, ◌≤◌, ◌^◌, None, IfOk, IfSome, IsErrOf, length};
 ghost use Rattle.std.specs.IoError.{error_kind};
-ghost use Rattle.grbrun.specs.Source.{AreCountable, IsGiven, counts_after};
+ghost use Rattle.grb_driver.specs.Source.{AreCountable, IsGiven, counts_after};
 ghost use Rattle.grbrun.specs.Files.{counts_of, fault_of_kind};
 
-use crate::source::{MAX_FILE, MAX_SCRIPT, Source, SourceFault};
+use grb_driver::{MAX_FILE, MAX_SCRIPT, Source, SourceFault};
 use std::alloc::Global;
 use std::io::{ErrorKind, Read};
 use std::rt::Files;
@@ -113,7 +113,7 @@ impl<R: Files + AllocGlobal> Source for FileSource<'_, R> {
 #[cfg(test)]
 mod tests {
     use super::{FileSource, read_all};
-    use crate::source::{Source, SourceFault};
+    use grb_driver::{Source, SourceFault};
     use std::io;
     use std::io::{ErrorKind, Read};
     use std::test::Fail;

@@ -10,25 +10,16 @@ ghost use Rattle.std.specs.Prelude.{◌<◌, ◌≤◌};
 
 mod arguments;
 mod command_line;
-mod driver;
-mod fault;
 mod files;
-mod gate;
-mod loads;
 mod output;
 mod report;
-mod source;
-#[cfg(test)]
-mod tests;
 
 use crate::arguments::Options;
 use crate::command_line::options;
-use crate::driver::run_script;
-use crate::fault::RunFault;
 use crate::files::FileSource;
-use crate::gate::OpenGate;
 use crate::output::OutputSink;
 use crate::report::{report_run, report_unread_words, report_words};
+use grb_driver::{OpenGate, RunFault, run_script};
 use std::process::ExitCode;
 use std::rt::{Env, Files};
 use std::sync::Wait;

@@ -4,8 +4,8 @@ ghost use Rattle.clap.specs.Words.{kind_of};
 ghost use Rattle.grbrun.specs.CommandLine.{status_of_kind, status_of_unread};
 
 use crate::command_line::{status_of_run, status_of_words};
-use crate::fault::RunFault;
 use clap::error::ErrorKind;
+use grb_driver::RunFault;
 use std::io;
 
 /// Says on standard error why a run ended early, and answers the exit status. Where standard error fails too, the status alone tells.
@@ -45,7 +45,7 @@ pub fn report_unread_words(rt: &impl Eprint, error: &io::Error) -> u8
 mod tests {
     use super::{report_run, report_unread_words, report_words};
     use crate::command_line::options;
-    use crate::fault::RunFault;
+    use grb_driver::RunFault;
     use grb_market::MarketFault;
     use grb_script::FaultKind;
     use std::cell::Cell;

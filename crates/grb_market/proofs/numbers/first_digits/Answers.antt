@@ -3,18 +3,6 @@ use Rattle.std.proofs.lemmas.Grind.{common_steps}
 use Rattle.grb_market.proofs.NumberLemmas.{value_of_18, value_of_one_more, number_of-short, is_ascii_digit-range}
 use Rattle.grb_market.proofs.numbers.first_digits.Goals as goal
 
-pub overflow_mul-number : goal.overflow_mul-number
-overflow_mul-number c =
-    let i = c.loop-b.invariant in
-    let small = value_of_18 c.args.text.now c.loop-b.b-index i.all (omega arith) (omega (arith, i.counted, i.few, c.if-count-eq19.false)) in
-    omega (arith, small, i.number)
-
-pub overflow_add-number : goal.overflow_add-number
-overflow_add-number c =
-    let i = c.loop-b.invariant in
-    let small = value_of_18 c.args.text.now c.loop-b.b-index i.all (omega arith) (omega (arith, i.counted, i.few, c.if-count-eq19.false)) in
-    omega (arith, small, i.number, c.from.ensures, c.type_inv.text c.loop-b.b-index)
-
 pub loop-b-preserved : goal.loop-b-preserved
 loop-b-preserved c =
     let i = c.loop-b.invariant in
@@ -22,12 +10,15 @@ loop-b-preserved c =
     let range = is_ascii_digit-range b (sym c.is_ascii_digit.ensures.value ∙ c.if-not-is_ascii_digit.false) in
     record {
       counted = omega arith;
-      few = omega (arith, i.few, c.if-count-eq19.false);
       all = grind (arith, common_steps);
-      number = rw c.from.ensures (value_of_one_more c.args.text.now c.loop-b.b-index c.loop-b.number b c.loop-b-test.true refl range.0 range.1 i.number);
+      number = λ few.
+          let now = i.number (omega (arith, few)) in
+          let small = value_of_18 c.args.text.now c.loop-b.b-index i.all (omega arith) (omega (arith, i.counted, few)) in
+          let more = value_of_one_more c.args.text.now c.loop-b.b-index c.loop-b.number b c.loop-b-test.true refl range.0 range.1 now in
+          omega (arith, small, now, more, range.1, c.from.ensures);
     }
 
 pub returns-clause-number : goal.returns-clause-number
 returns-clause-number c =
     let i = c.loop-b.invariant in
-    rw i.counted (number_of-short c.args.text.now c.loop-b.b-index c.loop-b.number i.all (omega arith) (omega (arith, i.counted, i.few)) i.number)
+    λ few. rw i.counted (number_of-short c.args.text.now c.loop-b.b-index c.loop-b.number i.all (omega arith) (omega (arith, i.counted, few)) (i.number few))

@@ -1,4 +1,4 @@
-use Rattle.std.proofs.Common.{◌-◌, sym, arith}
+use Rattle.std.proofs.Common.{◌-◌, sym, ◌∙◌, arith}
 use Rattle.grb_core.specs.Entries.{cells_of}
 use Rattle.grb_market.proofs.MarketLemmas.{gathered_next}
 use Rattle.grb_market.proofs.reader.gather.Goals as goal
@@ -6,5 +6,6 @@ use Rattle.grb_market.proofs.reader.gather.Goals as goal
 pub loop-rest-preserved : goal.loop-rest-preserved
 loop-rest-preserved c =
     let now = c.loop-rest in
-    gathered_next c.args.head c.args.size c.args.behind.now (cells_of now.tuples.items) (cells_of c.append.new.tuples.items) now.left (now.left - 1) now.rest.now c.in-Some.line.now c.in-Some.after.now
-    (c.in-Ok.cell, c.in-Ok.value) now.invariant c.in-Some.ensures.ended c.in-Some.ensures.shorter (omega (arith, c.if-left-eq0.false)) (sym c.in-Ok.ensures.is) c.in_ok-append-in-Ok.ensures
+    let here = c.in-Some.ensures.some in
+    gathered_next c.args.head c.args.size c.args.behind.now (cells_of now.tuples.items) (cells_of c.append.new.tuples.items) now.left (now.left - 1) now.rest.now here.line c.in-Some.after.now
+    (c.in-Ok.cell, c.in-Ok.value) now.invariant here.first here.shorter (omega (arith, c.if-left-eq0.false)) (sym here.is ∙ c.in-Ok.is) c.in_ok-append-in-Ok.ensures

@@ -1,4 +1,4 @@
-use Rattle.std.proofs.Common.{◌≡◌, ℕ}
+use Rattle.std.proofs.Common.{◌≡◌, ℕ, length}
 use Rattle.std.specs.Prelude.{Some, IsTrue}
 use Rattle.std.specs.List.{AllByRecursion}
 use Rattle.std.specs.Ordering.{nat_cmp}
@@ -9,7 +9,7 @@ use Rattle.grb_core.specs.Monoid.{monoid_op, identity_of}
 use Rattle.grb_core.specs.Written.{either_value, both_values}
 use Rattle.grb_kernels.specs.Typed.{entries_of, entries_from, first_entries}
 use Rattle.grb_products.specs.Open.{marked_at}
-use Rattle.grb_multiply.specs.Bits.{AreMarks, HoldUnmarked}
+use Rattle.grb_multiply.specs.Bits.{marks_of, AreMarks, HoldUnmarked}
 use Rattle.grb_multiply.proofs.gustavson.add_row.Given as goal
 
 -- the sums so far with what is left of the row are all
@@ -19,10 +19,10 @@ invariant-row g l =
     let add = value_of_op (monoid_op g.M.MonoidOver.monoid) in
     let mul = value_of_op g.O.Operator.op in
     record {
-      added : (p : ℕ) → either_value add (marked_at tv l.marks l.sums p) (both_values mul (Some (tv l.x)) (find nat_cmp p (entries_from tv l.i l.places l.values)))
-          ≡ either_value add (marked_at tv l.fn.marks l.fn.sums p) (both_values mul (Some (tv l.x)) (find nat_cmp p (entries_of tv l.places l.values)));
-      bits : AreMarks l.marks l.words;
-      clear : HoldUnmarked tv (identity_of g.M.MonoidOver.monoid) l.marks l.sums;
+      added : (p : ℕ) → either_value add (marked_at tv (marks_of (length l.sums) l.words) l.sums p) (both_values mul (Some (tv l.x)) (find nat_cmp p (entries_from tv l.i l.places l.values)))
+          ≡ either_value add (marked_at tv (marks_of (length l.fn.sums) l.fn.words) l.fn.sums p) (both_values mul (Some (tv l.x)) (find nat_cmp p (entries_of tv l.places l.values)));
+      bits : AreMarks (marks_of (length l.sums) l.words) l.words;
+      clear : HoldUnmarked tv (identity_of g.M.MonoidOver.monoid) (marks_of (length l.sums) l.words) l.sums;
       ordered : IsTrue (is_sorted nat_cmp (entries_from tv l.i l.places l.values));
       of_domain : AllByRecursion (λ e. IsValueOf g.T.Scalar.domain (mul (tv l.x) e.1)) (first_entries tv l.i l.places l.values);
     }

@@ -3,6 +3,8 @@ use Rattle.std.proofs.lemmas.List.Elements.{recursion_from_All}
 use Rattle.grb_kernels.specs.Typed.{entries_of}
 use Rattle.grb_rows.specs.Cells.{decoded}
 use Rattle.grb_multiply.specs.Rows.{name_in}
+use Rattle.grb_multiply.specs.Bits.{marks_of}
+use Rattle.grb_multiply.proofs.MarksOf.{length-marks_of}
 use Rattle.grb_multiply.proofs.OpenRow.{open_row}
 use Rattle.grb_multiply.proofs.gustavson.multiply_row.Goals as goal
 
@@ -11,6 +13,6 @@ returns-clause-entries g c =
     let tv = g.T.Scalar.value in
     let b = c.args.b.now in
     let names = b.names.now in
-    c.emit_words-count.ensures.entries
-    ∙ open_row tv (length names) (name_in names) b.ranks.now c.sum_row.new.marks c.sum_row.new.sums (record { monoid = g.M.MonoidOver.monoid; op = g.O.Operator.op }) (entries_of tv c.args.columns.now c.args.values.now) (decoded b.lists.now.entries)
-    b.rising c.requires.rising (omega arith) b.named (recursion_from_All (λ r. r < length names) b.ranks.now b.in_range) c.sum_row.ensures.sums
+    c.take_words.ensures.entries
+    ∙ open_row tv (length names) (name_in names) b.ranks.now (marks_of (length c.sum_row.new.sums) c.sum_row.new.words) c.sum_row.new.sums (record { monoid = g.M.MonoidOver.monoid; op = g.O.Operator.op }) (entries_of tv c.args.columns.now c.args.values.now) (decoded b.lists.now.entries)
+    b.rising c.requires.rising (omega (arith, length-marks_of c.sum_row.new.words (length c.sum_row.new.sums))) b.named (recursion_from_All (λ r. r < length names) b.ranks.now b.in_range) c.sum_row.ensures.sums

@@ -18,15 +18,17 @@ use Rattle.grb_products.specs.Open.{marked_at}
 use Rattle.grb_products.specs.Products.{products, list_of}
 use Rattle.grb_multiply.specs.Rows.{name_in}
 use Rattle.grb_multiply.proofs.Cleared.{none_marked}
+use Rattle.grb_multiply.specs.Bits.{marks_of}
+use Rattle.grb_multiply.proofs.MarksOf.{none_of_zeros, zeros_are_marks}
 use Rattle.grb_multiply.proofs.Renamed.{find-renamed}
 use Rattle.grb_multiply.proofs.RowSums.{summed, summed_of, found_product}
 use Rattle.grb_multiply.proofs.gustavson.sum_row.Goals as goal
 
 pub entries-init : goal.entries-init
 entries-init g c = record {
-  bits = c.requires.bits;
-  clear = c.requires.clear;
-  sums = λ p l. none_marked g.T.Scalar.value c.args.marks.now c.args.sums.now c.requires.none p;
+  bits = zeros_are_marks c.args.words.now c.requires.none (length c.args.sums.now);
+  clear = λ p l n. c.requires.clear p l;
+  sums = λ p l. none_marked g.T.Scalar.value (marks_of (length c.args.sums.now) c.args.words.now) c.args.sums.now (none_of_zeros c.args.words.now c.requires.none (length c.args.sums.now)) p;
   of_domain = λ p l. tt;
 }
 
@@ -59,8 +61,8 @@ entries-preserved g c =
       bits = c.add_row.ensures.bits;
       clear = c.add_row.ensures.clear;
       sums = λ p l.
-          summed m op (y p) x k (tv v) (held.of_domain p l) (is_of p l) (marked_at tv c.entries.marks c.entries.sums p) (marked_at tv c.add_row.new.marks c.add_row.new.sums p) (held.sums p l)
-          (c.add_row.ensures.added p ∙ ap (λ w. either_value (value_of_op (monoid_op m)) (marked_at tv c.entries.marks c.entries.sums p) (both_values (value_of_op op) (Some (tv v)) w)) (at p l))
+          summed m op (y p) x k (tv v) (held.of_domain p l) (is_of p l) (marked_at tv (marks_of (length c.entries.sums) c.entries.words) c.entries.sums p) (marked_at tv (marks_of (length c.add_row.new.sums) c.add_row.new.words) c.add_row.new.sums p) (held.sums p l)
+          (c.add_row.ensures.added p ∙ ap (λ w. either_value (value_of_op (monoid_op m)) (marked_at tv (marks_of (length c.entries.sums) c.entries.words) c.entries.sums p) (both_values (value_of_op op) (Some (tv v)) w)) (at p l))
           ∙ ap (λ z. fold_of_some m (products op (y p) z)) (sym more);
       of_domain = λ p l. subst (λ z. AllByRecursion (IsValueOf (monoid_domain m)) (products op (y p) z)) (sym more) (summed_of m op (y p) x k (tv v) (held.of_domain p l) (is_of p l));
     }

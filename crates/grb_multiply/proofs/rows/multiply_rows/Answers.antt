@@ -22,7 +22,6 @@ rows-init g c =
     let numbers = c.rows-numbers.result.now in
     let listed = c.rows-numbers.ensures in
     record {
-      bits = c.requires.bits;
       none = c.requires.none;
       clear = c.requires.clear;
       making = making_begins tv (mxm_of s a b) numbers (rise_as numbers c.args.a.now.rows listed.list listed.rise) _ _ _ _ c.new-rows.ensures.items c.new-starts.ensures.items c.new-columns.ensures.items c.new-values.ensures.items
@@ -53,7 +52,6 @@ rows-preserved g c =
     let row = row_of (get_or c.args.a.now.rows place 0) a in
     let whole : length done.new.made_columns ≡ length done.new.made_values = omega arith in
     record {
-      bits = done.ensures.bits;
       none = done.ensures.none;
       clear = done.ensures.clear;
       making = made_row tv (mxm_of s a b) numbers (rise_as numbers c.args.a.now.rows listed.list listed.rise) place

@@ -1,14 +1,13 @@
-use Rattle.std.proofs.Common.{◌≡◌, ◌+◌, ◌≤◌, ◌++◌, length}
-use Rattle.grb_words.specs.Line.{lines_of}
-use Rattle.grb_script.specs.ScriptFault.{script_fault}
-use Rattle.grb_script.specs.Script.{commands_of}
-use Rattle.grb_script.proofs.ScriptLemmas.{fault_from, commands_from}
+use Rattle.std.proofs.Common.{◌+◌, ◌≤◌, length}
+use Rattle.grb_script.specs.Scope.{seen, IsKept}
+use Rattle.grb_script.specs.Script.{listed}
+use Rattle.grb_script.proofs.ScriptLemmas.{Reached}
 use Rattle.grb_script.proofs.script.read_script.Given as goal
 
 abbrev pub invariant-loop-rest : goal.invariant-loop-rest
 invariant-loop-rest l = record {
-  fault : fault_from l.number l.names (lines_of l.rest) ≡ script_fault l.text;
-  commands : l.commands.items ++ commands_from l.number l.names (lines_of l.rest) ≡ commands_of l.text;
+  reached : Reached l.text l.rest l.number (seen l.scope) (listed l.script) l.asked.items;
+  kept : IsKept l.scope;
   numbered : l.number + length l.rest ≤ length l.text + 1;
 }
 

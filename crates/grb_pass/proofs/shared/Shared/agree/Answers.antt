@@ -1,4 +1,4 @@
-use Rattle.std.proofs.Common.{◌≡◌, ℕ, ◌<◌, ◌≤◌, length, arith, sym, subst, ◌∙◌}
+use Rattle.std.proofs.Common.{◌≡◌, ◌<◌, ◌≤◌, length, arith, sym, subst}
 use Rattle.grb_pass.specs.Known.{Knowing, known}
 use Rattle.grb_pass.proofs.Spelling.{length_spelled}
 use Rattle.grb_pass.proofs.Meeting.{begins_known, fewer_shown}

@@ -1,6 +1,10 @@
-use Rattle.grb_pass.proofs.Promised.{answered}
+use Rattle.grb_pass.proofs.Promised.{answered, pass_kept}
 use Rattle.grb_pass.proofs.shared.Shared.enter.Goals as goal
+
+pub returns-clause-pass : goal.returns-clause-pass
+returns-clause-pass c = pass_kept c.args.self.now c.enter_record-answer.new.pass c.keep.new.self c.object-object.result c.enter_record-answer.result (record { same = c.keep.ensures.same; kept = c.keep.ensures.kept }) c.enter_record-answer.ensures.pass
 
 pub returns-clause-answered : goal.returns-clause-answered
 returns-clause-answered c =
-    let is = c.enter_record.ensures in answered c.args.self.now c.args.pass.now c.begin.new.self c.enter_record.new.pass c.args.call c.enter_record.result c.begin.ensures is.pass is.explains is.steady is.caught_up is.counts
+    let is = c.enter_record-answer.ensures in
+    answered c.args.self.now c.args.pass.now c.begin.new.self c.enter_record-answer.new.pass c.keep.new.self c.object-object.result c.args.call c.enter_record-answer.result c.begin.ensures is.pass is.explains is.steady is.caught_up is.counts is.statuses c.object-object.ensures (record { same = c.keep.ensures.same; kept = c.keep.ensures.kept })

@@ -1,6 +1,10 @@
-use Rattle.grb_pass.proofs.Promised.{answered}
+use Rattle.grb_pass.proofs.Promised.{answered, pass_kept}
 use Rattle.grb_pass.proofs.shared.Shared.read.Goals as goal
+
+pub returns-clause-pass : goal.returns-clause-pass
+returns-clause-pass c = pass_kept c.args.self.now c.read_at_end-answer.new.pass c.keep.new.self c.object.result c.read_at_end-answer.result (record { same = c.keep.ensures.same; kept = c.keep.ensures.kept }) c.read_at_end-answer.ensures.pass
 
 pub returns-clause-answered : goal.returns-clause-answered
 returns-clause-answered c =
-    let is = c.read_at_end.ensures in answered c.args.self.now c.args.pass.now c.begin.new.self c.read_at_end.new.pass c.args.call.now c.read_at_end.result c.begin.ensures is.pass is.explains is.steady is.caught_up is.counts
+    let is = c.read_at_end-answer.ensures in
+    answered c.args.self.now c.args.pass.now c.begin.new.self c.read_at_end-answer.new.pass c.keep.new.self c.object.result c.args.call.now c.read_at_end-answer.result c.begin.ensures is.pass is.explains is.steady is.caught_up is.counts is.statuses c.object.ensures (record { same = c.keep.ensures.same; kept = c.keep.ensures.kept })

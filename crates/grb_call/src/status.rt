@@ -1,0 +1,65 @@
+ghost use Rattle.std.specs.Prelude.{◌≡◌};
+ghost use Rattle.std.specs.Option.{option_or};
+ghost use Rattle.grb_call.specs.Status.{info_of, made_by, object_of};
+
+use crate::call::Call;
+use crate::ids::Object;
+use crate::reply::Reply;
+use grb_core::{Info, Refusal};
+
+impl Call {
+    /// The object that the call is about, of those that were made before it: the one that it changes, reads or has changes done of; of
+    /// an operation its output. None for a call that makes an object. Takes no memory.
+    pub fn object(&self) -> Option<Object>
+        ensures { result ≡ object_of self.now }
+    {
+        match self {
+            Call::GetMatrix { a, .. }
+            | Call::NvalsMatrix { a }
+            | Call::SizeMatrix { a }
+            | Call::ReduceMatrix { a, .. }
+            | Call::WaitMatrix { a, .. } => Some(Object::Matrix(*a)),
+            Call::GetVector { v, .. }
+            | Call::NvalsVector { v }
+            | Call::SizeVector { v }
+            | Call::ReduceVector { v, .. }
+            | Call::WaitVector { v, .. } => Some(Object::Vector(*v)),
+            _ => self.output(),
+        }
+    }
+}
+
+/// The object that an answer says was made.
+fn made_by(answer: &Result<Reply, Refusal>) -> Option<Object>
+    ensures { result ≡ made_by answer.now }
+{
+    match answer {
+        Ok(Reply::MadeMatrix(a)) => Some(Object::Matrix(*a)),
+        Ok(Reply::MadeVector(v)) => Some(Object::Vector(*v)),
+        _ => None,
+    }
+}
+
+/// The target of a call with this object ([`Call::object`]) and this answer: the object, and of a new or a dup the
+/// one that it made. None for a new or a dup that is refused. Takes no memory.
+#[inline(always)]
+pub fn target_of(object: Option<Object>, answer: &Result<Reply, Refusal>) -> Option<Object>
+    ensures { result ≡ option_or object (made_by answer.now) }
+{
+    object.or(made_by(answer))
+}
+
+/// The status that an answer leaves on the target of its call: the refusal, `NoValue` for that reply, and `Success` for any other. Takes
+/// no memory.
+///
+/// Source: GraphBLAS C API 2.0, "Error model".
+#[inline(always)]
+pub fn info_of(answer: &Result<Reply, Refusal>) -> Info
+    ensures { result ≡ info_of answer.now }
+{
+    match answer {
+        Ok(Reply::NoValue) => Info::NoValue,
+        Ok(_) => Info::Success,
+        Err(refusal) => Info::Refused(*refusal),
+    }
+}

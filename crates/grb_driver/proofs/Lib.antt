@@ -1,0 +1,11 @@
+mod PrintedRows
+pub mod AloneRuns
+pub mod Explained
+pub mod LoadLemmas
+pub mod OnePass
+pub mod Runs
+pub mod ScriptEnds
+pub mod ScriptRuns
+pub mod Steps
+pub mod ThreadLemmas
+pub mod Wrote

@@ -1,0 +1,40 @@
+use Rattle.std.proofs.Common.{◌∙◌, ap, sym, refl}
+use Rattle.std.specs.List.{flat_map}
+use Rattle.std.proofs.lemmas.Result.{err_from_is_err_and}
+use Rattle.grb_lines.specs.ReplyLine.{reply_line}
+use Rattle.grb_script.specs.Script.{sections_of}
+use Rattle.grb_script.specs.ScriptFault.{script_fault}
+use Rattle.grb_driver.specs.Loads.{steps_listed, all_of}
+use Rattle.grb_driver.proofs.LoadLemmas.{AreScriptSteps-of, IsWhyNotLoaded-of, ends, no_failure}
+use Rattle.grb_driver.proofs.ScriptEnds.{stopped, began}
+use Rattle.grb_driver.proofs.Wrote.{wrote}
+use Rattle.grb_driver.proofs.driver.run_script.Goals as goal
+
+pub returns-clause-ok : goal.returns-clause-ok
+returns-clause-ok g c = record {
+  text = c.in_ok-text.text.items;
+  given = c.in_ok-text.ensures.given;
+  faultless = ap script_fault (sym c.deref.ensures.value) ∙ c.in_ok-script.ensures.read.0;
+  lines =
+      wrote _ _ _ _ _ _ _ _
+      (AreScriptSteps-of _ _ _ _ _ c.script.ensures.files_stay (c.in_ok-script.ensures.read.1 ∙ ap sections_of c.deref.ensures.value) c.in_ok-steps.ensures.steps) c.in_ok-answers.ensures.answers
+      (c.as_bytes.ensures.value ∙ c.in_ok-lines.ensures ∙ ap (flat_map reply_line) c.deref-2.ensures.value) c.in_ok-put_all.ensures.ok;
+}
+
+pub returns-in_err-answers-clause-err : goal.returns-in_err-answers-clause-err
+returns-in_err-answers-clause-err g c =
+    let p = err_from_is_err_and c.from_residual-in_err-answers.result c.from_residual-in_err-answers.ensures.1 in
+    rw (p.1, p.2)
+    (stopped _ _ _ c.in_ok-text.text.items (steps_listed c.in_ok-steps.steps) _ _ c.in_ok-text.ensures.given
+    (ap script_fault (sym c.deref.ensures.value) ∙ c.in_ok-script.ensures.read.0)
+    (AreScriptSteps-of _ _ _ _ _ c.script.ensures.files_stay (c.in_ok-script.ensures.read.1 ∙ ap sections_of c.deref.ensures.value) c.in_ok-steps.ensures.steps) refl _
+    c.in_err-answers.ensures.fault)
+
+pub returns-in_err-put_all-clause-err : goal.returns-in_err-put_all-clause-err
+returns-in_err-put_all-clause-err g c =
+    let p = err_from_is_err_and c.from_residual-in_err-put_all.result c.from_residual-in_err-put_all.ensures.1 in
+    rw (p.1, p.2)
+    (began _ _ _ c.in_ok-text.text.items (steps_listed c.in_ok-steps.steps) c.in_ok-answers.answers.items c.as_bytes.result.now _ _ c.in_ok-text.ensures.given
+    (ap script_fault (sym c.deref.ensures.value) ∙ c.in_ok-script.ensures.read.0)
+    (AreScriptSteps-of _ _ _ _ _ c.script.ensures.files_stay (c.in_ok-script.ensures.read.1 ∙ ap sections_of c.deref.ensures.value) c.in_ok-steps.ensures.steps) c.in_ok-answers.ensures.answers
+    (c.as_bytes.ensures.value ∙ c.in_ok-lines.ensures ∙ ap (flat_map reply_line) c.deref-2.ensures.value) c.in_err-put_all.ensures.err)

@@ -1,0 +1,266 @@
+ghost use Rattle.std.specs.Prelude.{◌≡◌, length, map, All, IfOk, IfErr, OnOk, OnErr};
+ghost use Rattle.grb_context.specs.Known.{IsPassOf};
+ghost use Rattle.grb_driver.specs.Threads.{IsJob, AreJobs, IsEnded, AreEnded, AreAsked, IsGathered, AreGathered, AreThreadsRun, IsStop};
+
+use crate::fault::RunFault;
+use crate::gate::Gate;
+use crate::loads::Step;
+use crate::section::answers_by;
+use grb_call::Object;
+use grb_context::{Context, Pass};
+use grb_lines::Answer;
+use std::alloc::{AllocError, Global};
+use std::snapshot::Snapshot;
+use std::sync::Wait;
+use std::thread;
+use std::thread::{Promise, PromisedHandle, Scope, Threads};
+
+/// A thread section that is to run: its pass, which has met main's, what main's names stand for, and its steps.
+#[derive(Drop)]
+pub(crate) struct Job {
+    pass: Pass,
+    objects: Vec<Object>,
+    steps: Vec<Step>,
+}
+
+/// A thread section that has run: its pass, and the answers to its steps.
+#[derive(Drop)]
+pub(crate) struct Ended {
+    pass: Pass,
+    answers: Vec<Answer>,
+}
+
+/// What the thread of a job promises of what it returns.
+#[derive(Drop)]
+pub(crate) struct Asked {
+    context: Snapshot<Context>,
+    job: Snapshot<Job>,
+}
+
+impl Promise<Result<Ended, AllocError>> for Asked {
+    ghost kept_by = { λ asked result. IfOk result (IsEnded asked.context.value asked.job.value) };
+}
+
+/// A thread that runs a job.
+type Running = PromisedHandle<Result<Ended, AllocError>, Asked>;
+
+/// Runs a thread section.
+fn run_job<G: Gate>(
+    alloc: Global,
+    context: &Context,
+    job: Job,
+    gate: &G,
+) -> Result<Ended, AllocError>
+    requires { IsPassOf context.now job.pass }
+    ensures { IfOk result (IsEnded context.now job) }
+{
+    let Job {
+        mut pass,
+        mut objects,
+        steps,
+    } = job;
+    let answers = answers_by(alloc, context, &mut pass, &mut objects, steps, 0, gate)?;
+    Ok(Ended { pass, answers })
+}
+
+/// A thread section that is to run by this pass, which meets main's.
+fn job_of(
+    alloc: Global,
+    context: &Context,
+    main: &mut Pass,
+    objects: &[Object],
+    mut pass: Pass,
+    steps: Vec<Step>,
+) -> Result<Job, RunFault>
+    requires main { IsPassOf context.now main.old }
+    requires pass { IsPassOf context.now pass }
+    ensures main { main.new ≡ main.old }
+    ensures job { IfOk result (IsJob context.now (record { objects = objects.now; pass = main.old }) pass steps.items) }
+    ensures fault { IfErr result IsStop }
+{
+    match context.meet(&mut pass, main) {
+        Ok(()) => {}
+        Err(_) => return Err(RunFault::Panic),
+    }
+    let objects = Vec::from_slice(alloc, objects)?;
+    Ok(Job {
+        pass,
+        objects,
+        steps,
+    })
+}
+
+/// The thread sections that are to run, each by the next of these passes. Each pass meets main's.
+fn jobs_of(
+    alloc: Global,
+    context: &Context,
+    main: &mut Pass,
+    objects: &[Object],
+    mut passes: Vec<Pass>,
+    threads: Vec<Vec<Step>>,
+) -> Result<Vec<Job>, RunFault>
+    requires main { IsPassOf context.now main.old }
+    requires passes { All (IsPassOf context.now) passes.items }
+    requires count { length passes.items ≡ length threads.items }
+    ensures main { main.new ≡ main.old }
+    ensures jobs { IfOk result (λ jobs. AreJobs context.now (record { objects = objects.now; pass = main.old }) passes.items (map (λ steps. steps.items) threads.items) jobs.items) }
+    ensures fault { IfErr result IsStop }
+{
+    let mut jobs = Vec::with_capacity(alloc, threads.len())?;
+    for steps in threads {
+        let pass = passes.remove(0);
+        jobs.push(job_of(alloc, context, main, objects, pass, steps)?)
+            .map_err(AllocError::from)?;
+    }
+    Ok(jobs)
+}
+
+/// Starts the thread of a job.
+fn start<'s, E, G: Gate + Sync>(
+    alloc: Global,
+    scope: &Scope<'s, E>,
+    context: &'s Context,
+    job: Job,
+    gate: &'s G,
+) -> Result<Running, RunFault>
+    requires { IsPassOf context.now job.pass }
+    ensures context { IfOk result (λ running. running.promise.context.value ≡ context.now) }
+    ensures job { IfOk result (λ running. running.promise.job.value ≡ job) }
+    ensures fault { IfErr result IsStop }
+{
+    let asked = Asked {
+        context: Snapshot::of(context),
+        job: Snapshot::of(&job),
+    };
+    let run = move || -> Result<Ended, AllocError>
+        requires { IsPassOf context.now job.pass }
+        ensures { IfOk result (IsEnded context.entry.now job) }
+    { run_job(alloc, context, job, gate) };
+    match scope.spawn_with(asked, run) {
+        Ok(running) => Ok(running),
+        Err(_) => Err(RunFault::NoThread),
+    }
+}
+
+/// Starts the threads of all jobs. Where one is not started, those before it run on.
+fn start_all<'s, E, G: Gate + Sync>(
+    alloc: Global,
+    scope: &Scope<'s, E>,
+    context: &'s Context,
+    jobs: Vec<Job>,
+    gate: &'s G,
+) -> Result<Vec<Running>, RunFault>
+    requires { All (λ job. IsPassOf context.now job.pass) jobs.items }
+    ensures running { IfOk result (λ running. AreAsked context.now jobs.items running.items) }
+    ensures fault { IfErr result IsStop }
+{
+    let mut running = Vec::with_capacity(alloc, jobs.len())?;
+    for job in jobs {
+        running
+            .push(start(alloc, scope, context, job, gate)?)
+            .map_err(AllocError::from)?;
+    }
+    Ok(running)
+}
+
+/// Runs these jobs, each on a thread, and returns when all threads have ended that were started.
+fn run_jobs<R: Threads + Wait + Sync, G: Gate + Sync>(
+    rt: &R,
+    alloc: Global,
+    context: &Context,
+    jobs: Vec<Job>,
+    gate: &G,
+) -> Result<Vec<Result<Ended, AllocError>>, RunFault>
+    requires { All (λ job. IsPassOf context.now job.pass) jobs.items }
+    ensures ended { IfOk result (λ ended. AreEnded context.now jobs.items ended.items) }
+    ensures fault { IfErr result IsStop }
+{
+    thread::scope(
+        thread::scope_env(),
+        rt,
+        |scope| -> Result<Vec<Result<Ended, AllocError>>, RunFault>
+            requires { All (λ job. IsPassOf context.now job.pass) jobs.items }
+            ensures ended { IfOk result (λ ended. AreEnded context.entry.now jobs.items ended.items) }
+            ensures fault { IfErr result IsStop }
+        {
+            let running = start_all(alloc, scope, context, jobs, gate)?;
+            match thread::join_promised(rt, running) {
+                Ok(ended) => Ok(ended),
+                Err(_) => Err(RunFault::OutOfMemory),
+            }
+        },
+    )
+}
+
+/// Lets main's pass learn what a thread section's pass knows, and keeps the answers of the section.
+fn gather(
+    context: &Context,
+    main: &mut Pass,
+    answers: &mut Vec<Answer>,
+    ended: Ended,
+) -> Result<(), RunFault>
+    requires main { IsPassOf context.now main.old }
+    requires ended { IsPassOf context.now ended.pass }
+    ensures main { IsPassOf context.now main.new }
+    ensures gathered { OnOk result (IsGathered context.now main.old answers.old.items ended main.new answers.new.items) }
+    ensures fault { IfErr result IsStop }
+{
+    let Ended {
+        mut pass,
+        answers: mut more,
+    } = ended;
+    match context.meet(main, &mut pass) {
+        Ok(()) => {}
+        Err(_) => return Err(RunFault::Panic),
+    }
+    answers.append(&mut more)?;
+    Ok(())
+}
+
+/// Does so of each thread section in turn.
+fn gather_all(
+    context: &Context,
+    main: &mut Pass,
+    answers: &mut Vec<Answer>,
+    ended: Vec<Result<Ended, AllocError>>,
+) -> Result<(), RunFault>
+    requires main { IsPassOf context.now main.old }
+    requires ended { All (λ one. IfOk one (λ ended. IsPassOf context.now ended.pass)) ended.items }
+    ensures main { IsPassOf context.now main.new }
+    ensures gathered { OnOk result (AreGathered context.now main.old answers.old.items ended.items main.new answers.new.items) }
+    ensures fault { IfErr result IsStop }
+{
+    for one in ended {
+        gather(context, main, answers, one?)?;
+    }
+    Ok(())
+}
+
+/// Runs the thread sections of a script, all at the same time, each on a thread and by one of these passes, and puts their answers behind
+/// those of main. Where there is none, nothing is done.
+pub(crate) fn run_threads<R: Threads + Wait + Sync, G: Gate + Sync>(
+    rt: &R,
+    alloc: Global,
+    context: &Context,
+    main: &mut Pass,
+    objects: &[Object],
+    passes: Vec<Pass>,
+    threads: Vec<Vec<Step>>,
+    answers: &mut Vec<Answer>,
+    gate: &G,
+) -> Result<(), RunFault>
+    requires main { IsPassOf context.now main.old }
+    requires passes { All (IsPassOf context.now) passes.items }
+    requires count { length passes.items ≡ length threads.items }
+    ensures main { IsPassOf context.now main.new }
+    ensures run { OnOk result (AreThreadsRun context.now (record { objects = objects.now; pass = main.old }) passes.items (map (λ steps. steps.items) threads.items) answers.old.items main.new answers.new.items) }
+    ensures fault { IfErr result IsStop }
+    ensures none { length threads.items ≡ 0 → OnErr result ⊥ }
+{
+    if threads.is_empty() {
+        return Ok(());
+    }
+    let jobs = jobs_of(alloc, context, main, objects, passes, threads)?;
+    let ended = run_jobs(rt, alloc, context, jobs, gate)?;
+    gather_all(context, main, answers, ended)
+}

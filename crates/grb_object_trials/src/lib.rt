@@ -1,0 +1,18 @@
+//! Trials of `grb_sparse`, `grb_market` and `grb_replay` by what they offer: sparse objects, also beside plain lists and after a refused
+//! allocation, Matrix Market texts, and the store that a list of calls leaves.
+//!
+//! Nothing stands on it, and it has nothing but tests, so that the crates that it tries need not be proved a second time for them.
+#![tactic(auto)]
+
+#[cfg(test)]
+mod matrices;
+#[cfg(test)]
+mod same_as_list;
+#[cfg(test)]
+mod stores;
+#[cfg(test)]
+mod texts_read;
+#[cfg(test)]
+mod texts_written;
+#[cfg(test)]
+mod vectors;

@@ -1,0 +1,425 @@
+//! Matrices worked by hand, and what a refused allocation leaves of one.
+ghost use Rattle.std.specs.Prelude.{◌≡◌, ◌+◌, ◌<◌, ◌≤◌, length, IfOk, OnOk};
+
+use grb_core::{Domain, Monoid, Value};
+use grb_sparse::{FlatRows, SparseMatrix};
+use std::alloc::{AllocError, Global};
+use std::process::Abort;
+use std::test::Fail;
+
+/// A row, a column, and the value to store there, or none to remove what is stored.
+type Change = (u64, u64, Option<Value>);
+
+/// Makes a change for which a place is reserved.
+fn change(rt: &impl Abort, a: &mut SparseMatrix, change: &Change)
+    requires { 0 < a.old.reserved }
+    ensures { a.new.reserved + 1 ≡ a.old.reserved }
+{
+    let (i, j, value) = *change;
+    let (nrows, ncols) = a.dims();
+    assert!(rt; i < nrows);
+    assert!(rt; j < ncols);
+    match value {
+        Some(value) => {
+            assert_eq!(rt; value.domain(), a.domain());
+            a.set(i, j, value);
+        }
+        None => a.remove(i, j),
+    }
+}
+
+fn change_each(rt: &impl Abort, a: &mut SparseMatrix, changes: &[Change])
+    requires { length changes.now ≤ a.old.reserved }
+    ensures { a.new.reserved + length changes.now ≡ a.old.reserved }
+{
+    for step in changes {
+        change(rt, a, step);
+    }
+}
+
+/// Reserves a place for each of the changes, and makes them.
+fn change_all(rt: &impl Abort, a: &mut SparseMatrix, changes: &[Change]) -> Result<(), AllocError> {
+    a.reserve_pending(changes.len() as u64)?;
+    change_each(rt, a, changes);
+    Ok(())
+}
+
+fn seen(alloc: Global, a: &SparseMatrix) -> Result<Vec<((u64, u64), Value)>, AllocError> {
+    let mut seen = Vec::new(alloc);
+    if a.is_assembled() {
+        for entry in a.entries() {
+            seen.push(entry)?;
+        }
+    }
+    Ok(seen)
+}
+
+fn seen_in_row(alloc: Global, a: &SparseMatrix, i: u64) -> Result<Vec<(u64, Value)>, AllocError> {
+    let mut seen = Vec::new(alloc);
+    if a.is_assembled() {
+        for entry in a.row(i) {
+            seen.push(entry)?;
+        }
+    }
+    Ok(seen)
+}
+
+/// It is assembled, and stores these entries, in this order.
+fn expect_entries(
+    rt: &impl Abort,
+    alloc: Global,
+    a: &SparseMatrix,
+    entries: &[((u64, u64), Value)],
+) -> Result<(), AllocError> {
+    assert!(rt; a.is_assembled());
+    let seen = seen(alloc, a)?;
+    assert!(rt; seen.as_slice() == entries);
+    Ok(())
+}
+
+fn expect_value(rt: &impl Abort, a: &SparseMatrix, i: u64, j: u64, value: Option<Value>) {
+    assert_eq!(rt; a.get(i, j), value);
+}
+
+fn expect_dims(rt: &impl Abort, a: &SparseMatrix, nrows: u64, ncols: u64) {
+    assert_eq!(rt; a.dims(), (nrows, ncols));
+}
+
+fn expect_assembled(rt: &impl Abort, a: &SparseMatrix) {
+    assert!(rt; a.is_assembled());
+}
+
+fn expect_counts(rt: &impl Abort, a: &SparseMatrix, nvals: u64, pending: u64) {
+    assert_eq!(rt; a.nvals(), nvals);
+    assert_eq!(rt; a.pending(), pending);
+}
+
+const OUT_OF_ORDER: [Change; 5] = [
+    (2, 0, Some(Value::Uint64(20))),
+    (0, 4_294_967_294, Some(Value::Uint64(4))),
+    (0, 1, Some(Value::Uint64(1))),
+    (0, 1, Some(Value::Uint64(2))),
+    (2, 0, None),
+];
+
+const IN_ORDER: [((u64, u64), Value); 2] = [
+    ((0, 1), Value::Uint64(2)),
+    ((0, 4_294_967_294), Value::Uint64(4)),
+];
+
+fn expect_order(rt: &impl Abort, alloc: Global, a: &mut SparseMatrix) -> Result<(), AllocError> {
+    change_all(rt, a, &OUT_OF_ORDER)?;
+    a.assemble()?;
+    expect_dims(rt, a, 3, 4_294_967_295);
+    expect_counts(rt, a, 2, 0);
+    expect_value(rt, a, 0, 1, Some(Value::Uint64(2)));
+    expect_value(rt, a, 1, 0, None);
+    expect_entries(rt, alloc, a, &IN_ORDER)
+}
+
+#[test]
+fn entries_stand_by_row_and_then_by_column(rt: HostRuntime) -> Result<(), Fail> {
+    let mut a = SparseMatrix::new(rt.alloc(), Domain::Uint64, 3, 4_294_967_295);
+    expect_order(&rt, rt.alloc(), &mut a)?;
+    Ok(())
+}
+
+const AT_ONE_PLACE: [Change; 4] = [
+    (2, 2, Some(Value::Uint64(8))),
+    (2, 2, Some(Value::Uint64(9))),
+    (2, 2, None),
+    (2, 2, Some(Value::Uint64(0))),
+];
+
+const AT_TWO_PLACES: [Change; 2] = [(2, 2, None), (0, 1, Some(Value::Uint64(4)))];
+
+fn expect_pending_at_one_place(rt: &impl Abort, a: &mut SparseMatrix) -> Result<(), AllocError> {
+    change_all(rt, a, &AT_ONE_PLACE)?;
+    expect_value(rt, a, 2, 2, Some(Value::Uint64(0)));
+    expect_counts(rt, a, 1, 4);
+    a.assemble()?;
+    expect_value(rt, a, 2, 2, Some(Value::Uint64(0)));
+    expect_counts(rt, a, 1, 0);
+    Ok(())
+}
+
+fn expect_pending_at_two_places(
+    rt: &impl Abort,
+    alloc: Global,
+    a: &mut SparseMatrix,
+) -> Result<(), AllocError> {
+    change_all(rt, a, &AT_TWO_PLACES)?;
+    expect_counts(rt, a, 1, 1);
+    a.resize(2, 2)?;
+    a.assemble()?;
+    expect_entries(rt, alloc, a, &[((0, 1), Value::Uint64(4))])
+}
+
+#[test]
+fn pending_tuples_and_removals_are_counted_until_assembled(rt: HostRuntime) -> Result<(), Fail> {
+    let mut a = SparseMatrix::new(rt.alloc(), Domain::Uint64, 3, 3);
+    expect_pending_at_one_place(&rt, &mut a)?;
+    expect_pending_at_two_places(&rt, rt.alloc(), &mut a)?;
+    Ok(())
+}
+
+const AT_THE_LAST: [Change; 3] = [
+    (4_294_967_294, 4_294_967_294, Some(Value::Bool(false))),
+    (4_294_967_294, 0, Some(Value::Bool(true))),
+    (0, 4_294_967_294, Some(Value::Bool(true))),
+];
+
+const LAST_IN_ORDER: [((u64, u64), Value); 3] = [
+    ((0, 4_294_967_294), Value::Bool(true)),
+    ((4_294_967_294, 0), Value::Bool(true)),
+    ((4_294_967_294, 4_294_967_294), Value::Bool(false)),
+];
+
+fn expect_last(rt: &impl Abort, alloc: Global, a: &mut SparseMatrix) -> Result<(), AllocError> {
+    change_all(rt, a, &AT_THE_LAST)?;
+    a.assemble()?;
+    expect_entries(rt, alloc, a, &LAST_IN_ORDER)?;
+    a.resize(4_294_967_295, 4_294_967_294)?;
+    expect_entries(rt, alloc, a, &[((4_294_967_294, 0), Value::Bool(true))])
+}
+
+#[test]
+fn the_last_row_and_column_hold_entries(rt: HostRuntime) -> Result<(), Fail> {
+    let mut a = SparseMatrix::new(rt.alloc(), Domain::Bool, 4_294_967_295, 4_294_967_295);
+    expect_last(&rt, rt.alloc(), &mut a)?;
+    Ok(())
+}
+
+/// Three entries, in rows 2 and 7.
+fn with_two_rows(alloc: Global) -> Result<SparseMatrix, AllocError>
+    ensures { IfOk result (λ a. a.matrix.domain ≡ Domain.Uint64) }
+{
+    let tuples = [
+        (7, 3, Value::Uint64(30)),
+        (2, 8, Value::Uint64(20)),
+        (2, 0, Value::Uint64(10)),
+    ];
+    let mut a = SparseMatrix::new(alloc, Domain::Uint64, 9, 9);
+    a.build(&tuples, Monoid::Plus)?;
+    Ok(a)
+}
+
+/// What the row of this place among those that store something is lent as.
+fn expect_row(rt: &impl Abort, lists: &FlatRows, at: usize, columns: &[u32], numbers: &[u64])
+    requires { lists.now.domain ≡ Domain.Uint64 }
+{
+    assert!(rt; at < lists.rows().len());
+    assert!(rt; lists.row_columns(at) == columns);
+    assert!(rt; lists.row_numbers(at) == numbers);
+}
+
+fn expect_lists(rt: &impl Abort, lists: &FlatRows)
+    requires { lists.now.domain ≡ Domain.Uint64 }
+{
+    assert!(rt; lists.rows() == [2, 7].as_slice());
+    assert!(rt; lists.starts() == [0, 2].as_slice());
+    assert!(rt; lists.columns() == [0, 8, 3].as_slice());
+    assert!(rt; lists.numbers() == [10, 20, 30].as_slice());
+}
+
+#[test]
+fn kernels_are_lent_whole_lists_and_single_rows(rt: HostRuntime) -> Result<(), Fail> {
+    let a = with_two_rows(rt.alloc())?;
+    assert!(rt; a.is_assembled());
+    let lists = a.lists();
+    expect_lists(&rt, lists);
+    expect_row(&rt, lists, 0, &[0, 8], &[10, 20]);
+    expect_row(&rt, lists, 1, &[3], &[30]);
+    Ok(())
+}
+
+/// Four entries, of which one had two values and keeps the larger.
+fn with_the_larger(alloc: Global) -> Result<SparseMatrix, AllocError> {
+    let tuples = [
+        (2, 0, Value::Uint64(9)),
+        (1, 2, Value::Uint64(3)),
+        (1, 0, Value::Uint64(7)),
+        (1, 2, Value::Uint64(5)),
+        (0, 1, Value::Uint64(1)),
+    ];
+    let mut a = SparseMatrix::new(alloc, Domain::Uint64, 3, 3);
+    a.build(&tuples, Monoid::Max)?;
+    Ok(a)
+}
+
+/// Its row 1 has two entries, and it stores four.
+fn expect_row_alone(rt: &impl Abort, alloc: Global, a: &SparseMatrix) -> Result<(), AllocError> {
+    let seen = seen_in_row(alloc, a, 1)?;
+    let entries = [(0, Value::Uint64(7)), (2, Value::Uint64(5))];
+    assert!(rt; seen.as_slice() == entries.as_slice());
+    expect_counts(rt, a, 4, 0);
+    Ok(())
+}
+
+/// A copy has the row once the matrix is cleared.
+fn expect_row_of_a_copy(
+    rt: &impl Abort,
+    alloc: Global,
+    a: &mut SparseMatrix,
+) -> Result<(), AllocError> {
+    let copy = a.try_clone()?;
+    a.clear();
+    expect_row_alone(rt, alloc, &copy)
+}
+
+#[test]
+fn a_row_has_its_columns_alone(rt: HostRuntime) -> Result<(), Fail> {
+    let mut a = with_the_larger(rt.alloc())?;
+    expect_row_of_a_copy(&rt, rt.alloc(), &mut a)?;
+    expect_counts(&rt, &a, 0, 0);
+    Ok(())
+}
+
+/// Three entries, of which one is in the first row and column.
+fn with_three_entries(alloc: Global) -> Result<SparseMatrix, AllocError> {
+    let tuples = [
+        (0, 0, Value::Bool(true)),
+        (0, 1, Value::Bool(false)),
+        (1, 0, Value::Bool(true)),
+    ];
+    let mut a = SparseMatrix::new(alloc, Domain::Bool, 2, 2);
+    a.build(&tuples, Monoid::Land)?;
+    Ok(a)
+}
+
+fn expect_first_alone(rt: &impl Abort, a: &SparseMatrix) {
+    assert_eq!(rt; a.domain(), Domain::Bool);
+    expect_assembled(rt, a);
+    expect_counts(rt, a, 1, 0);
+    expect_value(rt, a, 0, 0, Some(Value::Bool(true)));
+    expect_value(rt, a, 0, 1, None);
+}
+
+#[test]
+fn a_resize_loses_for_good(rt: HostRuntime) -> Result<(), Fail> {
+    let mut a = with_three_entries(rt.alloc())?;
+    a.resize(1, 1)?;
+    a.resize(2, 2)?;
+    expect_first_alone(&rt, &a);
+    Ok(())
+}
+
+/// A matrix of 2 rows and 10 columns that stores a 1 at (1, 2), and nothing else. A build that is refused memory is tried once more.
+fn with_one_entry(alloc: Global) -> Result<SparseMatrix, AllocError>
+    ensures domain { IfOk result (λ a. a.matrix.domain ≡ Domain.Uint64) }
+    ensures dims { IfOk result (λ a. (a.matrix.nrows ≡ 2) × (a.matrix.ncols ≡ 10)) }
+{
+    let tuples = [(1, 2, Value::Uint64(1))];
+    let mut a = SparseMatrix::new(alloc, Domain::Uint64, 2, 10);
+    if a.build(&tuples, Monoid::Plus).is_err() {
+        a.build(&tuples, Monoid::Plus)?;
+    }
+    Ok(a)
+}
+
+fn expect_one_entry(rt: &impl Abort, a: &SparseMatrix) {
+    assert_eq!(rt; (a.domain(), a.dims()), (Domain::Uint64, (2, 10)));
+    assert_eq!(rt; (a.nvals(), a.get(1, 2)), (1, Some(Value::Uint64(1))));
+}
+
+#[test]
+fn a_refused_build_changes_nothing(rt: HostRuntime) -> Result<(), Fail> {
+    let tuples = [(1, 2, Value::Uint64(4)), (1, 2, Value::Uint64(5))];
+    let mut a = SparseMatrix::new(rt.alloc(), Domain::Uint64, 2, 10);
+    if a.build(&tuples, Monoid::Plus).is_err() {
+        expect_value(&rt, &a, 1, 2, None);
+        expect_counts(&rt, &a, 0, 0);
+        expect_assembled(&rt, &a);
+        a.build(&tuples, Monoid::Plus)?;
+    }
+    expect_value(&rt, &a, 1, 2, Some(Value::Uint64(9)));
+    expect_counts(&rt, &a, 1, 0);
+    Ok(())
+}
+
+/// Reserves places. Where memory is refused nothing has changed, and it is asked for once more.
+fn reserve(rt: &impl Abort, a: &mut SparseMatrix, n: u64) -> Result<(), AllocError>
+    ensures matrix { a.new.matrix ≡ a.old.matrix }
+    ensures ok { OnOk result (a.new.reserved ≡ n) }
+{
+    if a.reserve_pending(n).is_err() {
+        expect_one_entry(rt, a);
+        assert!(rt; a.is_assembled());
+        a.reserve_pending(n)?;
+    }
+    Ok(())
+}
+
+fn expect_refused_reservation(rt: &impl Abort, a: &mut SparseMatrix) -> Result<(), AllocError> {
+    // more places than any memory holds
+    assert!(rt; a.reserve_pending(0xffff_ffff_ffff_ffff).is_err());
+    expect_one_entry(rt, a);
+    expect_assembled(rt, a);
+    reserve(rt, a, 1_000)?;
+    change(rt, a, &(0, 9, Some(Value::Uint64(7))));
+    expect_value(rt, a, 0, 9, Some(Value::Uint64(7)));
+    assert_eq!(rt; a.nvals(), 2);
+    Ok(())
+}
+
+#[test]
+fn a_refused_reservation_changes_nothing(rt: HostRuntime) -> Result<(), Fail> {
+    let mut a = with_one_entry(rt.alloc())?;
+    expect_refused_reservation(&rt, &mut a)?;
+    Ok(())
+}
+
+#[test]
+fn a_refused_copy_leaves_its_source(rt: HostRuntime) -> Result<(), Fail> {
+    let a = with_one_entry(rt.alloc())?;
+    let mut copy = match a.try_clone() {
+        Ok(copy) => copy,
+        Err(_) => {
+            expect_one_entry(&rt, &a);
+            a.try_clone()?
+        }
+    };
+    expect_one_entry(&rt, &copy);
+    copy.clear();
+    expect_one_entry(&rt, &a);
+    Ok(())
+}
+
+/// Does the changes. Where memory is refused they are still to be done, and it is asked for once more.
+fn assemble(rt: &impl Abort, a: &mut SparseMatrix) -> Result<(), AllocError> {
+    if a.assemble().is_err() {
+        expect_one_entry(rt, a);
+        assert!(rt; !a.is_assembled());
+        a.assemble()?;
+    }
+    Ok(())
+}
+
+/// Leaves 2 rows and 2 columns. Where memory is refused nothing has changed, and it is asked for once more.
+fn resize(rt: &impl Abort, a: &mut SparseMatrix) -> Result<(), AllocError> {
+    if a.resize(2, 2).is_err() {
+        expect_one_entry(rt, a);
+        a.resize(2, 2)?;
+    }
+    Ok(())
+}
+
+fn expect_refused_changes(rt: &impl Abort, a: &mut SparseMatrix) -> Result<(), AllocError> {
+    reserve(rt, a, 2)?;
+    change(rt, a, &(0, 9, None));
+    assemble(rt, a)?;
+    expect_one_entry(rt, a);
+    expect_assembled(rt, a);
+    resize(rt, a)?;
+    expect_dims(rt, a, 2, 2);
+    expect_value(rt, a, 1, 2, None);
+    expect_counts(rt, a, 0, 0);
+    Ok(())
+}
+
+#[test]
+fn a_refused_assemble_or_resize_changes_nothing(rt: HostRuntime) -> Result<(), Fail> {
+    let mut a = with_one_entry(rt.alloc())?;
+    expect_refused_changes(&rt, &mut a)?;
+    Ok(())
+}

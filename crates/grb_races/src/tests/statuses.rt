@@ -1,0 +1,332 @@
+ghost use Rattle.grb_context.specs.Known.{IsPassOf};
+
+use crate::tests::asked::{Asked, FIRST, Operation, SECOND};
+use crate::tests::rows::{answer_of, open_two};
+use grb_call::{Call, Descriptor, MatrixId, Object, VectorId, WaitMode};
+use grb_context::{Context, Pass};
+use grb_core::{BinaryOp, Domain, Info, Monoid, Refusal, Value};
+use std::alloc::{AllocError, Global};
+use std::process::Abort;
+
+const V: Object = Object::Vector(FIRST);
+
+const W: Object = Object::Vector(SECOND);
+
+const A: Object = Object::Matrix(MatrixId(0));
+
+const B: Object = Object::Matrix(MatrixId(1));
+
+type Status = Option<Info>;
+
+const SUCCESS: Status = Some(Info::Success);
+
+const NO_VALUE: Status = Some(Info::NoValue);
+
+const UNINITIALIZED: Status = Some(Info::Refused(Refusal::UninitializedObject));
+
+const BAD_VALUE: Status = Some(Info::Refused(Refusal::InvalidValue));
+
+const BAD_INDEX: Status = Some(Info::Refused(Refusal::InvalidIndex));
+
+const BAD_DOMAIN: Status = Some(Info::Refused(Refusal::DomainMismatch));
+
+const NOT_EMPTY: Status = Some(Info::Refused(Refusal::OutputNotEmpty));
+
+const OUT_OF_BOUNDS: Status = Some(Info::Refused(Refusal::IndexOutOfBounds));
+
+const FULL: Status = Some(Info::Refused(Refusal::OrderFull));
+
+const SEVEN: Value = Value::Uint64(7);
+
+const PLAIN: Descriptor = Descriptor {
+    structure: false,
+    comp: false,
+    replace: false,
+};
+
+/// A call, and the statuses of two objects after it.
+type Row = (Asked, Object, Status, Object, Status);
+
+fn expect_status(rt: &impl Abort, pass: &Pass, object: Object, expected: Status, at: usize) {
+    assert_eq!(rt; pass.last_info(object), expected, "row {at}, from 0");
+}
+
+fn expect_row<R: Abort>(
+    rt: &R,
+    alloc: Global,
+    context: &Context,
+    pass: &mut Pass,
+    row: &Row,
+    at: usize,
+) -> Result<(), AllocError>
+    requires { IsPassOf context.now pass.old }
+    ensures { IsPassOf context.now pass.new }
+{
+    let (asked, object, status, other, kept) = *row;
+    let mut refusals = 0;
+    let _answer = answer_of(alloc, context, pass, asked, &mut refusals)?;
+    expect_status(rt, pass, object, status, at);
+    expect_status(rt, pass, other, kept, at);
+    Ok(())
+}
+
+fn expect_rows<R: Abort>(
+    rt: &R,
+    alloc: Global,
+    context: &Context,
+    pass: &mut Pass,
+    rows: &[Row],
+) -> Result<(), AllocError>
+    requires { IsPassOf context.now pass.old }
+{
+    for (at, row) in rows.iter().enumerate() {
+        expect_row(rt, alloc, context, pass, row, at)?;
+    }
+    Ok(())
+}
+
+/// In a store of 8 calls: the vector that the call changes or reads, and another object.
+const ON_VECTORS: [Row; 22] = [
+    (Asked::GetVector(FIRST, 0), V, UNINITIALIZED, A, None),
+    (
+        Asked::NewVector(Domain::Uint64, 0),
+        V,
+        UNINITIALIZED,
+        W,
+        None,
+    ),
+    (Asked::DupVector(SECOND), V, UNINITIALIZED, W, None),
+    (Asked::NewVector(Domain::Uint64, 4), V, SUCCESS, W, None),
+    (Asked::SetVector(FIRST, 4, SEVEN), V, BAD_INDEX, W, None),
+    (
+        Asked::SetVector(FIRST, 1, Value::Bool(true)),
+        V,
+        BAD_DOMAIN,
+        W,
+        None,
+    ),
+    (Asked::SetVector(FIRST, 1, SEVEN), V, SUCCESS, A, None),
+    (Asked::RemoveVector(FIRST, 5), V, BAD_INDEX, A, None),
+    (Asked::SizeVector(FIRST), V, SUCCESS, A, None),
+    (Asked::GetVector(FIRST, 0), V, NO_VALUE, A, None),
+    (Asked::DupVector(FIRST), W, SUCCESS, V, NO_VALUE),
+    (Asked::GetVector(SECOND, 9), W, BAD_INDEX, V, NO_VALUE),
+    (Asked::GetVector(FIRST, 1), V, SUCCESS, W, BAD_INDEX),
+    (
+        Asked::BuildVector(FIRST, [(0, 1), (2, 2), (3, 3)]),
+        V,
+        NOT_EMPTY,
+        W,
+        BAD_INDEX,
+    ),
+    (Asked::ClearVector(FIRST), V, SUCCESS, W, BAD_INDEX),
+    (
+        Asked::BuildVector(FIRST, [(0, 1), (2, 2), (4, 3)]),
+        V,
+        OUT_OF_BOUNDS,
+        W,
+        BAD_INDEX,
+    ),
+    (
+        Asked::Operation(Operation::EwiseAddVector(
+            SECOND,
+            None,
+            None,
+            BinaryOp::Plus,
+            FIRST,
+            FIRST,
+            PLAIN,
+        )),
+        W,
+        SUCCESS,
+        V,
+        OUT_OF_BOUNDS,
+    ),
+    (
+        Asked::ResizeVector(SECOND, 0),
+        W,
+        BAD_VALUE,
+        V,
+        OUT_OF_BOUNDS,
+    ),
+    (Asked::FreeVector(FIRST), V, SUCCESS, W, BAD_VALUE),
+    (Asked::NvalsVector(FIRST), V, UNINITIALIZED, W, BAD_VALUE),
+    (
+        Asked::SetVector(VectorId(7), 0, SEVEN),
+        Object::Vector(VectorId(7)),
+        UNINITIALIZED,
+        W,
+        BAD_VALUE,
+    ),
+    (
+        Asked::SetVector(VectorId(8), 0, SEVEN),
+        Object::Vector(VectorId(8)),
+        None,
+        Object::Vector(VectorId(7)),
+        UNINITIALIZED,
+    ),
+];
+
+#[test]
+fn a_vector_has_the_status_of_the_last_call_on_it(rt: HostRuntime) -> Result<(), AllocError> {
+    let rows = ON_VECTORS;
+    let (context, mut pass, _) = open_two(&rt, rt.alloc(), 8)?;
+    expect_rows(&rt, rt.alloc(), &context, &mut pass, &rows)
+}
+
+/// In a store of 4 calls: the matrix that the call changes or reads, and another object.
+const ON_MATRICES: [Row; 13] = [
+    (Asked::NewMatrix(Domain::Uint64, 2, 0), A, None, B, None),
+    (Asked::DupMatrix(MatrixId(0)), A, None, B, None),
+    (Asked::NewMatrix(Domain::Uint64, 2, 2), A, SUCCESS, V, None),
+    (
+        Asked::SetMatrix(MatrixId(0), 2, 0, SEVEN),
+        A,
+        BAD_INDEX,
+        V,
+        None,
+    ),
+    (Asked::GetMatrix(MatrixId(0), 1, 1), A, NO_VALUE, V, None),
+    (Asked::DupMatrix(MatrixId(0)), B, SUCCESS, A, NO_VALUE),
+    (Asked::NvalsMatrix(MatrixId(1)), B, SUCCESS, A, NO_VALUE),
+    (Asked::SizeMatrix(MatrixId(0)), A, SUCCESS, W, None),
+    (
+        Asked::RemoveMatrix(MatrixId(1), 0, 2),
+        B,
+        BAD_INDEX,
+        A,
+        SUCCESS,
+    ),
+    (Asked::FreeMatrix(MatrixId(0)), A, SUCCESS, B, BAD_INDEX),
+    (Asked::ClearMatrix(MatrixId(1)), B, SUCCESS, V, None),
+    (Asked::ResizeMatrix(MatrixId(1), 3, 3), B, FULL, A, SUCCESS),
+    (
+        Asked::GetMatrix(MatrixId(4), 0, 0),
+        Object::Matrix(MatrixId(4)),
+        None,
+        B,
+        FULL,
+    ),
+];
+
+#[test]
+fn a_matrix_has_the_status_of_the_last_call_on_it(rt: HostRuntime) -> Result<(), AllocError> {
+    let rows = ON_MATRICES;
+    let (context, mut pass, _) = open_two(&rt, rt.alloc(), 4)?;
+    expect_rows(&rt, rt.alloc(), &context, &mut pass, &rows)
+}
+
+/// A call that is made by `call`, and the statuses of two objects after it.
+fn expect_call<R: Abort>(
+    rt: &R,
+    context: &Context,
+    pass: &mut Pass,
+    call: Call,
+    statuses: (Status, Status),
+)
+    requires { IsPassOf context.now pass.old }
+    ensures { IsPassOf context.now pass.new }
+{
+    let _answer = context.call(pass, call);
+    assert_eq!(rt; (pass.last_info(V), pass.last_info(A)), statuses);
+}
+
+fn new_vector() -> Call {
+    Call::NewVector {
+        domain: Domain::Uint64,
+        size: 2,
+    }
+}
+
+#[test]
+fn a_wait_and_a_total_leave_a_status(rt: HostRuntime) -> Result<(), AllocError> {
+    let (context, mut pass, _) = open_two(&rt, rt.alloc(), 4)?;
+    let mode = WaitMode::Materialize;
+    let a = MatrixId(0);
+    let v = FIRST;
+    let monoid = Monoid::Land;
+    expect_call(
+        &rt,
+        &context,
+        &mut pass,
+        Call::WaitMatrix { a, mode },
+        (None, UNINITIALIZED),
+    );
+    expect_call(
+        &rt,
+        &context,
+        &mut pass,
+        new_vector(),
+        (SUCCESS, UNINITIALIZED),
+    );
+    expect_call(
+        &rt,
+        &context,
+        &mut pass,
+        Call::ReduceVector { v, monoid },
+        (BAD_DOMAIN, UNINITIALIZED),
+    );
+    expect_call(
+        &rt,
+        &context,
+        &mut pass,
+        Call::WaitVector { v, mode },
+        (SUCCESS, UNINITIALIZED),
+    );
+    Ok(())
+}
+
+/// The pass makes a vector and gets what is not there; the other then asks for what is not there either.
+fn expect_met(rt: &impl Abort, context: &Context, p: &mut Pass, q: &mut Pass)
+    requires first { IsPassOf context.now p.old }
+    requires second { IsPassOf context.now q.old }
+{
+    let _made = context.new_vector(q, Domain::Uint64, 2);
+    let _refused = context.set_vector(q, FIRST, 2, SEVEN);
+    assert_eq!(rt; (p.last_info(V), q.last_info(V)), (None, BAD_INDEX));
+    assert_eq!(rt; context.meet(p, q), Ok(()));
+    assert_eq!(rt; (p.last_info(V), q.last_info(V)), (None, BAD_INDEX));
+    let _value = context.get_vector(p, FIRST, 1);
+    assert_eq!(rt; (p.last_info(V), q.last_info(V)), (NO_VALUE, BAD_INDEX));
+    assert_eq!(rt; context.meet(q, p), Ok(()));
+    assert_eq!(rt; (p.last_info(V), q.last_info(V)), (NO_VALUE, BAD_INDEX));
+}
+
+#[test]
+fn a_meeting_changes_no_status(rt: HostRuntime) -> Result<(), AllocError> {
+    let (context, mut p, mut q) = open_two(&rt, rt.alloc(), 8)?;
+    expect_met(&rt, &context, &mut p, &mut q);
+    Ok(())
+}
+
+/// The statuses of two vectors behind a list of calls.
+fn statuses_of_list(context: &Context, pass: &mut Pass) -> (Status, Status)
+    requires { IsPassOf context.now pass.old }
+{
+    let v = FIRST;
+    let calls = [
+        new_vector(),
+        Call::SetVector {
+            v,
+            i: 0,
+            value: SEVEN,
+        },
+        Call::GetVector { v, i: 0 },
+        Call::SetVector {
+            v,
+            i: 2,
+            value: SEVEN,
+        },
+    ];
+    let _answers = context.run(pass, &calls);
+    (pass.last_info(V), pass.last_info(W))
+}
+
+#[test]
+fn a_list_leaves_the_status_of_its_last_call_on_an_object(
+    rt: HostRuntime,
+) -> Result<(), AllocError> {
+    let (context, mut pass, _) = open_two(&rt, rt.alloc(), 8)?;
+    assert_eq!(rt; statuses_of_list(&context, &mut pass), (BAD_INDEX, None));
+    Ok(())
+}

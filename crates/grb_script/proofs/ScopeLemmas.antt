@@ -1,0 +1,145 @@
+-- Where the lines of a script stand, and what their words say.
+use Rattle.std.proofs.Common.{◌≡◌, ℕ, ◌≤◌, ◌==◌, Bool, true, false, ◌||◌, if◌then◌else◌, List, [], ◌∷◌, ◌++◌, length, take, get_or, Option, Some, None, refl, sym, ap, ◌∙◌, true≢false, arith, length-append}
+use Rattle.std.specs.Prelude.{codes}
+use Rattle.std.specs.Option.{option_map, option_map_or, option_to_list}
+use Rattle.std.specs.Result.{result_err, result_ok}
+use Rattle.std.specs.Str.{bytes_eq}
+use Rattle.std.proofs.lemmas.Bool.{false_from_ne_true}
+use Rattle.std.proofs.lemmas.List.{append-nil, take-append-le}
+use Rattle.std.proofs.lemmas.Slice.Eq.{bytes_eq-Decides}
+use Rattle.grb_words.specs.declared.section.Section.{Section}
+use Rattle.grb_words.specs.declared.section.Section.TheVariants as section
+use Rattle.grb_words.specs.Form.{Form, MatrixForm, VectorForm, DupForm, FreeForm, NvalsForm, SizeForm, ClearForm, RemoveForm, GetForm, ResizeForm, SetForm, BuildForm, EwiseForm, ProductForm, ReduceForm, TotalForm, WaitForm, form_of, load_of}
+use Rattle.grb_words.specs.Line.{Word, is_load, is_section, is_skipped}
+use Rattle.grb_words.specs.Section.{section_of}
+use Rattle.grb_words.specs.Word.{numeral_value}
+use Rattle.grb_script.specs.declared.command.Command.{Command}
+use Rattle.grb_script.specs.declared.line.Said.TheVariants as said
+use Rattle.grb_script.specs.declared.names.Sort.{Sort}
+use Rattle.grb_script.specs.declared.names.Sort.TheVariants as sort
+use Rattle.grb_script.specs.declared.scope.Scope.{Scope as Kept}
+use Rattle.grb_script.specs.Command.{asking, names_asked, names_behind_load, names_behind_words, IsAsked}
+use Rattle.grb_script.specs.Names.{Name, sort_of}
+use Rattle.grb_script.specs.Reading.{names_behind}
+use Rattle.grb_script.specs.Said.{IsRead}
+use Rattle.grb_script.specs.Scope.{Scope, begun, main_behind, main_kept, with_names, seen, IsKept}
+use Rattle.grb_script.specs.ScriptFault.{section_fault, wording_fault}
+
+-- of words that are skipped none begins with the word of a section
+other_word : (word key : Word) → (get_or word 0 0 == 35) ≡ true → (get_or key 0 0 == 35) ≡ false → bytes_eq word key ≡ false
+other_word word key h k =
+    false_from_ne_true (bytes_eq word key) (λ e. true≢false (sym h ∙ ap (λ w. get_or w 0 0 == 35) ((bytes_eq-Decides word key).0 e) ∙ k))
+
+pub section_of-skipped : (words : List Word) → is_skipped words ≡ true → section_of words ≡ None
+section_of-skipped [] h = refl
+section_of-skipped (word ∷ []) h = ap (λ b. if b then Some section.Finally else None) (other_word word (codes "finally") h refl)
+section_of-skipped (word ∷ k ∷ []) h = ap (λ b. if b then option_map section.Thread (numeral_value k) else None) (other_word word (codes "thread") h refl)
+section_of-skipped (word ∷ k ∷ x ∷ more) h = refl
+
+neither : (a b : Bool) → (a || b) ≡ false → (a ≡ false) × (b ≡ false)
+neither false false h = (refl, refl)
+neither false true h = absurd (true≢false h)
+neither true b h = absurd (true≢false h)
+
+-- words that do not begin with the word of a section begin none
+pub section_of-other : (words : List Word) → is_section words ≡ false → section_of words ≡ None
+section_of-other [] h = refl
+section_of-other (word ∷ []) h = ap (λ b. if b then Some section.Finally else None) (neither (bytes_eq word (codes "thread")) _ h).1
+section_of-other (word ∷ k ∷ []) h = ap (λ b. if b then option_map section.Thread (numeral_value k) else None) (neither (bytes_eq word (codes "thread")) _ h).0
+section_of-other (word ∷ k ∷ x ∷ more) h = refl
+
+-- each statement keeps the names that stand, and may add one
+abbrev Extends : List Name → List Name → Type 0
+Extends names after = (more : List Name) × (after ≡ names ++ more)
+
+same : (names : List Name) → Extends names names
+same names = ([], sym (append-nil names))
+
+with_copy : (names : List Name) (name : Word) (found : Option Sort) → Extends names (option_map_or (λ sort. names ++ (name, sort) ∷ []) found names)
+with_copy names name None = same names
+with_copy names name (Some found) = ((name, found) ∷ [], refl)
+
+names_behind-extends : (names : List Name) (form : Option Form) → Extends names (names_behind names form)
+names_behind-extends names None = same names
+names_behind-extends names (Some (MatrixForm name domain nrows ncols)) = ((name, sort.Matrix) ∷ [], refl)
+names_behind-extends names (Some (VectorForm name domain size)) = ((name, sort.Vector) ∷ [], refl)
+names_behind-extends names (Some (DupForm name source)) = with_copy names name (sort_of names source)
+names_behind-extends names (Some (FreeForm name)) = same names
+names_behind-extends names (Some (NvalsForm name)) = same names
+names_behind-extends names (Some (SizeForm name)) = same names
+names_behind-extends names (Some (ClearForm name)) = same names
+names_behind-extends names (Some (RemoveForm name p)) = same names
+names_behind-extends names (Some (GetForm name p)) = same names
+names_behind-extends names (Some (ResizeForm name p)) = same names
+names_behind-extends names (Some (SetForm name p x)) = same names
+names_behind-extends names (Some (BuildForm name dup values)) = same names
+names_behind-extends names (Some (EwiseForm w output left right op o)) = same names
+names_behind-extends names (Some (ProductForm w output left right semiring o)) = same names
+names_behind-extends names (Some (ReduceForm output input monoid o)) = same names
+names_behind-extends names (Some (TotalForm name monoid)) = same names
+names_behind-extends names (Some (WaitForm name mode)) = same names
+
+names_behind_load-extends : (names : List Name) (load : Option (Word × Word)) → Extends names (names_behind_load names load)
+names_behind_load-extends names None = same names
+names_behind_load-extends names (Some load) = ((load.0, sort.Matrix) ∷ [], refl)
+
+one_of : (names : List Name) (b : Bool) (loaded said : List Name) → Extends names loaded → Extends names said → Extends names (if b then loaded else said)
+one_of names true loaded said l s = l
+one_of names false loaded said l s = s
+
+names_asked-extends : (names : List Name) (words : List Word) → Extends names (names_asked names words)
+names_asked-extends names words = one_of names (is_load words) _ _ (names_behind_load-extends names (load_of words)) (names_behind-extends names (form_of words))
+
+main_behind-same : (here : Option Section) (count : ℕ) (names : List Name) → main_kept here count names ≡ main_behind here (main_kept here count names) names
+main_behind-same None count names = refl
+main_behind-same (Some section) count names = refl
+
+main_behind-more : (here : Option Section) (count : ℕ) (names after : List Name) → count ≤ length names → Extends names after → main_kept here count after ≡ main_behind here (main_kept here count names) after
+main_behind-more None count names after kept e = refl
+main_behind-more (Some section) count names after kept e = ap (take count) e.1 ∙ take-append-le count names e.0 kept
+
+-- words that are skipped
+pub skipped-IsRead : (scope : Kept) (words : List Word) → is_skipped words ≡ true → IsRead (seen scope) words None (seen scope)
+skipped-IsRead scope words h = record {
+  faultless = ap (λ b. if b then None else (if is_section words then section_fault scope.section (section_of words) else result_err (asking scope.names words))) h;
+  says = (section_of-skipped words h, ap (λ b. if b then [] else option_to_list (result_ok (asking scope.names words))) h);
+  behind =
+      (λ j. record { section = scope.section; main = main_behind-same scope.section scope.main scope.names j; names = scope.names })
+      ∙ (λ j. with_names (seen scope) (if sym h j then scope.names else names_asked scope.names words))
+      ∙ (λ j. option_map_or (begun (seen scope)) (sym (section_of-skipped words h) j) (with_names (seen scope) (names_behind_words scope.names words)));
+}
+
+module _ (words : List Word) (stays : is_skipped words ≡ false) where
+  -- words that begin none
+  module _ (begins : is_section words ≡ false) where
+    pub wording_fault-asked : (scope : Scope) → wording_fault scope words ≡ result_err (asking scope.names words)
+    wording_fault-asked scope =
+        (λ j. if stays j then None else (if begins j then section_fault scope.section (section_of words) else result_err (asking scope.names words)))
+
+    module _ (before after : Kept) (command : Command) (in_place : after.section ≡ before.section) (counts : after.main ≡ before.main) (kept : IsKept before) (asked : IsAsked before.names words command after.names) where
+      extends : Extends before.names after.names
+      extends = let e = names_asked-extends before.names words in (e.0, asked.behind ∙ e.1)
+
+      pub asked-IsKept : IsKept after
+      asked-IsKept = let e = extends in omega (arith, kept, counts, ap length e.1, length-append before.names e.0)
+
+      main-stays : main_kept after.section after.main after.names ≡ main_behind before.section (main_kept before.section before.main before.names) after.names
+      main-stays = (λ j. main_kept (in_place j) (counts j) after.names) ∙ main_behind-more before.section before.main before.names after.names kept extends
+
+      after-with_names : seen after ≡ with_names (seen before) after.names
+      after-with_names = λ j. record { section = in_place j; main = main-stays j; names = after.names }
+
+      behind-words : after.names ≡ names_behind_words before.names words
+      behind-words = asked.behind ∙ ap (λ b. if b then before.names else names_asked before.names words) (sym stays)
+
+      pub asked-IsRead : IsRead (seen before) words (Some (said.Command command)) (seen after)
+      asked-IsRead = record {
+        faultless = wording_fault-asked (seen before) ∙ ap result_err asked.says;
+        says = (
+          section_of-other words begins,
+          ap (λ b. if b then [] else option_to_list (result_ok (asking before.names words))) stays ∙ ap (λ r. option_to_list (result_ok r)) asked.says,
+        );
+        behind =
+            after-with_names ∙ ap (with_names (seen before)) behind-words
+            ∙ ap (λ s. option_map_or (begun (seen before)) s (with_names (seen before) (names_behind_words before.names words))) (sym (section_of-other words begins));
+      }

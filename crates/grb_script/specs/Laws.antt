@@ -1,0 +1,22 @@
+-- What a reader of the definitions of scripts relies on, as laws about these.
+use Rattle.std.specs.Prelude.{◌≡◌, ℕ, ◌+◌, List, [], ◌∷◌, ◌++◌, None, length}
+use Rattle.std.specs.List.{flat_map}
+use Rattle.grb_script.specs.declared.command.Numbered.{Numbered}
+use Rattle.grb_words.specs.Line.{Line, lines_of, words_of}
+use Rattle.grb_script.specs.Command.{names_behind_words}
+use Rattle.grb_script.specs.Names.{Name}
+use Rattle.grb_script.specs.Script.{with_before, numbered_on, sections_of}
+use Rattle.grb_script.specs.ScriptFault.{script_fault}
+
+-- the names that stand behind these lines, where these stood before and no section begins
+abbrev pub names_behind_lines : List Name → List Line → List Name
+names_behind_lines names [] = names
+names_behind_lines names (line ∷ more) = names_behind_lines (names_behind_words names (words_of line.bytes)) more
+
+-- what a text asks for as one list of lines, in which a line that begins a section asks for nothing
+abbrev pub commands_of : List ℕ → List Numbered
+commands_of text = flat_map (λ p. numbered_on (length p.0 + 1) (names_behind_lines [] p.0) p.1) (with_before [] (lines_of text))
+
+-- a text without a fault and without thread sections asks in main and 'finally' for what it asks for as one list of lines
+abbrev pub WithoutThreadsAreLines : Type 0
+WithoutThreadsAreLines = (text : List ℕ) → script_fault text ≡ None → (sections_of text).threads ≡ [] → (sections_of text).main ++ (sections_of text).finally ≡ commands_of text

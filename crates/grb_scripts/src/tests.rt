@@ -1,0 +1,11 @@
+mod elementwise;
+mod endings;
+mod examples;
+mod faults;
+mod gates;
+mod loads;
+mod products;
+mod runs;
+mod sections;
+mod sinks;
+mod sources;

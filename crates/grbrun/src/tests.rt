@@ -1,9 +1,0 @@
-mod elementwise;
-mod endings;
-mod examples;
-mod gates;
-mod loads;
-mod products;
-mod runs;
-mod sinks;
-mod sources;
