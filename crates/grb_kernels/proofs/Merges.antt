@@ -92,9 +92,23 @@ module _ (f : Option Value → Option Value → Option Value) (none : f None Non
 pub merged : (f : Option Value → Option Value → Option Value) (total out : VectorEntries) → IsMerging f total [] [] out → out ≡ total
 merged f total out m = sym (append_nil out) ∙ m.so_far
 
+-- one after the other, where the rest of both was written
+pub written_out : (f : Option Value → Option Value → Option Value) (total rest_a rest_b out out' : VectorEntries)
+    → out' ≡ out ++ pointwise nat_cmp f rest_a rest_b → IsMerging f total rest_a rest_b out → out' ≡ total
+written_out f total rest_a rest_b out out' e m = e ∙ m.so_far
+
 -- both are at an end where none is left
 at_none : {f : Option Value → Option Value → Option Value} {total la lb la' lb' out : VectorEntries} → la ≡ la' → lb ≡ lb' → IsMerging f total la lb out → IsMerging f total la' lb' out
 at_none {f} {total} {la} {lb} {la'} {lb'} {out} p q m = subst (λ w. IsMerging f total la' w out) q (subst (λ w. IsMerging f total w lb out) p m)
+
+-- nothing is left of two lists of which nothing is left
+pub ended : (f : Option Value → Option Value → Option Value) (total rest_a rest_b out : VectorEntries)
+    → rest_a ≡ [] → rest_b ≡ [] → IsMerging f total rest_a rest_b out → out ≡ total
+ended f total rest_a rest_b out p q m = merged f total out (at_none p q m)
+
+-- nothing more is written
+pub nothing_more : (out m : VectorEntries) → m ≡ [] → out ≡ out ++ m
+nothing_more out m e = sym (ap (λ r. out ++ r) e ∙ append_nil out)
 
 pub three_ways : (p q : ℕ) → (p < q) ⊎ ((p ≡ q) ⊎ (q < p))
 three_ways p q = elim (cases_lt p q) [ inl h ↦ inl h | inr h ↦ elim (cases_eq p q) [ inl e ↦ inr (inl e) | inr n ↦ inr (inr (omega arith)) ] ]

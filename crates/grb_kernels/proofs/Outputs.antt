@@ -10,7 +10,9 @@ use lib.Dec.{T}
 use Rattle.grb_core.specs.declared.value.Value.{Value}
 use Rattle.grb_core.proofs.Maps.{same_entries_at}
 use Rattle.grb_core.specs.Mask.{selects, is_inside}
-use Rattle.grb_core.specs.Written.{either_value, pointwise, masked}
+use Rattle.grb_core.specs.declared.operator.BinaryOp.{BinaryOp}
+use Rattle.grb_core.specs.Operator.{value_of_op}
+use Rattle.grb_core.specs.Written.{either_value, pointwise, masked, written}
 use Rattle.grb_core.proofs.Written.{find-pointwise, is_sorted-pointwise, find-masked, is_sorted-masked}
 use Rattle.grb_kernels.specs.Masked.{by_mask, by_mask-none}
 
@@ -113,3 +115,10 @@ module _ {K : Type 0} (R : K → K → Ordering) (o : IsTotalOrder R) (same : Is
       → inside ≡ inside_part t → out ≡ pointwise R (either_value f) c inside
       → out ≡ masked R (is_inside R structure comp (Some mask)) false c (pointwise R (either_value f) c t)
   accumulated_inside f c t inside out i e = e ∙ ap (pointwise R (either_value f) c) i ∙ sym (accumulated_parts f c t)
+
+-- an accumulator first, and then the mask
+pub accumulated_first : {K : Type 0} (R : K → K → Ordering) (inside : K → Bool) (replace : Bool) (op : BinaryOp) (accum : Option BinaryOp) (c t new out : List (K × Value))
+    → accum ≡ Some op → new ≡ pointwise R (either_value (value_of_op op)) c t → out ≡ masked R inside replace c new
+    → out ≡ written R inside replace accum c t
+accumulated_first R inside replace op accum c t new out is made e =
+    e ∙ ap (masked R inside replace c) made ∙ ap (λ (a : Option BinaryOp). written R inside replace a c t) (sym is)

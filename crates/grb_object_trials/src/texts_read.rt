@@ -382,6 +382,24 @@ fn symmetric_files_are_written_out(rt: HostRuntime) -> Result<(), Fail> {
     )
 }
 
+const FAR_APART: [(u64, u64, Value); 4] = [
+    (0, 0, Value::Uint64(5)),
+    (0, 4_294_967_294, Value::Uint64(6)),
+    (4_294_967_294, 0, Value::Uint64(6)),
+    (4_294_967_294, 4_294_967_294, Value::Uint64(7)),
+];
+
+/// What stands behind the first line of a symmetric file of many rows and few entries.
+const HALF_OF_FAR_APART: &str =
+    "4294967295 4294967295 3\n4294967295 4294967295 7\n4294967295 1 6\n1 1 5\n";
+
+#[test]
+fn rows_far_apart_are_written_out(rt: HostRuntime) -> Result<(), Fail> {
+    let dims = (4_294_967_295, 4_294_967_295);
+    let behind = HALF_OF_FAR_APART;
+    expect_numbers(&rt, rt.alloc(), INTEGER_SYMMETRIC, behind, dims, &FAR_APART)
+}
+
 const PRINTED: [(FaultKind, &str); 12] = [
     (FaultKind::UnendedLine, "line 7: unended line"),
     (FaultKind::Header, "line 7: header"),

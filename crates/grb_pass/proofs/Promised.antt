@@ -11,7 +11,7 @@ use Rattle.grb_pass.specs.Explains.{Answer, Ground, ByStore, ByRoom, ByMemory, B
 use Rattle.grb_pass.specs.Counting.{CountsCall}
 use Rattle.grb_pass.specs.Statuses.{StatusRows, status_at}
 use Rattle.grb_pass.specs.Learning.{IsSteady}
-use Rattle.grb_pass.specs.Answered.{Promise, Answered}
+use Rattle.grb_pass.specs.Answered.{Promise, Answered, promised}
 use Rattle.grb_pass.proofs.Answering.{memory_explained}
 use Rattle.grb_pass.proofs.Counted.{begun, explains_begun, counts_begun}
 use Rattle.grb_pass.proofs.Owning.{own_calls, is_known}
@@ -19,8 +19,7 @@ use Rattle.grb_pass.proofs.Learnt.{pass_same}
 
 -- what a call promises, field by field
 pub promise : (context : Shared) (old new : Knowing) (c : Call) (r : Answer) → Answered context old new c r → Promise context old new c r
-unfolding Answered
-promise context old new c r is = is
+promise context old new c r (promised is) = is
 
 -- a pass whose statuses changed alone
 abbrev with_statuses : Knowing → StatusRows → Knowing
@@ -76,7 +75,6 @@ pass_kept context mid new x r kept of = pass_same context mid new (ap (λ (p : K
 -- the parts of a call leave the statuses, and then its answer is kept
 pub answered : (context : Shared) (old now mid new : Knowing) (x : Option Object) (c : Call) (r : Answer) → now ≡ begun old → IsPassOf context mid → ExplainsCall (room_of context.order) now mid c r → IsSteady mid → IsCaughtUp (ground_of r) mid → CountsCall now mid
     → mid.statuses ≡ now.statuses → x ≡ object_of c → IsKeptAs mid x r new → Answered context old new c r
-unfolding Answered
 answered context old now mid new x c r is pass explains steady caught_up steps same about kept =
     let room : ℕ = room_of context.order in
     let statuses : StatusRows = new.statuses in
@@ -94,4 +92,4 @@ answered context old now mid new x c r is pass explains steady caught_up steps s
       steps = counts_kept room old mid statuses c r (counts_begun old now mid is steps);
       statuses = after;
     } in
-    subst (λ (p : Knowing). Promise context old p c r) (sym kept.same) promise
+    promised (subst (λ (p : Knowing). Promise context old p c r) (sym kept.same) promise)

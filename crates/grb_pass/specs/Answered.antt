@@ -22,7 +22,7 @@ pub record Promise (context : Shared) (old new : Knowing) (c : Call) (r : Answer
   pub steps : CountsCall old new
   pub statuses : status_at new.statuses ≡ statuses_after (room_of context.order) c r (status_at old.statuses)
 
--- That promise, by the name under which one call passes it on to the next. A proof sees its fields where it opens the name, by a line
--- `unfolding Answered`, or by the lemma `promise` of `proofs/Promised.antt`
-unfoldable pub Answered : Shared → Knowing → Knowing → Call → Answer → Type 0
-Answered context old new c r = Promise context old new c r
+-- That promise, closed: what one call passes on to the next. Two of them are the same only where their calls are, so a proof compares
+-- the calls and not the fields. It sees the fields by the lemma `promise` of `proofs/Promised.antt`
+pub data Answered (context : Shared) (old new : Knowing) (c : Call) (r : Answer) : Type 0 where
+  promised : Promise context old new c r → Answered context old new c r

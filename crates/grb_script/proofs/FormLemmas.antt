@@ -37,6 +37,21 @@ none_of_err (Some y) kind other e = cc
 abbrev pub others_of : List (Bor (List ℕ)) → List Word
 others_of words = now_of (take (length words - 2) (drop 2 words))
 
+-- two words by each, and three
+pub two_words : (words : List (Bor (List ℕ))) → length words ≡ 2 → now_of words ≡ (get_or words 0 no_word).now ∷ (get_or words 1 no_word).now ∷ []
+two_words [] l = absurd (omega arith)
+two_words (a ∷ []) l = absurd (omega arith)
+two_words (a ∷ b ∷ []) l = refl
+two_words (a ∷ b ∷ c ∷ more) l = absurd (omega arith)
+
+pub three_words : (words : List (Bor (List ℕ))) → length words ≡ 3
+    → now_of words ≡ (get_or words 0 no_word).now ∷ (get_or words 1 no_word).now ∷ (get_or words 2 no_word).now ∷ []
+three_words [] l = absurd (omega arith)
+three_words (a ∷ []) l = absurd (omega arith)
+three_words (a ∷ b ∷ []) l = absurd (omega arith)
+three_words (a ∷ b ∷ c ∷ []) l = refl
+three_words (a ∷ b ∷ c ∷ d ∷ more) l = absurd (omega arith)
+
 -- words by their keyword and their name
 pub form_of-words : (words : List (Bor (List ℕ))) (k : Keyword) → 2 ≤ length words → is_name (get_or words 1 no_word).now ≡ true → keyword_of (get_or words 0 no_word).now ≡ Some k
     → form_of (now_of words) ≡ form_with k (get_or words 1 no_word).now (others_of words)

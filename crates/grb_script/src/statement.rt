@@ -1,7 +1,7 @@
 ghost use Rattle.std.specs.Prelude.{◌≡◌, [], ◌∷◌, Ok, IfOk, IfErr, map};
 ghost use Rattle.std.specs.Option.{ok_or};
 ghost use Rattle.grb_script.specs.Names.{name_found};
-ghost use Rattle.grb_words.specs.Form.{form_of, matrix_form, vector_form, dup_form, whole_form, placed_form, set_form, build_form, total_form, wait_form};
+ghost use Rattle.grb_words.specs.Form.{form_of, form_with, matrix_form, vector_form, dup_form, whole_form, placed_form, set_form, build_form, total_form, wait_form};
 ghost use Rattle.grb_script.specs.Reading.{reading, set_at, remove_at, get_at, resize_to, IsReading, IsWhyUnread};
 
 use crate::ewise::{Elementwise, ewise};
@@ -144,14 +144,17 @@ pub(crate) fn used(name: &[u8], names: &Names) -> Result<(usize, Sort), FaultKin
     names.find(name).ok_or(FaultKind::UnknownName)
 }
 
-/// `matrix NAME DOMAIN R C`.
-fn matrix(name: &[u8], others: &[&[u8]], names: &mut Names) -> Result<Statement, Unread>
-    ensures read { IfOk result (λ s. IsReading names.old (matrix_form name.now (map (λ word. word.now) others.now)) s names.new) }
-    ensures fault { IfErr result (IsWhyUnread names.old (matrix_form name.now (map (λ word. word.now) others.now))) }
+/// `matrix NAME DOMAIN R C`, by each of its words.
+fn matrix_of(
+    name: &[u8],
+    domain: &[u8],
+    nrows: &[u8],
+    ncols: &[u8],
+    names: &mut Names,
+) -> Result<Statement, Unread>
+    ensures read { IfOk result (λ s. IsReading names.old (matrix_form name.now (domain.now ∷ nrows.now ∷ ncols.now ∷ [])) s names.new) }
+    ensures fault { IfErr result (IsWhyUnread names.old (matrix_form name.now (domain.now ∷ nrows.now ∷ ncols.now ∷ []))) }
 {
-    let [domain, nrows, ncols] = others else {
-        return Err(Unread::Fault(FaultKind::Statement));
-    };
     let domain = word::domain(domain).ok_or(FaultKind::Statement)?;
     let nrows = word::number(nrows).ok_or(FaultKind::Statement)?;
     let ncols = word::number(ncols).ok_or(FaultKind::Statement)?;
@@ -166,6 +169,36 @@ fn matrix(name: &[u8], others: &[&[u8]], names: &mut Names) -> Result<Statement,
     })
 }
 
+/// `matrix NAME DOMAIN R C`.
+fn matrix(name: &[u8], others: &[&[u8]], names: &mut Names) -> Result<Statement, Unread>
+    ensures read { IfOk result (λ s. IsReading names.old (matrix_form name.now (map (λ word. word.now) others.now)) s names.new) }
+    ensures fault { IfErr result (IsWhyUnread names.old (matrix_form name.now (map (λ word. word.now) others.now))) }
+{
+    let [domain, nrows, ncols] = others else {
+        return Err(Unread::Fault(FaultKind::Statement));
+    };
+    matrix_of(name, domain, nrows, ncols, names)
+}
+
+/// `vector NAME DOMAIN N`, by each of its words.
+fn vector_of(
+    name: &[u8],
+    domain: &[u8],
+    size: &[u8],
+    names: &mut Names,
+) -> Result<Statement, Unread>
+    ensures read { IfOk result (λ s. IsReading names.old (vector_form name.now (domain.now ∷ size.now ∷ [])) s names.new) }
+    ensures fault { IfErr result (IsWhyUnread names.old (vector_form name.now (domain.now ∷ size.now ∷ []))) }
+{
+    let domain = word::domain(domain).ok_or(FaultKind::Statement)?;
+    let size = word::number(size).ok_or(FaultKind::Statement)?;
+    if names.find(name).is_some() {
+        return Err(Unread::Fault(FaultKind::NameTaken));
+    }
+    names.make(name, Sort::Vector)?;
+    Ok(Statement::Vector { domain, size })
+}
+
 /// `vector NAME DOMAIN N`.
 fn vector(name: &[u8], others: &[&[u8]], names: &mut Names) -> Result<Statement, Unread>
     ensures read { IfOk result (λ s. IsReading names.old (vector_form name.now (map (λ word. word.now) others.now)) s names.new) }
@@ -174,13 +207,7 @@ fn vector(name: &[u8], others: &[&[u8]], names: &mut Names) -> Result<Statement,
     let [domain, size] = others else {
         return Err(Unread::Fault(FaultKind::Statement));
     };
-    let domain = word::domain(domain).ok_or(FaultKind::Statement)?;
-    let size = word::number(size).ok_or(FaultKind::Statement)?;
-    if names.find(name).is_some() {
-        return Err(Unread::Fault(FaultKind::NameTaken));
-    }
-    names.make(name, Sort::Vector)?;
-    Ok(Statement::Vector { domain, size })
+    vector_of(name, domain, size, names)
 }
 
 /// `dup NAME NAME`.
@@ -336,6 +363,34 @@ fn wait(name: &[u8], others: &[&[u8]], names: &Names) -> Result<Statement, Fault
     Ok(Statement::Wait { name, sort, mode })
 }
 
+/// The statement that this keyword, this name and the words behind them spell where these names stand, or what is wrong with it. The name
+/// that it makes joins the names.
+fn statement_with(
+    alloc: Global,
+    keyword: Keyword,
+    name: &[u8],
+    others: &[&[u8]],
+    names: &mut Names,
+) -> Result<Statement, Unread>
+    ensures read { IfOk result (λ s. IsReading names.old (form_with keyword name.now (map (λ word. word.now) others.now)) s names.new) }
+    ensures fault { IfErr result (IsWhyUnread names.old (form_with keyword name.now (map (λ word. word.now) others.now))) }
+{
+    match keyword {
+        Keyword::Matrix => matrix(name, others, names),
+        Keyword::Vector => vector(name, others, names),
+        Keyword::Dup => dup(name, others, names),
+        Keyword::Whole(word) => Ok(whole(word, name, others, names)?),
+        Keyword::Placed(word) => Ok(placed(word, name, others, names)?),
+        Keyword::Set => Ok(set(name, others, names)?),
+        Keyword::Build => build(alloc, name, others, names),
+        Keyword::Ewise(word) => Ok(ewise(word, name, others, names)?),
+        Keyword::Multiply(word) => Ok(read_product(word, name, others, names)?),
+        Keyword::Reduce => Ok(read_reduction(name, others, names)?),
+        Keyword::Total => Ok(total(name, others, names)?),
+        Keyword::Wait => Ok(wait(name, others, names)?),
+    }
+}
+
 /// The statement that these words spell where these names stand, or what is wrong with it. The name that it makes joins the names.
 pub(crate) fn read_statement(
     alloc: Global,
@@ -351,18 +406,6 @@ pub(crate) fn read_statement(
     if !word::is_name(name) {
         return Err(Unread::Fault(FaultKind::Statement));
     }
-    match word::keyword(first).ok_or(FaultKind::Statement)? {
-        Keyword::Matrix => matrix(name, others, names),
-        Keyword::Vector => vector(name, others, names),
-        Keyword::Dup => dup(name, others, names),
-        Keyword::Whole(word) => Ok(whole(word, name, others, names)?),
-        Keyword::Placed(word) => Ok(placed(word, name, others, names)?),
-        Keyword::Set => Ok(set(name, others, names)?),
-        Keyword::Build => build(alloc, name, others, names),
-        Keyword::Ewise(word) => Ok(ewise(word, name, others, names)?),
-        Keyword::Multiply(word) => Ok(read_product(word, name, others, names)?),
-        Keyword::Reduce => Ok(read_reduction(name, others, names)?),
-        Keyword::Total => Ok(total(name, others, names)?),
-        Keyword::Wait => Ok(wait(name, others, names)?),
-    }
+    let keyword = word::keyword(first).ok_or(FaultKind::Statement)?;
+    statement_with(alloc, keyword, name, others, names)
 }

@@ -23,6 +23,8 @@ mod products;
 #[cfg(test)]
 mod refused;
 #[cfg(test)]
+mod refused_columns;
+#[cfg(test)]
 mod semirings;
 #[cfg(test)]
 mod tables;

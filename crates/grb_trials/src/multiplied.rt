@@ -15,7 +15,7 @@ use std::process::Abort;
 use std::test::Fail;
 
 /// Sums of products of numbers, with a mask, and added to the output but where it is replaced.
-fn added_up(structure: bool, replace: bool) -> Choice
+pub(crate) fn added_up(structure: bool, replace: bool) -> Choice
     ensures { result.domain ≡ Domain.Uint64 }
 {
     Choice {
@@ -36,8 +36,8 @@ fn added_up(structure: bool, replace: bool) -> Choice
 
 /// A matrix of numbers of two rows and columns.
 #[derive(Drop)]
-struct Square {
-    held: SparseMatrix,
+pub(crate) struct Square {
+    pub(crate) held: SparseMatrix,
     ghost of_numbers: { held.matrix.domain ≡ domains.Uint64 },
     ghost rows: { held.matrix.nrows ≡ 2 },
     ghost columns: { held.matrix.ncols ≡ 2 },
@@ -45,7 +45,7 @@ struct Square {
 }
 
 /// The matrix of four numbers. Where memory is refused it is made once more.
-fn square_of(alloc: Global, table: &[Option<u64>]) -> Result<Square, AllocError> {
+pub(crate) fn square_of(alloc: Global, table: &[Option<u64>]) -> Result<Square, AllocError> {
     if let Ok(held) = matrix_of(alloc, Domain::Uint64, 2, 2, table) {
         return Ok(Square { held });
     }

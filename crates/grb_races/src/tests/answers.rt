@@ -2,7 +2,8 @@ ghost use Rattle.std.specs.Prelude.{◌<◌, ◌≤◌};
 ghost use Rattle.grb_context.specs.Known.{IsPassOf};
 
 use crate::tests::asked::{Answer, Asked, DONE, FIRST, SECOND};
-use crate::tests::rows::{Counted, Row, open_two, run};
+use crate::tests::rows::{Counted, Row, run};
+use crate::tests::trials::{Trial, try_in_new};
 use grb_call::{Call, MatrixId, Reply, VectorId};
 use grb_context::{Context, Pass};
 use grb_core::{Domain, Refusal, Value};
@@ -500,7 +501,11 @@ fn call_once(context: &Context, pass: &mut Pass, call: Call) -> Answer
     context.call(pass, call)
 }
 
-fn expect_called(rt: &impl Abort, context: &Context, pass: &mut Pass) -> Result<(), AllocError>
+pub(super) fn expect_called(
+    rt: &impl Abort,
+    context: &Context,
+    pass: &mut Pass,
+) -> Result<(), AllocError>
     requires { IsPassOf context.now pass.old }
 {
     let made = call_once(
@@ -522,6 +527,5 @@ fn expect_called(rt: &impl Abort, context: &Context, pass: &mut Pass) -> Result<
 
 #[test]
 fn a_call_is_made_as_a_value(rt: HostRuntime) -> Result<(), AllocError> {
-    let (context, mut p, _) = open_two(&rt, rt.alloc(), 8)?;
-    expect_called(&rt, &context, &mut p)
+    try_in_new(&rt, rt.alloc(), 8, Trial::Called)
 }

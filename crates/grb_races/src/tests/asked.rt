@@ -2,7 +2,7 @@ ghost use Rattle.grb_context.specs.Known.{IsPassOf};
 
 use grb_call::{Descriptor, MatrixId, MatrixTuples, Reply, VectorId, VectorTuples};
 use grb_context::{Context, Pass};
-use grb_core::{BinaryOp, Domain, Monoid, Refusal, Value};
+use grb_core::{BinaryOp, Domain, Monoid, Refusal, Semiring, Value};
 use std::alloc::{AllocError, Global};
 
 pub(super) type Answer = Result<Reply, Refusal>;
@@ -80,6 +80,12 @@ pub(super) enum Operation {
         VectorId,
         Descriptor,
     ),
+    /// Without mask and accumulator, as the two below.
+    Mxv(VectorId, Monoid, BinaryOp, MatrixId, VectorId, Descriptor),
+    Mxm(MatrixId, Monoid, BinaryOp, MatrixId, MatrixId, Descriptor),
+    ReduceRows(VectorId, Monoid, MatrixId, Descriptor),
+    /// Of all values of a matrix.
+    Total(MatrixId, Monoid),
 }
 
 fn numbers(alloc: Global, list: &[(u64, u64)]) -> Result<VectorTuples, AllocError> {
@@ -174,6 +180,18 @@ fn operate(context: &Context, pass: &mut Pass, operation: Operation) -> Answer
         Operation::EwiseMultVector(w, mask, accum, op, u, v, d) => {
             context.ewise_mult_vector(pass, w, mask, accum, op, u, v, d)
         }
+        Operation::Mxv(w, monoid, op, a, u, d) => match Semiring::new(monoid, op) {
+            Ok(semiring) => context.mxv(pass, w, None, None, semiring, a, u, d),
+            Err(refusal) => Err(refusal),
+        },
+        Operation::Mxm(c, monoid, op, a, b, d) => match Semiring::new(monoid, op) {
+            Ok(semiring) => context.mxm(pass, c, None, None, semiring, a, b, d),
+            Err(refusal) => Err(refusal),
+        },
+        Operation::ReduceRows(w, monoid, a, d) => {
+            context.reduce_rows(pass, w, None, None, monoid, a, d)
+        }
+        Operation::Total(a, monoid) => context.reduce_matrix(pass, a, monoid),
     }
 }
 

@@ -1,7 +1,7 @@
 ghost use Rattle.grb_context.specs.Known.{IsPassOf};
 
 use crate::tests::asked::{Answer, FIRST, SECOND};
-use crate::tests::rows::open_two;
+use crate::tests::trials::{Trial, try_in_new};
 use grb_call::{Call, Reply, VectorId, VectorTuples};
 use grb_context::{Context, Pass};
 use grb_core::{Domain, Monoid, Refusal, Value};
@@ -55,7 +55,7 @@ fn calls_of(alloc: Global, rows: &[Row]) -> Result<Vec<Call>, AllocError> {
 }
 
 /// Makes the calls of the rows by one list.
-fn expect_list<R: Abort>(
+fn expect_rows_by_list<R: Abort>(
     rt: &R,
     alloc: Global,
     context: &Context,
@@ -76,7 +76,7 @@ fn expect_list<R: Abort>(
 }
 
 /// Makes the calls of the rows one by one.
-fn expect_each<R: Abort>(
+fn expect_rows_by_each<R: Abort>(
     rt: &R,
     alloc: Global,
     context: &Context,
@@ -108,40 +108,65 @@ const ROWS: [Row; 9] = [
     ),
 ];
 
-/// What a pass counts: the calls that it knows, the words that it has learnt, and the steps of its last call.
-type Counts = (u32, u32, u32);
+/// The pass knows four calls, has learnt four words, and made one step in its last call.
+fn expect_counts(rt: &impl Abort, pass: &Pass) {
+    assert_eq!(rt; (pass.known(), pass.words(), pass.steps()), (4, 4, 1));
+}
 
-/// What the pass of a new store counts behind the list.
-fn counts_of_list<R: Abort>(rt: &R, alloc: Global) -> Result<Counts, AllocError> {
+/// The counts of the pass behind the list.
+pub(super) fn expect_list<R: Abort>(
+    rt: &R,
+    alloc: Global,
+    context: &Context,
+    pass: &mut Pass,
+) -> Result<(), AllocError>
+    requires { IsPassOf context.now pass.old }
+{
     let rows = ROWS;
-    let (context, mut pass, _) = open_two(rt, alloc, 8)?;
-    expect_list(rt, alloc, &context, &mut pass, &rows)?;
-    Ok((pass.known(), pass.words(), pass.steps()))
+    expect_rows_by_list(rt, alloc, context, pass, &rows)?;
+    expect_counts(rt, pass);
+    Ok(())
 }
 
 /// The same behind its calls, one by one.
-fn counts_of_each<R: Abort>(rt: &R, alloc: Global) -> Result<Counts, AllocError> {
+pub(super) fn expect_each<R: Abort>(
+    rt: &R,
+    alloc: Global,
+    context: &Context,
+    pass: &mut Pass,
+) -> Result<(), AllocError>
+    requires { IsPassOf context.now pass.old }
+{
     let rows = ROWS;
-    let (context, mut pass, _) = open_two(rt, alloc, 8)?;
-    expect_each(rt, alloc, &context, &mut pass, &rows)?;
-    Ok((pass.known(), pass.words(), pass.steps()))
-}
-
-#[test]
-fn a_list_of_calls_is_answered_as_its_calls_one_by_one(rt: HostRuntime) -> Result<(), AllocError> {
-    assert_eq!(rt; counts_of_list(&rt, rt.alloc())?, (4, 4, 1));
-    assert_eq!(rt; counts_of_each(&rt, rt.alloc())?, (4, 4, 1));
+    expect_rows_by_each(rt, alloc, context, pass, &rows)?;
+    expect_counts(rt, pass);
     Ok(())
 }
 
 #[test]
-fn an_empty_list_of_calls_changes_nothing(rt: HostRuntime) -> Result<(), AllocError> {
-    let (context, mut pass, _) = open_two(&rt, rt.alloc(), 4)?;
+fn a_list_of_calls_is_answered_as_its_calls_one_by_one(rt: HostRuntime) -> Result<(), AllocError> {
+    try_in_new(&rt, rt.alloc(), 8, Trial::List)?;
+    try_in_new(&rt, rt.alloc(), 8, Trial::Each)
+}
+
+/// What the pass counts stays as it was.
+pub(super) fn expect_no_list<R: Abort>(
+    rt: &R,
+    context: &Context,
+    pass: &mut Pass,
+) -> Result<(), AllocError>
+    requires { IsPassOf context.now pass.old }
+{
     let before = (pass.known(), pass.words(), pass.steps());
-    let Ok(answers) = context.run(&mut pass, &[]) else {
+    let Ok(answers) = context.run(pass, &[]) else {
         panic!(rt; "no memory for no answers")
     };
     assert_eq!(rt; answers.len(), 0);
     assert_eq!(rt; (pass.known(), pass.words(), pass.steps()), before);
     Ok(())
+}
+
+#[test]
+fn an_empty_list_of_calls_changes_nothing(rt: HostRuntime) -> Result<(), AllocError> {
+    try_in_new(&rt, rt.alloc(), 4, Trial::NoList)
 }

@@ -1,12 +1,12 @@
 ghost use Rattle.grb_context.specs.Known.{IsPassOf};
 
 use crate::tests::asked::{Answer, DONE, FIRST};
-use crate::tests::rows::open_two;
+use crate::tests::trials::{Trial, try_in_new};
 use grb_call::Reply;
 use grb_context::{Context, Pass};
 use grb_core::{Domain, Value};
+use std::alloc::AllocError;
 use std::process::Abort;
-use std::test::Fail;
 
 const SEVEN: Value = Value::Uint64(7);
 
@@ -26,7 +26,12 @@ fn expect_point(rt: &impl Abort, pass: &Pass, known: u32, words: u32, steps: u32
     );
 }
 
-fn expect_told(rt: &impl Abort, context: &Context, p: &mut Pass, q: &mut Pass)
+pub(super) fn expect_told(
+    rt: &impl Abort,
+    context: &Context,
+    p: &mut Pass,
+    q: &mut Pass,
+) -> Result<(), AllocError>
     requires first { IsPassOf context.now p.old }
     requires second { IsPassOf context.now q.old }
 {
@@ -38,16 +43,20 @@ fn expect_told(rt: &impl Abort, context: &Context, p: &mut Pass, q: &mut Pass)
     expect_point(rt, q, 2, 2, 3);
     expect_answer(rt, context.get_vector(p, FIRST, 1), Ok(Reply::Value(NINE)));
     assert_eq!(rt; p.known(), 2);
-}
-
-#[test]
-fn a_meeting_tells_what_the_other_pass_knows(rt: HostRuntime) -> Result<(), Fail> {
-    let (context, mut p, mut q) = open_two(&rt, rt.alloc(), 8)?;
-    expect_told(&rt, &context, &mut p, &mut q);
     Ok(())
 }
 
-fn expect_no_change(rt: &impl Abort, context: &Context, p: &mut Pass, q: &mut Pass)
+#[test]
+fn a_meeting_tells_what_the_other_pass_knows(rt: HostRuntime) -> Result<(), AllocError> {
+    try_in_new(&rt, rt.alloc(), 8, Trial::Told)
+}
+
+pub(super) fn expect_no_change(
+    rt: &impl Abort,
+    context: &Context,
+    p: &mut Pass,
+    q: &mut Pass,
+) -> Result<(), AllocError>
     requires first { IsPassOf context.now p.old }
     requires second { IsPassOf context.now q.old }
 {
@@ -58,11 +67,12 @@ fn expect_no_change(rt: &impl Abort, context: &Context, p: &mut Pass, q: &mut Pa
     assert_eq!(rt; context.meet(p, q), Ok(()));
     expect_point(rt, p, 2, 2, 0);
     expect_point(rt, q, 0, 0, 0);
+    Ok(())
 }
 
 #[test]
-fn a_meeting_with_a_pass_that_knows_less_changes_nothing(rt: HostRuntime) -> Result<(), Fail> {
-    let (context, mut p, mut q) = open_two(&rt, rt.alloc(), 4)?;
-    expect_no_change(&rt, &context, &mut p, &mut q);
-    Ok(())
+fn a_meeting_with_a_pass_that_knows_less_changes_nothing(
+    rt: HostRuntime,
+) -> Result<(), AllocError> {
+    try_in_new(&rt, rt.alloc(), 4, Trial::NoChange)
 }

@@ -1,7 +1,8 @@
 ghost use Rattle.grb_context.specs.Known.{IsPassOf};
 
 use crate::tests::asked::{Answer, Asked, FIRST, SECOND, ask};
-use crate::tests::rows::{answer_of, open_two};
+use crate::tests::rows::answer_of;
+use crate::tests::trials::{Trial, try_in_new};
 use grb_call::{MatrixId, Reply};
 use grb_context::{Context, Pass};
 use grb_core::{Domain, Refusal, Value};
@@ -80,7 +81,7 @@ const FILLED: [(Asked, Answer); 6] = [
     ),
 ];
 
-fn expect_filled<R: Abort>(
+pub(super) fn expect_filled<R: Abort>(
     rt: &R,
     alloc: Global,
     context: &Context,
@@ -99,6 +100,5 @@ fn expect_filled<R: Abort>(
 
 #[test]
 fn a_call_that_was_refused_memory_left_all_as_it_was(rt: HostRuntime) -> Result<(), AllocError> {
-    let (context, mut p, _q) = open_two(&rt, rt.alloc(), 8)?;
-    expect_filled(&rt, rt.alloc(), &context, &mut p)
+    try_in_new(&rt, rt.alloc(), 8, Trial::Filled)
 }

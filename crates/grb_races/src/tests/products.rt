@@ -1,7 +1,7 @@
 ghost use Rattle.grb_context.specs.Known.{IsPassOf};
 
 use crate::tests::asked::{Answer, DONE};
-use crate::tests::rows::open_two;
+use crate::tests::trials::{Trial, try_in_new};
 use grb_call::{Descriptor, MatrixId, Reply, VectorId, WaitMode};
 use grb_context::{Context, Pass};
 use grb_core::{BinaryOp, Domain, Monoid, Refusal, Semiring, Value};
@@ -130,11 +130,20 @@ static PRODUCTS: [(Step, Answer); 20] = [
     (Step::GetMatrix(C, 1, 1), Ok(Reply::NoValue)),
 ];
 
+pub(super) fn expect_products<R: Abort>(
+    rt: &R,
+    context: &Context,
+    pass: &mut Pass,
+) -> Result<(), AllocError>
+    requires { IsPassOf context.now pass.old }
+{
+    expect_all(rt, context, pass, &PRODUCTS);
+    Ok(())
+}
+
 #[test]
 fn products_and_reductions_of_a_matrix_by_their_methods(rt: HostRuntime) -> Result<(), AllocError> {
-    let (context, mut pass, _other) = open_two(&rt, rt.alloc(), 32)?;
-    expect_all(&rt, &context, &mut pass, &PRODUCTS);
-    Ok(())
+    try_in_new(&rt, rt.alloc(), 32, Trial::Products)
 }
 
 static TOTALS: [(Step, Answer); 13] = [
@@ -168,9 +177,18 @@ static TOTALS: [(Step, Answer); 13] = [
     (Step::GetMatrix(A, 1, 1), Ok(Reply::Value(Value::Uint64(4)))),
 ];
 
+pub(super) fn expect_totals<R: Abort>(
+    rt: &R,
+    context: &Context,
+    pass: &mut Pass,
+) -> Result<(), AllocError>
+    requires { IsPassOf context.now pass.old }
+{
+    expect_all(rt, context, pass, &TOTALS);
+    Ok(())
+}
+
 #[test]
 fn totals_and_waits_by_their_methods(rt: HostRuntime) -> Result<(), AllocError> {
-    let (context, mut pass, _other) = open_two(&rt, rt.alloc(), 8)?;
-    expect_all(&rt, &context, &mut pass, &TOTALS);
-    Ok(())
+    try_in_new(&rt, rt.alloc(), 8, Trial::Totals)
 }

@@ -1,7 +1,8 @@
 ghost use Rattle.grb_context.specs.Known.{IsPassOf};
 
 use crate::tests::asked::{Asked, FIRST, Operation, SECOND};
-use crate::tests::rows::{answer_of, open_two};
+use crate::tests::rows::answer_of;
+use crate::tests::trials::{Trial, try_in_new};
 use grb_call::{Call, Descriptor, MatrixId, Object, VectorId, WaitMode};
 use grb_context::{Context, Pass};
 use grb_core::{BinaryOp, Domain, Info, Monoid, Refusal, Value};
@@ -43,6 +44,47 @@ const PLAIN: Descriptor = Descriptor {
     comp: false,
     replace: false,
 };
+
+/// Into the second matrix, or the first vector, from the first matrix.
+const MXM: Operation = Operation::Mxm(
+    MatrixId(1),
+    Monoid::Plus,
+    BinaryOp::Times,
+    MatrixId(0),
+    MatrixId(0),
+    PLAIN,
+);
+
+const MXV: Operation = Operation::Mxv(
+    FIRST,
+    Monoid::Plus,
+    BinaryOp::Times,
+    MatrixId(0),
+    FIRST,
+    PLAIN,
+);
+
+const REDUCED_ROWS: Operation = Operation::ReduceRows(FIRST, Monoid::Plus, MatrixId(0), PLAIN);
+
+const ADDED: Operation = Operation::EwiseAddMatrix(
+    MatrixId(1),
+    None,
+    None,
+    BinaryOp::Plus,
+    MatrixId(0),
+    MatrixId(0),
+    PLAIN,
+);
+
+const MULTIPLIED: Operation = Operation::EwiseMultMatrix(
+    MatrixId(1),
+    None,
+    None,
+    BinaryOp::Times,
+    MatrixId(0),
+    MatrixId(0),
+    PLAIN,
+);
 
 /// A call, and the statuses of two objects after it.
 type Row = (Asked, Object, Status, Object, Status);
@@ -167,11 +209,21 @@ const ON_VECTORS: [Row; 22] = [
     ),
 ];
 
+pub(super) fn expect_on_vectors<R: Abort>(
+    rt: &R,
+    alloc: Global,
+    context: &Context,
+    pass: &mut Pass,
+) -> Result<(), AllocError>
+    requires { IsPassOf context.now pass.old }
+{
+    let rows = ON_VECTORS;
+    expect_rows(rt, alloc, context, pass, &rows)
+}
+
 #[test]
 fn a_vector_has_the_status_of_the_last_call_on_it(rt: HostRuntime) -> Result<(), AllocError> {
-    let rows = ON_VECTORS;
-    let (context, mut pass, _) = open_two(&rt, rt.alloc(), 8)?;
-    expect_rows(&rt, rt.alloc(), &context, &mut pass, &rows)
+    try_in_new(&rt, rt.alloc(), 8, Trial::OnVectors)
 }
 
 /// In a store of 4 calls: the matrix that the call changes or reads, and another object.
@@ -209,11 +261,75 @@ const ON_MATRICES: [Row; 13] = [
     ),
 ];
 
+pub(super) fn expect_on_matrices<R: Abort>(
+    rt: &R,
+    alloc: Global,
+    context: &Context,
+    pass: &mut Pass,
+) -> Result<(), AllocError>
+    requires { IsPassOf context.now pass.old }
+{
+    let rows = ON_MATRICES;
+    expect_rows(rt, alloc, context, pass, &rows)
+}
+
 #[test]
 fn a_matrix_has_the_status_of_the_last_call_on_it(rt: HostRuntime) -> Result<(), AllocError> {
-    let rows = ON_MATRICES;
-    let (context, mut pass, _) = open_two(&rt, rt.alloc(), 4)?;
-    expect_rows(&rt, rt.alloc(), &context, &mut pass, &rows)
+    try_in_new(&rt, rt.alloc(), 4, Trial::OnMatrices)
+}
+
+/// In a store of 16 calls: operations on matrices, products and totals, each refused by what is not there, and then done.
+const ON_OPERATIONS: [Row; 15] = [
+    (Asked::NewMatrix(Domain::Uint64, 2, 2), A, SUCCESS, V, None),
+    (Asked::Operation(MXV), V, UNINITIALIZED, A, SUCCESS),
+    (Asked::Operation(REDUCED_ROWS), V, UNINITIALIZED, A, SUCCESS),
+    (Asked::NewVector(Domain::Uint64, 2), V, SUCCESS, B, None),
+    (Asked::Operation(MXM), B, UNINITIALIZED, A, SUCCESS),
+    (Asked::Operation(ADDED), B, UNINITIALIZED, A, SUCCESS),
+    (Asked::DupMatrix(MatrixId(0)), B, SUCCESS, A, SUCCESS),
+    (
+        Asked::SetMatrix(MatrixId(0), 2, 0, SEVEN),
+        A,
+        BAD_INDEX,
+        B,
+        SUCCESS,
+    ),
+    (Asked::Operation(MXM), B, SUCCESS, A, BAD_INDEX),
+    (Asked::Operation(MXV), V, SUCCESS, A, BAD_INDEX),
+    (Asked::Operation(REDUCED_ROWS), V, SUCCESS, A, BAD_INDEX),
+    (Asked::Operation(ADDED), B, SUCCESS, A, BAD_INDEX),
+    (Asked::Operation(MULTIPLIED), B, SUCCESS, A, BAD_INDEX),
+    (
+        Asked::Operation(Operation::Total(MatrixId(0), Monoid::Land)),
+        A,
+        BAD_DOMAIN,
+        B,
+        SUCCESS,
+    ),
+    (
+        Asked::Operation(Operation::Total(MatrixId(0), Monoid::Plus)),
+        A,
+        SUCCESS,
+        B,
+        SUCCESS,
+    ),
+];
+
+pub(super) fn expect_on_operations<R: Abort>(
+    rt: &R,
+    alloc: Global,
+    context: &Context,
+    pass: &mut Pass,
+) -> Result<(), AllocError>
+    requires { IsPassOf context.now pass.old }
+{
+    let rows = ON_OPERATIONS;
+    expect_rows(rt, alloc, context, pass, &rows)
+}
+
+#[test]
+fn an_operation_leaves_a_status_of_its_output_alone(rt: HostRuntime) -> Result<(), AllocError> {
+    try_in_new(&rt, rt.alloc(), 16, Trial::OnOperations)
 }
 
 /// A call that is made by `call`, and the statuses of two objects after it.
@@ -238,46 +354,54 @@ fn new_vector() -> Call {
     }
 }
 
-#[test]
-fn a_wait_and_a_total_leave_a_status(rt: HostRuntime) -> Result<(), AllocError> {
-    let (context, mut pass, _) = open_two(&rt, rt.alloc(), 4)?;
+pub(super) fn expect_waited<R: Abort>(
+    rt: &R,
+    context: &Context,
+    pass: &mut Pass,
+) -> Result<(), AllocError>
+    requires { IsPassOf context.now pass.old }
+{
     let mode = WaitMode::Materialize;
     let a = MatrixId(0);
     let v = FIRST;
     let monoid = Monoid::Land;
     expect_call(
-        &rt,
-        &context,
-        &mut pass,
+        rt,
+        context,
+        pass,
         Call::WaitMatrix { a, mode },
         (None, UNINITIALIZED),
     );
+    expect_call(rt, context, pass, new_vector(), (SUCCESS, UNINITIALIZED));
     expect_call(
-        &rt,
-        &context,
-        &mut pass,
-        new_vector(),
-        (SUCCESS, UNINITIALIZED),
-    );
-    expect_call(
-        &rt,
-        &context,
-        &mut pass,
+        rt,
+        context,
+        pass,
         Call::ReduceVector { v, monoid },
         (BAD_DOMAIN, UNINITIALIZED),
     );
     expect_call(
-        &rt,
-        &context,
-        &mut pass,
+        rt,
+        context,
+        pass,
         Call::WaitVector { v, mode },
         (SUCCESS, UNINITIALIZED),
     );
     Ok(())
 }
 
+#[test]
+fn a_wait_and_a_total_leave_a_status(rt: HostRuntime) -> Result<(), AllocError> {
+    try_in_new(&rt, rt.alloc(), 4, Trial::Waited)
+}
+
 /// The pass makes a vector and gets what is not there; the other then asks for what is not there either.
-fn expect_met(rt: &impl Abort, context: &Context, p: &mut Pass, q: &mut Pass)
+pub(super) fn expect_met(
+    rt: &impl Abort,
+    context: &Context,
+    p: &mut Pass,
+    q: &mut Pass,
+) -> Result<(), AllocError>
     requires first { IsPassOf context.now p.old }
     requires second { IsPassOf context.now q.old }
 {
@@ -290,13 +414,12 @@ fn expect_met(rt: &impl Abort, context: &Context, p: &mut Pass, q: &mut Pass)
     assert_eq!(rt; (p.last_info(V), q.last_info(V)), (NO_VALUE, BAD_INDEX));
     assert_eq!(rt; context.meet(q, p), Ok(()));
     assert_eq!(rt; (p.last_info(V), q.last_info(V)), (NO_VALUE, BAD_INDEX));
+    Ok(())
 }
 
 #[test]
 fn a_meeting_changes_no_status(rt: HostRuntime) -> Result<(), AllocError> {
-    let (context, mut p, mut q) = open_two(&rt, rt.alloc(), 8)?;
-    expect_met(&rt, &context, &mut p, &mut q);
-    Ok(())
+    try_in_new(&rt, rt.alloc(), 8, Trial::Met)
 }
 
 /// The statuses of two vectors behind a list of calls.
@@ -322,11 +445,20 @@ fn statuses_of_list(context: &Context, pass: &mut Pass) -> (Status, Status)
     (pass.last_info(V), pass.last_info(W))
 }
 
+pub(super) fn expect_last_of_list(
+    rt: &impl Abort,
+    context: &Context,
+    pass: &mut Pass,
+) -> Result<(), AllocError>
+    requires { IsPassOf context.now pass.old }
+{
+    assert_eq!(rt; statuses_of_list(context, pass), (BAD_INDEX, None));
+    Ok(())
+}
+
 #[test]
 fn a_list_leaves_the_status_of_its_last_call_on_an_object(
     rt: HostRuntime,
 ) -> Result<(), AllocError> {
-    let (context, mut pass, _) = open_two(&rt, rt.alloc(), 8)?;
-    assert_eq!(rt; statuses_of_list(&context, &mut pass), (BAD_INDEX, None));
-    Ok(())
+    try_in_new(&rt, rt.alloc(), 8, Trial::LastOfList)
 }

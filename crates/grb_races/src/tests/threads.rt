@@ -1,6 +1,8 @@
+ghost use Rattle.std.specs.Prelude.{◌<◌, ◌≤◌};
 ghost use Rattle.grb_context.specs.Known.{IsPassOf};
 
-use crate::tests::asked::{Answer, FIRST};
+use crate::tests::asked::{Answer, DONE, FIRST};
+use crate::tests::races::{Race, answers_at_once, before_race, expect_race};
 use crate::tests::rows::next_pass;
 use grb_call::{Reply, VectorTuples};
 use grb_context::{Context, Pass};
@@ -10,6 +12,20 @@ use std::process::Abort;
 use std::sync::{Barrier, Wait};
 use std::test::Fail;
 use std::thread::{Threads, map_vec};
+
+/// The answers to the calls of a thread: to one that changes the vector, and to the read behind it. `Done` where it makes no such call.
+pub(super) type Pair = (Answer, Answer);
+
+/// What each thread does with its pass.
+#[derive(Clone, Copy)]
+pub(super) enum Work {
+    SetHundred,
+    SetSixtyFour,
+    SetAndCount,
+    SetOwn,
+    BuildOwn,
+    Race(Race),
+}
 
 /// Sets a hundred entries of the pass's own.
 fn set_hundred(context: &Context, mut pass: Pass)
@@ -21,33 +37,18 @@ fn set_hundred(context: &Context, mut pass: Pass)
     }
 }
 
-/// Makes the first vector, of numbers.
-fn make_first(rt: &impl Abort, context: &Context, pass: &mut Pass, size: u64)
-    requires { IsPassOf context.now pass.old }
-    ensures { IsPassOf context.now pass.new }
+/// Sets 64 entries of the pass's own. How many sets were done.
+fn set_sixty_four(context: &Context, mut pass: Pass) -> u64
+    requires { IsPassOf context.now pass }
 {
-    let made = context.new_vector(pass, Domain::Uint64, size);
-    assert_eq!(rt; made, Ok(Reply::MadeVector(FIRST)));
-}
-
-/// A vector of 200 entries, set by two threads.
-fn set_by_two<R: Abort + Threads + Wait + Sync>(rt: &R, alloc: Global) -> Result<(), AllocError> {
-    let (context, mut passes) = Context::open(alloc, 201, 3)?;
-    let mut last = next_pass(rt, &context, &mut passes);
-    make_first(rt, &context, &mut last, 200);
-    map_vec(rt, passes, &|pass| set_hundred(&context, pass))?;
-    let nvals = context.nvals_vector(&mut last, FIRST);
-    assert_eq!(rt; nvals, Ok(Reply::Count(200)));
-    assert_eq!(rt; last.known(), 201);
-    Ok(())
-}
-
-#[test]
-fn two_threads_set_all_their_entries(rt: HostRuntime) -> Result<(), Fail> {
-    for _ in 0..200 {
-        set_by_two(&rt, rt.alloc())?;
+    let from = u64::from(pass.number()) * 64;
+    let mut done = 0u64;
+    for i in from..from + 64 {
+        if context.set_vector(&mut pass, FIRST, i, Value::Uint64(i)) == DONE {
+            done = done.saturating_add(1);
+        }
     }
-    Ok(())
+    done
 }
 
 /// Sets the entry at the pass's number, once both threads are there, and counts the entries once both have set theirs.
@@ -61,33 +62,6 @@ fn set_and_count<R: Wait>(rt: &R, all: &Barrier, context: &Context, mut pass: Pa
     context.nvals_vector(&mut pass, FIRST)
 }
 
-/// Two threads counted two entries each.
-fn expect_both(rt: &impl Abort, counts: &[Answer]) {
-    assert_eq!(rt; counts.len(), 2);
-    for count in counts {
-        assert_eq!(rt; *count, Ok(Reply::Count(2)));
-    }
-}
-
-/// Two threads put a record each, and both are shown both.
-fn put_by_two<R: Abort + Threads + Wait + Sync>(rt: &R, alloc: Global) -> Result<(), AllocError> {
-    let (context, mut passes) = Context::open(alloc, 3, 3)?;
-    let mut last = next_pass(rt, &context, &mut passes);
-    make_first(rt, &context, &mut last, 2);
-    let all = Barrier::new(2);
-    let counts = map_vec(rt, passes, &|pass| set_and_count(rt, &all, &context, pass))?;
-    expect_both(rt, &counts);
-    Ok(())
-}
-
-#[test]
-fn two_threads_that_put_at_one_moment_are_shown_both_records(rt: HostRuntime) -> Result<(), Fail> {
-    for _ in 0..1000 {
-        put_by_two(&rt, rt.alloc())?;
-    }
-    Ok(())
-}
-
 /// Sets the first entry to the pass's number, once all threads are there.
 fn set_own<R: Wait>(rt: &R, all: &Barrier, context: &Context, mut pass: Pass) -> Answer
     requires { IsPassOf context.now pass }
@@ -95,58 +69,6 @@ fn set_own<R: Wait>(rt: &R, all: &Barrier, context: &Context, mut pass: Pass) ->
     all.wait(rt);
     let number = u64::from(pass.number());
     context.set_vector(&mut pass, FIRST, 0, Value::Uint64(number))
-}
-
-/// Where the one call stands that was entered. The others had this answer.
-fn winner_of(rt: &impl Abort, answers: &[Answer], refused: Answer) -> u64 {
-    let mut won = 0u64;
-    let mut winner = 0u64;
-    for (at, answer) in answers.iter().enumerate() {
-        if *answer == Ok(Reply::Done) {
-            won = won.saturating_add(1);
-            winner = at as u64;
-        } else {
-            assert_eq!(rt; *answer, refused);
-        }
-    }
-    assert_eq!(rt; won, 1);
-    winner
-}
-
-/// Of four calls one was entered: the first entry is the number of its pass. The others had this answer.
-fn expect_winner(
-    rt: &impl Abort,
-    context: &Context,
-    pass: &mut Pass,
-    answers: &[Answer],
-    refused: Answer,
-)
-    requires { IsPassOf context.now pass.old }
-    ensures { IsPassOf context.now pass.new }
-{
-    assert_eq!(rt; answers.len(), 4);
-    let winner = winner_of(rt, answers, refused);
-    let value = context.get_vector(pass, FIRST, 0);
-    assert_eq!(rt; value, Ok(Reply::Value(Value::Uint64(winner))));
-}
-
-/// Four threads enter a call where one word is left.
-fn race<R: Abort + Threads + Wait + Sync>(rt: &R, alloc: Global) -> Result<(), AllocError> {
-    let (context, mut passes) = Context::open(alloc, 2, 5)?;
-    let mut last = next_pass(rt, &context, &mut passes);
-    make_first(rt, &context, &mut last, 1);
-    let all = Barrier::new(4);
-    let answers = map_vec(rt, passes, &|pass| set_own(rt, &all, &context, pass))?;
-    expect_winner(rt, &context, &mut last, &answers, Err(Refusal::OrderFull));
-    Ok(())
-}
-
-#[test]
-fn one_of_four_threads_enters_the_last_word(rt: HostRuntime) -> Result<(), Fail> {
-    for _ in 0..1000 {
-        race(&rt, rt.alloc())?;
-    }
-    Ok(())
 }
 
 /// Builds the vector of the pass's number at its first index, once all threads are there.
@@ -168,35 +90,210 @@ fn build_own<R: Wait>(
     context.build_vector(&mut pass, FIRST, tuples, Monoid::Plus)
 }
 
-/// Four threads build one vector, which is empty before.
-fn race_of_builds<R: Abort + Threads + Wait + Sync>(
+fn answers_of<R: Wait>(
     rt: &R,
     alloc: Global,
-) -> Result<(), AllocError> {
-    let (context, mut passes) = Context::open(alloc, 8, 5)?;
+    all: &Barrier,
+    context: &Context,
+    pass: Pass,
+    work: &Work,
+) -> Pair
+    requires { IsPassOf context.now pass }
+{
+    match work {
+        Work::SetHundred => {
+            set_hundred(context, pass);
+            (DONE, DONE)
+        }
+        Work::SetSixtyFour => (Ok(Reply::Count(set_sixty_four(context, pass))), DONE),
+        Work::SetAndCount => (DONE, set_and_count(rt, all, context, pass)),
+        Work::SetOwn => (set_own(rt, all, context, pass), DONE),
+        Work::BuildOwn => (build_own(rt, alloc, all, context, pass), DONE),
+        Work::Race(race) => answers_at_once(rt, alloc, all, context, pass, race),
+    }
+}
+
+/// How many entries the vector has, and how many calls the pass then knows.
+fn expect_entries(rt: &impl Abort, context: &Context, pass: &mut Pass, entries: u64, known: u32)
+    requires { IsPassOf context.now pass.old }
+    ensures { IsPassOf context.now pass.new }
+{
+    let nvals = context.nvals_vector(pass, FIRST);
+    assert_eq!(rt; nvals, Ok(Reply::Count(entries)));
+    assert_eq!(rt; pass.known(), known);
+}
+
+/// Each of 63 threads made 64 sets, and all were done.
+fn expect_all_done(rt: &impl Abort, pairs: &[Pair]) {
+    assert_eq!(rt; pairs.len(), 63);
+    for (done, _) in pairs {
+        assert_eq!(rt; *done, Ok(Reply::Count(64)));
+    }
+}
+
+/// Two threads counted two entries each.
+fn expect_both(rt: &impl Abort, pairs: &[Pair]) {
+    assert_eq!(rt; pairs.len(), 2);
+    for (_, count) in pairs {
+        assert_eq!(rt; *count, Ok(Reply::Count(2)));
+    }
+}
+
+/// Where the one call stands that was entered. The others had this answer.
+fn winner_of(rt: &impl Abort, pairs: &[Pair], refused: Answer) -> u64 {
+    let mut won = 0u64;
+    let mut winner = 0u64;
+    for (at, (answer, _)) in pairs.iter().enumerate() {
+        if *answer == DONE {
+            won = won.saturating_add(1);
+            winner = at as u64;
+        } else {
+            assert_eq!(rt; *answer, refused);
+        }
+    }
+    assert_eq!(rt; won, 1);
+    winner
+}
+
+/// Of four calls one was entered: the first entry is the number of its pass. The others had this answer.
+fn expect_winner(
+    rt: &impl Abort,
+    context: &Context,
+    pass: &mut Pass,
+    pairs: &[Pair],
+    refused: Answer,
+)
+    requires { IsPassOf context.now pass.old }
+    ensures { IsPassOf context.now pass.new }
+{
+    assert_eq!(rt; pairs.len(), 4);
+    let winner = winner_of(rt, pairs, refused);
+    let value = context.get_vector(pass, FIRST, 0);
+    assert_eq!(rt; value, Ok(Reply::Value(Value::Uint64(winner))));
+}
+
+/// Of four builds one was entered.
+fn expect_built(rt: &impl Abort, context: &Context, pass: &mut Pass, pairs: &[Pair])
+    requires { IsPassOf context.now pass.old }
+{
+    expect_winner(rt, context, pass, pairs, Err(Refusal::OutputNotEmpty));
+    assert_eq!(rt; pass.known(), 2);
+}
+
+fn expect_answers<R: Abort>(
+    rt: &R,
+    alloc: Global,
+    context: &Context,
+    pass: &mut Pass,
+    pairs: &[Pair],
+    work: &Work,
+)
+    requires { IsPassOf context.now pass.old }
+{
+    match work {
+        Work::SetHundred => expect_entries(rt, context, pass, 200, 201),
+        Work::SetSixtyFour => {
+            expect_all_done(rt, pairs);
+            expect_entries(rt, context, pass, 4032, 4033);
+        }
+        Work::SetAndCount => expect_both(rt, pairs),
+        Work::SetOwn => expect_winner(rt, context, pass, pairs, Err(Refusal::OrderFull)),
+        Work::BuildOwn => expect_built(rt, context, pass, pairs),
+        Work::Race(race) => expect_race(rt, alloc, context, pass, pairs, race),
+    }
+}
+
+/// Makes the first vector, of numbers, and what is called before a race.
+fn make_first(
+    rt: &impl Abort,
+    alloc: Global,
+    context: &Context,
+    pass: &mut Pass,
+    size: u64,
+    work: &Work,
+)
+    requires { IsPassOf context.now pass.old }
+    ensures { IsPassOf context.now pass.new }
+{
+    let made = context.new_vector(pass, Domain::Uint64, size);
+    assert_eq!(rt; made, Ok(Reply::MadeVector(FIRST)));
+    if let Work::Race(race) = work {
+        before_race(alloc, context, pass, race);
+    }
+}
+
+/// So many threads do the work, each by a pass of its own, on the first vector of a new store with this room.
+fn on_threads<R: Abort + Threads + Wait + Sync>(
+    rt: &R,
+    alloc: Global,
+    room: u32,
+    threads: u32,
+    size: u64,
+    work: &Work,
+) -> Result<(), AllocError>
+    requires room { (0 < room) × (room ≤ 4096) }
+    requires threads { (0 < threads) × (threads ≤ 63) }
+{
+    let (context, mut passes) = Context::open(alloc, room, threads + 1)?;
     let mut last = next_pass(rt, &context, &mut passes);
-    make_first(rt, &context, &mut last, 1);
-    let all = Barrier::new(4);
-    let answers = map_vec(
+    make_first(rt, alloc, &context, &mut last, size, work);
+    let all = Barrier::new(threads as usize);
+    let pairs = map_vec(
         rt,
         passes,
-        &|pass| build_own(rt, alloc, &all, &context, pass),
+        &|pass| answers_of(rt, alloc, &all, &context, pass, work),
     )?;
-    expect_winner(
-        rt,
-        &context,
-        &mut last,
-        &answers,
-        Err(Refusal::OutputNotEmpty),
-    );
-    assert_eq!(rt; last.known(), 2);
+    expect_answers(rt, alloc, &context, &mut last, &pairs, work);
+    Ok(())
+}
+
+/// The same so many times, each time in a new store.
+pub(super) fn repeat<R: Abort + Threads + Wait + Sync>(
+    rt: &R,
+    alloc: Global,
+    times: u32,
+    room: u32,
+    threads: u32,
+    size: u64,
+    work: &Work,
+) -> Result<(), AllocError>
+    requires room { (0 < room) × (room ≤ 4096) }
+    requires threads { (0 < threads) × (threads ≤ 63) }
+{
+    for _ in 0..times {
+        on_threads(rt, alloc, room, threads, size, work)?;
+    }
     Ok(())
 }
 
 #[test]
+fn two_threads_set_all_their_entries(rt: HostRuntime) -> Result<(), Fail> {
+    repeat(&rt, rt.alloc(), 200, 201, 2, 200, &Work::SetHundred)?;
+    Ok(())
+}
+
+#[test]
+fn sixty_three_threads_set_all_their_entries(rt: HostRuntime) -> Result<(), Fail> {
+    repeat(&rt, rt.alloc(), 1, 4096, 63, 4032, &Work::SetSixtyFour)?;
+    Ok(())
+}
+
+#[test]
+fn two_threads_that_put_at_one_moment_are_shown_both_records(rt: HostRuntime) -> Result<(), Fail> {
+    repeat(&rt, rt.alloc(), 1000, 3, 2, 2, &Work::SetAndCount)?;
+    Ok(())
+}
+
+/// One word is left.
+#[test]
+fn one_of_four_threads_enters_the_last_word(rt: HostRuntime) -> Result<(), Fail> {
+    repeat(&rt, rt.alloc(), 1000, 2, 4, 1, &Work::SetOwn)?;
+    Ok(())
+}
+
+/// The vector is empty before.
+#[test]
 fn one_of_four_threads_builds_a_vector(rt: HostRuntime) -> Result<(), Fail> {
-    for _ in 0..1000 {
-        race_of_builds(&rt, rt.alloc())?;
-    }
+    repeat(&rt, rt.alloc(), 1000, 8, 4, 1, &Work::BuildOwn)?;
     Ok(())
 }

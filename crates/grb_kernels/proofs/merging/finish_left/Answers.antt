@@ -1,9 +1,9 @@
-use Rattle.std.proofs.Common.{◌++◌, [], arith, sym, ap, ◌∙◌}
+use Rattle.std.proofs.Common.{◌++◌, [], arith, refl}
 use Rattle.std.specs.Ordering.{nat_cmp}
 use Rattle.grb_core.specs.Written.{pointwise}
 use Rattle.grb_kernels.specs.Typed.{kept, first_entries, entries_from}
-use Rattle.grb_kernels.proofs.Lists.{append_nil, from-all}
-use Rattle.grb_kernels.proofs.Merges.{rest_left, kept_none_left}
+use Rattle.grb_kernels.proofs.Lists.{from-all}
+use Rattle.grb_kernels.proofs.Merges.{rest_left, kept_none_left, ended, nothing_more}
 use Rattle.grb_kernels.proofs.merging.finish_left.Goals as goal
 
 pub left-preserved : goal.left-preserved
@@ -23,13 +23,14 @@ left-preserved g c =
 pub returns-then-not-keeps_left-clause-entries : goal.returns-then-not-keeps_left-clause-entries
 returns-then-not-keeps_left-clause-entries g c =
     let tv = g.T.Scalar.value in
-    let out = first_entries tv c.args.k c.args.columns.now c.args.values.now in
-    sym (ap (λ m. out ++ m) (kept_none_left (g.R.Rule.gives c.args.rule.now) (g.met.R.Rule.none c.args.rule.now) (c.keeps_left.ensures c.if-not-keeps_left.true)
-    (entries_from tv c.args.i c.args.ac.now c.args.av.now) c.requires.a_rising) ∙ append_nil out)
+    let rest = entries_from tv c.args.i c.args.ac.now c.args.av.now in
+    nothing_more (first_entries tv c.args.k c.args.columns.now c.args.values.now) (pointwise nat_cmp (g.R.Rule.gives c.args.rule.now) rest [])
+    (kept_none_left (g.R.Rule.gives c.args.rule.now) (g.met.R.Rule.none c.args.rule.now) (c.keeps_left.ensures c.if-not-keeps_left.true) rest c.requires.a_rising)
 
 pub returns-clause-entries : goal.returns-clause-entries
 returns-clause-entries g c =
     let tv = g.T.Scalar.value in
-    let out = first_entries tv c.left.k c.left.columns c.left.values in
-    sym (ap (λ m. out ++ pointwise nat_cmp (g.R.Rule.gives c.args.rule.now) m []) (from-all tv c.args.ac.now c.args.av.now c.left.i c.left-test.false) ∙ append_nil out)
-    ∙ c.left.invariant.merging.so_far
+    ended (g.R.Rule.gives c.args.rule.now)
+    (first_entries tv c.args.k c.args.columns.now c.args.values.now ++ pointwise nat_cmp (g.R.Rule.gives c.args.rule.now) (entries_from tv c.args.i c.args.ac.now c.args.av.now) [])
+    (entries_from tv c.left.i c.args.ac.now c.args.av.now) [] (first_entries tv c.left.k c.left.columns c.left.values)
+    (from-all tv c.args.ac.now c.args.av.now c.left.i c.left-test.false) refl c.left.invariant.merging

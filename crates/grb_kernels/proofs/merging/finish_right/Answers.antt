@@ -1,9 +1,9 @@
-use Rattle.std.proofs.Common.{◌++◌, [], arith, sym, ap, ◌∙◌}
+use Rattle.std.proofs.Common.{◌++◌, [], arith, refl}
 use Rattle.std.specs.Ordering.{nat_cmp}
 use Rattle.grb_core.specs.Written.{pointwise}
 use Rattle.grb_kernels.specs.Typed.{kept, first_entries, entries_from}
-use Rattle.grb_kernels.proofs.Lists.{append_nil, from-all}
-use Rattle.grb_kernels.proofs.Merges.{rest_right, kept_none_right}
+use Rattle.grb_kernels.proofs.Lists.{from-all}
+use Rattle.grb_kernels.proofs.Merges.{rest_right, kept_none_right, ended, nothing_more}
 use Rattle.grb_kernels.proofs.merging.finish_right.Goals as goal
 
 pub right-preserved : goal.right-preserved
@@ -24,14 +24,15 @@ right-preserved g c =
 pub returns-then-not-keeps_right-clause-entries : goal.returns-then-not-keeps_right-clause-entries
 returns-then-not-keeps_right-clause-entries g c =
     let tv = g.T.Scalar.value in
-    let out = first_entries tv c.args.k c.args.columns.now c.args.values.now in
-    sym (ap (λ m. out ++ m) (kept_none_right (g.R.Rule.gives c.args.rule.now) (g.met.R.Rule.none c.args.rule.now) (c.keeps_right.ensures c.if-not-keeps_right.true)
-    (entries_from g.U.Scalar.value c.args.j c.args.bc.now c.args.bv.now) c.requires.b_rising) ∙ append_nil out)
+    let rest = entries_from g.U.Scalar.value c.args.j c.args.bc.now c.args.bv.now in
+    nothing_more (first_entries tv c.args.k c.args.columns.now c.args.values.now) (pointwise nat_cmp (g.R.Rule.gives c.args.rule.now) [] rest)
+    (kept_none_right (g.R.Rule.gives c.args.rule.now) (g.met.R.Rule.none c.args.rule.now) (c.keeps_right.ensures c.if-not-keeps_right.true) rest c.requires.b_rising)
 
 pub returns-clause-entries : goal.returns-clause-entries
 returns-clause-entries g c =
     let tv = g.T.Scalar.value in
     let uv = g.U.Scalar.value in
-    let out = first_entries tv c.right.k c.right.columns c.right.values in
-    sym (ap (λ m. out ++ pointwise nat_cmp (g.R.Rule.gives c.args.rule.now) [] m) (from-all uv c.args.bc.now c.args.bv.now c.right.j c.right-test.false) ∙ append_nil out)
-    ∙ c.right.invariant.merging.so_far
+    ended (g.R.Rule.gives c.args.rule.now)
+    (first_entries tv c.args.k c.args.columns.now c.args.values.now ++ pointwise nat_cmp (g.R.Rule.gives c.args.rule.now) [] (entries_from uv c.args.j c.args.bc.now c.args.bv.now))
+    [] (entries_from uv c.right.j c.args.bc.now c.args.bv.now) (first_entries tv c.right.k c.right.columns c.right.values)
+    refl (from-all uv c.args.bc.now c.args.bv.now c.right.j c.right-test.false) c.right.invariant.merging

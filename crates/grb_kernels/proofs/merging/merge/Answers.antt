@@ -1,8 +1,8 @@
-use Rattle.std.proofs.Common.{arith, get_or, ◌∙◌}
+use Rattle.std.proofs.Common.{arith, get_or}
 use Rattle.std.specs.Ordering.{nat_cmp}
 use Rattle.grb_core.specs.Written.{pointwise}
-use Rattle.grb_kernels.specs.Typed.{kept, entries_of, first_entries}
-use Rattle.grb_kernels.proofs.Merges.{stepped, rising_of, at_most_one, one_goes_on}
+use Rattle.grb_kernels.specs.Typed.{kept, entries_of, entries_from, first_entries}
+use Rattle.grb_kernels.proofs.Merges.{stepped, rising_of, at_most_one, one_goes_on, written_out}
 use Rattle.grb_kernels.proofs.merging.merge.Goals as goal
 
 pub merging-preserved : goal.merging-preserved
@@ -31,10 +31,17 @@ merging-preserved g c =
     }
 
 pub returns-clause-entries : goal.returns-clause-entries
-returns-clause-entries g c = c.finish.ensures.entries ∙ c.merging.invariant.merging.so_far
+returns-clause-entries g c =
+    let tv = g.T.Scalar.value in
+    let uv = g.U.Scalar.value in
+    written_out (g.R.Rule.gives c.args.rule.now)
+    (pointwise nat_cmp (g.R.Rule.gives c.args.rule.now) (entries_of tv c.args.ac.now c.args.av.now) (entries_of uv c.args.bc.now c.args.bv.now))
+    (entries_from tv c.merging.i c.args.ac.now c.args.av.now) (entries_from uv c.merging.j c.args.bc.now c.args.bv.now)
+    (first_entries tv c.merging.k c.merging.columns c.merging.values) (first_entries tv c.finish.result c.finish.new.columns c.finish.new.values)
+    c.finish.ensures.entries c.merging.invariant.merging
 
 pub returns-clause-rising : goal.returns-clause-rising
 returns-clause-rising g c =
     let tv = g.T.Scalar.value in
     rising_of (g.R.Rule.gives c.args.rule.now) (entries_of tv c.args.ac.now c.args.av.now) (entries_of g.U.Scalar.value c.args.bc.now c.args.bv.now)
-    (first_entries tv c.finish.result c.finish.new.columns c.finish.new.values) (c.finish.ensures.entries ∙ c.merging.invariant.merging.so_far)
+    (first_entries tv c.finish.result c.finish.new.columns c.finish.new.values) (returns-clause-entries g c)

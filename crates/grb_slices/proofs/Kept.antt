@@ -1,0 +1,16 @@
+-- What was evaluated stays so when more calls come, and more may be known.
+use Rattle.std.proofs.Common.{List, [], ◌∷◌, ◌++◌}
+use Rattle.grb_call.specs.declared.call.Call.{Call}
+use Rattle.grb_call.specs.Store.{Store}
+use Rattle.grb_call.specs.After.{after}
+use Rattle.grb_call.specs.History.{after_all}
+use Rattle.grb_slices.specs.Slice.{Step, Entry, Known}
+use Rattle.grb_slices.specs.Steps.{AreSteps}
+
+pub steps-append : (s : Store) (cs ds : List Call) (xs ys : List Step) → AreSteps s cs xs → AreSteps (after_all s cs) ds ys → AreSteps s (cs ++ ds) (xs ++ ys)
+steps-append s [] ds [] ys first then = then
+steps-append s (c ∷ cs) ds [] ys first then = absurd first
+steps-append s [] ds (Known o x ∷ xs) ys first then = (first.0, steps-append s [] ds xs ys first.1 then)
+steps-append s (c ∷ cs) ds (Known o x ∷ xs) ys first then = (first.0, steps-append s (c ∷ cs) ds xs ys first.1 then)
+steps-append s [] ds (Entry t d ∷ xs) ys first then = absurd first
+steps-append s (c ∷ cs) ds (Entry t d ∷ xs) ys first then = (first.0, first.1, steps-append (after s c) cs ds xs ys first.2 then)

@@ -1,0 +1,4 @@
+pub mod Effects
+pub mod Kept
+pub mod Sliced
+pub mod Wants

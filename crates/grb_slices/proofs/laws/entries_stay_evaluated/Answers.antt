@@ -1,0 +1,5 @@
+use Rattle.grb_slices.proofs.Kept.{steps-append}
+use Rattle.grb_slices.proofs.laws.entries_stay_evaluated.Goals as goal
+
+pub returns : goal.returns
+returns c = steps-append

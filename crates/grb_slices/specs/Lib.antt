@@ -1,0 +1,4 @@
+pub mod Content
+pub mod Laws
+pub mod Slice
+pub mod Steps
