@@ -9,8 +9,8 @@ use std::test::Fail;
 
 /// The lines of the same script where one call is refused memory, or its record is not taken.
 const FIRST_LINES_REFUSED: [&str; 5] = [
-    "GrB_PANIC\nGrB_UNINITIALIZED_OBJECT\nGrB_UNINITIALIZED_OBJECT\nGrB_UNINITIALIZED_OBJECT\nGrB_UNINITIALIZED_OBJECT\n",
-    "ok\nGrB_PANIC\nnone\nnone\ncount 0\n",
+    "GrB_OUT_OF_MEMORY\nGrB_UNINITIALIZED_OBJECT\nGrB_UNINITIALIZED_OBJECT\nGrB_UNINITIALIZED_OBJECT\nGrB_UNINITIALIZED_OBJECT\n",
+    "ok\nGrB_OUT_OF_MEMORY\nnone\nnone\ncount 0\n",
     "ok\nok\nGrB_OUT_OF_MEMORY\nnone\ncount 1\n",
     "ok\nok\nvalue 7\nGrB_OUT_OF_MEMORY\ncount 1\n",
     "ok\nok\nvalue 7\nnone\nGrB_OUT_OF_MEMORY\n",
