@@ -7,32 +7,33 @@ use Rattle.grb_call.specs.Store.{Store, shapes_of}
 use Rattle.grb_call.specs.After.{after}
 use Rattle.grb_call.specs.History.{after_all}
 use Rattle.grb_call.proofs.ShapesAfter.{shapes_of-after}
+use Rattle.grb_call.specs.Status.{is_same_object}
 use Rattle.grb_slices.specs.Content.{Content, Contents, content_at, objects_read, effective_target, outcome}
-use Rattle.grb_slices.specs.Slice.{Step, Entry, Known, Deed, Make, Recall, Task, chosen, same_object, is_wanted, needs, without_want, wants_before, Sliced, sliced_step, sliced, result_of, with_content, evaluated}
+use Rattle.grb_slices.specs.Slice.{Step, Entry, Known, Deed, Make, Recall, Task, chosen, is_wanted, needs, without_want, wants_before, Sliced, sliced_step, sliced, result_of, with_content, evaluated}
 use Rattle.grb_slices.specs.Steps.{steps_of, AreSteps, AgreeOn}
 use Rattle.grb_slices.proofs.Effects.{own, other, effective, frame}
-use Rattle.grb_slices.proofs.Wants.{same_object-self, same_object-true, wants_kept, wants_new, without_kept, wanted_first}
+use Rattle.grb_slices.proofs.Wants.{is_same_object-self, is_same_object-true, wants_kept, wants_new, without_kept, wanted_first}
 
 -- what is had of the contents at the end
 abbrev Right : List Object → Contents → Contents → List Task → Type 0
 Right ws end r ts = AgreeOn ws end (evaluated r ts)
 
-if_object : (o p : Object) → same_object o p ≡ false → o ≢ p
-if_object o p apart e = let same : same_object o p ≡ true = subst (λ (q : Object). same_object o q ≡ true) e (same_object-self o) in cc
+if_object : (o p : Object) → is_same_object o p ≡ false → o ≢ p
+if_object o p apart e = let same : is_same_object o p ≡ true = subst (λ (q : Object). is_same_object o q ≡ true) e (is_same_object-self o) in cc
 
 -- one deed of a slice: from the contents before it to those after it, where it changes no object but its own
 module _ (before after_it : Contents) (o : Object) (d : Deed) (ws : List Object) (r : Contents)
-    (others : (p : Object) → same_object o p ≡ false → after_it p ≡ before p) (own_is : after_it o ≡ result_of r d) (agree : AgreeOn (wants_before ws o d) before r) where
-  done-by : (p : Object) → is_wanted ws p ≡ true → (b : Bool) → same_object o p ≡ b → after_it p ≡ (if b then result_of r d else r p)
-  done-by p wanted true same = subst (λ (q : Object). after_it q ≡ result_of r d) (same_object-true o p same) own_is
+    (others : (p : Object) → is_same_object o p ≡ false → after_it p ≡ before p) (own_is : after_it o ≡ result_of r d) (agree : AgreeOn (wants_before ws o d) before r) where
+  done-by : (p : Object) → is_wanted ws p ≡ true → (b : Bool) → is_same_object o p ≡ b → after_it p ≡ (if b then result_of r d else r p)
+  done-by p wanted true same = subst (λ (q : Object). after_it q ≡ result_of r d) (is_same_object-true o p same) own_is
   done-by p wanted false apart = others p apart ∙ agree p (wants_kept p (needs d) (without_want ws o) (without_kept p o ws apart wanted))
 
   done : AgreeOn ws after_it (with_content r o (result_of r d))
-  done p wanted = done-by p wanted (same_object o p) refl
+  done p wanted = done-by p wanted (is_same_object o p) refl
 
 -- a deed that is chosen where its object is wanted
 module _ (before after_it : Contents) (o : Object) (d : Deed) (ws : List Object) (end : Contents) (rest : Sliced)
-    (others : (p : Object) → same_object o p ≡ false → after_it p ≡ before p)
+    (others : (p : Object) → is_same_object o p ≡ false → after_it p ≡ before p)
     (own_is : (r : Contents) → AgreeOn (wants_before rest.wanted o d) before r → after_it o ≡ result_of r d)
     (goes_on : (r : Contents) → AgreeOn rest.wanted after_it r → Right ws end r rest.tasks) where
   by_want : (b : Bool) → is_wanted rest.wanted o ≡ b → (r : Contents) →
@@ -40,10 +41,10 @@ module _ (before after_it : Contents) (o : Object) (d : Deed) (ws : List Object)
       Right ws end r (if b then (record { wanted = wants_before rest.wanted o d; tasks = (o, d) ∷ rest.tasks }) else rest).tasks
   by_want true wanted r agree =
       goes_on (with_content r o (result_of r d)) (done before after_it o d rest.wanted r others (own_is r agree) agree)
-  by_want false wanted r agree = goes_on r (λ p w. others p (apart p w (same_object o p) refl) ∙ agree p w)
+  by_want false wanted r agree = goes_on r (λ p w. others p (apart p w (is_same_object o p) refl) ∙ agree p w)
     where
-      apart : (p : Object) → is_wanted rest.wanted p ≡ true → (b : Bool) → same_object o p ≡ b → same_object o p ≡ false
-      apart p w true same = let yes_wanted : is_wanted rest.wanted o ≡ true = subst (λ (q : Object). is_wanted rest.wanted q ≡ true) (sym (same_object-true o p same)) w in cc
+      apart : (p : Object) → is_wanted rest.wanted p ≡ true → (b : Bool) → is_same_object o p ≡ b → is_same_object o p ≡ false
+      apart p w true same = let yes_wanted : is_wanted rest.wanted o ≡ true = subst (λ (q : Object). is_wanted rest.wanted q ≡ true) (sym (is_same_object-true o p same)) w in cc
       apart p w false same = same
 
   by_chosen : (r : Contents) → AgreeOn (chosen o d rest).wanted before r → Right ws end r (chosen o d rest).tasks

@@ -1,11 +1,11 @@
 -- The slice of a list of entries for some wanted objects: going back from the last entry, each whose target is wanted, and then what
 -- it reads is wanted (own; a backward slice, Weiser, "Program slicing", 1981). And what evaluating the slice alone gives.
-use Rattle.std.specs.Prelude.{Bool, false, nat_eq, if◌then◌else◌, List, [], ◌∷◌, ◌++◌, Option, Some}
+use Rattle.std.specs.Prelude.{Bool, if◌then◌else◌, List, [], ◌∷◌, ◌++◌, Option, Some}
 use Rattle.std.specs.List.{list_any, fold}
 use Rattle.std.specs.Option.{option_map_or}
 use Rattle.grb_call.specs.declared.call.Call.{Call}
 use Rattle.grb_call.specs.declared.ids.Object.{Object}
-use Rattle.grb_call.specs.declared.ids.Object.TheVariants as object
+use Rattle.grb_call.specs.Status.{is_same_object}
 use Rattle.grb_slices.specs.Content.{Content, Contents, objects_read, outcome}
 
 -- an entry of a list, with its target at its place if it has one; or, between two entries, what an object is known to hold there
@@ -22,13 +22,8 @@ pub data Deed : Type 0 where
 abbrev pub Task : Type 0
 Task = Object × Deed
 
-abbrev pub same_object : Object → Object → Bool
-same_object (object.Matrix a) (object.Matrix b) = nat_eq a.0 b.0
-same_object (object.Vector v) (object.Vector w) = nat_eq v.0 w.0
-same_object _ _ = false
-
 abbrev pub is_wanted : List Object → Object → Bool
-is_wanted ws o = list_any (same_object o) ws
+is_wanted ws o = list_any (is_same_object o) ws
 
 -- wanted from now on, once
 abbrev pub with_want : List Object → Object → List Object
@@ -37,7 +32,7 @@ with_want ws o = if is_wanted ws o then ws else ws ++ o ∷ []
 -- wanted no more
 abbrev pub without_want : List Object → Object → List Object
 without_want [] o = []
-without_want (w ∷ ws) o = if same_object o w then ws else w ∷ without_want ws o
+without_want (w ∷ ws) o = if is_same_object o w then ws else w ∷ without_want ws o
 
 -- the objects that are read: of a call its inputs, its mask, and what its output held
 abbrev pub needs : Deed → List Object
@@ -71,7 +66,7 @@ result_of r (Recall x) = Some x
 
 -- what the objects hold once this one holds something else
 abbrev pub with_content : Contents → Object → Option Content → Contents
-with_content r o x p = if same_object o p then x else r p
+with_content r o x p = if is_same_object o p then x else r p
 
 -- what the objects hold after the tasks
 abbrev pub evaluated : Contents → List Task → Contents
