@@ -1,9 +1,11 @@
 ghost use Rattle.std.specs.Prelude.{◌≡◌, ◌<◌, All, IfOk};
 ghost use Rattle.grb_core.specs.Value.{value_domain};
 ghost use Rattle.grb_core.specs.declared.domain.Domain.{Domain};
+ghost use Rattle.grb_context.specs.Known.{IsPassOf};
 
 use crate::open::open_one;
 use grb_call::{MatrixTuples, Reply};
+use grb_context::{Context, Pass};
 use grb_core::{Domain, Monoid, Value};
 use grb_sparse::SparseMatrix;
 use grb_timing::{Least, Numbers, RUNS, nanos_since, write_check};
@@ -118,23 +120,24 @@ struct Built {
     count: u64,
 }
 
-/// One build by the store; none where a call was refused.
+/// One build by this store; none where a call was refused.
 fn timed_build<R: Clock + AllocGlobal>(
     rt: &R,
+    context: &Context,
+    pass: &mut Pass,
     tuples: &[(u64, u64, Value)],
-) -> Result<Option<Built>, AllocError> {
+) -> Result<Option<Built>, AllocError>
+    requires { IsPassOf context.now pass.old }
+{
+    let Ok(Reply::MadeMatrix(a)) = context.new_matrix(pass, Domain::Uint64, SIDE, SIDE) else {
+        return Ok(None);
+    };
     let list = MatrixTuples::from_vec(Vec::from_slice(rt.alloc(), tuples)?);
-    let Some((context, mut pass)) = open_one(rt.alloc(), 2)? else {
-        return Ok(None);
-    };
-    let Ok(Reply::MadeMatrix(a)) = context.new_matrix(&mut pass, Domain::Uint64, SIDE, SIDE) else {
-        return Ok(None);
-    };
     let start = Instant::now(rt);
-    let entered = context.build_matrix(&mut pass, a, list, Monoid::Plus);
+    let entered = context.build_matrix(pass, a, list, Monoid::Plus);
     let entering = nanos_since(rt, start);
     let start = Instant::now(rt);
-    let counted = context.nvals_matrix(&mut pass, a);
+    let counted = context.nvals_matrix(pass, a);
     let evaluating = nanos_since(rt, start);
     match (entered, counted) {
         (Ok(Reply::Done), Ok(Reply::Count(count))) => Ok(Some(Built {
@@ -146,8 +149,19 @@ fn timed_build<R: Clock + AllocGlobal>(
     }
 }
 
+/// One build by a store of its own; none where a call was refused.
+fn run_build<R: Clock + AllocGlobal>(
+    rt: &R,
+    tuples: &[(u64, u64, Value)],
+) -> Result<Option<Built>, AllocError> {
+    match open_one(rt.alloc(), 2)? {
+        Some((context, mut pass)) => timed_build(rt, &context, &mut pass, tuples),
+        None => Ok(None),
+    }
+}
+
 /// The least times of each part.
-#[derive(Drop)]
+#[derive(Clone, Copy)]
 struct Times {
     sort: Least,
     sort_by_place: Least,
@@ -187,7 +201,7 @@ impl Times {
         self.sort_by_place.take(nanos);
         let (nanos, nvals) = timed_alone(rt, tuples)?;
         self.alone.take(nanos);
-        let Some(built) = timed_build(rt, tuples)? else {
+        let Some(built) = run_build(rt, tuples)? else {
             return Ok(false);
         };
         self.entering.take(built.entering);
@@ -195,6 +209,30 @@ impl Times {
         self.both
             .take(built.entering.saturating_add(built.evaluating));
         Ok(same_places == places && nvals == places && built.count == places)
+    }
+
+    /// One run of each part after another, and of a build of the tuples that rise; whether all found as many places as there are.
+    fn take_runs<R: Clock + AllocGlobal>(
+        &mut self,
+        rt: &R,
+        tuples: &[(u64, u64, Value)],
+        rising: &[(u64, u64, Value)],
+    ) -> Result<bool, AllocError>
+        requires rows { All (λ e. e.0 < 65536) tuples.now }
+        requires columns { All (λ e. e.1 < 65536) tuples.now }
+        requires domain { All (λ e. value_domain e.2 ≡ Domain.Uint64) tuples.now }
+        requires rising_rows { All (λ e. e.0 < 65536) rising.now }
+        requires rising_columns { All (λ e. e.1 < 65536) rising.now }
+        requires rising_domain { All (λ e. value_domain e.2 ≡ Domain.Uint64) rising.now }
+    {
+        let mut holds = true;
+        for _ in 0..RUNS {
+            holds &= self.take_run(rt, tuples)?;
+            let (nanos, nvals) = timed_alone(rt, rising)?;
+            self.rising.take(nanos);
+            holds &= nvals == u64::from(TUPLES);
+        }
+        Ok(holds)
     }
 
     fn write(&self, rt: &impl Eprint) -> Result<(), Fail> {
@@ -220,13 +258,7 @@ pub fn run<R: Clock + Print + Eprint + AllocGlobal>(rt: &R) -> Result<(), Fail> 
     let tuples = made(rt.alloc())?;
     let rising = made_rising(rt.alloc())?;
     let mut times = Times::none();
-    let mut holds = true;
-    for _ in 0..RUNS {
-        holds &= times.take_run(rt, &tuples)?;
-        let (nanos, nvals) = timed_alone(rt, &rising)?;
-        times.rising.take(nanos);
-        holds &= nvals == u64::from(TUPLES);
-    }
+    let holds = times.take_runs(rt, &tuples, &rising)?;
     times.write(rt)?;
     write_check(rt, "build", holds)?;
     Ok(())

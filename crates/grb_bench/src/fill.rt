@@ -143,6 +143,50 @@ fn push_by<R: Clock + Threads + Wait + Sync + AllocGlobal>(
     Ok(longest(&shares, ROOM))
 }
 
+/// The least times of fills, of pushes under a mutex and of fills of a store under a mutex.
+#[derive(Clone, Copy)]
+struct Times {
+    fills: Least,
+    pushes: Least,
+    singles: Least,
+}
+
+impl Times {
+    fn none() -> Times {
+        Times {
+            fills: Least::none(),
+            pushes: Least::none(),
+            singles: Least::none(),
+        }
+    }
+
+    /// One run of each by so many threads; whether each of them ended full.
+    fn take_run<R: Clock + Threads + Wait + Sync + AllocGlobal>(
+        &mut self,
+        rt: &R,
+        passes: u32,
+    ) -> Result<bool, Fail>
+        requires { (0 < passes) × (passes ≤ 64) }
+    {
+        let fill = self.fills.take_if(fill_by(rt, passes)?);
+        let push = self.pushes.take_if(push_by(rt, passes)?);
+        let single = self.singles.take_if(single::fill_by(rt, passes)?);
+        Ok(fill && push && single)
+    }
+
+    fn write(&self, rt: &impl Eprint, passes: u32) -> Result<(), Fail> {
+        eprintln!(rt; "by {passes}:")?;
+        self.fills.write(rt, "fill", ROOM)?;
+        self.pushes.write(rt, "fill under a mutex", ROOM)?;
+        self.singles.write(rt, "store under a mutex", ROOM)?;
+        self.fills
+            .write_ratio(rt, "fill / fill under a mutex", self.pushes)?;
+        self.fills
+            .write_ratio(rt, "fill / store under a mutex", self.singles)?;
+        Ok(())
+    }
+}
+
 /// Times fills by one, two and four passes beside pushes under one mutex, and beside fills of the same store with one pass under one
 /// mutex. The check is that each of them ended full.
 pub fn run<R: Clock + Threads + Wait + Sync + Print + Eprint + AllocGlobal>(
@@ -150,20 +194,11 @@ pub fn run<R: Clock + Threads + Wait + Sync + Print + Eprint + AllocGlobal>(
 ) -> Result<(), Fail> {
     let mut full = true;
     for passes in [1, 2, 4] {
-        let mut fills = Least::none();
-        let mut pushes = Least::none();
-        let mut singles = Least::none();
+        let mut times = Times::none();
         for _ in 0..RUNS {
-            full &= fills.take_if(fill_by(rt, passes)?);
-            full &= pushes.take_if(push_by(rt, passes)?);
-            full &= singles.take_if(single::fill_by(rt, passes)?);
+            full &= times.take_run(rt, passes)?;
         }
-        eprintln!(rt; "by {passes}:")?;
-        fills.write(rt, "fill", ROOM)?;
-        pushes.write(rt, "fill under a mutex", ROOM)?;
-        singles.write(rt, "store under a mutex", ROOM)?;
-        fills.write_ratio(rt, "fill / fill under a mutex", pushes)?;
-        fills.write_ratio(rt, "fill / store under a mutex", singles)?;
+        times.write(rt, passes)?;
     }
     write_check(rt, "fill", full)?;
     Ok(())

@@ -68,14 +68,18 @@ fn shuffle(lines: &mut [Line]) {
     }
 }
 
+/// Writes a line of three numbers.
+fn write_line(text: &mut String, i: u64, j: u64, value: u64) -> Result<(), AllocError> {
+    write!(text, "{i} {j} {value}\n")
+}
+
 /// The text of these lines, behind this first line.
 fn text_of(alloc: Global, first: &str, lines: &[Line]) -> Result<String, AllocError> {
-    let count = lines.len();
     let mut text = String::new(alloc);
     text.push_str(first)?;
-    write!(text, "{SIDE} {SIDE} {count}\n")?;
+    write_line(&mut text, SIDE, SIDE, lines.len() as u64)?;
     for (i, j, value) in lines {
-        write!(text, "{i} {j} {value}\n")?;
+        write_line(&mut text, *i, *j, *value)?;
     }
     Ok(text)
 }
@@ -178,6 +182,13 @@ impl Trial {
     }
 }
 
+/// The text of these lines in drawn order.
+fn shuffled_text_of(alloc: Global, first: &str, lines: &[Line]) -> Result<String, AllocError> {
+    let mut drawn = Vec::from_slice(alloc, lines)?;
+    shuffle(&mut drawn);
+    text_of(alloc, first, &drawn)
+}
+
 /// Times a text of these lines and one of the same lines in drawn order; whether each reading gave just the entries that `stated` has.
 fn run_both<R: Clock + Print + Eprint + AllocGlobal>(
     rt: &R,
@@ -186,16 +197,30 @@ fn run_both<R: Clock + Print + Eprint + AllocGlobal>(
     stated: &[Line],
 ) -> Result<bool, Fail> {
     let rising = text_of(rt.alloc(), first, lines)?;
-    let mut drawn = Vec::from_slice(rt.alloc(), lines)?;
-    shuffle(&mut drawn);
-    let shuffled = text_of(rt.alloc(), first, &drawn)?;
-    let sum = sum_of_lines(lines);
+    let shuffled = shuffled_text_of(rt.alloc(), first, lines)?;
+    time_both(
+        rt,
+        rising.as_bytes(),
+        shuffled.as_bytes(),
+        sum_of_lines(lines),
+        stated,
+    )
+}
+
+/// Times both texts, whose numbers have this sum.
+fn time_both<R: Clock + Eprint + AllocGlobal>(
+    rt: &R,
+    rising: &[u8],
+    shuffled: &[u8],
+    sum: u64,
+    stated: &[Line],
+) -> Result<bool, Fail> {
     let mut in_order = Trial::none();
     let mut out_of_order = Trial::none();
     let mut holds = true;
     for _ in 0..RUNS {
-        holds &= in_order.take(rt, rising.as_bytes(), sum, stated);
-        holds &= out_of_order.take(rt, shuffled.as_bytes(), sum, stated);
+        holds &= in_order.take(rt, rising, sum, stated);
+        holds &= out_of_order.take(rt, shuffled, sum, stated);
     }
     in_order.scan.write(rt, "market: scan, rising", LINES)?;
     in_order.read.write(rt, "market: read, rising", LINES)?;
@@ -214,26 +239,26 @@ fn run_both<R: Clock + Print + Eprint + AllocGlobal>(
     Ok(holds)
 }
 
+/// Times readings of a general text; whether each gave just its entries.
+fn run_general<R: Clock + Print + Eprint + AllocGlobal>(rt: &R) -> Result<bool, Fail> {
+    let first = "%%MatrixMarket matrix coordinate integer general\n";
+    let lines = rising_lines(rt.alloc())?;
+    run_both(rt, first, &lines, &lines)
+}
+
+/// Times readings of a symmetric text; whether each gave just its entries.
+fn run_symmetric<R: Clock + Print + Eprint + AllocGlobal>(rt: &R) -> Result<bool, Fail> {
+    let first = "%%MatrixMarket matrix coordinate integer symmetric\n";
+    let lower = lower_lines(rt.alloc())?;
+    let whole = whole_lines(rt.alloc(), &lower)?;
+    run_both(rt, first, &lower, &whole)
+}
+
 /// Times readings of Matrix Market texts beside plain scans of their numbers: a general and a symmetric one, each with its entry lines
 /// in rising and in drawn order.
 pub fn run<R: Clock + Print + Eprint + AllocGlobal>(rt: &R) -> Result<(), Fail> {
-    let lines = rising_lines(rt.alloc())?;
-    let general = run_both(
-        rt,
-        "%%MatrixMarket matrix coordinate integer general\n",
-        &lines,
-        &lines,
-    )?;
-    write_check(rt, "market", general)?;
+    write_check(rt, "market", run_general(rt)?)?;
     eprintln!(rt; "symmetric:")?;
-    let lower = lower_lines(rt.alloc())?;
-    let whole = whole_lines(rt.alloc(), &lower)?;
-    let symmetric = run_both(
-        rt,
-        "%%MatrixMarket matrix coordinate integer symmetric\n",
-        &lower,
-        &whole,
-    )?;
-    write_check(rt, "symmetric market", symmetric)?;
+    write_check(rt, "symmetric market", run_symmetric(rt)?)?;
     Ok(())
 }

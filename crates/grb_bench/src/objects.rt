@@ -212,7 +212,7 @@ fn timed_matrix<R: Clock + AllocGlobal>(rt: &R, cells: &[(u64, u64)]) -> Result<
 }
 
 /// The least times of each part.
-#[derive(Drop)]
+#[derive(Clone, Copy)]
 struct Times {
     setting: Least,
     getting_pending: Least,
@@ -258,21 +258,61 @@ impl Times {
     }
 }
 
-/// Times sets, gets, assembling and walks on one vector and on one matrix that are in no store.
-pub fn run<R: Clock + Print + Eprint + AllocGlobal>(rt: &R) -> Result<(), Fail> {
-    let indices = indices(rt.alloc())?;
-    let cells = cells(rt.alloc())?;
-    let (nvals_of_vector, sum_of_indices) = distinct_indices(rt.alloc(), &indices)?;
-    let (nvals_of_matrix, sum_of_rows) = distinct_cells(rt.alloc(), &cells)?;
-    let mut vector = Times::none();
-    let mut matrix = Times::none();
+/// Takes in one run after another on a vector; whether each found what is there.
+fn take_vectors<R: Clock + AllocGlobal>(
+    rt: &R,
+    times: &mut Times,
+    indices: &[u64],
+) -> Result<bool, AllocError>
+    requires { All (λ i. i < 4294967295) indices.now }
+{
+    let (nvals, sum) = distinct_indices(rt.alloc(), indices)?;
     let mut holds = true;
     for _ in 0..RUNS {
-        holds &= vector.take(timed_vector(rt, &indices)?, nvals_of_vector, sum_of_indices);
-        holds &= matrix.take(timed_matrix(rt, &cells)?, nvals_of_matrix, sum_of_rows);
+        holds &= times.take(timed_vector(rt, indices)?, nvals, sum);
     }
-    vector.write(rt, "vector")?;
-    matrix.write(rt, "matrix")?;
-    write_check(rt, "objects", holds)?;
+    Ok(holds)
+}
+
+/// Takes in one run after another on a matrix; whether each found what is there.
+fn take_matrices<R: Clock + AllocGlobal>(
+    rt: &R,
+    times: &mut Times,
+    cells: &[(u64, u64)],
+) -> Result<bool, AllocError>
+    requires rows { All (λ cell. cell.0 < 65536) cells.now }
+    requires columns { All (λ cell. cell.1 < 65536) cells.now }
+{
+    let (nvals, sum) = distinct_cells(rt.alloc(), cells)?;
+    let mut holds = true;
+    for _ in 0..RUNS {
+        holds &= times.take(timed_matrix(rt, cells)?, nvals, sum);
+    }
+    Ok(holds)
+}
+
+/// Times what there is to time on one vector; whether each run found what is there.
+fn time_vector<R: Clock + Eprint + AllocGlobal>(rt: &R) -> Result<bool, Fail> {
+    let indices = indices(rt.alloc())?;
+    let mut times = Times::none();
+    let holds = take_vectors(rt, &mut times, &indices)?;
+    times.write(rt, "vector")?;
+    Ok(holds)
+}
+
+/// Times what there is to time on one matrix; whether each run found what is there.
+fn time_matrix<R: Clock + Eprint + AllocGlobal>(rt: &R) -> Result<bool, Fail> {
+    let cells = cells(rt.alloc())?;
+    let mut times = Times::none();
+    let holds = take_matrices(rt, &mut times, &cells)?;
+    times.write(rt, "matrix")?;
+    Ok(holds)
+}
+
+/// Times sets, gets, assembling and walks on one vector and on one matrix that are in no store.
+pub fn run<R: Clock + Print + Eprint + AllocGlobal>(rt: &R) -> Result<(), Fail> {
+    let vector = time_vector(rt)?;
+    let matrix = time_matrix(rt)?;
+    write_check(rt, "objects", vector && matrix)?;
     Ok(())
 }

@@ -89,62 +89,86 @@ struct Counted {
     count: u64,
 }
 
-/// One run on a vector; none where a call was refused.
-fn timed_vector<R: Clock + AllocGlobal>(
+/// One run on a vector of this store; none where a call was refused.
+fn timed_vector<R: Clock>(
     rt: &R,
+    context: &Context,
+    pass: &mut Pass,
     indices: &[u64],
-) -> Result<Option<Counted>, AllocError> {
-    let Some((context, mut pass)) = open_one(rt.alloc(), ROOM)? else {
-        return Ok(None);
-    };
-    let Ok(Reply::MadeVector(v)) = context.new_vector(&mut pass, Domain::Uint64, SIZE) else {
-        return Ok(None);
+) -> Option<Counted>
+    requires { IsPassOf context.now pass.old }
+{
+    let Ok(Reply::MadeVector(v)) = context.new_vector(pass, Domain::Uint64, SIZE) else {
+        return None;
     };
     let start = Instant::now(rt);
-    let set = set_indices(&context, &mut pass, v, indices);
+    let set = set_indices(context, pass, v, indices);
     let setting = nanos_since(rt, start);
     let start = Instant::now(rt);
-    let counted = context.nvals_vector(&mut pass, v);
+    let counted = context.nvals_vector(pass, v);
     let evaluating = nanos_since(rt, start);
     match (set, counted) {
-        (Ok(()), Ok(Reply::Count(count))) => Ok(Some(Counted {
+        (Ok(()), Ok(Reply::Count(count))) => Some(Counted {
             setting,
             evaluating,
             count,
-        })),
-        _ => Ok(None),
+        }),
+        _ => None,
     }
 }
 
-/// One run on a matrix; none where a call was refused.
-fn timed_matrix<R: Clock + AllocGlobal>(
+/// One run on a vector of a store of its own; none where a call was refused.
+fn run_vector<R: Clock + AllocGlobal>(
     rt: &R,
-    places: &[(u64, u64)],
+    indices: &[u64],
 ) -> Result<Option<Counted>, AllocError> {
-    let Some((context, mut pass)) = open_one(rt.alloc(), ROOM)? else {
-        return Ok(None);
-    };
-    let Ok(Reply::MadeMatrix(a)) = context.new_matrix(&mut pass, Domain::Uint64, SIZE, SIZE) else {
-        return Ok(None);
+    match open_one(rt.alloc(), ROOM)? {
+        Some((context, mut pass)) => Ok(timed_vector(rt, &context, &mut pass, indices)),
+        None => Ok(None),
+    }
+}
+
+/// One run on a matrix of this store; none where a call was refused.
+fn timed_matrix<R: Clock>(
+    rt: &R,
+    context: &Context,
+    pass: &mut Pass,
+    places: &[(u64, u64)],
+) -> Option<Counted>
+    requires { IsPassOf context.now pass.old }
+{
+    let Ok(Reply::MadeMatrix(a)) = context.new_matrix(pass, Domain::Uint64, SIZE, SIZE) else {
+        return None;
     };
     let start = Instant::now(rt);
-    let set = set_places(&context, &mut pass, a, places);
+    let set = set_places(context, pass, a, places);
     let setting = nanos_since(rt, start);
     let start = Instant::now(rt);
-    let counted = context.nvals_matrix(&mut pass, a);
+    let counted = context.nvals_matrix(pass, a);
     let evaluating = nanos_since(rt, start);
     match (set, counted) {
-        (Ok(()), Ok(Reply::Count(count))) => Ok(Some(Counted {
+        (Ok(()), Ok(Reply::Count(count))) => Some(Counted {
             setting,
             evaluating,
             count,
-        })),
-        _ => Ok(None),
+        }),
+        _ => None,
+    }
+}
+
+/// One run on a matrix of a store of its own; none where a call was refused.
+fn run_matrix<R: Clock + AllocGlobal>(
+    rt: &R,
+    places: &[(u64, u64)],
+) -> Result<Option<Counted>, AllocError> {
+    match open_one(rt.alloc(), ROOM)? {
+        Some((context, mut pass)) => Ok(timed_matrix(rt, &context, &mut pass, places)),
+        None => Ok(None),
     }
 }
 
 /// The least times of the sets, and of their evaluation.
-#[derive(Drop)]
+#[derive(Clone, Copy)]
 struct Times {
     setting: Least,
     evaluating: Least,
@@ -169,23 +193,44 @@ impl Times {
     }
 }
 
-/// Times sets at random places of one vector and of one matrix, and their evaluation.
-pub fn run<R: Clock + Print + Eprint + AllocGlobal>(rt: &R) -> Result<(), Fail> {
-    let indices = indices(rt.alloc())?;
-    let places = places(rt.alloc())?;
-    let wanted_indices = distinct(rt.alloc(), &indices)?;
-    let wanted_places = distinct(rt.alloc(), &places)?;
-    let mut vector = Times::none();
-    let mut matrix = Times::none();
+/// Takes in one run after another; whether each counted as many entries as it should.
+fn take_runs<R: Clock + AllocGlobal>(
+    rt: &R,
+    vector: &mut Times,
+    matrix: &mut Times,
+    indices: &[u64],
+    places: &[(u64, u64)],
+) -> Result<bool, AllocError> {
+    let wanted_indices = distinct(rt.alloc(), indices)?;
+    let wanted_places = distinct(rt.alloc(), places)?;
     let mut holds = true;
     for _ in 0..RUNS {
-        holds &= vector.take(timed_vector(rt, &indices)?, wanted_indices);
-        holds &= matrix.take(timed_matrix(rt, &places)?, wanted_places);
+        holds &= vector.take(run_vector(rt, indices)?, wanted_indices);
+        holds &= matrix.take(run_matrix(rt, places)?, wanted_places);
     }
+    Ok(holds)
+}
+
+/// Times the sets of these indices and places.
+fn time_sets<R: Clock + Print + Eprint + AllocGlobal>(
+    rt: &R,
+    indices: &[u64],
+    places: &[(u64, u64)],
+) -> Result<(), Fail> {
+    let mut vector = Times::none();
+    let mut matrix = Times::none();
+    let holds = take_runs(rt, &mut vector, &mut matrix, indices, places)?;
     vector.setting.write(rt, "vector: sets", SETS)?;
     vector.evaluating.write(rt, "vector: evaluating", SETS)?;
     matrix.setting.write(rt, "matrix: sets", SETS)?;
     matrix.evaluating.write(rt, "matrix: evaluating", SETS)?;
     write_check(rt, "sets", holds)?;
     Ok(())
+}
+
+/// Times sets at random places of one vector and of one matrix, and their evaluation.
+pub fn run<R: Clock + Print + Eprint + AllocGlobal>(rt: &R) -> Result<(), Fail> {
+    let indices = indices(rt.alloc())?;
+    let places = places(rt.alloc())?;
+    time_sets(rt, &indices, &places)
 }

@@ -49,16 +49,20 @@ impl Single {
     }
 }
 
+/// The store with a vector in it.
+fn with_vector(mut single: Single) -> Option<(Single, VectorId)> {
+    match single.make() {
+        Some(v) => Some((single, v)),
+        None => None,
+    }
+}
+
 /// A store with a vector in it.
 fn open(alloc: Global) -> Result<Option<(Single, VectorId)>, AllocError> {
-    let Some((context, pass)) = open_one(alloc, ROOM)? else {
-        return Ok(None);
-    };
-    let mut single = Single { context, pass };
-    let Some(v) = single.make() else {
-        return Ok(None);
-    };
-    Ok(Some((single, v)))
+    match open_one(alloc, ROOM)? {
+        Some((context, pass)) => Ok(with_vector(Single { context, pass })),
+        None => Ok(None),
+    }
 }
 
 /// Sets one entry after another, each with the mutex locked anew, until the order is full; how many sets were entered, and none where

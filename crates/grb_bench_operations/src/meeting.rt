@@ -1,10 +1,12 @@
 //! A meeting of two passes, one of which has learnt what the other has not.
+ghost use Rattle.std.specs.Prelude.{All, IfSome};
 ghost use Rattle.grb_context.specs.Known.{IsPassOf};
 
 use grb_call::Reply;
 use grb_context::{Context, Pass};
 use grb_core::{Domain, Refusal, Value};
 use grb_timing::{Least, RUNS, nanos_since, write_check};
+use std::alloc::AllocError;
 use std::rt::Clock;
 use std::test::Fail;
 use std::time::Instant;
@@ -30,20 +32,53 @@ fn enter(context: &Context, pass: &mut Pass) -> Result<(), Refusal>
     Ok(())
 }
 
-/// One meeting after so many words; its time, if nothing was refused and the second pass then sees as many entries as the first.
-fn timed<R: Clock + AllocGlobal>(rt: &R) -> Result<Option<u64>, Fail> {
-    let (context, mut passes) = Context::open(rt.alloc(), ROOM, 2)?;
-    let (Some(mut knowing), Some(mut meeting)) = (passes.pop(), passes.pop()) else {
-        return Ok(None);
-    };
-    let entered = enter(&context, &mut knowing);
+/// One meeting of these passes after so many words; its time, if nothing was refused.
+fn timed<R: Clock>(rt: &R, context: &Context, knowing: &mut Pass, meeting: &mut Pass) -> Option<u64>
+    requires knowing { IsPassOf context.now knowing.old }
+    requires meeting { IsPassOf context.now meeting.old }
+{
+    let entered = enter(context, knowing);
     let start = Instant::now(rt);
-    let met = context.meet(&mut meeting, &mut knowing);
+    let met = context.meet(meeting, knowing);
     let nanos = nanos_since(rt, start);
     if entered.is_err() || met.is_err() {
-        return Ok(None);
+        return None;
     }
-    Ok(Some(nanos))
+    Some(nanos)
+}
+
+/// Takes the pass of the highest number out of these.
+fn last_pass(context: &Context, passes: &mut Vec<Pass>) -> Option<Pass>
+    requires { All (IsPassOf context.now) passes.old.items }
+    ensures pass { IfSome result (IsPassOf context.now) }
+    ensures rest { All (IsPassOf context.now) passes.new.items }
+{
+    passes.pop()
+}
+
+/// One meeting with the last of these passes; none where there is none.
+fn timed_with_last<R: Clock>(
+    rt: &R,
+    context: &Context,
+    knowing: &mut Pass,
+    passes: &mut Vec<Pass>,
+) -> Option<u64>
+    requires knowing { IsPassOf context.now knowing.old }
+    requires passes { All (IsPassOf context.now) passes.old.items }
+{
+    match last_pass(context, passes) {
+        Some(mut meeting) => timed(rt, context, knowing, &mut meeting),
+        None => None,
+    }
+}
+
+/// One meeting in a store of its own.
+fn timed_alone<R: Clock + AllocGlobal>(rt: &R) -> Result<Option<u64>, AllocError> {
+    let (context, mut passes) = Context::open(rt.alloc(), ROOM, 2)?;
+    match last_pass(&context, &mut passes) {
+        Some(mut knowing) => Ok(timed_with_last(rt, &context, &mut knowing, &mut passes)),
+        None => Ok(None),
+    }
 }
 
 /// Times meetings.
@@ -51,7 +86,7 @@ pub(crate) fn run<R: Clock + Print + Eprint + AllocGlobal>(rt: &R) -> Result<(),
     let mut line = Least::none();
     let mut holds = true;
     for _ in 0..RUNS {
-        holds &= line.take_if(timed(rt)?);
+        holds &= line.take_if(timed_alone(rt)?);
     }
     line.write(rt, "meet", WORDS)?;
     write_check(rt, "meet", holds)?;

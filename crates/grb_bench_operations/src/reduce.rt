@@ -110,14 +110,23 @@ fn time_all<T: Element, R: Clock + Eprint>(
     Ok(holds)
 }
 
+/// Times both reductions of this matrix.
+fn run_all<T: Element, R: Clock + Print + Eprint + AllocGlobal>(
+    rt: &R,
+    output: &Vector<T>,
+    a: &Matrix<T>,
+) -> Result<(), Fail> {
+    let steps = (a.plain.len() % 0x1_0000_0000) as u32;
+    let rows = time_rows(rt, output, a, steps)?;
+    let all = time_all(rt, a, steps)?;
+    write_check(rt, "reduce", rows && all)?;
+    Ok(())
+}
+
 /// Times reductions of a matrix.
 pub(crate) fn run<T: Element, R: Clock + Print + Eprint + AllocGlobal>(rt: &R) -> Result<(), Fail> {
     let mut numbers = Numbers::new();
     let a: Matrix<T> = Matrix::drawn(rt.alloc(), &mut numbers, Shape::Drawn)?;
     let output: Vector<T> = Vector::empty(rt.alloc())?;
-    let steps = (a.plain.len() % 0x1_0000_0000) as u32;
-    let rows = time_rows(rt, &output, &a, steps)?;
-    let all = time_all(rt, &a, steps)?;
-    write_check(rt, "reduce", rows && all)?;
-    Ok(())
+    run_all(rt, &output, &a)
 }

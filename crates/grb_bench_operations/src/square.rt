@@ -1,5 +1,5 @@
 //! A matrix as flat lists with a start for each row, as a plain program keeps it.
-ghost use Rattle.std.specs.Prelude.{◌≡◌, ◌≤◌, true, length};
+ghost use Rattle.std.specs.Prelude.{◌≡◌, ◌≤◌, true, length, OnOk};
 
 use crate::drawn::SIDE;
 use crate::element::Element;
@@ -53,6 +53,26 @@ fn add_up(starts: &mut [usize]) {
     }
 }
 
+/// Puts the columns and the values of a matrix behind others, and counts its entries in the row after each.
+fn copy_entries<T: Element>(
+    a: &SparseMatrix,
+    starts: &mut [usize],
+    columns: &mut Vec<u32>,
+    values: &mut Vec<T>,
+) -> Result<(), AllocError>
+    requires assembled { a.now.assembled ≡ true }
+    requires same { length columns.old.items ≡ length values.old.items }
+    ensures same { OnOk result (length columns.new.items ≡ length values.new.items) }
+{
+    'entries: for entry in a.entries() {
+        let ((i, j), value) = entry;
+        count_in(starts, i);
+        columns.push((j % SIDE) as u32)?;
+        values.push(T::of(value))?;
+    }
+    Ok(())
+}
+
 impl<T: Element> Square<T> {
     /// The entries of a matrix, copied.
     pub(crate) fn of(alloc: Global, a: &SparseMatrix) -> Result<Square<T>, AllocError>
@@ -61,12 +81,7 @@ impl<T: Element> Square<T> {
         let mut starts = vec![in alloc; 0usize; SIDE as usize + 1]?;
         let mut columns = Vec::new(alloc);
         let mut values = Vec::new(alloc);
-        'entries: for entry in a.entries() {
-            let ((i, j), value) = entry;
-            count_in(&mut starts, i);
-            columns.push((j % SIDE) as u32)?;
-            values.push(T::of(value))?;
-        }
+        copy_entries(a, &mut starts, &mut columns, &mut values)?;
         add_up(&mut starts);
         Ok(Square {
             starts,

@@ -1,6 +1,8 @@
 //! What a call changes, whether it enters, and its copy.
+use crate::asked::same;
 use grb_call::{Call, Descriptor, MatrixId, MatrixTuples, Object, VectorId, VectorTuples};
 use grb_core::{BinaryOp, Domain, Monoid, Value};
+use std::alloc::AllocError;
 use std::process::Abort;
 use std::test::Fail;
 
@@ -16,64 +18,76 @@ const COMPLEMENT: Descriptor = Descriptor {
     replace: false,
 };
 
-fn expect_output(rt: &impl Abort, call: Call, output: Option<Object>) {
-    assert_eq!(rt; call.output(), output);
+/// A call, and the object that it changes.
+const OUTPUTS: [(Call, Option<Object>); 5] = [
+    (Call::ClearMatrix { a: A }, Some(Object::Matrix(A))),
+    (Call::FreeVector { v: V }, Some(Object::Vector(V))),
+    (Call::DupVector { v: V }, None),
+    (
+        Call::EwiseAddVector {
+            w: V,
+            mask: Some(VectorId(1)),
+            accum: None,
+            op: BinaryOp::Plus,
+            u: VectorId(2),
+            v: VectorId(3),
+            d: COMPLEMENT,
+        },
+        Some(Object::Vector(V)),
+    ),
+    (Call::NvalsMatrix { a: A }, None),
+];
+
+fn expect_outputs(rt: &impl Abort, rows: &[(Call, Option<Object>)]) {
+    for (call, output) in rows {
+        same(rt, call.output(), *output, call);
+    }
 }
 
 #[test]
 fn the_output_is_the_object_that_a_call_changes(rt: HostRuntime) -> Result<(), Fail> {
-    let sum = Call::EwiseAddVector {
-        w: V,
-        mask: Some(VectorId(1)),
-        accum: None,
-        op: BinaryOp::Plus,
-        u: VectorId(2),
-        v: VectorId(3),
-        d: COMPLEMENT,
-    };
-    expect_output(&rt, Call::ClearMatrix { a: A }, Some(Object::Matrix(A)));
-    expect_output(&rt, Call::FreeVector { v: V }, Some(Object::Vector(V)));
-    expect_output(&rt, Call::DupVector { v: V }, None);
-    expect_output(&rt, sum, Some(Object::Vector(V)));
-    expect_output(&rt, Call::NvalsMatrix { a: A }, None);
+    let rows = OUTPUTS;
+    expect_outputs(&rt, &rows);
     Ok(())
 }
 
-fn expect_copy(rt: &impl Abort, call: Call, enters: bool) -> Result<(), Fail> {
-    assert_eq!(rt; call.enters(), enters, "of {call:?}");
-    assert_eq!(rt; call.try_clone()?, call);
+fn expect_copy(rt: &impl Abort, call: &Call, enters: bool) -> Result<(), AllocError> {
+    same(rt, call.enters(), enters, call);
+    let copy = call.try_clone()?;
+    same(rt, &copy, call, "the copy");
     Ok(())
 }
 
-fn expect_calls_of_a_whole_matrix(rt: &impl Abort) -> Result<(), Fail> {
-    expect_copy(
-        rt,
+fn expect_copies(rt: &impl Abort, rows: &[(Call, bool)]) -> Result<(), AllocError> {
+    for (call, enters) in rows {
+        expect_copy(rt, call, *enters)?;
+    }
+    Ok(())
+}
+
+/// A call of a matrix, without a list of its own, and whether it enters.
+const OF_A_MATRIX: [(Call, bool); 12] = [
+    (
         Call::NewMatrix {
             domain: Domain::Bool,
             nrows: 1,
             ncols: 2,
         },
         true,
-    )?;
-    expect_copy(rt, Call::FreeMatrix { a: A }, true)?;
-    expect_copy(rt, Call::SizeMatrix { a: A }, false)?;
-    expect_copy(rt, Call::ClearMatrix { a: A }, true)?;
-    expect_copy(
-        rt,
+    ),
+    (Call::FreeMatrix { a: A }, true),
+    (Call::SizeMatrix { a: A }, false),
+    (Call::ClearMatrix { a: A }, true),
+    (
         Call::ResizeMatrix {
             a: A,
             nrows: 1,
             ncols: 2,
         },
         true,
-    )?;
-    expect_copy(rt, Call::DupMatrix { a: A }, true)?;
-    Ok(())
-}
-
-fn expect_calls_of_entries_of_a_matrix(rt: &impl Abort) -> Result<(), Fail> {
-    expect_copy(
-        rt,
+    ),
+    (Call::DupMatrix { a: A }, true),
+    (
         Call::SetMatrix {
             a: A,
             i: 1,
@@ -81,26 +95,11 @@ fn expect_calls_of_entries_of_a_matrix(rt: &impl Abort) -> Result<(), Fail> {
             value: TRUTH,
         },
         true,
-    )?;
-    expect_copy(rt, Call::RemoveMatrix { a: A, i: 1, j: 2 }, true)?;
-    expect_copy(rt, Call::GetMatrix { a: A, i: 1, j: 2 }, false)?;
-    expect_copy(rt, Call::NvalsMatrix { a: A }, false)?;
-    Ok(())
-}
-
-fn expect_a_build_and_operations_of_a_matrix<R: Abort + AllocGlobal>(rt: &R) -> Result<(), Fail> {
-    let tuples = MatrixTuples::from_vec(vec![in rt.alloc(); (1, 2, TRUTH), (0, 0, TRUTH)]?);
-    expect_copy(
-        rt,
-        Call::BuildMatrix {
-            a: A,
-            tuples,
-            dup: Monoid::Lor,
-        },
-        true,
-    )?;
-    expect_copy(
-        rt,
+    ),
+    (Call::RemoveMatrix { a: A, i: 1, j: 2 }, true),
+    (Call::GetMatrix { a: A, i: 1, j: 2 }, false),
+    (Call::NvalsMatrix { a: A }, false),
+    (
         Call::EwiseAddMatrix {
             c: A,
             mask: None,
@@ -111,9 +110,8 @@ fn expect_a_build_and_operations_of_a_matrix<R: Abort + AllocGlobal>(rt: &R) -> 
             d: COMPLEMENT,
         },
         true,
-    )?;
-    expect_copy(
-        rt,
+    ),
+    (
         Call::EwiseMultMatrix {
             c: A,
             mask: Some(MatrixId(4)),
@@ -124,64 +122,52 @@ fn expect_a_build_and_operations_of_a_matrix<R: Abort + AllocGlobal>(rt: &R) -> 
             d: COMPLEMENT,
         },
         true,
-    )?;
-    Ok(())
+    ),
+];
+
+fn build_of_a_matrix(list: Vec<(u64, u64, Value)>) -> Call {
+    Call::BuildMatrix {
+        a: A,
+        tuples: MatrixTuples::from_vec(list),
+        dup: Monoid::Lor,
+    }
 }
 
 #[test]
 fn a_call_of_a_matrix_enters_or_reads_and_has_an_equal_copy(rt: HostRuntime) -> Result<(), Fail> {
-    expect_calls_of_a_whole_matrix(&rt)?;
-    expect_calls_of_entries_of_a_matrix(&rt)?;
-    expect_a_build_and_operations_of_a_matrix(&rt)?;
+    let build = build_of_a_matrix(vec![in rt.alloc(); (1, 2, TRUTH), (0, 0, TRUTH)]?);
+    expect_copy(&rt, &build, true)?;
+    let rows = OF_A_MATRIX;
+    expect_copies(&rt, &rows)?;
     Ok(())
 }
 
-fn expect_calls_of_a_whole_vector(rt: &impl Abort) -> Result<(), Fail> {
-    expect_copy(
-        rt,
+/// A call of a vector, without a list of its own, and whether it enters.
+const OF_A_VECTOR: [(Call, bool); 12] = [
+    (
         Call::NewVector {
             domain: Domain::Uint64,
             size: 4_294_967_295,
         },
         true,
-    )?;
-    expect_copy(rt, Call::FreeVector { v: V }, true)?;
-    expect_copy(rt, Call::SizeVector { v: V }, false)?;
-    expect_copy(rt, Call::ClearVector { v: V }, true)?;
-    expect_copy(rt, Call::ResizeVector { v: V, size: 1 }, true)?;
-    expect_copy(rt, Call::DupVector { v: V }, true)?;
-    Ok(())
-}
-
-fn expect_calls_of_entries_of_a_vector(rt: &impl Abort) -> Result<(), Fail> {
-    expect_copy(
-        rt,
+    ),
+    (Call::FreeVector { v: V }, true),
+    (Call::SizeVector { v: V }, false),
+    (Call::ClearVector { v: V }, true),
+    (Call::ResizeVector { v: V, size: 1 }, true),
+    (Call::DupVector { v: V }, true),
+    (
         Call::SetVector {
             v: V,
             i: 1,
             value: TRUTH,
         },
         true,
-    )?;
-    expect_copy(rt, Call::RemoveVector { v: V, i: 1 }, true)?;
-    expect_copy(rt, Call::GetVector { v: V, i: 1 }, false)?;
-    expect_copy(rt, Call::NvalsVector { v: V }, false)?;
-    Ok(())
-}
-
-fn expect_a_build_and_operations_of_a_vector<R: Abort + AllocGlobal>(rt: &R) -> Result<(), Fail> {
-    let tuples = VectorTuples::from_vec(vec![in rt.alloc(); (1, TRUTH), (0, TRUTH)]?);
-    expect_copy(
-        rt,
-        Call::BuildVector {
-            v: V,
-            tuples,
-            dup: Monoid::Land,
-        },
-        true,
-    )?;
-    expect_copy(
-        rt,
+    ),
+    (Call::RemoveVector { v: V, i: 1 }, true),
+    (Call::GetVector { v: V, i: 1 }, false),
+    (Call::NvalsVector { v: V }, false),
+    (
         Call::EwiseAddVector {
             w: V,
             mask: None,
@@ -192,9 +178,8 @@ fn expect_a_build_and_operations_of_a_vector<R: Abort + AllocGlobal>(rt: &R) -> 
             d: COMPLEMENT,
         },
         true,
-    )?;
-    expect_copy(
-        rt,
+    ),
+    (
         Call::EwiseMultVector {
             w: V,
             mask: Some(VectorId(7)),
@@ -205,14 +190,22 @@ fn expect_a_build_and_operations_of_a_vector<R: Abort + AllocGlobal>(rt: &R) -> 
             d: COMPLEMENT,
         },
         true,
-    )?;
-    Ok(())
+    ),
+];
+
+fn build_of_a_vector(list: Vec<(u64, Value)>) -> Call {
+    Call::BuildVector {
+        v: V,
+        tuples: VectorTuples::from_vec(list),
+        dup: Monoid::Land,
+    }
 }
 
 #[test]
 fn a_call_of_a_vector_enters_or_reads_and_has_an_equal_copy(rt: HostRuntime) -> Result<(), Fail> {
-    expect_calls_of_a_whole_vector(&rt)?;
-    expect_calls_of_entries_of_a_vector(&rt)?;
-    expect_a_build_and_operations_of_a_vector(&rt)?;
+    let build = build_of_a_vector(vec![in rt.alloc(); (1, TRUTH), (0, TRUTH)]?);
+    expect_copy(&rt, &build, true)?;
+    let rows = OF_A_VECTOR;
+    expect_copies(&rt, &rows)?;
     Ok(())
 }

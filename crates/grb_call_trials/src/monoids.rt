@@ -2,6 +2,7 @@
 ghost use Rattle.std.specs.Prelude.{◌≡◌};
 ghost use Rattle.grb_core.specs.Value.{value_domain};
 
+use crate::asked::{same, same_domain};
 use grb_core::{BinaryOp, Domain, Monoid, Refusal, Semiring, Value, apply, identity};
 use std::process::Abort;
 
@@ -18,8 +19,7 @@ const LARGEST: Value = Value::Uint64(18_446_744_073_709_551_615);
 fn expect_domain(rt: &impl Abort, value: Value, domain: Domain)
     ensures { value_domain value ≡ domain }
 {
-    let found = value.domain();
-    assert_eq!(rt; found, domain, "of {value:?}");
+    same_domain(rt, value.domain(), domain, value);
 }
 
 fn combined(rt: &impl Abort, monoid: Monoid, a: Value, b: Value) -> Value {
@@ -45,8 +45,9 @@ const MONOIDS: [Row; 8] = [
 
 fn expect_monoid(rt: &impl Abort, row: Row) {
     let (monoid, op, domain, unchanging) = row;
-    let found = (monoid.op(), monoid.domain(), identity(monoid));
-    assert_eq!(rt; found, (op, domain, unchanging), "of {monoid:?}");
+    same(rt, monoid.op(), op, monoid);
+    same(rt, monoid.domain(), domain, monoid);
+    same(rt, identity(monoid), unchanging, monoid);
 }
 
 #[test]
@@ -82,9 +83,9 @@ const UNCHANGED: [(Monoid, Value); 20] = [
 fn expect_unchanged(rt: &impl Abort, monoid: Monoid, value: Value) {
     let unchanging = identity(monoid);
     let left = combined(rt, monoid, unchanging, value);
-    assert_eq!(rt; left, value, "{monoid:?} of {value:?}");
+    same(rt, left, value, monoid);
     let right = combined(rt, monoid, value, unchanging);
-    assert_eq!(rt; right, value, "{value:?} by {monoid:?}");
+    same(rt, right, value, monoid);
 }
 
 #[test]
@@ -107,7 +108,7 @@ fn expect_parity(rt: &impl Abort, values: [Value; 3], even: Value) {
     let last = combined(rt, Monoid::Lxnor, c, identity(Monoid::Lxnor));
     let rest = combined(rt, Monoid::Lxnor, b, last);
     let all = combined(rt, Monoid::Lxnor, a, rest);
-    assert_eq!(rt; all, even, "of {values:?}");
+    same(rt, all, even, values);
 }
 
 #[test]
@@ -137,16 +138,17 @@ fn expect_parts(
     op: BinaryOp,
     domain: Option<Domain>,
 ) {
-    let found = (semiring.monoid(), semiring.op(), Some(semiring.domain()));
-    assert_eq!(rt; found, (monoid, op, domain));
+    same(rt, semiring.monoid(), monoid, op);
+    same(rt, semiring.op(), op, monoid);
+    same(rt, Some(semiring.domain()), domain, (monoid, op));
 }
 
 fn expect_semiring(rt: &impl Abort, monoid: Monoid, op: BinaryOp, domain: Option<Domain>) {
     match Semiring::new(monoid, op) {
         Ok(semiring) => expect_parts(rt, semiring, monoid, op, domain),
         Err(refusal) => {
-            let wanted = (Refusal::DomainMismatch, None);
-            assert_eq!(rt; (refusal, domain), wanted, "of {monoid:?} and {op:?}");
+            same(rt, refusal, Refusal::DomainMismatch, (monoid, op));
+            same(rt, None, domain, (monoid, op));
         }
     }
 }

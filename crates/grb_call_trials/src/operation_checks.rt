@@ -1,5 +1,5 @@
 //! What a check answers to the element-wise operations.
-use crate::asked::{DIMENSION, DOMAIN, ENTERS, UNINITIALIZED, expect, new_matrix, new_vector};
+use crate::asked::{DIMENSION, DOMAIN, ENTERS, UNINITIALIZED, expect, make_matrices, make_vectors};
 use grb_call::{Call, Descriptor, Kind, MatrixId, Shapes, VectorId};
 use grb_core::{BinaryOp, Domain, Refusal};
 use std::alloc::{AllocError, Global};
@@ -19,29 +19,35 @@ const LOR: Option<BinaryOp> = Some(BinaryOp::Lor);
 /// The number of what both lists below freed.
 const FREED: u32 = 6;
 
+static VECTORS: [(Domain, u64); 7] = [
+    (Domain::Uint64, 3),
+    (Domain::Uint64, 3),
+    (Domain::Bool, 3),
+    (Domain::Uint64, 4),
+    (Domain::Uint64, 2),
+    (Domain::Bool, 4),
+    (Domain::Uint64, 3),
+];
+
 fn vectors(alloc: Global) -> Result<Shapes, AllocError> {
     let mut shapes = Shapes::open(alloc, 8)?;
-    shapes.absorb(&new_vector(Domain::Uint64, 3));
-    shapes.absorb(&new_vector(Domain::Uint64, 3));
-    shapes.absorb(&new_vector(Domain::Bool, 3));
-    shapes.absorb(&new_vector(Domain::Uint64, 4));
-    shapes.absorb(&new_vector(Domain::Uint64, 2));
-    shapes.absorb(&new_vector(Domain::Bool, 4));
-    shapes.absorb(&new_vector(Domain::Uint64, 3));
-    shapes.absorb(&Call::FreeVector { v: VectorId(FREED) });
+    make_vectors(&mut shapes, &VECTORS, FREED);
     Ok(shapes)
 }
 
+static MATRICES: [(Domain, u64, u64); 7] = [
+    (Domain::Uint64, 2, 3),
+    (Domain::Uint64, 2, 3),
+    (Domain::Bool, 2, 3),
+    (Domain::Uint64, 3, 3),
+    (Domain::Uint64, 2, 2),
+    (Domain::Bool, 3, 2),
+    (Domain::Uint64, 2, 3),
+];
+
 fn matrices(alloc: Global) -> Result<Shapes, AllocError> {
     let mut shapes = Shapes::open(alloc, 8)?;
-    shapes.absorb(&new_matrix(Domain::Uint64, 2, 3));
-    shapes.absorb(&new_matrix(Domain::Uint64, 2, 3));
-    shapes.absorb(&new_matrix(Domain::Bool, 2, 3));
-    shapes.absorb(&new_matrix(Domain::Uint64, 3, 3));
-    shapes.absorb(&new_matrix(Domain::Uint64, 2, 2));
-    shapes.absorb(&new_matrix(Domain::Bool, 3, 2));
-    shapes.absorb(&new_matrix(Domain::Uint64, 2, 3));
-    shapes.absorb(&Call::FreeMatrix { a: MatrixId(FREED) });
+    make_matrices(&mut shapes, &MATRICES, FREED);
     Ok(shapes)
 }
 

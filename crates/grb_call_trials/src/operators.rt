@@ -2,6 +2,7 @@
 ghost use Rattle.std.specs.Prelude.{◌≡◌};
 ghost use Rattle.grb_core.specs.Operator.{op_domain};
 
+use crate::asked::{same, same_domain};
 use grb_core::{BinaryOp, Domain, Value, apply};
 use std::process::Abort;
 
@@ -30,8 +31,7 @@ const DOMAINS: [(BinaryOp, Domain); 13] = [
 fn expect_domain(rt: &impl Abort, op: BinaryOp, domain: Domain)
     ensures { op_domain op ≡ domain }
 {
-    let found = op.domain();
-    assert_eq!(rt; found, domain, "of {op:?}");
+    same_domain(rt, op.domain(), domain, op);
 }
 
 #[test]
@@ -53,11 +53,8 @@ const TRUTHS: [(BinaryOp, [bool; 4]); 6] = [
 
 fn expect_truth(rt: &impl Abort, op: BinaryOp, a: bool, b: bool, truth: bool) {
     expect_domain(rt, op, Domain::Bool);
-    assert_eq!(rt;
-        apply(op, Value::Bool(a), Value::Bool(b)),
-        Value::Bool(truth),
-        "{op:?} of {a:?} and {b:?}"
-    );
+    let found = apply(op, Value::Bool(a), Value::Bool(b));
+    same(rt, found, Value::Bool(truth), (op, a, b));
 }
 
 fn expect_table(rt: &impl Abort, op: BinaryOp, table: [bool; 4]) {
@@ -81,11 +78,8 @@ type Row = (BinaryOp, u64, u64, u64);
 fn expect_number(rt: &impl Abort, row: Row) {
     let (op, a, b, number) = row;
     expect_domain(rt, op, Domain::Uint64);
-    assert_eq!(rt;
-        apply(op, Value::Uint64(a), Value::Uint64(b)),
-        Value::Uint64(number),
-        "{op:?} of {a} and {b}"
-    );
+    let found = apply(op, Value::Uint64(a), Value::Uint64(b));
+    same(rt, found, Value::Uint64(number), (op, a, b));
 }
 
 const MODULO: [Row; 28] = [

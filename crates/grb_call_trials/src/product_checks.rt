@@ -1,8 +1,6 @@
 //! What a check answers to products, reductions, totals and waits.
-ghost use Rattle.std.specs.Prelude.{◌≡◌, IfOk};
-
 use crate::asked::{
-    DIMENSION, DOMAIN, ENTERS, READS, UNINITIALIZED, expect, new_matrix, new_vector,
+    DIMENSION, DOMAIN, ENTERS, READS, UNINITIALIZED, expect, make_matrices, make_vectors,
 };
 use grb_call::{Call, Descriptor, Kind, MatrixId, Shapes, VectorId, WaitMode};
 use grb_core::{BinaryOp, Domain, Monoid, Refusal, Semiring};
@@ -27,29 +25,27 @@ const LOR: Option<BinaryOp> = Some(BinaryOp::Lor);
 /// The number of the matrix and of the vector that were freed.
 const FREED: u32 = 4;
 
-/// Matrices of numbers, 2 by 3, 3 by 2 and 2 by 2, one of truth values, 2 by 3, and one that was freed.
-fn matrices(alloc: Global) -> Result<Shapes, AllocError>
-    ensures { IfOk result (λ shapes. shapes.room ≡ 6) }
-{
-    let mut shapes = Shapes::open(alloc, 12)?;
-    shapes.absorb(&new_matrix(NUMBERS, 2, 3));
-    shapes.absorb(&new_matrix(NUMBERS, 3, 2));
-    shapes.absorb(&new_matrix(NUMBERS, 2, 2));
-    shapes.absorb(&new_matrix(TRUTHS, 2, 3));
-    shapes.absorb(&new_matrix(NUMBERS, 2, 3));
-    shapes.absorb(&Call::FreeMatrix { a: MatrixId(FREED) });
-    Ok(shapes)
-}
+static MATRICES: [(Domain, u64, u64); 5] = [
+    (NUMBERS, 2, 3),
+    (NUMBERS, 3, 2),
+    (NUMBERS, 2, 2),
+    (TRUTHS, 2, 3),
+    (NUMBERS, 2, 3),
+];
 
-/// These matrices, and vectors: of numbers, of sizes 2 and 3, of truth values, of sizes 2 and 3, and one that was freed.
+static VECTORS: [(Domain, u64); 5] = [
+    (NUMBERS, 2),
+    (NUMBERS, 3),
+    (TRUTHS, 2),
+    (TRUTHS, 3),
+    (NUMBERS, 2),
+];
+
+/// These matrices and vectors, of which the last one of either was freed.
 fn objects(alloc: Global) -> Result<Shapes, AllocError> {
-    let mut shapes = matrices(alloc)?;
-    shapes.absorb(&new_vector(NUMBERS, 2));
-    shapes.absorb(&new_vector(NUMBERS, 3));
-    shapes.absorb(&new_vector(TRUTHS, 2));
-    shapes.absorb(&new_vector(TRUTHS, 3));
-    shapes.absorb(&new_vector(NUMBERS, 2));
-    shapes.absorb(&Call::FreeVector { v: VectorId(FREED) });
+    let mut shapes = Shapes::open(alloc, 12)?;
+    make_matrices(&mut shapes, &MATRICES, FREED);
+    make_vectors(&mut shapes, &VECTORS, FREED);
     Ok(shapes)
 }
 

@@ -1,7 +1,7 @@
 //! The shapes of objects from call to call.
 ghost use Rattle.std.specs.Prelude.{◌≡◌, ◌+◌, ◌<◌};
 
-use crate::asked::{new_matrix, new_vector};
+use crate::asked::{new_matrix, new_vector, same};
 use grb_call::{Call, MatrixId, Shapes, VectorId};
 use grb_core::Domain;
 use std::process::Abort;
@@ -15,21 +15,22 @@ fn absorb(shapes: &mut Shapes, call: Call)
 }
 
 fn expect_matrix(rt: &impl Abort, shapes: &Shapes, a: MatrixId, shape: Option<(Domain, u64, u64)>) {
-    assert_eq!(rt; shapes.matrix(a), shape);
+    same(rt, shapes.matrix(a), shape, a);
 }
 
 fn expect_vector(rt: &impl Abort, shapes: &Shapes, v: VectorId, shape: Option<(Domain, u64)>) {
-    assert_eq!(rt; shapes.vector(v), shape);
+    same(rt, shapes.vector(v), shape, v);
 }
 
 fn expect_counts(rt: &impl Abort, shapes: &Shapes, matrices: u32, vectors: u32) {
-    assert_eq!(rt; (shapes.matrices(), shapes.vectors()), (matrices, vectors));
+    same(rt, shapes.matrices(), matrices, "matrices");
+    same(rt, shapes.vectors(), vectors, "vectors");
 }
 
 #[test]
 fn no_room_holds_no_object(rt: HostRuntime) -> Result<(), Fail> {
     let shapes = Shapes::open(rt.alloc(), 0)?;
-    assert_eq!(rt; shapes.vectors(), 0);
+    same(&rt, shapes.vectors(), 0, "vectors");
     expect_vector(&rt, &shapes, VectorId(0), None);
     expect_vector(&rt, &shapes, VectorId(4_294_967_295), None);
     Ok(())
@@ -43,7 +44,7 @@ fn a_refused_call_takes_no_number(rt: HostRuntime) -> Result<(), Fail> {
     absorb(&mut shapes, Call::NvalsVector { v: VectorId(0) });
     absorb(&mut shapes, new_vector(Domain::Uint64, 4_294_967_295));
     let second = Some((Domain::Uint64, 4_294_967_295));
-    assert_eq!(rt; shapes.vectors(), 2);
+    same(&rt, shapes.vectors(), 2, "vectors");
     expect_vector(&rt, &shapes, VectorId(0), Some((Domain::Bool, 1)));
     expect_vector(&rt, &shapes, VectorId(1), second);
     expect_vector(&rt, &shapes, VectorId(2), None);

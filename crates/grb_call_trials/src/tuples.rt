@@ -1,4 +1,5 @@
 //! The lists of builds.
+use crate::asked::same;
 use grb_call::{MatrixTuples, VectorTuples};
 use grb_core::Value;
 use std::alloc::Global;
@@ -14,10 +15,15 @@ fn expect_indices(
     indices: &VectorTuples,
     second: (u64, Value),
 ) -> Result<(), Fail> {
-    assert_eq!(rt; indices.as_slice().get(1), Some(&second));
+    same(
+        rt,
+        indices.as_slice().get(1),
+        Some(&second),
+        "the second tuple",
+    );
     let copy = indices.clone()?;
-    assert!(rt; copy == *indices);
-    assert_eq!(rt; copy.into_vec().len(), 3);
+    same(rt, &copy, indices, "the copy");
+    same(rt, copy.into_vec().len(), 3, "the copy");
     Ok(())
 }
 
@@ -33,10 +39,10 @@ fn expect_cells(
     cells: &MatrixTuples,
     first: (u64, u64, Value),
 ) -> Result<(), Fail> {
-    assert_eq!(rt; cells.as_slice().get(0), Some(&first));
+    same(rt, cells.as_slice().get(0), Some(&first), "the first tuple");
     let copy = cells.clone()?;
-    assert!(rt; copy == *cells);
-    assert_eq!(rt; copy.into_vec().len(), 2);
+    same(rt, &copy, cells, "the copy");
+    same(rt, copy.into_vec().len(), 2, "the copy");
     Ok(())
 }
 
@@ -49,7 +55,7 @@ fn a_list_of_a_matrix_keeps_its_tuples_in_their_order(rt: HostRuntime) -> Result
 
 fn expect_others(rt: &impl Abort, alloc: Global, cells: &MatrixTuples) -> Result<(), Fail> {
     let others = MatrixTuples::from_vec(vec![in alloc; (2, 1, TRUTH), (1, 2, SEVEN)]?);
-    assert!(rt; *cells != others);
+    same(rt, *cells != others, true, "another order");
     Ok(())
 }
 

@@ -13,7 +13,7 @@ use lib.Dec.{T}
 use native.Mathlib.Numerals.{unary_clauses}
 use Rattle.std.specs.FinMap.{put}
 use Rattle.std.proofs.Common.{take, drop}
-use Rattle.std.proofs.lemmas.List.{take_more, at_drop_more, map-append, length-map}
+use Rattle.std.proofs.lemmas.List.{take_all, take_more, at_drop_more, map-append, length-map}
 use Rattle.grb_core.specs.declared.value.Value.{Value}
 use Rattle.grb_core.specs.declared.value.Value.TheVariants as value
 use Rattle.grb_core.specs.Entries.{Cell, cell_cmp, cells_of, MatrixEntries, map_from, values_of, restricted, values_at}
@@ -205,6 +205,43 @@ rising_step d e es h =
 pub rising_not : (d e : Cell × Value) (es : MatrixEntries) → comes_before d.0 e.0 ≡ false → is_sorted cell_cmp (d ∷ e ∷ es) ≡ false
 rising_not d e es h = ap (λ b. (b && below_all cell_cmp d.0 es) && is_sorted cell_cmp (e ∷ es)) (sym (comes_before-is d.0 e.0) ∙ h)
 
+-- one entry more at the end
+below_pushed : (p : Cell) (ys : MatrixEntries) (d e : Cell × Value) → cell_cmp d.0 e.0 ≡ Less → below_all cell_cmp p ((ys ++ d ∷ []) ++ e ∷ []) ≡ below_all cell_cmp p (ys ++ d ∷ [])
+below_pushed p [] d e l = by (cell_cmp p d.0) refl
+  where
+    by : (o : Ordering) → cell_cmp p d.0 ≡ o → (is_lt (cell_cmp p d.0) && (is_lt (cell_cmp p e.0) && true)) ≡ (is_lt (cell_cmp p d.0) && true)
+    by Less h = ap (λ o. is_lt (cell_cmp p d.0) && (is_lt o && true)) (cell_cmp_total.trans p d.0 e.0 h l)
+    by Equal h = ap (λ o. is_lt o && (is_lt (cell_cmp p e.0) && true)) h ∙ sym (ap (λ o. is_lt o && true) h)
+    by Greater h = ap (λ o. is_lt o && (is_lt (cell_cmp p e.0) && true)) h ∙ sym (ap (λ o. is_lt o && true) h)
+below_pushed p (y ∷ ys) d e l = ap (λ b. is_lt (cell_cmp p y.0) && b) (below_pushed p ys d e l)
+
+only_false : (a b c : Bool) → (a && (c && false)) ≡ ((b && c) && false)
+only_false true true true = refl
+only_false true true false = refl
+only_false true false true = refl
+only_false true false false = refl
+only_false false true true = refl
+only_false false true false = refl
+only_false false false c = refl
+
+and_true : (a b c : Bool) → a ≡ b → (a && (c && true)) ≡ ((b && c) && true)
+and_true a b c h = by a c ∙ ap (λ b. (b && c) && true) h
+  where
+    by : (a c : Bool) → (a && (c && true)) ≡ ((a && c) && true)
+    by true c = refl
+    by false c = refl
+
+sorted_pushed : (ys : MatrixEntries) (d e : Cell × Value) (b : Bool) → comes_before d.0 e.0 ≡ b → is_sorted cell_cmp ((ys ++ d ∷ []) ++ e ∷ []) ≡ (is_sorted cell_cmp (ys ++ d ∷ []) && b)
+sorted_pushed [] d e true h = rising_step d e [] h
+sorted_pushed [] d e false h = rising_not d e [] h
+sorted_pushed (y ∷ ys) d e true h =
+    ap (λ b. below_all cell_cmp y.0 ((ys ++ d ∷ []) ++ e ∷ []) && b) (sorted_pushed ys d e true h)
+    ∙ and_true (below_all cell_cmp y.0 ((ys ++ d ∷ []) ++ e ∷ [])) (below_all cell_cmp y.0 (ys ++ d ∷ [])) (is_sorted cell_cmp (ys ++ d ∷ []))
+    (below_pushed y.0 ys d e (is_less (cell_cmp d.0 e.0) (sym (comes_before-is d.0 e.0) ∙ h)))
+sorted_pushed (y ∷ ys) d e false h =
+    ap (λ b. below_all cell_cmp y.0 ((ys ++ d ∷ []) ++ e ∷ []) && b) (sorted_pushed ys d e false h)
+    ∙ only_false (below_all cell_cmp y.0 ((ys ++ d ∷ []) ++ e ∷ [])) (below_all cell_cmp y.0 (ys ++ d ∷ [])) (is_sorted cell_cmp (ys ++ d ∷ []))
+
 -- tuples that are sorted by their places
 abbrev pub Tuple : Type 0
 Tuple = ℕ × ℕ × Value
@@ -302,6 +339,12 @@ rising_next last rest i d b inside h e =
 
 cells_more : (ts : List Tuple) (i : ℕ) (d : Tuple) → i < length ts → cells_of (take (i + 1) ts) ≡ cells_of (take i ts) ++ entry (get_or ts i d) ∷ []
 cells_more ts i d inside = ap cells_of (take_more ts i d inside) ∙ map-append entry (take i ts) (get_or ts i d ∷ [])
+
+-- a place more behind tuples
+pub rising_pushed : (ts : List Tuple) (i : ℕ) (d : Tuple) (q : Cell) (v : Value) (b : Bool) → length ts ≡ i + 1 → comes_before (place_of (get_or ts i d)) q ≡ b → is_sorted cell_cmp (cells_of ts ++ (q, v) ∷ []) ≡ (is_sorted cell_cmp (cells_of ts) && b)
+rising_pushed ts i d q v b long is =
+    let all : cells_of ts ≡ cells_of (take i ts) ++ entry (get_or ts i d) ∷ [] = ap cells_of (sym (take_all (i + 1) ts (omega (arith, long)))) ∙ cells_more ts i d (omega (arith, long)) in
+    ap (λ es. is_sorted cell_cmp (es ++ (q, v) ∷ [])) all ∙ sorted_pushed (cells_of (take i ts)) (entry (get_or ts i d)) (q, v) b is ∙ ap (λ es. is_sorted cell_cmp es && b) (sym all)
 
 pub count_step : (ts : List Tuple) (i : ℕ) (d : Tuple) (b : Bool) → i < length ts → has_place (cells_of (take i ts)) (place_of (get_or ts i d)) ≡ b
     → count_apart (cells_of (take i ts)) (cells_of (drop i ts)) ≡ cond b 0 (count_apart (cells_of (take (i + 1) ts)) (cells_of (drop (i + 1) ts)) + 1)

@@ -1,6 +1,5 @@
 //! The entry that stands first in a text.
 ghost use Rattle.std.specs.Prelude.{◌≡◌, ◌<◌, [], ◌∷◌, length, IfSome, IfNone};
-ghost use Rattle.grb_core.specs.declared.domain.Domain.TheVariants as domain;
 ghost use Rattle.grb_market.specs.Line.{unended, lines_of};
 ghost use Rattle.grb_market.specs.Gathered.{IsEntryLine};
 
@@ -22,40 +21,26 @@ fn any_entry(head: Head, size: Size, text: &[u8]) -> Option<(Stated, &[u8])>
     Some((entry_of(head, size, line), after))
 }
 
-/// What the first line of an integer file states. A line that is written as most are is read in one walk.
-fn integer_entry(head: Head, size: Size, text: &[u8]) -> Option<(Stated, &[u8])>
-    requires { head.domain ≡ domain.Uint64 }
-    ensures some { IfSome result (λ p. IsEntryLine head size text.now p.0 p.1.now) }
-    ensures none { IfNone result (0 < length text.now → lines_of text.now ≡ unended text.now ∷ []) }
-{
-    let Some((i, j, value, after)) = three_plain(text) else {
-        return any_entry(head, size, text);
-    };
-    let value = Some(Value::Uint64(value));
-    Some((entry_from(head, size, Some(i), Some(j), value), after))
-}
-
-/// The same of a pattern file.
-fn pattern_entry(head: Head, size: Size, text: &[u8]) -> Option<(Stated, &[u8])>
-    requires { head.domain ≡ domain.Bool }
-    ensures some { IfSome result (λ p. IsEntryLine head size text.now p.0 p.1.now) }
-    ensures none { IfNone result (0 < length text.now → lines_of text.now ≡ unended text.now ∷ []) }
-{
-    let Some((i, j, after)) = two_plain(text) else {
-        return any_entry(head, size, text);
-    };
-    let value = Some(Value::Bool(true));
-    Some((entry_from(head, size, Some(i), Some(j), value), after))
-}
-
 /// The entry that the first line of a text states, or what is wrong with it by itself, and the text behind the line. `None` where the
-/// text has no line end.
+/// text has no line end. A line that is written as most are is read in one walk.
 pub(crate) fn next_entry(head: Head, size: Size, text: &[u8]) -> Option<(Stated, &[u8])>
     ensures some { IfSome result (λ p. IsEntryLine head size text.now p.0 p.1.now) }
     ensures none { IfNone result (0 < length text.now → lines_of text.now ≡ unended text.now ∷ []) }
 {
     match head.domain {
-        Domain::Uint64 => integer_entry(head, size, text),
-        Domain::Bool => pattern_entry(head, size, text),
+        Domain::Uint64 => {
+            let Some((i, j, value, after)) = three_plain(text) else {
+                return any_entry(head, size, text);
+            };
+            let value = Some(Value::Uint64(value));
+            Some((entry_from(head, size, Some(i), Some(j), value), after))
+        }
+        Domain::Bool => {
+            let Some((i, j, after)) = two_plain(text) else {
+                return any_entry(head, size, text);
+            };
+            let value = Some(Value::Bool(true));
+            Some((entry_from(head, size, Some(i), Some(j), value), after))
+        }
     }
 }

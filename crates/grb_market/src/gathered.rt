@@ -1,6 +1,7 @@
 ghost use Rattle.std.specs.Prelude.{◌≡◌, [], ◌∷◌, ◌++◌, true, IfOk, OnOk, is_some};
 ghost use Rattle.std.specs.FinMap.{find, put, is_sorted};
 ghost use Rattle.grb_core.specs.Entries.{cell_cmp, cells_of, map_from};
+ghost use Rattle.grb_core.specs.declared.value.Value.{Value as StoredValue};
 ghost use Rattle.grb_market.specs.Gathered.{comes_before, count_apart, are_apart};
 
 use grb_core::Value;
@@ -31,12 +32,17 @@ pub(crate) fn is_rising(tuples: &[(u64, u64, Value)]) -> bool
     true
 }
 
-/// Puts the tuples in rising order of their places, and tells whether no two of them have one place. Tuples that rise take no memory.
-pub(crate) fn put_in_order(tuples: &mut Vec<(u64, u64, Value)>) -> Result<bool, AllocError>
+/// Puts the tuples in rising order of their places, and tells whether no two of them have one place. Tuples that rise, which `rising`
+/// tells, take no memory.
+pub(crate) fn put_in_order(
+    tuples: &mut Vec<(u64, u64, Value)>,
+    rising: bool,
+) -> Result<bool, AllocError>
+    requires { rising ≡ is_sorted cell_cmp (cells_of tuples.old.items) }
     ensures apart { IfOk result (λ apart. apart ≡ are_apart (cells_of tuples.old.items)) }
     ensures ordered { IfOk result (λ apart. apart ≡ true → cells_of tuples.new.items ≡ map_from cell_cmp (cells_of tuples.old.items)) }
 {
-    if is_rising(tuples) {
+    if rising {
         return Ok(true);
     }
     tuples.sort_by_key(|tuple| (tuple.0, tuple.1))?;
@@ -54,6 +60,34 @@ pub(crate) fn append(
     tuples
         .push((cell.0, cell.1, value))
         .map_err(AllocError::from)
+}
+
+/// Whether the tuples rise with this place behind them, where `rising` tells whether they do without it.
+fn is_rising_with(tuples: &[(u64, u64, Value)], rising: bool, cell: (u64, u64)) -> bool
+    requires { rising ≡ is_sorted cell_cmp (cells_of tuples.now) }
+    ensures { (value : StoredValue) → result ≡ is_sorted cell_cmp (cells_of tuples.now ++ (cell, value) ∷ []) }
+{
+    if tuples.is_empty() {
+        return true;
+    }
+    let last = tuples[tuples.len() - 1];
+    rising && comes_before((last.0, last.1), cell)
+}
+
+/// Appends an entry to tuples of which `rising` tells whether they rise, and tells whether they still do.
+pub(crate) fn append_next(
+    tuples: &mut Vec<(u64, u64, Value)>,
+    rising: bool,
+    cell: (u64, u64),
+    value: Value,
+) -> Result<bool, AllocError>
+    requires { rising ≡ is_sorted cell_cmp (cells_of tuples.old.items) }
+    ensures appended { OnOk result (cells_of tuples.new.items ≡ cells_of tuples.old.items ++ (cell, value) ∷ []) }
+    ensures rising { IfOk result (λ rising. rising ≡ is_sorted cell_cmp (cells_of tuples.new.items)) }
+{
+    let rising = is_rising_with(tuples, rising, cell);
+    append(tuples, cell, value)?;
+    Ok(rising)
 }
 
 /// How many of the tuples come before the first whose place an earlier one has.

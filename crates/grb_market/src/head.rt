@@ -1,14 +1,13 @@
-ghost use Rattle.std.specs.Prelude.{◌≡◌, ◌<◌, [], ◌∷◌, Some, IfOk};
-ghost use Rattle.grb_core.specs.declared.domain.Domain.TheVariants as domain;
+ghost use Rattle.std.specs.Prelude.{◌≡◌, ◌<◌, IfOk};
 ghost use Rattle.grb_core.specs.Contents.{IsDimension};
-ghost use Rattle.grb_market.specs.Reading.{head_of, size_from, size_with, size_of, entry_from, entry_of, is_in};
+ghost use Rattle.grb_market.specs.Reading.{head_of, size_from, size_of, entry_from, entry_of, is_in};
 
 use crate::fault::FaultKind;
 use crate::numbers::{three_numbers, two_numbers};
 use grb_core::{Domain, Value, is_dimension};
 
 /// What the first line of a file says.
-#[derive(Clone, Copy, Debug, PartialEq, Eq)]
+#[derive(Clone, Copy)]
 pub(crate) struct Head {
     /// The domain of the values: `Uint64` of an integer file, `Bool` of a pattern file.
     pub domain: Domain,
@@ -17,7 +16,7 @@ pub(crate) struct Head {
 }
 
 /// What the size line of a file says.
-#[derive(Clone, Copy, Debug, PartialEq, Eq)]
+#[derive(Clone, Copy)]
 pub(crate) struct Size {
     pub nrows: u64,
     pub ncols: u64,
@@ -66,22 +65,6 @@ fn size_from(head: Head, nrows: u64, ncols: u64, count: u64) -> Result<Size, Fau
     })
 }
 
-fn size_with(
-    head: Head,
-    nrows: Option<u64>,
-    ncols: Option<u64>,
-    count: Option<u64>,
-) -> Result<Size, FaultKind>
-    ensures is { result ≡ size_with head (Some (nrows ∷ ncols ∷ count ∷ [])) }
-    ensures rows { IfOk result (λ s. IsDimension s.nrows) }
-    ensures columns { IfOk result (λ s. IsDimension s.ncols) }
-{
-    let (Some(nrows), Some(ncols), Some(count)) = (nrows, ncols, count) else {
-        return Err(FaultKind::SizeLine);
-    };
-    size_from(head, nrows, ncols, count)
-}
-
 /// The size that a line states, or what is wrong with it.
 pub(crate) fn size_of(head: Head, line: &[u8]) -> Result<Size, FaultKind>
     ensures is { result ≡ size_of head line.now }
@@ -91,7 +74,10 @@ pub(crate) fn size_of(head: Head, line: &[u8]) -> Result<Size, FaultKind>
     let Some((nrows, ncols, count)) = three_numbers(line) else {
         return Err(FaultKind::SizeLine);
     };
-    size_with(head, nrows, ncols, count)
+    let (Some(nrows), Some(ncols), Some(count)) = (nrows, ncols, count) else {
+        return Err(FaultKind::SizeLine);
+    };
+    size_from(head, nrows, ncols, count)
 }
 
 fn is_in(most: u64, n: u64) -> bool
@@ -127,32 +113,6 @@ pub(crate) fn entry_from(
     Ok(((i - 1, j - 1), value))
 }
 
-/// The entry that a line of an integer file states, or what is wrong with it.
-fn integer_entry(head: Head, size: Size, line: &[u8]) -> Result<((u64, u64), Value), FaultKind>
-    requires { head.domain ≡ domain.Uint64 }
-    ensures is { result ≡ entry_of head size line.now }
-    ensures row { IfOk result (λ e. e.0.0 < size.nrows) }
-    ensures column { IfOk result (λ e. e.0.1 < size.ncols) }
-{
-    let Some((i, j, value)) = three_numbers(line) else {
-        return Err(FaultKind::EntryLine);
-    };
-    entry_from(head, size, i, j, value.map(Value::Uint64))
-}
-
-/// The entry that a line of a pattern file states, or what is wrong with it.
-fn pattern_entry(head: Head, size: Size, line: &[u8]) -> Result<((u64, u64), Value), FaultKind>
-    requires { head.domain ≡ domain.Bool }
-    ensures is { result ≡ entry_of head size line.now }
-    ensures row { IfOk result (λ e. e.0.0 < size.nrows) }
-    ensures column { IfOk result (λ e. e.0.1 < size.ncols) }
-{
-    let Some((i, j)) = two_numbers(line) else {
-        return Err(FaultKind::EntryLine);
-    };
-    entry_from(head, size, i, j, Some(Value::Bool(true)))
-}
-
 /// The entry that a line states, or what is wrong with it by itself.
 pub(crate) fn entry_of(
     head: Head,
@@ -164,7 +124,17 @@ pub(crate) fn entry_of(
     ensures column { IfOk result (λ e. e.0.1 < size.ncols) }
 {
     match head.domain {
-        Domain::Uint64 => integer_entry(head, size, line),
-        Domain::Bool => pattern_entry(head, size, line),
+        Domain::Uint64 => {
+            let Some((i, j, value)) = three_numbers(line) else {
+                return Err(FaultKind::EntryLine);
+            };
+            entry_from(head, size, i, j, value.map(Value::Uint64))
+        }
+        Domain::Bool => {
+            let Some((i, j)) = two_numbers(line) else {
+                return Err(FaultKind::EntryLine);
+            };
+            entry_from(head, size, i, j, Some(Value::Bool(true)))
+        }
     }
 }

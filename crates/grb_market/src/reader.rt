@@ -17,7 +17,7 @@ ghost use Rattle.grb_market.specs.Sides.{AreLower};
 
 use crate::entry::next_entry;
 use crate::fault::{FaultKind, MarketFault, ReadError};
-use crate::gathered::{append, count_apart, put_in_order};
+use crate::gathered::{append_next, count_apart, put_in_order};
 use crate::head::{Head, Size, head_of, size_of};
 use crate::line::{is_comment, next_line};
 use crate::loaded::{Loaded, Tuples};
@@ -75,37 +75,39 @@ fn read_size<'a>(
     Err(fault(number, FaultKind::SizeLine))
 }
 
-/// The entries of the lines behind the size line, in the order of their lines, up to the first line that is wrong by itself, and what
-/// is wrong with it.
+/// The entries of the lines behind the size line, in the order of their lines, up to the first line that is wrong by itself, what is
+/// wrong with it, and whether the entries rise.
 fn gather(
     alloc: Global,
     head: Head,
     size: Size,
     behind: &[u8],
-) -> Result<(Vec<(u64, u64, Value)>, Option<FaultKind>), AllocError>
-    ensures { IfOk result (λ p. AreAllGathered head size behind.now (cells_of p.0.items) p.1) }
+) -> Result<(Vec<(u64, u64, Value)>, Option<FaultKind>, bool), AllocError>
+    ensures all { IfOk result (λ p. AreAllGathered head size behind.now (cells_of p.0.items) p.1) }
+    ensures rising { IfOk result (λ p. p.2 ≡ is_sorted cell_cmp (cells_of p.0.items)) }
 {
     let mut tuples = Vec::new(alloc);
+    let mut rising = true;
     let mut rest = behind;
     let mut left = size.count;
     while !rest.is_empty() {
         let Some((entry, after)) = next_entry(head, size, rest) else {
-            return Ok((tuples, Some(FaultKind::UnendedLine)));
+            return Ok((tuples, Some(FaultKind::UnendedLine), rising));
         };
         if left == 0 {
-            return Ok((tuples, Some(FaultKind::TooMany)));
+            return Ok((tuples, Some(FaultKind::TooMany), rising));
         }
         match entry {
-            Ok((cell, value)) => append(&mut tuples, cell, value)?,
-            Err(kind) => return Ok((tuples, Some(kind))),
+            Ok((cell, value)) => rising = append_next(&mut tuples, rising, cell, value)?,
+            Err(kind) => return Ok((tuples, Some(kind), rising)),
         }
         rest = after;
         left -= 1;
     }
     if left > 0 {
-        return Ok((tuples, Some(FaultKind::TooFew)));
+        return Ok((tuples, Some(FaultKind::TooFew), rising));
     }
-    Ok((tuples, None))
+    Ok((tuples, None, rising))
 }
 
 /// The number of the first line whose place an earlier one has. The lines are read again, since what was read of them was put in order.
@@ -122,7 +124,7 @@ fn repeated_line(
     requires twice { IsTwice head size behind.now }
     ensures { IfOk result (λ number. market_fault text.now ≡ Some (fault_at number Repeated)) }
 {
-    let (tuples, _) = gather(alloc, head, size, behind)?;
+    let (tuples, _, _) = gather(alloc, head, size, behind)?;
     let count = count_apart(alloc, &tuples)?;
     Ok(first + count as u64)
 }
@@ -141,9 +143,9 @@ fn read_entries(
     ensures read { IfOk result (λ tuples. IsRead text.now head size (cells_of tuples.items)) }
     ensures fault { IfErr result (IsWhyUnread text.now) }
 {
-    let (mut tuples, wrong) = gather(alloc, head, size, behind)?;
+    let (mut tuples, wrong, rising) = gather(alloc, head, size, behind)?;
     let count = tuples.len() as u64;
-    if !put_in_order(&mut tuples)? {
+    if !put_in_order(&mut tuples, rising)? {
         let number = repeated_line(alloc, text, head, size, first, behind)?;
         return Err(fault(number, FaultKind::Repeated));
     }

@@ -1,6 +1,6 @@
 //! The product of two matrices at the cells that a mask selects, by a monoid and an operator as types: the memory that it works in, and
 //! the ranks of columns.
-ghost use Rattle.std.specs.Prelude.{◌≡◌, ◌<◌, ◌^◌, length, map, Some, All, IsTrue, IfOk};
+ghost use Rattle.std.specs.Prelude.{◌≡◌, ◌<◌, ◌^◌, ℕ, false, length, map, slice_index_or, Some, All, IsTrue, IfOk};
 ghost use Rattle.std.specs.FinMap.{is_sorted};
 ghost use Rattle.grb_core.specs.Entries.{cell_cmp};
 ghost use Rattle.grb_rows.specs.Cells.{decoded, IsFlat};
@@ -19,6 +19,50 @@ use grb_products::{MonoidOver, Stored, is_worth_opening};
 use grb_rows::FlatRows;
 use std::alloc::{AllocError, Global};
 use std::marker::PhantomData;
+
+/// The product of two matrices at the cells that a mask selects, where the columns of the second have ranks and so have those of the mask,
+/// by this table of the rows of the first, with no place allowed and none marked. Takes memory for the sums, some places for each name.
+fn multiply_masked_marked<T: Stored + Drop, M: MonoidOver<T>, O: Operator<T>>(
+    alloc: Global,
+    a: &FlatRows,
+    table: &[u32],
+    b: &RankedRows<T>,
+    mask: &MaskRows,
+    allowed: &mut [bool],
+    marks: &mut [bool],
+) -> Result<MadeRows<T>, AllocError>
+    requires domain { a.now.domain ≡ T.domain }
+    requires ordered { IsTrue (is_sorted cell_cmp (decoded a.now.entries)) }
+    requires names { mask.now.names.now ≡ b.now.names.now }
+    requires tabled { 0 < length table.now → IsTable a.now.rows table.now }
+    requires open { length marks.old ≡ length b.now.names.now }
+    requires allowed { length allowed.old ≡ length marks.old }
+    requires none_allowed { (p : ℕ) → slice_index_or allowed.old p false ≡ false }
+    requires none { (p : ℕ) → slice_index_or marks.old p false ≡ false }
+    ensures flat { IfOk result (λ made. IsFlat made.rows.items made.starts.items made.columns.items) }
+    ensures same { IfOk result (λ made. length made.values.items ≡ length made.columns.items) }
+    ensures entries { IfOk result (λ made. flat_entries T.value made.rows.items made.starts.items made.columns.items made.values.items ≡ selected_product (record { monoid = M.monoid; op = O.op }) mask.now.structure (Some (decoded mask.now.lists.now.entries)) (decoded a.now.entries) (decoded b.now.lists.now.entries)) }
+{
+    let count = b.names.len();
+    let mut sums = vec![in alloc; T::any(); count]?;
+    let mut columns = vec![in alloc; 0u32; count]?;
+    let mut values = vec![in alloc; T::any(); count]?;
+    let open_sums = sums.as_mut_slice();
+    clear_all::<T, M>(open_sums);
+    let made = multiply_masked_rows::<T, M, O>(
+        alloc,
+        a,
+        table,
+        &*b,
+        &*mask,
+        allowed,
+        marks,
+        open_sums,
+        columns.as_mut_slice(),
+        values.as_mut_slice(),
+    )?;
+    Ok(made)
+}
 
 /// The product of two matrices at the cells that a mask selects, where the columns of the second have ranks and so have those of the mask.
 /// Takes memory to work in, some places for each name, and for a table of the rows of the first.
@@ -39,12 +83,7 @@ fn multiply_masked_ranked<T: Stored + Drop, M: MonoidOver<T>, O: Operator<T>>(
     let table = table_of(alloc, a.rows(), a.len() + mask.lists.len())?;
     let mut allowed = vec![in alloc; false; count]?;
     let mut marks = vec![in alloc; false; count]?;
-    let mut sums = vec![in alloc; T::any(); count]?;
-    let mut columns = vec![in alloc; 0u32; count]?;
-    let mut values = vec![in alloc; T::any(); count]?;
-    let open_sums = sums.as_mut_slice();
-    clear_all::<T, M>(open_sums);
-    let made = multiply_masked_rows::<T, M, O>(
+    let made = multiply_masked_marked::<T, M, O>(
         alloc,
         a,
         table.as_slice(),
@@ -52,9 +91,6 @@ fn multiply_masked_ranked<T: Stored + Drop, M: MonoidOver<T>, O: Operator<T>>(
         &*mask,
         allowed.as_mut_slice(),
         marks.as_mut_slice(),
-        open_sums,
-        columns.as_mut_slice(),
-        values.as_mut_slice(),
     )?;
     Ok(made)
 }

@@ -7,6 +7,8 @@
 #[cfg(test)]
 mod matrices;
 #[cfg(test)]
+mod same;
+#[cfg(test)]
 mod same_as_list;
 #[cfg(test)]
 mod stores;

@@ -1,6 +1,7 @@
 //! Matrices worked by hand, and what a refused allocation leaves of one.
 ghost use Rattle.std.specs.Prelude.{◌≡◌, ◌+◌, ◌<◌, ◌≤◌, length, IfOk, OnOk};
 
+use crate::same::same;
 use grb_core::{Domain, Monoid, Value};
 use grb_sparse::{FlatRows, SparseMatrix};
 use std::alloc::{AllocError, Global};
@@ -71,27 +72,29 @@ fn expect_entries(
     a: &SparseMatrix,
     entries: &[((u64, u64), Value)],
 ) -> Result<(), AllocError> {
-    assert!(rt; a.is_assembled());
+    same(rt, a.is_assembled(), true, "assembled");
     let seen = seen(alloc, a)?;
-    assert!(rt; seen.as_slice() == entries);
+    same(rt, seen.as_slice(), entries, "the entries");
     Ok(())
 }
 
 fn expect_value(rt: &impl Abort, a: &SparseMatrix, i: u64, j: u64, value: Option<Value>) {
-    assert_eq!(rt; a.get(i, j), value);
+    same(rt, a.get(i, j), value, (i, j));
 }
 
 fn expect_dims(rt: &impl Abort, a: &SparseMatrix, nrows: u64, ncols: u64) {
-    assert_eq!(rt; a.dims(), (nrows, ncols));
+    let (rows, columns) = a.dims();
+    same(rt, rows, nrows, "the rows");
+    same(rt, columns, ncols, "the columns");
 }
 
 fn expect_assembled(rt: &impl Abort, a: &SparseMatrix) {
-    assert!(rt; a.is_assembled());
+    same(rt, a.is_assembled(), true, "assembled");
 }
 
 fn expect_counts(rt: &impl Abort, a: &SparseMatrix, nvals: u64, pending: u64) {
-    assert_eq!(rt; a.nvals(), nvals);
-    assert_eq!(rt; a.pending(), pending);
+    same(rt, a.nvals(), nvals, "the count");
+    same(rt, a.pending(), pending, "the changes that wait");
 }
 
 const OUT_OF_ORDER: [Change; 5] = [
@@ -209,17 +212,17 @@ fn expect_row(rt: &impl Abort, lists: &FlatRows, at: usize, columns: &[u32], num
     requires { lists.now.domain ≡ Domain.Uint64 }
 {
     assert!(rt; at < lists.rows().len());
-    assert!(rt; lists.row_columns(at) == columns);
-    assert!(rt; lists.row_numbers(at) == numbers);
+    same(rt, lists.row_columns(at), columns, at);
+    same(rt, lists.row_numbers(at), numbers, at);
 }
 
 fn expect_lists(rt: &impl Abort, lists: &FlatRows)
     requires { lists.now.domain ≡ Domain.Uint64 }
 {
-    assert!(rt; lists.rows() == [2, 7].as_slice());
-    assert!(rt; lists.starts() == [0, 2].as_slice());
-    assert!(rt; lists.columns() == [0, 8, 3].as_slice());
-    assert!(rt; lists.numbers() == [10, 20, 30].as_slice());
+    same(rt, lists.rows(), &[2, 7], "the rows");
+    same(rt, lists.starts(), &[0, 2], "the starts");
+    same(rt, lists.columns(), &[0, 8, 3], "the columns");
+    same(rt, lists.numbers(), &[10, 20, 30], "the numbers");
 }
 
 #[test]
@@ -251,7 +254,7 @@ fn with_the_larger(alloc: Global) -> Result<SparseMatrix, AllocError> {
 fn expect_row_alone(rt: &impl Abort, alloc: Global, a: &SparseMatrix) -> Result<(), AllocError> {
     let seen = seen_in_row(alloc, a, 1)?;
     let entries = [(0, Value::Uint64(7)), (2, Value::Uint64(5))];
-    assert!(rt; seen.as_slice() == entries.as_slice());
+    same(rt, seen.as_slice(), entries.as_slice(), "row 1");
     expect_counts(rt, a, 4, 0);
     Ok(())
 }
@@ -288,7 +291,7 @@ fn with_three_entries(alloc: Global) -> Result<SparseMatrix, AllocError> {
 }
 
 fn expect_first_alone(rt: &impl Abort, a: &SparseMatrix) {
-    assert_eq!(rt; a.domain(), Domain::Bool);
+    same(rt, a.domain(), Domain::Bool, "the domain");
     expect_assembled(rt, a);
     expect_counts(rt, a, 1, 0);
     expect_value(rt, a, 0, 0, Some(Value::Bool(true)));
@@ -318,8 +321,10 @@ fn with_one_entry(alloc: Global) -> Result<SparseMatrix, AllocError>
 }
 
 fn expect_one_entry(rt: &impl Abort, a: &SparseMatrix) {
-    assert_eq!(rt; (a.domain(), a.dims()), (Domain::Uint64, (2, 10)));
-    assert_eq!(rt; (a.nvals(), a.get(1, 2)), (1, Some(Value::Uint64(1))));
+    same(rt, a.domain(), Domain::Uint64, "the domain");
+    expect_dims(rt, a, 2, 10);
+    same(rt, a.nvals(), 1, "the count");
+    expect_value(rt, a, 1, 2, Some(Value::Uint64(1)));
 }
 
 #[test]
@@ -344,7 +349,7 @@ fn reserve(rt: &impl Abort, a: &mut SparseMatrix, n: u64) -> Result<(), AllocErr
 {
     if a.reserve_pending(n).is_err() {
         expect_one_entry(rt, a);
-        assert!(rt; a.is_assembled());
+        expect_assembled(rt, a);
         a.reserve_pending(n)?;
     }
     Ok(())
@@ -358,7 +363,7 @@ fn expect_refused_reservation(rt: &impl Abort, a: &mut SparseMatrix) -> Result<(
     reserve(rt, a, 1_000)?;
     change(rt, a, &(0, 9, Some(Value::Uint64(7))));
     expect_value(rt, a, 0, 9, Some(Value::Uint64(7)));
-    assert_eq!(rt; a.nvals(), 2);
+    same(rt, a.nvals(), 2, "the count");
     Ok(())
 }
 
@@ -389,7 +394,7 @@ fn a_refused_copy_leaves_its_source(rt: HostRuntime) -> Result<(), Fail> {
 fn assemble(rt: &impl Abort, a: &mut SparseMatrix) -> Result<(), AllocError> {
     if a.assemble().is_err() {
         expect_one_entry(rt, a);
-        assert!(rt; !a.is_assembled());
+        same(rt, a.is_assembled(), false, "assembled");
         a.assemble()?;
     }
     Ok(())

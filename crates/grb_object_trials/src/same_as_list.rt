@@ -1,4 +1,5 @@
 //! Both sorts against a plain list of what they store: many methods, drawn from a fixed row of numbers, and each answer compared.
+use crate::same::same;
 use grb_core::{Domain, Monoid, Value};
 use grb_sparse::{SparseMatrix, SparseVector};
 use std::alloc::{AllocError, Global};
@@ -87,23 +88,23 @@ fn number(value: Option<Value>) -> Option<u64> {
 // ---- vectors
 
 fn same_vector(rt: &impl Abort, v: &SparseVector, list: &[Option<u64>]) {
-    assert_eq!(rt; v.nvals(), count(list));
+    same(rt, v.nvals(), count(list), "the count");
     for i in 0..SIDE {
-        assert_eq!(rt; number(v.get(i)), stored(list, i));
+        same(rt, number(v.get(i)), stored(list, i), i);
     }
 }
 
 /// An entry is what the list stores at its place, from `next` on. Answers the place behind it.
 fn same_entry(rt: &impl Abort, list: &[Option<u64>], next: u64, at: u64, value: Value) -> u64 {
-    assert!(rt; next <= at);
-    assert_eq!(rt; number(Some(value)), stored(list, at));
+    same(rt, next <= at, true, at);
+    same(rt, number(Some(value)), stored(list, at), at);
     at.wrapping_add(1)
 }
 
 /// So many entries were seen, and the list has no others.
 fn same_count(rt: &impl Abort, list: &[Option<u64>], seen: u64, pending: u64) {
-    assert_eq!(rt; seen, count(list));
-    assert_eq!(rt; pending, 0);
+    same(rt, seen, count(list), "the entries");
+    same(rt, pending, 0, "the changes that wait");
 }
 
 fn same_vector_entries(rt: &impl Abort, v: &SparseVector, list: &[Option<u64>]) {
@@ -252,9 +253,10 @@ fn same_as_list_for_vectors(rt: HostRuntime) -> Result<(), Fail> {
 // ---- matrices
 
 fn same_matrix(rt: &impl Abort, a: &SparseMatrix, list: &[Option<u64>]) {
-    assert_eq!(rt; a.nvals(), count(list));
+    same(rt, a.nvals(), count(list), "the count");
     for at in 0..36 {
-        assert_eq!(rt; number(a.get(at / SIDE, at % SIDE)), stored(list, at));
+        let found = number(a.get(at / SIDE, at % SIDE));
+        same(rt, found, stored(list, at), at);
     }
 }
 
@@ -277,7 +279,8 @@ fn same_row(rt: &impl Abort, a: &SparseMatrix, list: &[Option<u64>], i: u64) -> 
     if a.is_assembled() {
         let first = i.wrapping_mul(SIDE);
         for (j, value) in a.row(i) {
-            assert_eq!(rt; number(Some(value)), stored(list, first.wrapping_add(j)));
+            let at = first.wrapping_add(j);
+            same(rt, number(Some(value)), stored(list, at), at);
             seen = seen.wrapping_add(1);
         }
     }
@@ -292,7 +295,7 @@ fn same_rows(rt: &impl Abort, a: &SparseMatrix, list: &[Option<u64>]) {
     for i in 0..SIDE {
         seen = seen.wrapping_add(same_row(rt, a, list, i));
     }
-    assert_eq!(rt; seen, count(list));
+    same(rt, seen, count(list), "the rows");
 }
 
 fn set_matrix(

@@ -2,6 +2,7 @@
 ghost use Rattle.std.specs.Prelude.{◌≡◌, ◌+◌, ◌≤◌, false, length, OnOk};
 ghost use Rattle.grb_call.specs.Kinds.{enters, is_size};
 
+use crate::same::same;
 use grb_call::{Call, Descriptor, MatrixId, Object, Reply, VectorId, WaitMode};
 use grb_core::{BinaryOp, Domain, Monoid, Semiring, Value};
 use grb_replay::State;
@@ -147,7 +148,7 @@ fn expect_in_w(
     ensures { state.new.room ≡ state.old.room }
 {
     let reply = reply_to(state, &Call::GetVector { v: W, i })?;
-    assert_eq!(rt; reply, want, "at {i}");
+    same(rt, reply, want, i);
     Ok(())
 }
 
@@ -197,7 +198,7 @@ fn expect_in_c(
         Some(n) => number(n),
         None => Some(Reply::NoValue),
     };
-    assert_eq!(rt; reply, want, "in row {i}, column {j}");
+    same(rt, reply, want, (i, j));
     Ok(())
 }
 
@@ -235,9 +236,9 @@ fn expect_totals(
 ) -> Result<(), AllocError> {
     let (monoid, of_a, of_w) = row;
     let total = reply_to(state, &Call::ReduceMatrix { a: A, monoid })?;
-    assert_eq!(rt; total, of_a.and_then(number), "of the matrix by {monoid:?}");
+    same(rt, total, of_a.and_then(number), ("the matrix", monoid));
     let total = reply_to(state, &Call::ReduceVector { v: W, monoid })?;
-    assert_eq!(rt; total, of_w.and_then(number), "of the vector by {monoid:?}");
+    same(rt, total, of_w.and_then(number), ("the vector", monoid));
     Ok(())
 }
 
@@ -252,15 +253,15 @@ fn a_total_is_of_what_was_set_and_of_nothing_the_identity(rt: HostRuntime) -> Re
 }
 
 fn expect_assembled(rt: &impl Abort, state: &State, matrix: bool, vector: bool) {
-    assert_eq!(rt; state.is_assembled(Object::Matrix(A)), matrix);
-    assert_eq!(rt; state.is_assembled(Object::Vector(U)), vector);
+    same(rt, state.is_assembled(Object::Matrix(A)), matrix, A);
+    same(rt, state.is_assembled(Object::Vector(U)), vector, U);
 }
 
 fn expect_wait(rt: &impl Abort, state: &mut State, mode: WaitMode) -> Result<(), AllocError>
     ensures { state.new.room ≡ state.old.room }
 {
     let done = reply_to(state, &Call::WaitMatrix { a: A, mode })?;
-    assert_eq!(rt; done, Some(Reply::Done));
+    same(rt, done, Some(Reply::Done), mode);
     Ok(())
 }
 

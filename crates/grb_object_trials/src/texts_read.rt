@@ -1,4 +1,5 @@
 //! Texts, what is read of each, and the first fault of those that have one.
+use crate::same::same;
 use grb_core::{Domain, Value};
 use grb_market::{FaultKind, Loaded, MarketFault, ReadError, Tuples, read};
 use std::alloc::Global;
@@ -35,7 +36,7 @@ fn expect_fault(rt: &impl Abort, alloc: Global, row: Row) -> Result<(), Fail> {
     let (first, behind, line, kind) = row;
     let whole = text(alloc, first, behind)?;
     let found = is_fault(read(alloc, whole.as_bytes()), line, kind);
-    assert!(rt; found, "{first}{behind}");
+    same(rt, found, true, row);
     Ok(())
 }
 
@@ -253,11 +254,11 @@ fn expect_fault_of_beginning(
 ) {
     let beginning = whole.get(..length).unwrap_or(&[]);
     let found = is_fault(read(alloc, beginning), line, kind);
-    assert!(rt; found, "{length}");
+    same(rt, found, true, length);
 }
 
 fn expect_faults_of_beginnings(rt: &impl Abort, alloc: Global, whole: &[u8]) {
-    assert_eq!(rt; whole.len(), 65);
+    same(rt, whole.len(), 65, "the text");
     'rows: for (low, high, line, kind) in &BEGINNINGS {
         'lengths: for length in *low..=*high {
             expect_fault_of_beginning(rt, alloc, whole, length, *line, *kind);
@@ -272,13 +273,13 @@ const MIRRORED_PATTERN: [(u64, u64, Value); 3] = [
 ];
 
 fn expect_loaded(rt: &impl Abort, loaded: &Loaded, domain: Domain, dims: (u64, u64)) {
-    assert_eq!(rt; loaded.domain, domain);
-    assert_eq!(rt; (loaded.nrows, loaded.ncols), dims);
+    same(rt, loaded.domain, domain, "the domain");
+    same(rt, (loaded.nrows, loaded.ncols), dims, "the dimensions");
 }
 
 fn expect_tuples(rt: &impl Abort, found: Tuples, tuples: &[(u64, u64, Value)]) {
-    assert!(rt; found.as_slice() == tuples);
-    assert!(rt; found.into_vec().as_slice() == tuples);
+    same(rt, found.as_slice(), tuples, "the tuples");
+    same(rt, found.into_vec().as_slice(), tuples, "the tuples");
 }
 
 /// The text is read as a matrix of this domain, these rows and columns, and these tuples.
@@ -424,7 +425,7 @@ fn expect_printed(
     let mut text = String::new(alloc);
     let fault = ReadError::Fault(MarketFault { line: 7, kind });
     write!(text, "{fault}")?;
-    assert!(rt; text.as_str() == printed, "{printed}");
+    same(rt, text.as_str(), printed, kind);
     Ok(())
 }
 

@@ -2,6 +2,7 @@
 ghost use Rattle.std.specs.Prelude.{◌≡◌, ◌<◌, true, IfOk, Some};
 ghost use Rattle.grb_core.specs.Value.{value_domain};
 
+use crate::same::same;
 use grb_core::{Domain, Monoid, Value};
 use grb_market::{Sink, SinkFault, WriteFault, read, write};
 use grb_sparse::SparseMatrix;
@@ -74,9 +75,9 @@ fn expect_front(rt: &impl Abort, alloc: Global, a: &SparseMatrix, step: usize, r
     } else {
         Ok(())
     };
-    assert!(rt; found == expected, "{step} {room}");
+    same(rt, found, expected, (step, room));
     let front = CANONICAL.as_bytes().get(..room).unwrap_or(&[]);
-    assert!(rt; small.taken.as_slice() == front, "{step} {room}");
+    same(rt, small.taken.as_slice(), front, (step, room));
 }
 
 /// Into a sink of each room, up to that of the text.
@@ -114,8 +115,9 @@ fn expect_no_pattern(rt: &impl Abort, alloc: Global, a: &SparseMatrix)
     requires { a.now.assembled ≡ true }
 {
     let mut small = sink(alloc, 1, 100);
-    assert!(rt; write(alloc, a, &mut small) == Err(WriteFault::NotPattern));
-    assert!(rt; small.taken.is_empty());
+    let found = write(alloc, a, &mut small);
+    same(rt, found, Err(WriteFault::NotPattern), "a false");
+    same(rt, small.taken.is_empty(), true, "a false");
 }
 
 #[test]
@@ -206,9 +208,9 @@ fn expect_read(
     round: u64,
 ) -> Result<(), Fail> {
     let loaded = read(alloc, text)?;
-    let shape = (loaded.domain, (loaded.nrows, loaded.ncols));
-    assert!(rt; shape == (a.domain(), a.dims()), "{round}");
-    assert!(rt; loaded.tuples.as_slice() == tuples, "{round}");
+    same(rt, loaded.domain, a.domain(), round);
+    same(rt, (loaded.nrows, loaded.ncols), a.dims(), round);
+    same(rt, loaded.tuples.as_slice(), tuples, round);
     Ok(())
 }
 
@@ -248,7 +250,7 @@ fn expect_read_back(
     requires { a.now.assembled ≡ true }
 {
     let mut whole = sink(alloc, 65_536, 65_536);
-    assert!(rt; write(alloc, a, &mut whole) == Ok(()), "{round}");
+    same(rt, write(alloc, a, &mut whole), Ok(()), round);
     expect_text(rt, alloc, whole.taken.as_slice(), a, round)
 }
 

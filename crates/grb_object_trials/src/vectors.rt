@@ -1,6 +1,7 @@
 //! Vectors worked by hand, and what a refused allocation leaves of one.
 ghost use Rattle.std.specs.Prelude.{◌≡◌, ◌+◌, ◌<◌, ◌≤◌, length, IfOk, OnOk};
 
+use crate::same::same;
 use grb_core::{Domain, Monoid, Value};
 use grb_sparse::SparseVector;
 use std::alloc::{AllocError, Global};
@@ -59,27 +60,27 @@ fn expect_entries(
     v: &SparseVector,
     entries: &[(u64, Value)],
 ) -> Result<(), AllocError> {
-    assert!(rt; v.is_assembled());
+    same(rt, v.is_assembled(), true, "assembled");
     let seen = seen(alloc, v)?;
-    assert!(rt; seen.as_slice() == entries);
+    same(rt, seen.as_slice(), entries, "the entries");
     Ok(())
 }
 
 fn expect_value(rt: &impl Abort, v: &SparseVector, index: u64, value: Option<Value>) {
-    assert_eq!(rt; v.get(index), value);
+    same(rt, v.get(index), value, index);
 }
 
 fn expect_size(rt: &impl Abort, v: &SparseVector, size: u64) {
-    assert_eq!(rt; v.dims(), size);
+    same(rt, v.dims(), size, "the size");
 }
 
 fn expect_assembled(rt: &impl Abort, v: &SparseVector) {
-    assert!(rt; v.is_assembled());
+    same(rt, v.is_assembled(), true, "assembled");
 }
 
 fn expect_counts(rt: &impl Abort, v: &SparseVector, nvals: u64, pending: u64) {
-    assert_eq!(rt; v.nvals(), nvals);
-    assert_eq!(rt; v.pending(), pending);
+    same(rt, v.nvals(), nvals, "the count");
+    same(rt, v.pending(), pending, "the changes that wait");
 }
 
 const LAST_TWICE: [Change; 3] = [
@@ -91,8 +92,8 @@ const LAST_TWICE: [Change; 3] = [
 fn expect_second_set(rt: &impl Abort, v: &mut SparseVector) -> Result<(), AllocError> {
     v.reserve_pending(4)?;
     change_each(rt, v, &LAST_TWICE);
-    assert_eq!(rt; v.nvals(), 2);
-    assert!(rt; !v.is_assembled());
+    same(rt, v.nvals(), 2, "the count");
+    same(rt, v.is_assembled(), false, "assembled");
     expect_value(rt, v, 4_294_967_294, Some(Value::Uint64(8)));
     change(rt, v, &(4_294_967_294, None));
     expect_value(rt, v, 4_294_967_294, None);
@@ -160,7 +161,7 @@ fn pending_tuples_and_removals_are_counted_until_assembled(rt: HostRuntime) -> R
 #[test]
 fn a_vector_of_size_1_has_one_index(rt: HostRuntime) -> Result<(), Fail> {
     let mut v = SparseVector::new(rt.alloc(), Domain::Bool, 1);
-    assert_eq!(rt; v.domain(), Domain::Bool);
+    same(&rt, v.domain(), Domain::Bool, "the domain");
     expect_assembled(&rt, &v);
     change_all(&rt, &mut v, &[(0, Some(Value::Bool(false)))])?;
     expect_value(&rt, &v, 0, Some(Value::Bool(false)));
@@ -246,8 +247,10 @@ fn with_one_entry(alloc: Global) -> Result<SparseVector, AllocError>
 }
 
 fn expect_one_entry(rt: &impl Abort, v: &SparseVector) {
-    assert_eq!(rt; (v.domain(), v.dims()), (Domain::Uint64, 10));
-    assert_eq!(rt; (v.nvals(), v.get(3)), (1, Some(Value::Uint64(1))));
+    same(rt, v.domain(), Domain::Uint64, "the domain");
+    expect_size(rt, v, 10);
+    same(rt, v.nvals(), 1, "the count");
+    expect_value(rt, v, 3, Some(Value::Uint64(1)));
 }
 
 #[test]
@@ -272,7 +275,7 @@ fn reserve(rt: &impl Abort, v: &mut SparseVector, n: u64) -> Result<(), AllocErr
 {
     if v.reserve_pending(n).is_err() {
         expect_one_entry(rt, v);
-        assert!(rt; v.is_assembled());
+        expect_assembled(rt, v);
         v.reserve_pending(n)?;
     }
     Ok(())
@@ -286,7 +289,7 @@ fn expect_refused_reservation(rt: &impl Abort, v: &mut SparseVector) -> Result<(
     reserve(rt, v, 1_000)?;
     change(rt, v, &(9, Some(Value::Uint64(7))));
     expect_value(rt, v, 9, Some(Value::Uint64(7)));
-    assert_eq!(rt; v.nvals(), 2);
+    same(rt, v.nvals(), 2, "the count");
     Ok(())
 }
 
@@ -317,7 +320,7 @@ fn a_refused_copy_leaves_its_source(rt: HostRuntime) -> Result<(), Fail> {
 fn assemble(rt: &impl Abort, v: &mut SparseVector) -> Result<(), AllocError> {
     if v.assemble().is_err() {
         expect_one_entry(rt, v);
-        assert!(rt; !v.is_assembled());
+        same(rt, v.is_assembled(), false, "assembled");
         v.assemble()?;
     }
     Ok(())

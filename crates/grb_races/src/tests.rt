@@ -7,6 +7,7 @@ mod operations;
 mod products;
 mod races;
 mod rows;
+mod same;
 mod statuses;
 mod steps;
 mod threads;

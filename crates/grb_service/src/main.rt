@@ -99,26 +99,67 @@ fn last_pass(context: &Context, passes: &mut Vec<Pass>) -> Option<Pass>
     passes.pop()
 }
 
-/// Has the threads work on a graph, and reads it when all have ended: what they made, and how many replies were wrong. A call that
-/// was refused ends it with its refusal.
-fn serve<R: Threads + Sync + AllocGlobal>(rt: &R) -> Result<(Summary, u32), Refusal> {
-    let (context, mut passes) = match Context::open(rt.alloc(), ROOM, THREADS + 1) {
-        Ok(opened) => opened,
-        Err(_) => return Err(Refusal::OutOfMemory),
-    };
-    let Some(mut own) = last_pass(&context, &mut passes) else {
-        return Err(Refusal::Panic);
-    };
-    let graph = Graph::new(&context, &mut own)?;
-    let ends = match map_vec(rt, passes, &|pass| work(&context, pass, graph)) {
-        Ok(ends) => ends,
-        Err(_) => return Err(Refusal::OutOfMemory),
-    };
+/// How many replies were wrong by all threads together, or the first refusal that ended one.
+fn all_wrong(ends: &[Result<u32, Refusal>]) -> Result<u32, Refusal> {
     let mut wrong = 0u32;
-    for end in &ends {
+    for end in ends {
         wrong = wrong.saturating_add((*end)?);
     }
-    Ok((read(rt.alloc(), &context, &mut own, graph)?, wrong))
+    Ok(wrong)
+}
+
+/// Has a thread work on the graph with each of these passes, and waits for all of them; how many replies were wrong.
+fn work_at_once<R: Threads + Sync + AllocGlobal>(
+    rt: &R,
+    context: &Context,
+    passes: Vec<Pass>,
+    graph: Graph,
+) -> Result<u32, Refusal>
+    requires { All (IsPassOf context.now) passes.items }
+{
+    match map_vec(rt, passes, &|pass| work(context, pass, graph)) {
+        Ok(ends) => all_wrong(&ends),
+        Err(_) => Err(Refusal::OutOfMemory),
+    }
+}
+
+/// Makes a graph by its own pass, has threads work on it with the others, and reads it when all have ended: what they made, and
+/// how many replies were wrong. A call that was refused ends it with its refusal.
+fn serve<R: Threads + Sync + AllocGlobal>(
+    rt: &R,
+    context: &Context,
+    own: &mut Pass,
+    passes: Vec<Pass>,
+) -> Result<(Summary, u32), Refusal>
+    requires own { IsPassOf context.now own.old }
+    requires passes { All (IsPassOf context.now) passes.items }
+{
+    let graph = Graph::new(context, own)?;
+    let wrong = work_at_once(rt, context, passes, graph)?;
+    let summary = read(rt.alloc(), context, own, graph)?;
+    Ok((summary, wrong))
+}
+
+/// Serves with the pass of the highest number for itself, and the others for the threads.
+fn share_out<R: Threads + Sync + AllocGlobal>(
+    rt: &R,
+    context: &Context,
+    mut passes: Vec<Pass>,
+) -> Result<(Summary, u32), Refusal>
+    requires { All (IsPassOf context.now) passes.items }
+{
+    match last_pass(context, &mut passes) {
+        Some(mut own) => serve(rt, context, &mut own, passes),
+        None => Err(Refusal::Panic),
+    }
+}
+
+/// Opens a store with a pass for each thread and one more, and serves by it.
+fn open_and_serve<R: Threads + Sync + AllocGlobal>(rt: &R) -> Result<(Summary, u32), Refusal> {
+    match Context::open(rt.alloc(), ROOM, THREADS + 1) {
+        Ok((context, passes)) => share_out(rt, &context, passes),
+        Err(_) => Err(Refusal::OutOfMemory),
+    }
 }
 
 /// Writes a line for each thing that was read.
@@ -135,7 +176,7 @@ fn write_summary(rt: &impl Print, summary: &Summary, wrong: u32) -> io::Result<(
 }
 
 fn main(rt: HostRuntime) -> Result<(), Fail> {
-    match serve(&rt) {
+    match open_and_serve(&rt) {
         Ok((summary, wrong)) => write_summary(&rt, &summary, wrong)?,
         Err(refusal) => println!(&rt; "refused: {}", refusal.name())?,
     }

@@ -33,7 +33,8 @@ use Rattle.grb_call.proofs.ShapesAfter.{object_at-map}
 use Rattle.grb_call.proofs.ObjectLists.{object_at-end, object_at-set_other}
 use Rattle.grb_slices.specs.Content.{Content, MatrixContent, VectorContent, Contents, content_at, objects_read, target_of, effective_target, held_by_matrix, held_by_vector, matrix_in, vector_in, written_in_matrix, written_in_vector, matrix_made, vector_made, content_made, outcome}
 use Rattle.grb_slices.specs.Steps.{AgreeOn}
-use Rattle.grb_slices.proofs.Wants.{wanted_first, wanted_next}
+use Rattle.grb_slices.specs.Slice.{is_among}
+use Rattle.grb_slices.proofs.Wants.{among_first, among_next}
 
 -- places of a list of objects
 module _ {X : Type 0} where
@@ -287,11 +288,11 @@ effective s c o e = target_taken (refused_by_shapes s c) (target_of s c) o e
 
 -- the outcome reads what the call reads alone
 module _ {r t : Contents} where
-  agree_first : (o : Object) (os : List Object) → AgreeOn (o ∷ os) r t → r o ≡ t o
-  agree_first o os agree = agree o (wanted_first o os)
+  agree_first : (o : Object) (os : List Object) → AgreeOn (is_among (o ∷ os)) r t → r o ≡ t o
+  agree_first o os agree = agree o (among_first o os)
 
-  agree_next : (o : Object) (os : List Object) → AgreeOn (o ∷ os) r t → AgreeOn os r t
-  agree_next o os agree p wanted = agree p (wanted_next p o os wanted)
+  agree_next : (o : Object) (os : List Object) → AgreeOn (is_among (o ∷ os)) r t → AgreeOn (is_among os) r t
+  agree_next o os agree p wanted = agree p (among_next p o os wanted)
 
 module _ (r t : Contents) where
   made_same : (c : Call) → ((m : Matrix) → matrix_made r c m ≡ matrix_made t c m) → ((x : Vector) → vector_made r c x ≡ vector_made t c x) → (o : Option Content) →
@@ -304,21 +305,21 @@ module _ (r t : Contents) where
       option_map (content_made r c) (r o) ≡ option_map (content_made t c) (t o)
   framed c o m v e = made_same c m v (r o) ∙ ap (option_map (content_made t c)) e
 
-  masked_m : (mask : Option MatrixId) → AgreeOn (matrix_mask mask) r t → option_map (matrix_in r) mask ≡ option_map (matrix_in t) mask
+  masked_m : (mask : Option MatrixId) → AgreeOn (is_among (matrix_mask mask)) r t → option_map (matrix_in r) mask ≡ option_map (matrix_in t) mask
   masked_m None agree = refl
   masked_m (Some m) agree = ap (λ o. Some (held_by_matrix o)) (agree_first (object.Matrix m) [] agree)
 
-  masked_v : (mask : Option VectorId) → AgreeOn (vector_mask mask) r t → option_map (vector_in r) mask ≡ option_map (vector_in t) mask
+  masked_v : (mask : Option VectorId) → AgreeOn (is_among (vector_mask mask)) r t → option_map (vector_in r) mask ≡ option_map (vector_in t) mask
   masked_v None agree = refl
   masked_v (Some m) agree = ap (λ o. Some (held_by_vector o)) (agree_first (object.Vector m) [] agree)
 
-  wrote_m : (mask : Option MatrixId) (accum : Option BinaryOp) (d : Descriptor) (x y : MatrixEntries) (m : Matrix) → AgreeOn (matrix_mask mask) r t → x ≡ y →
+  wrote_m : (mask : Option MatrixId) (accum : Option BinaryOp) (d : Descriptor) (x y : MatrixEntries) (m : Matrix) → AgreeOn (is_among (matrix_mask mask)) r t → x ≡ y →
       written_in_matrix r mask accum d x m ≡ written_in_matrix t mask accum d y m
   wrote_m mask accum d x y m agree e =
       ap (λ (p : Option MatrixEntries). edited_matrix (λ old. written cell_cmp (is_inside cell_cmp d.structure d.comp p) d.replace accum old x) m) (masked_m mask agree)
       ∙ ap (λ (z : MatrixEntries). written_in_matrix t mask accum d z m) e
 
-  wrote_v : (mask : Option VectorId) (accum : Option BinaryOp) (d : Descriptor) (x y : VectorEntries) (m : Vector) → AgreeOn (vector_mask mask) r t → x ≡ y →
+  wrote_v : (mask : Option VectorId) (accum : Option BinaryOp) (d : Descriptor) (x y : VectorEntries) (m : Vector) → AgreeOn (is_among (vector_mask mask)) r t → x ≡ y →
       written_in_vector r mask accum d x m ≡ written_in_vector t mask accum d y m
   wrote_v mask accum d x y m agree e =
       ap (λ (p : Option VectorEntries). edited_vector (λ old. written nat_cmp (is_inside nat_cmp d.structure d.comp p) d.replace accum old x) m) (masked_v mask agree)
@@ -327,7 +328,7 @@ module _ (r t : Contents) where
   -- a call on a matrix of two matrices, and on a vector of two vectors
   of_two_m : (f : MatrixEntries → MatrixEntries → MatrixEntries) (c : Call) (o a b : MatrixId) (mask : Option MatrixId) (accum : Option BinaryOp) (d : Descriptor) →
       ((q : Contents) (m : Matrix) → matrix_made q c m ≡ written_in_matrix q mask accum d (f (matrix_in q a) (matrix_in q b)) m) → ((q : Contents) (x : Vector) → vector_made q c x ≡ x) →
-      AgreeOn (object.Matrix o ∷ object.Matrix a ∷ object.Matrix b ∷ matrix_mask mask) r t →
+      AgreeOn (is_among (object.Matrix o ∷ object.Matrix a ∷ object.Matrix b ∷ matrix_mask mask)) r t →
       option_map (content_made r c) (r (object.Matrix o)) ≡ option_map (content_made t c) (t (object.Matrix o))
   of_two_m f c o a b mask accum d is vector agree =
       let first = agree_next (object.Matrix o) (object.Matrix a ∷ object.Matrix b ∷ matrix_mask mask) agree in
@@ -342,7 +343,7 @@ module _ (r t : Contents) where
 
   of_two_v : (f : VectorEntries → VectorEntries → VectorEntries) (c : Call) (o u v : VectorId) (mask : Option VectorId) (accum : Option BinaryOp) (d : Descriptor) →
       ((q : Contents) (m : Matrix) → matrix_made q c m ≡ m) → ((q : Contents) (x : Vector) → vector_made q c x ≡ written_in_vector q mask accum d (f (vector_in q u) (vector_in q v)) x) →
-      AgreeOn (object.Vector o ∷ object.Vector u ∷ object.Vector v ∷ vector_mask mask) r t →
+      AgreeOn (is_among (object.Vector o ∷ object.Vector u ∷ object.Vector v ∷ vector_mask mask)) r t →
       option_map (content_made r c) (r (object.Vector o)) ≡ option_map (content_made t c) (t (object.Vector o))
   of_two_v f c o u v mask accum d matrix is agree =
       let first = agree_next (object.Vector o) (object.Vector u ∷ object.Vector v ∷ vector_mask mask) agree in
@@ -358,7 +359,7 @@ module _ (r t : Contents) where
   -- a call on a vector of a matrix and a vector
   of_both : (f : MatrixEntries → VectorEntries → VectorEntries) (c : Call) (o u : VectorId) (a : MatrixId) (mask : Option VectorId) (accum : Option BinaryOp) (d : Descriptor) →
       ((q : Contents) (m : Matrix) → matrix_made q c m ≡ m) → ((q : Contents) (x : Vector) → vector_made q c x ≡ written_in_vector q mask accum d (f (matrix_in q a) (vector_in q u)) x) →
-      AgreeOn (object.Vector o ∷ object.Matrix a ∷ object.Vector u ∷ vector_mask mask) r t →
+      AgreeOn (is_among (object.Vector o ∷ object.Matrix a ∷ object.Vector u ∷ vector_mask mask)) r t →
       option_map (content_made r c) (r (object.Vector o)) ≡ option_map (content_made t c) (t (object.Vector o))
   of_both f c o u a mask accum d matrix is agree =
       let first = agree_next (object.Vector o) (object.Matrix a ∷ object.Vector u ∷ vector_mask mask) agree in
@@ -374,7 +375,7 @@ module _ (r t : Contents) where
   -- a call on a vector of a matrix
   of_one : (f : MatrixEntries → VectorEntries) (c : Call) (o : VectorId) (a : MatrixId) (mask : Option VectorId) (accum : Option BinaryOp) (d : Descriptor) →
       ((q : Contents) (m : Matrix) → matrix_made q c m ≡ m) → ((q : Contents) (x : Vector) → vector_made q c x ≡ written_in_vector q mask accum d (f (matrix_in q a)) x) →
-      AgreeOn (object.Vector o ∷ object.Matrix a ∷ vector_mask mask) r t →
+      AgreeOn (is_among (object.Vector o ∷ object.Matrix a ∷ vector_mask mask)) r t →
       option_map (content_made r c) (r (object.Vector o)) ≡ option_map (content_made t c) (t (object.Vector o))
   of_one f c o a mask accum d matrix is agree =
       let first = agree_next (object.Vector o) (object.Matrix a ∷ vector_mask mask) agree in
@@ -384,7 +385,7 @@ module _ (r t : Contents) where
       (λ x. is r x ∙ (wrote_v mask accum d (f (matrix_in r a)) (f (matrix_in t a)) x rest same ∙ sym (is t x)))
       (agree_first (object.Vector o) (object.Matrix a ∷ vector_mask mask) agree)
 
-pub frame : (r t : Contents) (c : Call) → AgreeOn (objects_read c) r t → outcome r c ≡ outcome t c
+pub frame : (r t : Contents) (c : Call) → AgreeOn (is_among (objects_read c)) r t → outcome r c ≡ outcome t c
 frame r t (call.DupMatrix a) agree = agree_first (object.Matrix a) [] agree
 frame r t (call.DupVector v) agree = agree_first (object.Vector v) [] agree
 frame r t (call.SetMatrix a i j value) agree = framed r t (call.SetMatrix a i j value) (object.Matrix a) (λ _. refl) (λ _. refl) (agree_first (object.Matrix a) [] agree)

@@ -1,4 +1,10 @@
+pub mod Answered
 pub mod Effects
+pub mod Followed
+pub mod Going
 pub mod Kept
+pub mod Refusals
 pub mod Sliced
+pub mod Targets
+pub mod Walked
 pub mod Wants

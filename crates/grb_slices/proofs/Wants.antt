@@ -1,10 +1,10 @@
--- The set of wanted objects: what adding to it and taking from it keeps.
+-- The wanted objects: what is wanted before an entry, and lists of objects.
 use Rattle.std.proofs.Common.{◌≡◌, ℕ, Bool, true, false, ◌||◌, nat_eq, if◌then◌else◌, List, [], ◌∷◌, ◌++◌, refl, sym, ap, subst, arith}
-use Rattle.std.specs.List.{list_any, fold}
+use Rattle.std.specs.List.{list_any}
 use Rattle.grb_call.specs.declared.ids.Object.{Object}
 use Rattle.grb_call.specs.declared.ids.Object.TheVariants as object
 use Rattle.grb_call.specs.Status.{is_same_object}
-use Rattle.grb_slices.specs.Slice.{is_wanted, with_want, without_want}
+use Rattle.grb_slices.specs.Slice.{Deed, Wants, is_among, needs, wants_before}
 
 same_number : (n : ℕ) → nat_eq n n ≡ true
 same_number n = grind arith
@@ -30,55 +30,27 @@ or_right : (a b : Bool) → b ≡ true → (a || b) ≡ true
 or_right true b e = refl
 or_right false b e = e
 
-pub wanted_first : (o : Object) (ws : List Object) → is_wanted (o ∷ ws) o ≡ true
-wanted_first o ws = or_left (is_same_object o o) _ (is_same_object-self o)
+pub among_first : (o : Object) (os : List Object) → is_among (o ∷ os) o ≡ true
+among_first o os = or_left (is_same_object o o) _ (is_same_object-self o)
 
-pub wanted_next : (p o : Object) (ws : List Object) → is_wanted ws p ≡ true → is_wanted (o ∷ ws) p ≡ true
-wanted_next p o ws e = or_right (is_same_object p o) _ e
+pub among_next : (p o : Object) (os : List Object) → is_among os p ≡ true → is_among (o ∷ os) p ≡ true
+among_next p o os e = or_right (is_same_object p o) _ e
 
-wanted_before : (p : Object) (ws vs : List Object) → is_wanted ws p ≡ true → is_wanted (ws ++ vs) p ≡ true
-wanted_before p [] vs e = cc
-wanted_before p (w ∷ ws) vs e = elim (is_same_object p w) as (λ b. (b || list_any (is_same_object p) ws) ≡ true → (b || list_any (is_same_object p) (ws ++ vs)) ≡ true) [
+-- what an entry reads is wanted before it
+pub read_before : (w : Wants) (o : Object) (d : Deed) (p : Object) → is_among (needs d) p ≡ true → wants_before w o d p ≡ true
+read_before w o d p e = or_left (is_among (needs d) p) _ e
+
+-- and so is what else is wanted after it
+pub other_before : (w : Wants) (o : Object) (d : Deed) (p : Object) → is_same_object o p ≡ false → w p ≡ true → wants_before w o d p ≡ true
+other_before w o d p apart wanted = or_right (is_among (needs d) p) _ (subst (λ (b : Bool). (if b then false else w p) ≡ true) (sym apart) wanted)
+
+pub among_before : (p : Object) (os ps : List Object) → is_among os p ≡ true → is_among (os ++ ps) p ≡ true
+among_before p [] ps e = cc
+among_before p (o ∷ os) ps e = elim (is_same_object p o) as (λ b. (b || list_any (is_same_object p) os) ≡ true → (b || list_any (is_same_object p) (os ++ ps)) ≡ true) [
   | true ↦ λ _. refl
-  | false ↦ λ h. wanted_before p ws vs h
+  | false ↦ λ h. among_before p os ps h
 ] e
 
-wanted_after : (p : Object) (ws vs : List Object) → is_wanted vs p ≡ true → is_wanted (ws ++ vs) p ≡ true
-wanted_after p [] vs e = e
-wanted_after p (w ∷ ws) vs e = or_right (is_same_object p w) _ (wanted_after p ws vs e)
-
-if_either : (b : Bool) (ws vs : List Object) (p : Object) → is_wanted ws p ≡ true → is_wanted vs p ≡ true → is_wanted (if b then ws else vs) p ≡ true
-if_either true ws vs p x y = x
-if_either false ws vs p x y = y
-
-want_kept : (p o : Object) (ws : List Object) → is_wanted ws p ≡ true → is_wanted (with_want ws o) p ≡ true
-want_kept p o ws e = if_either (is_wanted ws o) ws (ws ++ o ∷ []) p e (wanted_before p ws (o ∷ []) e)
-
-want_new-by : (o : Object) (ws : List Object) (b : Bool) → is_wanted ws o ≡ b → is_wanted (if b then ws else ws ++ o ∷ []) o ≡ true
-want_new-by o ws true e = e
-want_new-by o ws false e = wanted_after o ws (o ∷ []) (wanted_first o [])
-
-want_new : (o : Object) (ws : List Object) → is_wanted (with_want ws o) o ≡ true
-want_new o ws = want_new-by o ws (is_wanted ws o) refl
-
-pub wants_kept : (p : Object) (ns ws : List Object) → is_wanted ws p ≡ true → is_wanted (fold with_want ws ns) p ≡ true
-wants_kept p [] ws e = e
-wants_kept p (n ∷ ns) ws e = wants_kept p ns (with_want ws n) (want_kept p n ws e)
-
-wants_new-by : (p n : Object) (ns ws : List Object) (b : Bool) → is_same_object p n ≡ b → ((vs : List Object) → is_wanted ns p ≡ true → is_wanted (fold with_want vs ns) p ≡ true) → (b || is_wanted ns p) ≡ true → is_wanted (fold with_want (with_want ws n) ns) p ≡ true
-wants_new-by p n ns ws true same rest e = wants_kept p ns (with_want ws n) (subst (λ (q : Object). is_wanted (with_want ws q) p ≡ true) (is_same_object-true p n same) (want_new p ws))
-wants_new-by p n ns ws false same rest e = rest (with_want ws n) e
-
-pub wants_new : (p : Object) (ns ws : List Object) → is_wanted ns p ≡ true → is_wanted (fold with_want ws ns) p ≡ true
-wants_new p [] ws e = cc
-wants_new p (n ∷ ns) ws e = wants_new-by p n ns ws (is_same_object p n) refl (λ vs h. wants_new p ns vs h) e
-
-without_kept-by : (p o w : Object) (ws : List Object) (b d : Bool) → is_same_object o w ≡ b → is_same_object p w ≡ d → is_same_object o p ≡ false → (is_wanted ws p ≡ true → is_wanted (without_want ws o) p ≡ true) → (d || is_wanted ws p) ≡ true → is_wanted (if b then ws else w ∷ without_want ws o) p ≡ true
-without_kept-by p o w ws true true ow pw other rest e = let no : is_same_object o p ≡ true = subst (λ (q : Object). is_same_object o q ≡ true) (sym (is_same_object-true p w pw)) ow in cc
-without_kept-by p o w ws true false ow pw other rest e = e
-without_kept-by p o w ws false true ow pw other rest e = or_left (is_same_object p w) _ pw
-without_kept-by p o w ws false false ow pw other rest e = or_right (is_same_object p w) _ (rest e)
-
-pub without_kept : (p o : Object) (ws : List Object) → is_same_object o p ≡ false → is_wanted ws p ≡ true → is_wanted (without_want ws o) p ≡ true
-without_kept p o [] other e = cc
-without_kept p o (w ∷ ws) other e = without_kept-by p o w ws (is_same_object o w) (is_same_object p w) refl refl other (λ h. without_kept p o ws other h) e
+pub among_after : (p : Object) (os ps : List Object) → is_among ps p ≡ true → is_among (os ++ ps) p ≡ true
+among_after p [] ps e = e
+among_after p (o ∷ os) ps e = or_right (is_same_object p o) _ (among_after p os ps e)

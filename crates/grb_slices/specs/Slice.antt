@@ -1,7 +1,7 @@
 -- The slice of a list of entries for some wanted objects: going back from the last entry, each whose target is wanted, and then what
 -- it reads is wanted (own; a backward slice, Weiser, "Program slicing", 1981). And what evaluating the slice alone gives.
-use Rattle.std.specs.Prelude.{Bool, if◌then◌else◌, List, [], ◌∷◌, ◌++◌, Option, Some}
-use Rattle.std.specs.List.{list_any, fold}
+use Rattle.std.specs.Prelude.{Bool, false, ◌||◌, if◌then◌else◌, List, [], ◌∷◌, Option, Some}
+use Rattle.std.specs.List.{list_any}
 use Rattle.std.specs.Option.{option_map_or}
 use Rattle.grb_call.specs.declared.call.Call.{Call}
 use Rattle.grb_call.specs.declared.ids.Object.{Object}
@@ -22,43 +22,38 @@ pub data Deed : Type 0 where
 abbrev pub Task : Type 0
 Task = Object × Deed
 
-abbrev pub is_wanted : List Object → Object → Bool
-is_wanted ws o = list_any (is_same_object o) ws
+-- which objects are wanted at a place
+abbrev pub Wants : Type 0
+Wants = Object → Bool
 
--- wanted from now on, once
-abbrev pub with_want : List Object → Object → List Object
-with_want ws o = if is_wanted ws o then ws else ws ++ o ∷ []
-
--- wanted no more
-abbrev pub without_want : List Object → Object → List Object
-without_want [] o = []
-without_want (w ∷ ws) o = if is_same_object o w then ws else w ∷ without_want ws o
+abbrev pub is_among : List Object → Object → Bool
+is_among os o = list_any (is_same_object o) os
 
 -- the objects that are read: of a call its inputs, its mask, and what its output held
 abbrev pub needs : Deed → List Object
 needs (Make c) = objects_read c
 needs (Recall x) = []
 
--- the objects wanted before an entry with this target, which is wanted after it
-abbrev pub wants_before : List Object → Object → Deed → List Object
-wants_before ws o d = fold with_want (without_want ws o) (needs d)
+-- the objects wanted before an entry with this target, which is wanted after it: what it reads, and what else was wanted
+abbrev pub wants_before : Wants → Object → Deed → Wants
+wants_before w o d p = is_among (needs d) p || (if is_same_object o p then false else w p)
 
 -- the objects wanted before the entries, and their slice
 pub record Sliced : Type 0 where
-  pub wanted : List Object
+  pub wanted : Wants
   pub tasks : List Task
 
 -- a deed belongs to the slice where its object is wanted after it
 abbrev pub chosen : Object → Deed → Sliced → Sliced
-chosen o d rest = if is_wanted rest.wanted o then (record { wanted = wants_before rest.wanted o d; tasks = (o, d) ∷ rest.tasks }) else rest
+chosen o d rest = if rest.wanted o then (record { wanted = wants_before rest.wanted o d; tasks = (o, d) ∷ rest.tasks }) else rest
 
 abbrev pub sliced_step : Step → Sliced → Sliced
 sliced_step (Entry t c) rest = option_map_or (λ o. chosen o (Make c) rest) t rest
 sliced_step (Known o x) rest = chosen o (Recall x) rest
 
-abbrev pub sliced : List Object → List Step → Sliced
-sliced ws [] = record { wanted = ws; tasks = [] }
-sliced ws (x ∷ xs) = sliced_step x (sliced ws xs)
+abbrev pub sliced : Wants → List Step → Sliced
+sliced w [] = record { wanted = w; tasks = [] }
+sliced w (x ∷ xs) = sliced_step x (sliced w xs)
 
 abbrev pub result_of : Contents → Deed → Option Content
 result_of r (Make c) = outcome r c
@@ -72,3 +67,14 @@ with_content r o x p = if is_same_object o p then x else r p
 abbrev pub evaluated : Contents → List Task → Contents
 evaluated r [] = r
 evaluated r (t ∷ ts) = evaluated (with_content r t.0 (result_of r t.1)) ts
+
+-- the entries with these targets and calls, each to be made
+abbrev pub entries : List (Option Object) → List Call → List Step
+entries (t ∷ ts) (c ∷ cs) = Entry t c ∷ entries ts cs
+entries _ _ = []
+
+-- which entries belong to the slice, of a list of entries alone
+abbrev pub choices : Wants → List Step → List Bool
+choices w [] = []
+choices w (Entry t c ∷ xs) = option_map_or (sliced w xs).wanted t false ∷ choices w xs
+choices w (Known o x ∷ xs) = choices w xs

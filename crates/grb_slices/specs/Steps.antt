@@ -7,7 +7,7 @@ use Rattle.grb_call.specs.Refused.{shapes_after}
 use Rattle.grb_call.specs.Store.{Store, shapes_of}
 use Rattle.grb_call.specs.After.{after}
 use Rattle.grb_slices.specs.Content.{Contents, content_at, effective_target}
-use Rattle.grb_slices.specs.Slice.{Step, Entry, Known, is_wanted}
+use Rattle.grb_slices.specs.Slice.{Step, Entry, Known, Wants}
 
 -- the entries of the calls by one walk over shapes: each is to be made
 abbrev pub steps_of : ObjectShapes → List Call → List Step
@@ -24,5 +24,5 @@ AreSteps s [] (Entry t d ∷ xs) = ⊥
 AreSteps s (c ∷ cs) (Entry t d ∷ xs) = (t ≡ effective_target (shapes_of s) c) × (d ≡ c) × AreSteps (after s c) cs xs
 
 -- the wanted objects hold the same
-abbrev pub AgreeOn : List Object → Contents → Contents → Type 0
-AgreeOn ws r t = (o : Object) → is_wanted ws o ≡ true → r o ≡ t o
+abbrev pub AgreeOn : Wants → Contents → Contents → Type 0
+AgreeOn w r t = (o : Object) → w o ≡ true → r o ≡ t o

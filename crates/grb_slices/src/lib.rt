@@ -1,6 +1,15 @@
-//! Which calls an object depends on. Each function has a law as its contract, and does nothing.
+//! Which calls an object depends on: the laws, and the walk back over a list of calls that finds them.
+//!
+//! The functions of `laws` have a law as their contract, and do nothing. `Wanted` is one step of the walk.
 #![tactic(auto)]
 
 mod laws;
+mod reads;
+mod slice;
+mod target;
+mod wanted;
 
 pub use laws::{a_call_changes_its_target, a_slice_is_enough, entries_stay_evaluated};
+pub use slice::{Slice, slice_of};
+pub use target::{place_for, target_at};
+pub use wanted::Wanted;

@@ -4,6 +4,7 @@ ghost use Rattle.grb_core.specs.Operator.{op_domain};
 ghost use Rattle.grb_core.specs.Monoid.{monoid_domain};
 
 use crate::products::Choice;
+use crate::same::same_domain;
 use grb_call::Descriptor;
 use grb_core::{BinaryOp, Domain, Monoid};
 use std::process::Abort;
@@ -89,8 +90,7 @@ pub(crate) fn plain_product(rt: &impl Abort, monoid: Monoid, op: BinaryOp) -> Ch
     ensures { result.domain ≡ op_domain op }
 {
     let domain = op.domain();
-    let of_monoid = monoid.domain();
-    assert_eq!(rt; of_monoid, domain, "of {monoid:?} and {op:?}");
+    same_domain(rt, monoid.domain(), domain, (monoid, op));
     Choice {
         domain,
         mask_domain: domain,

@@ -25,6 +25,8 @@ mod refused;
 #[cfg(test)]
 mod refused_columns;
 #[cfg(test)]
+mod same;
+#[cfg(test)]
 mod semirings;
 #[cfg(test)]
 mod tables;

@@ -4,6 +4,7 @@ ghost use Rattle.grb_core.specs.declared.domain.Domain.TheVariants as domains;
 
 use crate::choices::plain_product;
 use crate::products::{Choice, multiplied};
+use crate::same::same;
 use crate::tables::{expect_matrix, matrix_of};
 use crate::tuples::{expect_matrix_tuples, matrix_of_tuples};
 use grb_call::Descriptor;
@@ -75,7 +76,7 @@ fn expect_alias(
     let a = square_of(alloc, table)?;
     let made = product_with_itself(rt, alloc, &a, structure)?;
     expect_matrix(rt, &made, want, 0);
-    assert_eq!(rt; made.domain(), Domain::Uint64);
+    same(rt, made.domain(), Domain::Uint64, "the product");
     Ok(())
 }
 
@@ -155,7 +156,12 @@ fn expect_nothing_left(rt: &impl Abort, a: &SparseMatrix)
     requires domain { a.now.matrix.domain ≡ Domain.Uint64 }
     requires assembled { a.now.assembled ≡ true }
 {
-    assert_eq!(rt; reduce_matrix(a, Monoid::Plus), Value::Uint64(0));
+    same(
+        rt,
+        reduce_matrix(a, Monoid::Plus),
+        Value::Uint64(0),
+        "the total",
+    );
 }
 
 /// What a sum of two products makes that passes 2^64: both wrap around.

@@ -6,6 +6,7 @@ ghost use Rattle.grb_core.specs.Monoid.{monoid_domain};
 ghost use Rattle.grb_core.specs.Written.{AccumulatesIn};
 
 use crate::drawn::applied;
+use crate::same::same;
 use crate::tables::{Table, expect_matrix, expect_vector, matrix_of, number_of, stored, vector_of};
 use grb_call::Descriptor;
 use grb_core::{BinaryOp, Domain, Monoid, Semiring, Value};
@@ -455,7 +456,7 @@ pub(crate) fn expect_folds(
 }
 
 fn expect_total(rt: &impl Abort, total: Value, want: u64, case: usize) {
-    assert_eq!(rt; number_of(total), want, "case {case}");
+    same(rt, number_of(total), want, ("case", case));
 }
 
 /// The totals of the first matrix and of the second input as a vector are what a plain loop makes.

@@ -4,6 +4,7 @@ ghost use Rattle.std.specs.Prelude.{◌≡◌, true, IfOk};
 use crate::choices::{monoid_of, op_of, plain_product};
 use crate::drawn::applied;
 use crate::products::{Choice, column_of, multiplied, operator_of};
+use crate::same::same;
 use crate::tables::{expect_matrix, expect_vector, matrix_of, vector_of};
 use grb_core::Domain;
 use grb_sparse::{SparseMatrix, SparseVector};
@@ -175,6 +176,6 @@ fn each_of_the_52_semirings_multiplies_an_example(rt: HostRuntime) -> Result<(),
         let numeric = expect_examples(&rt, rt.alloc(), Domain::Uint64, monoid)?;
         semirings = semirings.wrapping_add(logical).wrapping_add(numeric);
     }
-    assert_eq!(rt; semirings, 52);
+    same(&rt, semirings, 52, "the semirings");
     Ok(())
 }

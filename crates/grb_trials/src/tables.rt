@@ -3,6 +3,7 @@ ghost use Rattle.std.specs.Prelude.{◌≡◌, true, IfOk};
 ghost use Rattle.grb_core.specs.Value.{value_domain};
 ghost use Rattle.grb_core.specs.Contents.{IsDimension};
 
+use crate::same::same;
 use grb_core::{Domain, Value};
 use grb_sparse::{SparseMatrix, SparseVector};
 use std::alloc::{AllocError, Global};
@@ -142,24 +143,24 @@ pub(crate) fn matrix_of(
 
 /// The vector stores what the table does, and nothing else.
 pub(crate) fn expect_vector(rt: &impl Abort, v: &SparseVector, want: &[Option<u64>], case: usize) {
-    assert_eq!(rt; v.nvals(), count(want), "case {case}");
+    same(rt, v.nvals(), count(want), ("case", case));
     let mut at: u64 = 0;
     'places: for number in want {
         let seen = v.get(at).map(number_of);
-        assert_eq!(rt; seen, *number, "case {case} at {at}");
+        same(rt, seen, *number, ("case", case, at));
         at = at.wrapping_add(1);
     }
 }
 
 /// The matrix stores what the table does, and nothing else.
 pub(crate) fn expect_matrix(rt: &impl Abort, a: &SparseMatrix, want: &[Option<u64>], case: usize) {
-    assert_eq!(rt; a.nvals(), count(want), "case {case}");
+    same(rt, a.nvals(), count(want), ("case", case));
     let (_, ncols) = a.dims();
     let ncols = ncols.max(1);
     let mut at: u64 = 0;
     'places: for number in want {
         let seen = a.get(at / ncols, at % ncols).map(number_of);
-        assert_eq!(rt; seen, *number, "case {case} at {at}");
+        same(rt, seen, *number, ("case", case, at));
         at = at.wrapping_add(1);
     }
 }

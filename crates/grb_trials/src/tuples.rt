@@ -2,6 +2,7 @@
 ghost use Rattle.std.specs.Prelude.{◌≡◌, true, IfOk};
 ghost use Rattle.grb_core.specs.Contents.{IsDimension};
 
+use crate::same::same;
 use crate::tables::value_of;
 use grb_core::Domain;
 use grb_sparse::{SparseMatrix, SparseVector};
@@ -94,10 +95,10 @@ pub(crate) fn expect_matrix_tuples(
     want: &[(u64, u64, u64)],
     case: usize,
 ) {
-    assert_eq!(rt; a.nvals(), want.len() as u64, "case {case}");
+    same(rt, a.nvals(), want.len() as u64, ("case", case));
     'tuples: for (i, j, n) in want {
         let value = Some(value_of(domain, *n));
-        assert_eq!(rt; a.get(*i, *j), value, "case {case} at {i} {j}");
+        same(rt, a.get(*i, *j), value, ("case", case, *i, *j));
     }
 }
 
@@ -109,9 +110,9 @@ pub(crate) fn expect_vector_tuples(
     want: &[(u64, u64)],
     case: usize,
 ) {
-    assert_eq!(rt; v.nvals(), want.len() as u64, "case {case}");
+    same(rt, v.nvals(), want.len() as u64, ("case", case));
     'tuples: for (i, n) in want {
         let value = Some(value_of(domain, *n));
-        assert_eq!(rt; v.get(*i), value, "case {case} at {i}");
+        same(rt, v.get(*i), value, ("case", case, *i));
     }
 }

@@ -4,6 +4,7 @@ ghost use Rattle.grb_core.specs.declared.domain.Domain.TheVariants as domains;
 
 use crate::choices::{PLAIN, plain_product};
 use crate::products::{Choice, column_of};
+use crate::same::same_domain;
 use crate::tables::{matrix_of, vector_of};
 use crate::tuples::{expect_vector_tuples, matrix_of_tuples, vector_of_tuples};
 use grb_core::{BinaryOp, Domain, Monoid};
@@ -43,7 +44,7 @@ fn column(
     choice: Choice,
 ) -> Result<SparseVector, AllocError> {
     let (a, u) = (&factors.a, &factors.u);
-    assert_eq!(rt; choice.domain, a.domain());
+    same_domain(rt, choice.domain, a.domain(), "the product");
     let w = SparseVector::new(alloc, choice.domain, 2);
     column_of(rt, alloc, choice, &w, &w, a, u)
 }

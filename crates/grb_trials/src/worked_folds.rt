@@ -4,6 +4,7 @@ ghost use Rattle.grb_core.specs.declared.domain.Domain.TheVariants as domains;
 
 use crate::choices::plain_product;
 use crate::products::{Choice, folds_of};
+use crate::same::{same, same_domain};
 use crate::tuples::{expect_vector_tuples, matrix_of_tuples, vector_of_tuples};
 use grb_call::Descriptor;
 use grb_core::{BinaryOp, Domain, Monoid, Value};
@@ -33,7 +34,7 @@ fn folds(
     requires rows { a.now.matrix.nrows ≡ 4294967295 }
 {
     let choice = plain_product(rt, monoid, monoid.op());
-    assert_eq!(rt; choice.domain, a.domain());
+    same_domain(rt, choice.domain, a.domain(), "the fold");
     let w = SparseVector::new(alloc, choice.domain, SIZE);
     folds_of(alloc, choice, &w, &w, a)
 }
@@ -131,17 +132,15 @@ fn folds_of_rows_are_written_by_accumulator_and_mask(rt: HostRuntime) -> Result<
 fn expect_total_of_vector(rt: &impl Abort, u: &SparseVector, monoid: Monoid, total: Value)
     requires { u.now.assembled ≡ true }
 {
-    let domain = monoid.domain();
-    assert_eq!(rt; domain, u.domain(), "of {monoid:?}");
-    assert_eq!(rt; reduce_vector(u, monoid), total, "{monoid:?}");
+    same_domain(rt, monoid.domain(), u.domain(), monoid);
+    same(rt, reduce_vector(u, monoid), total, monoid);
 }
 
 fn expect_total_of_matrix(rt: &impl Abort, a: &SparseMatrix, monoid: Monoid, total: Value)
     requires { a.now.assembled ≡ true }
 {
-    let domain = monoid.domain();
-    assert_eq!(rt; domain, a.domain(), "of {monoid:?}");
-    assert_eq!(rt; reduce_matrix(a, monoid), total, "{monoid:?}");
+    same_domain(rt, monoid.domain(), a.domain(), monoid);
+    same(rt, reduce_matrix(a, monoid), total, monoid);
 }
 
 const LARGEST: u64 = 18_446_744_073_709_551_615;

@@ -3,6 +3,7 @@ ghost use Rattle.std.specs.Prelude.{◌≡◌, true};
 
 use crate::choices::plain_product;
 use crate::products::multiplied;
+use crate::same::same_domain;
 use crate::tuples::{expect_matrix_tuples, matrix_of_tuples};
 use grb_core::{BinaryOp, Domain, Monoid};
 use grb_sparse::SparseMatrix;
@@ -23,7 +24,7 @@ fn expect_square(
     requires square { a.now.matrix.ncols ≡ a.now.matrix.nrows }
 {
     let choice = plain_product(rt, parts.0, parts.1);
-    assert_eq!(rt; choice.domain, a.domain());
+    same_domain(rt, choice.domain, a.domain(), "the product");
     let made = multiplied(rt, alloc, choice, a, a, a, a)?;
     expect_matrix_tuples(rt, &made, choice.domain, want, case);
     Ok(())

@@ -3,6 +3,7 @@ ghost use Rattle.grb_context.specs.Known.{IsPassOf};
 
 use crate::tests::asked::{Answer, Asked, DONE, FIRST, SECOND};
 use crate::tests::rows::{Counted, Row, run};
+use crate::tests::same::same;
 use crate::tests::trials::{Trial, try_in_new};
 use grb_call::{Call, MatrixId, Reply, VectorId};
 use grb_context::{Context, Pass};
@@ -30,7 +31,7 @@ const OUT_OF_BOUNDS: Answer = Err(Refusal::IndexOutOfBounds);
 
 const FULL: Answer = Err(Refusal::OrderFull);
 
-const READ_BY_ANOTHER: [Row; 10] = [
+static READ_BY_ANOTHER: [Row; 10] = [
     (
         0,
         Asked::NewVector(Domain::Uint64, 4),
@@ -75,11 +76,10 @@ const READ_BY_ANOTHER: [Row; 10] = [
 
 #[test]
 fn a_pass_reads_what_another_set(rt: HostRuntime) -> Result<(), AllocError> {
-    let rows = READ_BY_ANOTHER;
-    run(&rt, 8, Counted::Known, &rows)
+    run(&rt, 8, Counted::Known, &READ_BY_ANOTHER)
 }
 
-const FIRST_REASONS: [Row; 14] = [
+static FIRST_REASONS: [Row; 14] = [
     (0, Asked::GetVector(FIRST, 0), UNINITIALIZED, 0),
     (0, Asked::NvalsVector(FIRST), UNINITIALIZED, 0),
     (0, Asked::NewVector(Domain::Bool, 0), BAD_VALUE, 0),
@@ -118,11 +118,10 @@ const FIRST_REASONS: [Row; 14] = [
 
 #[test]
 fn the_first_reason_in_order_refuses(rt: HostRuntime) -> Result<(), AllocError> {
-    let rows = FIRST_REASONS;
-    run(&rt, 8, Counted::Known, &rows)
+    run(&rt, 8, Counted::Known, &FIRST_REASONS)
 }
 
-const LAST_REASONS: [Row; 13] = [
+static LAST_REASONS: [Row; 13] = [
     (
         0,
         Asked::NewVector(Domain::Uint64, 4),
@@ -155,7 +154,7 @@ const LAST_REASONS: [Row; 13] = [
     ),
     (
         0,
-        Asked::BuildVector(FIRST, [(4, 1), (0, 1), (0, 1)]),
+        Asked::BuildVector(FIRST, &[(4, 1), (0, 1), (0, 1)]),
         NOT_EMPTY,
         2,
     ),
@@ -170,11 +169,10 @@ const LAST_REASONS: [Row; 13] = [
 
 #[test]
 fn a_full_order_is_the_last_reason_of_all(rt: HostRuntime) -> Result<(), AllocError> {
-    let rows = LAST_REASONS;
-    run(&rt, 2, Counted::Known, &rows)
+    run(&rt, 2, Counted::Known, &LAST_REASONS)
 }
 
-const LEAST_ROOM: [Row; 3] = [
+static LEAST_ROOM: [Row; 3] = [
     (
         0,
         Asked::NewVector(Domain::Bool, 1),
@@ -187,11 +185,10 @@ const LEAST_ROOM: [Row; 3] = [
 
 #[test]
 fn the_least_room_takes_one_call(rt: HostRuntime) -> Result<(), AllocError> {
-    let rows = LEAST_ROOM;
-    run(&rt, 1, Counted::Known, &rows)
+    run(&rt, 1, Counted::Known, &LEAST_ROOM)
 }
 
-const CUT_OFF: [Row; 9] = [
+static CUT_OFF: [Row; 9] = [
     (
         0,
         Asked::NewMatrix(Domain::Uint64, 3, 3),
@@ -215,11 +212,10 @@ const CUT_OFF: [Row; 9] = [
 
 #[test]
 fn what_a_smaller_size_cut_off_does_not_come_back(rt: HostRuntime) -> Result<(), AllocError> {
-    let rows = CUT_OFF;
-    run(&rt, 8, Counted::Known, &rows)
+    run(&rt, 8, Counted::Known, &CUT_OFF)
 }
 
-const BUILT_AGAIN: [Row; 7] = [
+static BUILT_AGAIN: [Row; 7] = [
     (
         0,
         Asked::NewVector(Domain::Uint64, 4),
@@ -230,7 +226,7 @@ const BUILT_AGAIN: [Row; 7] = [
     (0, Asked::RemoveVector(FIRST, 1), DONE, 3),
     (
         1,
-        Asked::BuildVector(FIRST, [(2, 5), (2, 6), (0, 1)]),
+        Asked::BuildVector(FIRST, &[(2, 5), (2, 6), (0, 1)]),
         DONE,
         4,
     ),
@@ -243,7 +239,7 @@ const BUILT_AGAIN: [Row; 7] = [
     (0, Asked::NvalsVector(FIRST), Ok(Reply::Count(2)), 4),
     (
         0,
-        Asked::BuildVector(FIRST, [(3, 1), (3, 1), (3, 1)]),
+        Asked::BuildVector(FIRST, &[(3, 1), (3, 1), (3, 1)]),
         NOT_EMPTY,
         4,
     ),
@@ -251,15 +247,14 @@ const BUILT_AGAIN: [Row; 7] = [
 
 #[test]
 fn a_build_fills_an_object_whose_entries_were_removed(rt: HostRuntime) -> Result<(), AllocError> {
-    let rows = BUILT_AGAIN;
-    run(&rt, 8, Counted::Known, &rows)
+    run(&rt, 8, Counted::Known, &BUILT_AGAIN)
 }
 
-const INSIDE: [(u64, u64); 3] = [(0, 1), (0, 2), (0, 3)];
+const INSIDE: &[(u64, u64)] = &[(0, 1), (0, 2), (0, 3)];
 
-const OUTSIDE: [(u64, u64); 3] = [(0, 1), (5, 2), (1, 3)];
+const OUTSIDE: &[(u64, u64)] = &[(0, 1), (5, 2), (1, 3)];
 
-const REFUSED_BUILDS: [Row; 14] = [
+static REFUSED_BUILDS: [Row; 14] = [
     (
         0,
         Asked::NewVector(Domain::Uint64, 5),
@@ -288,15 +283,14 @@ const REFUSED_BUILDS: [Row; 14] = [
 
 #[test]
 fn a_build_is_refused_for_the_first_reason(rt: HostRuntime) -> Result<(), AllocError> {
-    let rows = REFUSED_BUILDS;
-    run(&rt, 8, Counted::Known, &rows)
+    run(&rt, 8, Counted::Known, &REFUSED_BUILDS)
 }
 
-const CELLS_INSIDE: [(u64, u64, u64); 3] = [(0, 2, 1), (1, 2, 2), (0, 2, 3)];
+const CELLS_INSIDE: &[(u64, u64, u64)] = &[(0, 2, 1), (1, 2, 2), (0, 2, 3)];
 
-const CELLS_OUTSIDE: [(u64, u64, u64); 3] = [(0, 1, 1), (2, 1, 2), (1, 0, 3)];
+const CELLS_OUTSIDE: &[(u64, u64, u64)] = &[(0, 1, 1), (2, 1, 2), (1, 0, 3)];
 
-const REFUSED_BUILDS_OF_A_MATRIX: [Row; 10] = [
+static REFUSED_BUILDS_OF_A_MATRIX: [Row; 10] = [
     (
         0,
         Asked::NewMatrix(Domain::Uint64, 2, 3),
@@ -331,11 +325,10 @@ const REFUSED_BUILDS_OF_A_MATRIX: [Row; 10] = [
 
 #[test]
 fn a_build_of_a_matrix_is_refused_for_the_first_reason(rt: HostRuntime) -> Result<(), AllocError> {
-    let rows = REFUSED_BUILDS_OF_A_MATRIX;
-    run(&rt, 8, Counted::Known, &rows)
+    run(&rt, 8, Counted::Known, &REFUSED_BUILDS_OF_A_MATRIX)
 }
 
-const FREED: [Row; 7] = [
+static FREED: [Row; 7] = [
     (
         0,
         Asked::NewVector(Domain::Uint64, 5),
@@ -372,13 +365,12 @@ const FREED: [Row; 7] = [
 
 #[test]
 fn a_freed_vector_is_gone_and_its_number_with_it(rt: HostRuntime) -> Result<(), AllocError> {
-    let rows = FREED;
-    run(&rt, 8, Counted::Known, &rows)
+    run(&rt, 8, Counted::Known, &FREED)
 }
 
-const TWO_CELLS: [(u64, u64, u64); 3] = [(1, 2, 7), (0, 1, 4), (1, 2, 1)];
+const TWO_CELLS: &[(u64, u64, u64)] = &[(1, 2, 7), (0, 1, 4), (1, 2, 1)];
 
-const COPIED: [Row; 10] = [
+static COPIED: [Row; 10] = [
     (
         0,
         Asked::NewMatrix(Domain::Uint64, 2, 3),
@@ -408,11 +400,10 @@ const COPIED: [Row; 10] = [
 
 #[test]
 fn a_copy_changes_apart_from_its_source(rt: HostRuntime) -> Result<(), AllocError> {
-    let rows = COPIED;
-    run(&rt, 8, Counted::Known, &rows)
+    run(&rt, 8, Counted::Known, &COPIED)
 }
 
-const CHANGED_AS_A_WHOLE: [Row; 8] = [
+static CHANGED_AS_A_WHOLE: [Row; 8] = [
     (
         0,
         Asked::NewVector(Domain::Bool, 3),
@@ -440,11 +431,10 @@ const CHANGED_AS_A_WHOLE: [Row; 8] = [
 
 #[test]
 fn a_vector_is_copied_resized_and_cleared(rt: HostRuntime) -> Result<(), AllocError> {
-    let rows = CHANGED_AS_A_WHOLE;
-    run(&rt, 8, Counted::Known, &rows)
+    run(&rt, 8, Counted::Known, &CHANGED_AS_A_WHOLE)
 }
 
-const FULL_BEFORE_A_BUILD: [Row; 4] = [
+static FULL_BEFORE_A_BUILD: [Row; 4] = [
     (
         0,
         Asked::NewVector(Domain::Uint64, 2),
@@ -453,13 +443,13 @@ const FULL_BEFORE_A_BUILD: [Row; 4] = [
     ),
     (
         0,
-        Asked::BuildVector(FIRST, [(0, 1), (1, 2), (1, 3)]),
+        Asked::BuildVector(FIRST, &[(0, 1), (1, 2), (1, 3)]),
         FULL,
         1,
     ),
     (
         0,
-        Asked::BuildVector(FIRST, [(2, 1), (0, 1), (0, 1)]),
+        Asked::BuildVector(FIRST, &[(2, 1), (0, 1), (0, 1)]),
         OUT_OF_BOUNDS,
         1,
     ),
@@ -468,13 +458,13 @@ const FULL_BEFORE_A_BUILD: [Row; 4] = [
 
 #[test]
 fn a_full_order_refuses_a_build_last(rt: HostRuntime) -> Result<(), AllocError> {
-    let rows = FULL_BEFORE_A_BUILD;
-    run(&rt, 1, Counted::Known, &rows)
+    run(&rt, 1, Counted::Known, &FULL_BEFORE_A_BUILD)
 }
 
 fn expect_new_pass(rt: &impl Abort, pass: &Pass, number: u32) {
-    assert_eq!(rt; pass.number(), number);
-    assert_eq!(rt; (pass.known(), pass.room_left()), (0, 4096));
+    same(rt, pass.number(), number, "a new pass");
+    same(rt, pass.known(), 0, "a new pass");
+    same(rt, pass.room_left(), 4096, "a new pass");
 }
 
 fn expect_passes(rt: &impl Abort, passes: &[Pass]) {
@@ -483,7 +473,7 @@ fn expect_passes(rt: &impl Abort, passes: &[Pass]) {
         expect_new_pass(rt, pass, number);
         number = number.saturating_add(1);
     }
-    assert_eq!(rt; number, 64);
+    same(rt, number, 64, "passes");
 }
 
 #[test]
@@ -519,9 +509,9 @@ pub(super) fn expect_called(
     if made == Err(Refusal::Panic) {
         return Err(AllocError);
     }
-    assert_eq!(rt; made, Ok(Reply::MadeVector(FIRST)));
+    same(rt, made, Ok(Reply::MadeVector(FIRST)), "a new vector");
     let size = call_once(context, pass, Call::SizeVector { v: FIRST });
-    assert_eq!(rt; size, Ok(Reply::Size(2)));
+    same(rt, size, Ok(Reply::Size(2)), "its size");
     Ok(())
 }
 

@@ -13,7 +13,7 @@ pub(super) const SECOND: VectorId = VectorId(1);
 
 pub(super) const DONE: Answer = Ok(Reply::Done);
 
-/// A call, without a list of its own: a build adds up three numbers by their places.
+/// A call, without a list of its own: a build adds up numbers by their places.
 #[derive(Clone, Copy)]
 pub(super) enum Asked {
     NewMatrix(Domain, u64, u64),
@@ -36,8 +36,8 @@ pub(super) enum Asked {
     ResizeVector(VectorId, u64),
     DupMatrix(MatrixId),
     DupVector(VectorId),
-    BuildMatrix(MatrixId, [(u64, u64, u64); 3]),
-    BuildVector(VectorId, [(u64, u64); 3]),
+    BuildMatrix(MatrixId, &'static [(u64, u64, u64)]),
+    BuildVector(VectorId, &'static [(u64, u64)]),
     Operation(Operation),
 }
 
@@ -126,7 +126,7 @@ fn ask_matrix(
         Asked::ResizeMatrix(a, nrows, ncols) => context.resize_matrix(pass, a, nrows, ncols),
         Asked::DupMatrix(a) => context.dup_matrix(pass, a),
         Asked::BuildMatrix(a, list) => {
-            let tuples = cells(alloc, &list)?;
+            let tuples = cells(alloc, list)?;
             context.build_matrix(pass, a, tuples, Monoid::Plus)
         }
         _ => Err(Refusal::Panic),
@@ -155,7 +155,7 @@ fn ask_vector(
         Asked::ResizeVector(v, size) => context.resize_vector(pass, v, size),
         Asked::DupVector(v) => context.dup_vector(pass, v),
         Asked::BuildVector(v, list) => {
-            let tuples = numbers(alloc, &list)?;
+            let tuples = numbers(alloc, list)?;
             context.build_vector(pass, v, tuples, Monoid::Plus)
         }
         _ => Err(Refusal::Panic),

@@ -1,6 +1,7 @@
 ghost use Rattle.grb_context.specs.Known.{IsPassOf};
 
 use crate::tests::asked::{Answer, FIRST, SECOND};
+use crate::tests::same::same;
 use crate::tests::trials::{Trial, try_in_new};
 use grb_call::{Call, Reply, VectorId, VectorTuples};
 use grb_context::{Context, Pass};
@@ -68,9 +69,9 @@ fn expect_rows_by_list<R: Abort>(
     let Ok(answers) = context.run(pass, &calls) else {
         panic!(rt; "no memory for the answers")
     };
-    assert_eq!(rt; answers.len(), rows.len());
-    for (answer, row) in answers.iter().zip(rows.iter()) {
-        assert_eq!(rt; *answer, row.1);
+    same(rt, answers.len(), rows.len(), "the answers");
+    for (at, (answer, row)) in answers.iter().zip(rows.iter()).enumerate() {
+        same(rt, *answer, row.1, ("row from 0", at));
     }
     Ok(())
 }
@@ -85,15 +86,15 @@ fn expect_rows_by_each<R: Abort>(
 ) -> Result<(), AllocError>
     requires { IsPassOf context.now pass.old }
 {
-    'rows: for row in rows {
+    for (at, row) in rows.iter().enumerate() {
         let answer = context.call(pass, call_of(alloc, row.0)?);
-        assert_eq!(rt; answer, row.1);
+        same(rt, answer, row.1, ("row from 0", at));
     }
     Ok(())
 }
 
 /// Calls of a list, refused ones and a build among them.
-const ROWS: [Row; 9] = [
+static ROWS: [Row; 9] = [
     (Listed::New(2), Ok(Reply::MadeVector(FIRST))),
     (Listed::Set(0, 1), Ok(Reply::Done)),
     (Listed::Get(0), Ok(Reply::Value(Value::Uint64(1)))),
@@ -110,7 +111,9 @@ const ROWS: [Row; 9] = [
 
 /// The pass knows four calls, has learnt four words, and made one step in its last call.
 fn expect_counts(rt: &impl Abort, pass: &Pass) {
-    assert_eq!(rt; (pass.known(), pass.words(), pass.steps()), (4, 4, 1));
+    same(rt, pass.known(), 4, "the calls");
+    same(rt, pass.words(), 4, "the words");
+    same(rt, pass.steps(), 1, "the steps");
 }
 
 /// The counts of the pass behind the list.
@@ -122,8 +125,7 @@ pub(super) fn expect_list<R: Abort>(
 ) -> Result<(), AllocError>
     requires { IsPassOf context.now pass.old }
 {
-    let rows = ROWS;
-    expect_rows_by_list(rt, alloc, context, pass, &rows)?;
+    expect_rows_by_list(rt, alloc, context, pass, &ROWS)?;
     expect_counts(rt, pass);
     Ok(())
 }
@@ -137,8 +139,7 @@ pub(super) fn expect_each<R: Abort>(
 ) -> Result<(), AllocError>
     requires { IsPassOf context.now pass.old }
 {
-    let rows = ROWS;
-    expect_rows_by_each(rt, alloc, context, pass, &rows)?;
+    expect_rows_by_each(rt, alloc, context, pass, &ROWS)?;
     expect_counts(rt, pass);
     Ok(())
 }
@@ -149,6 +150,16 @@ fn a_list_of_calls_is_answered_as_its_calls_one_by_one(rt: HostRuntime) -> Resul
     try_in_new(&rt, rt.alloc(), 8, Trial::Each)
 }
 
+/// How many answers an empty list of calls has. `None` where memory was refused.
+fn count_of_answers(context: &Context, pass: &mut Pass) -> Option<usize>
+    requires { IsPassOf context.now pass.old }
+{
+    match context.run(pass, &[]) {
+        Ok(answers) => Some(answers.len()),
+        Err(_) => None,
+    }
+}
+
 /// What the pass counts stays as it was.
 pub(super) fn expect_no_list<R: Abort>(
     rt: &R,
@@ -157,12 +168,11 @@ pub(super) fn expect_no_list<R: Abort>(
 ) -> Result<(), AllocError>
     requires { IsPassOf context.now pass.old }
 {
-    let before = (pass.known(), pass.words(), pass.steps());
-    let Ok(answers) = context.run(pass, &[]) else {
-        panic!(rt; "no memory for no answers")
-    };
-    assert_eq!(rt; answers.len(), 0);
-    assert_eq!(rt; (pass.known(), pass.words(), pass.steps()), before);
+    let (known, words, steps) = (pass.known(), pass.words(), pass.steps());
+    same(rt, count_of_answers(context, pass), Some(0), "no calls");
+    same(rt, pass.known(), known, "the calls");
+    same(rt, pass.words(), words, "the words");
+    same(rt, pass.steps(), steps, "the steps");
     Ok(())
 }
 

@@ -1,6 +1,7 @@
 ghost use Rattle.grb_context.specs.Known.{IsPassOf};
 
 use crate::tests::asked::{Answer, DONE, FIRST};
+use crate::tests::same::same;
 use crate::tests::trials::{Trial, try_in_new};
 use grb_call::Reply;
 use grb_context::{Context, Pass};
@@ -15,15 +16,14 @@ const NINE: Value = Value::Uint64(9);
 const MADE: Answer = Ok(Reply::MadeVector(FIRST));
 
 fn expect_answer(rt: &impl Abort, answer: Answer, expected: Answer) {
-    assert_eq!(rt; answer, expected);
+    same(rt, answer, expected, "a call");
 }
 
 /// How many calls and words the pass knows, and how many steps it made.
 fn expect_point(rt: &impl Abort, pass: &Pass, known: u32, words: u32, steps: u32) {
-    assert_eq!(rt;
-        (pass.known(), pass.words(), pass.steps()),
-        (known, words, steps)
-    );
+    same(rt, pass.known(), known, "the calls");
+    same(rt, pass.words(), words, "the words");
+    same(rt, pass.steps(), steps, "the steps");
 }
 
 pub(super) fn expect_told(
@@ -37,12 +37,13 @@ pub(super) fn expect_told(
 {
     expect_answer(rt, context.new_vector(p, Domain::Uint64, 4), MADE);
     expect_answer(rt, context.set_vector(q, FIRST, 1, NINE), DONE);
-    assert_eq!(rt; (p.known(), q.known()), (1, 2));
-    assert_eq!(rt; context.meet(p, q), Ok(()));
+    same(rt, p.known(), 1, "before the meeting");
+    same(rt, q.known(), 2, "before the meeting");
+    same(rt, context.meet(p, q), Ok(()), "the meeting");
     expect_point(rt, p, 2, 2, 1);
     expect_point(rt, q, 2, 2, 3);
     expect_answer(rt, context.get_vector(p, FIRST, 1), Ok(Reply::Value(NINE)));
-    assert_eq!(rt; p.known(), 2);
+    same(rt, p.known(), 2, "behind the meeting");
     Ok(())
 }
 
@@ -60,11 +61,11 @@ pub(super) fn expect_no_change(
     requires first { IsPassOf context.now p.old }
     requires second { IsPassOf context.now q.old }
 {
-    assert_eq!(rt; context.meet(p, q), Ok(()));
+    same(rt, context.meet(p, q), Ok(()), "the meeting");
     expect_point(rt, p, 0, 0, 0);
     expect_answer(rt, context.new_vector(p, Domain::Uint64, 4), MADE);
     expect_answer(rt, context.set_vector(p, FIRST, 0, SEVEN), DONE);
-    assert_eq!(rt; context.meet(p, q), Ok(()));
+    same(rt, context.meet(p, q), Ok(()), "the meeting");
     expect_point(rt, p, 2, 2, 0);
     expect_point(rt, q, 0, 0, 0);
     Ok(())

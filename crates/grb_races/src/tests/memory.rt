@@ -2,12 +2,23 @@ ghost use Rattle.grb_context.specs.Known.{IsPassOf};
 
 use crate::tests::asked::{Answer, Asked, FIRST, SECOND, ask};
 use crate::tests::rows::answer_of;
+use crate::tests::same::same;
 use crate::tests::trials::{Trial, try_in_new};
 use grb_call::{MatrixId, Reply};
 use grb_context::{Context, Pass};
 use grb_core::{Domain, Refusal, Value};
 use std::alloc::{AllocError, Global};
 use std::process::Abort;
+
+fn is_refused_memory(answered: Result<Answer, AllocError>) -> bool {
+    matches!(answered, Err(_) | Ok(Err(Refusal::OutOfMemory)))
+}
+
+/// How many words the pass has learnt, and how many calls it knows.
+fn expect_counts(rt: &impl Abort, pass: &Pass, words: u32, known: u32) {
+    same(rt, pass.words(), words, "the words");
+    same(rt, pass.known(), known, "the calls");
+}
 
 /// Makes a call that is entered. Where memory was refused, the pass has the words and knows the calls of before, and the same call is
 /// made then.
@@ -17,24 +28,20 @@ fn expect_entered<R: Abort>(
     context: &Context,
     pass: &mut Pass,
     row: &(Asked, Answer),
+    at: usize,
 ) -> Result<(), AllocError>
     requires { IsPassOf context.now pass.old }
     ensures { IsPassOf context.now pass.new }
 {
     let (asked, expected) = *row;
     let (words, known) = (pass.words(), pass.known());
-    let answer = match ask(alloc, context, pass, asked) {
-        Err(_) | Ok(Err(Refusal::OutOfMemory)) => {
-            assert_eq!(rt; (pass.words(), pass.known()), (words, known));
-            ask(alloc, context, pass, asked)?
-        }
-        Ok(answer) => answer,
-    };
-    assert_eq!(rt; answer, expected);
-    assert_eq!(rt;
-        (pass.words(), pass.known()),
-        (words.saturating_add(1), known.saturating_add(1))
-    );
+    let mut answered = ask(alloc, context, pass, asked);
+    if is_refused_memory(answered) {
+        expect_counts(rt, pass, words, known);
+        answered = ask(alloc, context, pass, asked);
+    }
+    same(rt, answered?, expected, ("row from 0", at));
+    expect_counts(rt, pass, words.saturating_add(1), known.saturating_add(1));
     Ok(())
 }
 
@@ -48,13 +55,13 @@ fn expect_all<R: Abort>(
     requires { IsPassOf context.now pass.old }
     ensures { IsPassOf context.now pass.new }
 {
-    'rows: for row in rows {
-        expect_entered(rt, alloc, context, pass, row)?;
+    for (at, row) in rows.iter().enumerate() {
+        expect_entered(rt, alloc, context, pass, row, at)?;
     }
     Ok(())
 }
 
-const FILLED: [(Asked, Answer); 6] = [
+static FILLED: [(Asked, Answer); 6] = [
     (
         Asked::NewVector(Domain::Uint64, 9),
         Ok(Reply::MadeVector(FIRST)),
@@ -72,7 +79,7 @@ const FILLED: [(Asked, Answer); 6] = [
         Ok(Reply::MadeVector(SECOND)),
     ),
     (
-        Asked::BuildVector(SECOND, [(8, 1), (0, 2), (8, 3)]),
+        Asked::BuildVector(SECOND, &[(8, 1), (0, 2), (8, 3)]),
         Ok(Reply::Done),
     ),
     (
@@ -89,12 +96,11 @@ pub(super) fn expect_filled<R: Abort>(
 ) -> Result<(), AllocError>
     requires { IsPassOf context.now pass.old }
 {
-    let rows = FILLED;
-    expect_all(rt, alloc, context, pass, &rows)?;
+    expect_all(rt, alloc, context, pass, &FILLED)?;
     let mut refusals = 0;
     let asked = Asked::NvalsVector(SECOND);
     let answer = answer_of(alloc, context, pass, asked, &mut refusals)?;
-    assert_eq!(rt; answer, Ok(Reply::Count(3)));
+    same(rt, answer, Ok(Reply::Count(3)), "the count");
     Ok(())
 }
 

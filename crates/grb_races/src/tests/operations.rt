@@ -36,7 +36,7 @@ const COMP_REPLACE: Descriptor = Descriptor {
     replace: true,
 };
 
-const BY_VALUE: [Row; 9] = [
+static BY_VALUE: [Row; 9] = [
     (
         0,
         Asked::NewVector(Domain::Uint64, 2),
@@ -96,11 +96,10 @@ const BY_VALUE: [Row; 9] = [
 
 #[test]
 fn a_mask_by_value_selects_no_stored_zero(rt: HostRuntime) -> Result<(), AllocError> {
-    let rows = BY_VALUE;
-    run(&rt, 16, Counted::Known, &rows)
+    run(&rt, 16, Counted::Known, &BY_VALUE)
 }
 
-const WITHOUT_MASK: [Row; 8] = [
+static WITHOUT_MASK: [Row; 8] = [
     (
         0,
         Asked::NewVector(Domain::Uint64, 2),
@@ -149,8 +148,7 @@ const WITHOUT_MASK: [Row; 8] = [
 
 #[test]
 fn the_complement_of_no_mask_lets_nothing_in(rt: HostRuntime) -> Result<(), AllocError> {
-    let rows = WITHOUT_MASK;
-    run(&rt, 16, Counted::Known, &rows)
+    run(&rt, 16, Counted::Known, &WITHOUT_MASK)
 }
 
 const DOUBLED: Operation = Operation::EwiseAddMatrix(
@@ -173,7 +171,7 @@ const SQUARED: Operation = Operation::EwiseMultMatrix(
     PLAIN,
 );
 
-const ONE_MATRIX: [Row; 7] = [
+static ONE_MATRIX: [Row; 7] = [
     (
         0,
         Asked::NewMatrix(Domain::Uint64, 1, 1),
@@ -201,15 +199,14 @@ const ONE_MATRIX: [Row; 7] = [
 
 #[test]
 fn one_matrix_is_output_and_both_inputs(rt: HostRuntime) -> Result<(), AllocError> {
-    let rows = ONE_MATRIX;
-    run(&rt, 16, Counted::Known, &rows)
+    run(&rt, 16, Counted::Known, &ONE_MATRIX)
 }
 
 const UNINITIALIZED: Answer = Err(Refusal::UninitializedObject);
 
 const DIMENSION: Answer = Err(Refusal::DimensionMismatch);
 
-const REFUSED: [Row; 8] = [
+static REFUSED: [Row; 8] = [
     (
         0,
         Asked::NewVector(Domain::Uint64, 2),
@@ -302,6 +299,5 @@ const REFUSED: [Row; 8] = [
 
 #[test]
 fn an_operation_is_refused_for_the_first_reason(rt: HostRuntime) -> Result<(), AllocError> {
-    let rows = REFUSED;
-    run(&rt, 4, Counted::Known, &rows)
+    run(&rt, 4, Counted::Known, &REFUSED)
 }

@@ -1,6 +1,7 @@
 ghost use Rattle.grb_context.specs.Known.{IsPassOf};
 
 use crate::tests::asked::{Answer, DONE};
+use crate::tests::same::same;
 use crate::tests::trials::{Trial, try_in_new};
 use grb_call::{Descriptor, MatrixId, Reply, VectorId, WaitMode};
 use grb_context::{Context, Pass};
@@ -44,16 +45,8 @@ enum Step {
     WaitVector(VectorId, WaitMode),
 }
 
-/// The semiring of these two, which are of one domain.
-fn semiring<R: Abort>(rt: &R, monoid: Monoid, op: BinaryOp) -> Semiring {
-    match Semiring::new(monoid, op) {
-        Ok(semiring) => semiring,
-        Err(_) => panic!(rt; "a monoid and an operator of two domains"),
-    }
-}
-
 /// Makes the call by its method.
-fn answer_to<R: Abort>(rt: &R, context: &Context, pass: &mut Pass, step: Step) -> Answer
+fn answer_to(context: &Context, pass: &mut Pass, step: Step) -> Answer
     requires { IsPassOf context.now pass.old }
     ensures { IsPassOf context.now pass.new }
 {
@@ -64,12 +57,14 @@ fn answer_to<R: Abort>(rt: &R, context: &Context, pass: &mut Pass, step: Step) -
         Step::SetVector(v, i, x) => context.set_vector(pass, v, i, Value::Uint64(x)),
         Step::GetMatrix(a, i, j) => context.get_matrix(pass, a, i, j),
         Step::GetVector(v, i) => context.get_vector(pass, v, i),
-        Step::Mxv(w, monoid, op, a, u) => {
-            context.mxv(pass, w, None, None, semiring(rt, monoid, op), a, u, PLAIN)
-        }
-        Step::Mxm(c, monoid, op, a, b) => {
-            context.mxm(pass, c, None, None, semiring(rt, monoid, op), a, b, PLAIN)
-        }
+        Step::Mxv(w, monoid, op, a, u) => match Semiring::new(monoid, op) {
+            Ok(semiring) => context.mxv(pass, w, None, None, semiring, a, u, PLAIN),
+            Err(refusal) => Err(refusal),
+        },
+        Step::Mxm(c, monoid, op, a, b) => match Semiring::new(monoid, op) {
+            Ok(semiring) => context.mxm(pass, c, None, None, semiring, a, b, PLAIN),
+            Err(refusal) => Err(refusal),
+        },
         Step::ReduceRows(w, monoid, a) => {
             context.reduce_rows(pass, w, None, None, monoid, a, PLAIN)
         }
@@ -81,12 +76,12 @@ fn answer_to<R: Abort>(rt: &R, context: &Context, pass: &mut Pass, step: Step) -
 }
 
 /// Makes the call, and once more where memory was refused to it.
-fn answer_of<R: Abort>(rt: &R, context: &Context, pass: &mut Pass, step: Step) -> Answer
+fn answer_of(context: &Context, pass: &mut Pass, step: Step) -> Answer
     requires { IsPassOf context.now pass.old }
     ensures { IsPassOf context.now pass.new }
 {
-    match answer_to(rt, context, pass, step) {
-        Err(Refusal::OutOfMemory) => answer_to(rt, context, pass, step),
+    match answer_to(context, pass, step) {
+        Err(Refusal::OutOfMemory) => answer_to(context, pass, step),
         answered => answered,
     }
 }
@@ -96,9 +91,9 @@ fn expect_all<R: Abort>(rt: &R, context: &Context, pass: &mut Pass, rows: &[(Ste
     requires { IsPassOf context.now pass.old }
     ensures { IsPassOf context.now pass.new }
 {
-    'rows: for (step, expected) in rows {
-        let answer = answer_of(rt, context, pass, *step);
-        assert_eq!(rt; answer, *expected);
+    for (at, (step, expected)) in rows.iter().enumerate() {
+        let answer = answer_of(context, pass, *step);
+        same(rt, answer, *expected, ("row from 0", at));
     }
 }
 

@@ -1,6 +1,7 @@
 ghost use Rattle.grb_context.specs.Known.{IsPassOf};
 
 use crate::tests::asked::{Answer, Asked, DONE, FIRST, SECOND, ask};
+use crate::tests::same::same;
 use crate::tests::threads::{Pair, Work, repeat};
 use grb_call::Reply;
 use grb_context::{Context, Pass};
@@ -21,7 +22,7 @@ pub(super) struct Race {
     first: Asked,
     second: Asked,
     read: Asked,
-    lawful: [Outcome; 4],
+    lawful: &'static [Outcome],
 }
 
 const GONE: Answer = Err(Refusal::UninitializedObject);
@@ -54,18 +55,18 @@ const SET_SEVEN: Asked = Asked::SetVector(FIRST, 0, Value::Uint64(7));
 
 const SET_LAST: Asked = Asked::SetVector(FIRST, 1, Value::Uint64(5));
 
-const BUILD_FIVE: Asked = Asked::BuildVector(FIRST, [(0, 1), (0, 2), (0, 2)]);
+const BUILD_FIVE: Asked = Asked::BuildVector(FIRST, &[(0, 1), (0, 2), (0, 2)]);
 
-const BUILD_SEVEN: Asked = Asked::BuildVector(FIRST, [(0, 3), (1, 1), (0, 4)]);
+const BUILD_SEVEN: Asked = Asked::BuildVector(FIRST, &[(0, 3), (1, 1), (0, 4)]);
 
-const RACES: [Race; 7] = [
+static RACES: [Race; 7] = [
     // two sets of one index
     Race {
         before: SIZE,
         first: SET_FIVE,
         second: SET_SEVEN,
         read: GET,
-        lawful: [
+        lawful: &[
             ((DONE, FIVE), (DONE, SEVEN), SEVEN, 3),
             ((DONE, SEVEN), (DONE, SEVEN), SEVEN, 3),
             ((DONE, FIVE), (DONE, SEVEN), FIVE, 3),
@@ -78,7 +79,7 @@ const RACES: [Race; 7] = [
         first: SET_LAST,
         second: Asked::ResizeVector(FIRST, 1),
         read: COUNT,
-        lawful: [
+        lawful: &[
             ((DONE, ONE), (DONE, NONE), NONE, 3),
             ((DONE, NONE), (DONE, NONE), NONE, 3),
             ((BAD_INDEX, NONE), (DONE, NONE), NONE, 2),
@@ -91,7 +92,7 @@ const RACES: [Race; 7] = [
         first: SET_FIVE,
         second: Asked::FreeVector(FIRST),
         read: GET,
-        lawful: [
+        lawful: &[
             ((DONE, FIVE), (DONE, GONE), GONE, 3),
             ((DONE, GONE), (DONE, GONE), GONE, 3),
             ((GONE, GONE), (DONE, GONE), GONE, 2),
@@ -104,7 +105,7 @@ const RACES: [Race; 7] = [
         first: SET_FIVE,
         second: Asked::ClearVector(FIRST),
         read: COUNT,
-        lawful: [
+        lawful: &[
             ((DONE, TWO), (DONE, NONE), NONE, 4),
             ((DONE, NONE), (DONE, NONE), NONE, 4),
             ((DONE, ONE), (DONE, NONE), ONE, 4),
@@ -117,7 +118,7 @@ const RACES: [Race; 7] = [
         first: SET_LAST,
         second: BUILD_FIVE,
         read: COUNT,
-        lawful: [
+        lawful: &[
             ((DONE, ONE), (NOT_EMPTY, ONE), ONE, 2),
             ((DONE, ONE), (NOT_EMPTY, ONE), ONE, 2),
             ((DONE, TWO), (DONE, ONE), TWO, 3),
@@ -130,7 +131,7 @@ const RACES: [Race; 7] = [
         first: BUILD_FIVE,
         second: BUILD_SEVEN,
         read: GET,
-        lawful: [
+        lawful: &[
             ((DONE, FIVE), (NOT_EMPTY, FIVE), FIVE, 2),
             ((DONE, FIVE), (NOT_EMPTY, FIVE), FIVE, 2),
             ((NOT_EMPTY, SEVEN), (DONE, SEVEN), SEVEN, 2),
@@ -143,7 +144,7 @@ const RACES: [Race; 7] = [
         first: SET_FIVE,
         second: Asked::DupVector(FIRST),
         read: Asked::GetVector(SECOND, 0),
-        lawful: [
+        lawful: &[
             ((DONE, GONE), (COPIED, FIVE), FIVE, 4),
             ((DONE, FIVE), (COPIED, FIVE), FIVE, 4),
             ((DONE, SEVEN), (COPIED, SEVEN), SEVEN, 4),
@@ -201,15 +202,13 @@ fn is_lawful(outcome: &Outcome, lawful: &[Outcome]) -> bool {
     false
 }
 
+/// The outcome is of one of the two orders.
 fn expect_lawful(rt: &impl Abort, pairs: &[Pair], read: Answer, known: u32, lawful: &[Outcome]) {
     let [first, second] = pairs else {
         panic!(rt; "two threads answer")
     };
     let outcome = (*first, *second, read, known);
-    assert!(rt;
-        is_lawful(&outcome, lawful),
-        "not by one of the two orders: {outcome:?}"
-    );
+    same(rt, is_lawful(&outcome, lawful), true, outcome);
 }
 
 pub(super) fn expect_race<R: Abort>(
@@ -223,15 +222,14 @@ pub(super) fn expect_race<R: Abort>(
     requires { IsPassOf context.now pass.old }
 {
     let read = answer_once(alloc, context, pass, race.read);
-    expect_lawful(rt, pairs, read, pass.known(), &race.lawful);
+    expect_lawful(rt, pairs, read, pass.known(), race.lawful);
 }
 
 #[test]
 fn two_calls_at_one_moment_are_answered_as_in_one_of_their_orders(
     rt: HostRuntime,
 ) -> Result<(), Fail> {
-    let races = RACES;
-    for race in races {
+    for race in &RACES {
         repeat(&rt, rt.alloc(), 1000, 4, 2, 2, &Work::Race(race))?;
     }
     Ok(())

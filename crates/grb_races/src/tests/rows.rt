@@ -2,6 +2,7 @@ ghost use Rattle.std.specs.Prelude.{◌<◌, ◌≤◌, All, IfOk};
 ghost use Rattle.grb_context.specs.Known.{IsPassOf};
 
 use crate::tests::asked::{Answer, Asked, ask};
+use crate::tests::same::same;
 use grb_context::{Context, Pass};
 use grb_core::Refusal;
 use std::alloc::{AllocError, Global};
@@ -80,18 +81,13 @@ fn expect_count<R: Abort>(
 ) {
     match counted {
         Counted::Known => {
-            assert_eq!(rt;
-                (pass.known(), pass.words()),
-                (expected, expected),
-                "row {at}, from 0"
-            );
+            same(rt, pass.known(), expected, ("row from 0", at));
+            same(rt, pass.words(), expected, ("row from 0", at));
         }
         Counted::Steps => {
-            assert!(rt;
-                refusals > 0 || pass.steps() == expected,
-                "row {at}, from 0: {} steps",
-                pass.steps()
-            );
+            if refusals == 0 {
+                same(rt, pass.steps(), expected, ("row from 0", at));
+            }
         }
     }
 }
@@ -111,7 +107,7 @@ fn expect_row<R: Abort>(
 {
     let (_, asked, expected, count) = *row;
     let answer = answer_of(alloc, context, pass, asked, refusals)?;
-    assert_eq!(rt; answer, expected, "row {at}, from 0");
+    same(rt, answer, expected, ("row from 0", at));
     expect_count(rt, pass, counted, count, at, *refusals);
     Ok(())
 }
@@ -141,8 +137,9 @@ fn expect_rows<R: Abort>(
 }
 
 fn expect_pass(rt: &impl Abort, pass: &Pass, number: u32, room: u32) {
-    assert_eq!(rt; pass.number(), number);
-    assert_eq!(rt; pass.room_left(), room.saturating_sub(pass.words()));
+    same(rt, pass.number(), number, "a pass");
+    let left = room.saturating_sub(pass.words());
+    same(rt, pass.room_left(), left, "the room");
 }
 
 // Makes the rows by the two passes of a new store. How many calls were refused memory, or a record.
@@ -159,7 +156,8 @@ fn refusals_by<R: Abort>(
     requires first { IsPassOf context.now p.old }
     requires second { IsPassOf context.now q.old }
 {
-    assert_eq!(rt; (p.steps(), q.steps()), (0, 0));
+    same(rt, p.steps(), 0, "the first pass");
+    same(rt, q.steps(), 0, "the second pass");
     let refusals = expect_rows(rt, alloc, context, p, q, counted, rows)?;
     expect_pass(rt, p, 0, room);
     expect_pass(rt, q, 1, room);

@@ -2,6 +2,7 @@ ghost use Rattle.grb_context.specs.Known.{IsPassOf};
 
 use crate::tests::asked::{Asked, FIRST, Operation, SECOND};
 use crate::tests::rows::answer_of;
+use crate::tests::same::same;
 use crate::tests::trials::{Trial, try_in_new};
 use grb_call::{Call, Descriptor, MatrixId, Object, VectorId, WaitMode};
 use grb_context::{Context, Pass};
@@ -90,7 +91,7 @@ const MULTIPLIED: Operation = Operation::EwiseMultMatrix(
 type Row = (Asked, Object, Status, Object, Status);
 
 fn expect_status(rt: &impl Abort, pass: &Pass, object: Object, expected: Status, at: usize) {
-    assert_eq!(rt; pass.last_info(object), expected, "row {at}, from 0");
+    same(rt, pass.last_info(object), expected, ("row from 0", at));
 }
 
 fn expect_row<R: Abort>(
@@ -128,7 +129,7 @@ fn expect_rows<R: Abort>(
 }
 
 /// In a store of 8 calls: the vector that the call changes or reads, and another object.
-const ON_VECTORS: [Row; 22] = [
+static ON_VECTORS: [Row; 22] = [
     (Asked::GetVector(FIRST, 0), V, UNINITIALIZED, A, None),
     (
         Asked::NewVector(Domain::Uint64, 0),
@@ -155,7 +156,7 @@ const ON_VECTORS: [Row; 22] = [
     (Asked::GetVector(SECOND, 9), W, BAD_INDEX, V, NO_VALUE),
     (Asked::GetVector(FIRST, 1), V, SUCCESS, W, BAD_INDEX),
     (
-        Asked::BuildVector(FIRST, [(0, 1), (2, 2), (3, 3)]),
+        Asked::BuildVector(FIRST, &[(0, 1), (2, 2), (3, 3)]),
         V,
         NOT_EMPTY,
         W,
@@ -163,7 +164,7 @@ const ON_VECTORS: [Row; 22] = [
     ),
     (Asked::ClearVector(FIRST), V, SUCCESS, W, BAD_INDEX),
     (
-        Asked::BuildVector(FIRST, [(0, 1), (2, 2), (4, 3)]),
+        Asked::BuildVector(FIRST, &[(0, 1), (2, 2), (4, 3)]),
         V,
         OUT_OF_BOUNDS,
         W,
@@ -217,8 +218,7 @@ pub(super) fn expect_on_vectors<R: Abort>(
 ) -> Result<(), AllocError>
     requires { IsPassOf context.now pass.old }
 {
-    let rows = ON_VECTORS;
-    expect_rows(rt, alloc, context, pass, &rows)
+    expect_rows(rt, alloc, context, pass, &ON_VECTORS)
 }
 
 #[test]
@@ -227,7 +227,7 @@ fn a_vector_has_the_status_of_the_last_call_on_it(rt: HostRuntime) -> Result<(),
 }
 
 /// In a store of 4 calls: the matrix that the call changes or reads, and another object.
-const ON_MATRICES: [Row; 13] = [
+static ON_MATRICES: [Row; 13] = [
     (Asked::NewMatrix(Domain::Uint64, 2, 0), A, None, B, None),
     (Asked::DupMatrix(MatrixId(0)), A, None, B, None),
     (Asked::NewMatrix(Domain::Uint64, 2, 2), A, SUCCESS, V, None),
@@ -269,8 +269,7 @@ pub(super) fn expect_on_matrices<R: Abort>(
 ) -> Result<(), AllocError>
     requires { IsPassOf context.now pass.old }
 {
-    let rows = ON_MATRICES;
-    expect_rows(rt, alloc, context, pass, &rows)
+    expect_rows(rt, alloc, context, pass, &ON_MATRICES)
 }
 
 #[test]
@@ -279,7 +278,7 @@ fn a_matrix_has_the_status_of_the_last_call_on_it(rt: HostRuntime) -> Result<(),
 }
 
 /// In a store of 16 calls: operations on matrices, products and totals, each refused by what is not there, and then done.
-const ON_OPERATIONS: [Row; 15] = [
+static ON_OPERATIONS: [Row; 15] = [
     (Asked::NewMatrix(Domain::Uint64, 2, 2), A, SUCCESS, V, None),
     (Asked::Operation(MXV), V, UNINITIALIZED, A, SUCCESS),
     (Asked::Operation(REDUCED_ROWS), V, UNINITIALIZED, A, SUCCESS),
@@ -323,8 +322,7 @@ pub(super) fn expect_on_operations<R: Abort>(
 ) -> Result<(), AllocError>
     requires { IsPassOf context.now pass.old }
 {
-    let rows = ON_OPERATIONS;
-    expect_rows(rt, alloc, context, pass, &rows)
+    expect_rows(rt, alloc, context, pass, &ON_OPERATIONS)
 }
 
 #[test]
@@ -338,13 +336,15 @@ fn expect_call<R: Abort>(
     context: &Context,
     pass: &mut Pass,
     call: Call,
-    statuses: (Status, Status),
+    of_vector: Status,
+    of_matrix: Status,
 )
     requires { IsPassOf context.now pass.old }
     ensures { IsPassOf context.now pass.new }
 {
     let _answer = context.call(pass, call);
-    assert_eq!(rt; (pass.last_info(V), pass.last_info(A)), statuses);
+    same(rt, pass.last_info(V), of_vector, V);
+    same(rt, pass.last_info(A), of_matrix, A);
 }
 
 fn new_vector() -> Call {
@@ -370,22 +370,25 @@ pub(super) fn expect_waited<R: Abort>(
         context,
         pass,
         Call::WaitMatrix { a, mode },
-        (None, UNINITIALIZED),
+        None,
+        UNINITIALIZED,
     );
-    expect_call(rt, context, pass, new_vector(), (SUCCESS, UNINITIALIZED));
+    expect_call(rt, context, pass, new_vector(), SUCCESS, UNINITIALIZED);
     expect_call(
         rt,
         context,
         pass,
         Call::ReduceVector { v, monoid },
-        (BAD_DOMAIN, UNINITIALIZED),
+        BAD_DOMAIN,
+        UNINITIALIZED,
     );
     expect_call(
         rt,
         context,
         pass,
         Call::WaitVector { v, mode },
-        (SUCCESS, UNINITIALIZED),
+        SUCCESS,
+        UNINITIALIZED,
     );
     Ok(())
 }
@@ -393,6 +396,12 @@ pub(super) fn expect_waited<R: Abort>(
 #[test]
 fn a_wait_and_a_total_leave_a_status(rt: HostRuntime) -> Result<(), AllocError> {
     try_in_new(&rt, rt.alloc(), 4, Trial::Waited)
+}
+
+/// The statuses of the first vector by two passes.
+fn expect_both(rt: &impl Abort, p: &Pass, q: &Pass, first: Status, second: Status) {
+    same(rt, p.last_info(V), first, "the first pass");
+    same(rt, q.last_info(V), second, "the second pass");
 }
 
 /// The pass makes a vector and gets what is not there; the other then asks for what is not there either.
@@ -407,13 +416,13 @@ pub(super) fn expect_met(
 {
     let _made = context.new_vector(q, Domain::Uint64, 2);
     let _refused = context.set_vector(q, FIRST, 2, SEVEN);
-    assert_eq!(rt; (p.last_info(V), q.last_info(V)), (None, BAD_INDEX));
-    assert_eq!(rt; context.meet(p, q), Ok(()));
-    assert_eq!(rt; (p.last_info(V), q.last_info(V)), (None, BAD_INDEX));
+    expect_both(rt, p, q, None, BAD_INDEX);
+    same(rt, context.meet(p, q), Ok(()), "a meeting");
+    expect_both(rt, p, q, None, BAD_INDEX);
     let _value = context.get_vector(p, FIRST, 1);
-    assert_eq!(rt; (p.last_info(V), q.last_info(V)), (NO_VALUE, BAD_INDEX));
-    assert_eq!(rt; context.meet(q, p), Ok(()));
-    assert_eq!(rt; (p.last_info(V), q.last_info(V)), (NO_VALUE, BAD_INDEX));
+    expect_both(rt, p, q, NO_VALUE, BAD_INDEX);
+    same(rt, context.meet(q, p), Ok(()), "a meeting");
+    expect_both(rt, p, q, NO_VALUE, BAD_INDEX);
     Ok(())
 }
 
@@ -452,7 +461,9 @@ pub(super) fn expect_last_of_list(
 ) -> Result<(), AllocError>
     requires { IsPassOf context.now pass.old }
 {
-    assert_eq!(rt; statuses_of_list(context, pass), (BAD_INDEX, None));
+    let (first, second) = statuses_of_list(context, pass);
+    same(rt, first, BAD_INDEX, V);
+    same(rt, second, None, W);
     Ok(())
 }
 

@@ -4,7 +4,7 @@ use grb_call::Reply;
 use grb_core::{Domain, Refusal, Value};
 use std::alloc::AllocError;
 
-const STEPS_OF_CALLS: [Row; 8] = [
+static STEPS_OF_CALLS: [Row; 8] = [
     (
         0,
         Asked::NewVector(Domain::Uint64, 4),
@@ -44,11 +44,10 @@ const STEPS_OF_CALLS: [Row; 8] = [
 fn a_call_takes_a_step_for_each_word_learnt_and_one_more(
     rt: HostRuntime,
 ) -> Result<(), AllocError> {
-    let rows = STEPS_OF_CALLS;
-    run(&rt, 8, Counted::Steps, &rows)
+    run(&rt, 8, Counted::Steps, &STEPS_OF_CALLS)
 }
 
-const STEPS_OF_A_FULL_ORDER: [Row; 7] = [
+static STEPS_OF_A_FULL_ORDER: [Row; 7] = [
     (
         0,
         Asked::NewVector(Domain::Uint64, 3),
@@ -85,6 +84,5 @@ const STEPS_OF_A_FULL_ORDER: [Row; 7] = [
 
 #[test]
 fn a_call_on_a_full_order_takes_no_step(rt: HostRuntime) -> Result<(), AllocError> {
-    let rows = STEPS_OF_A_FULL_ORDER;
-    run(&rt, 2, Counted::Steps, &rows)
+    run(&rt, 2, Counted::Steps, &STEPS_OF_A_FULL_ORDER)
 }

@@ -4,6 +4,7 @@ ghost use Rattle.grb_context.specs.Known.{IsPassOf};
 use crate::tests::asked::{Answer, DONE, FIRST};
 use crate::tests::races::{Race, answers_at_once, before_race, expect_race};
 use crate::tests::rows::next_pass;
+use crate::tests::same::same;
 use grb_call::{Reply, VectorTuples};
 use grb_context::{Context, Pass};
 use grb_core::{Domain, Monoid, Refusal, Value};
@@ -24,7 +25,7 @@ pub(super) enum Work {
     SetAndCount,
     SetOwn,
     BuildOwn,
-    Race(Race),
+    Race(&'static Race),
 }
 
 /// Sets a hundred entries of the pass's own.
@@ -119,23 +120,23 @@ fn expect_entries(rt: &impl Abort, context: &Context, pass: &mut Pass, entries: 
     ensures { IsPassOf context.now pass.new }
 {
     let nvals = context.nvals_vector(pass, FIRST);
-    assert_eq!(rt; nvals, Ok(Reply::Count(entries)));
-    assert_eq!(rt; pass.known(), known);
+    same(rt, nvals, Ok(Reply::Count(entries)), "the entries");
+    same(rt, pass.known(), known, "the calls");
 }
 
 /// Each of 63 threads made 64 sets, and all were done.
 fn expect_all_done(rt: &impl Abort, pairs: &[Pair]) {
-    assert_eq!(rt; pairs.len(), 63);
+    same(rt, pairs.len(), 63, "the threads");
     for (done, _) in pairs {
-        assert_eq!(rt; *done, Ok(Reply::Count(64)));
+        same(rt, *done, Ok(Reply::Count(64)), "the sets");
     }
 }
 
 /// Two threads counted two entries each.
 fn expect_both(rt: &impl Abort, pairs: &[Pair]) {
-    assert_eq!(rt; pairs.len(), 2);
+    same(rt, pairs.len(), 2, "the threads");
     for (_, count) in pairs {
-        assert_eq!(rt; *count, Ok(Reply::Count(2)));
+        same(rt, *count, Ok(Reply::Count(2)), "the entries");
     }
 }
 
@@ -148,10 +149,10 @@ fn winner_of(rt: &impl Abort, pairs: &[Pair], refused: Answer) -> u64 {
             won = won.saturating_add(1);
             winner = at as u64;
         } else {
-            assert_eq!(rt; *answer, refused);
+            same(rt, *answer, refused, ("thread", at));
         }
     }
-    assert_eq!(rt; won, 1);
+    same(rt, won, 1, "the calls that were entered");
     winner
 }
 
@@ -166,10 +167,15 @@ fn expect_winner(
     requires { IsPassOf context.now pass.old }
     ensures { IsPassOf context.now pass.new }
 {
-    assert_eq!(rt; pairs.len(), 4);
+    same(rt, pairs.len(), 4, "the threads");
     let winner = winner_of(rt, pairs, refused);
     let value = context.get_vector(pass, FIRST, 0);
-    assert_eq!(rt; value, Ok(Reply::Value(Value::Uint64(winner))));
+    same(
+        rt,
+        value,
+        Ok(Reply::Value(Value::Uint64(winner))),
+        "the first entry",
+    );
 }
 
 /// Of four builds one was entered.
@@ -177,7 +183,7 @@ fn expect_built(rt: &impl Abort, context: &Context, pass: &mut Pass, pairs: &[Pa
     requires { IsPassOf context.now pass.old }
 {
     expect_winner(rt, context, pass, pairs, Err(Refusal::OutputNotEmpty));
-    assert_eq!(rt; pass.known(), 2);
+    same(rt, pass.known(), 2, "the calls");
 }
 
 fn expect_answers<R: Abort>(
@@ -203,20 +209,20 @@ fn expect_answers<R: Abort>(
     }
 }
 
-/// Makes the first vector, of numbers, and what is called before a race.
-fn make_first(
-    rt: &impl Abort,
-    alloc: Global,
-    context: &Context,
-    pass: &mut Pass,
-    size: u64,
-    work: &Work,
-)
+/// Makes the first vector, of numbers.
+fn make_first(rt: &impl Abort, context: &Context, pass: &mut Pass, size: u64)
     requires { IsPassOf context.now pass.old }
     ensures { IsPassOf context.now pass.new }
 {
     let made = context.new_vector(pass, Domain::Uint64, size);
-    assert_eq!(rt; made, Ok(Reply::MadeVector(FIRST)));
+    same(rt, made, Ok(Reply::MadeVector(FIRST)), "a new vector");
+}
+
+/// Makes what is called before a race.
+fn make_ready(alloc: Global, context: &Context, pass: &mut Pass, work: &Work)
+    requires { IsPassOf context.now pass.old }
+    ensures { IsPassOf context.now pass.new }
+{
     if let Work::Race(race) = work {
         before_race(alloc, context, pass, race);
     }
@@ -236,7 +242,8 @@ fn on_threads<R: Abort + Threads + Wait + Sync>(
 {
     let (context, mut passes) = Context::open(alloc, room, threads + 1)?;
     let mut last = next_pass(rt, &context, &mut passes);
-    make_first(rt, alloc, &context, &mut last, size, work);
+    make_first(rt, &context, &mut last, size);
+    make_ready(alloc, &context, &mut last, work);
     let all = Barrier::new(threads as usize);
     let pairs = map_vec(
         rt,

@@ -1,10 +1,14 @@
-use Rattle.std.proofs.Common.{length}
-use Rattle.grb_core.specs.Entries.{cells_of}
+use Rattle.std.proofs.Common.{◌≡◌, length}
+use Rattle.std.specs.FinMap.{is_sorted}
+use Rattle.grb_core.specs.Entries.{cell_cmp, cells_of}
 use Rattle.grb_market.specs.Gathered.{AreGathered}
 use Rattle.grb_market.proofs.reader.gather.Given as goal
 
 abbrev pub invariant-loop-rest : goal.invariant-loop-rest
-invariant-loop-rest l = AreGathered l.head l.size l.behind (cells_of l.tuples.items) l.left l.rest
+invariant-loop-rest l = record {
+  front : AreGathered l.head l.size l.behind (cells_of l.tuples.items) l.left l.rest;
+  rising : l.rising ≡ is_sorted cell_cmp (cells_of l.tuples.items);
+}
 
 abbrev pub decreases-loop-rest : goal.decreases-loop-rest
 decreases-loop-rest l = length l.rest

@@ -10,7 +10,7 @@ use Rattle.grb_market.proofs.reader.read_entries.Goals as goal
 pub returns-in-Some-clause-fault : goal.returns-in-Some-clause-fault
 returns-in-Some-clause-fault c =
     let es = cells_of c.in_ok-tuples.tuples.items in
-    let all = c.in_ok-tuples.ensures in
+    let all = c.in_ok-tuples.ensures.all in
     let apart : are_apart es ≡ true = sym c.in_ok-put_in_order.ensures.apart ∙ c.if-not-branch.false in
     let stands = stands_behind c.args.text.now c.args.head c.args.size c.args.first c.args.behind.now c.requires.stands es all.left all.rest all.front apart in
     let long = length-cells_of c.in_ok-tuples.tuples.items in
@@ -21,7 +21,7 @@ returns-in-Some-clause-fault c =
 pub returns-in-None-clause-read : goal.returns-in-None-clause-read
 returns-in-None-clause-read c =
     let es = cells_of c.in_ok-tuples.tuples.items in
-    let all = c.in_ok-tuples.ensures in
+    let all = c.in_ok-tuples.ensures.all in
     let apart : are_apart es ≡ true = sym c.in_ok-put_in_order.ensures.apart ∙ c.if-not-branch.false in
     let stands = stands_behind c.args.text.now c.args.head c.args.size c.args.first c.args.behind.now c.requires.stands es all.left all.rest all.front apart in
     let end : lines_of all.rest ≡ [] = subst (IsAtEnd (lines_of all.rest)) c.in-None.is all.ends in

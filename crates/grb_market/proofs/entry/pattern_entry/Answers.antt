@@ -1,5 +1,0 @@
-use Rattle.grb_market.proofs.PlainLemmas.{pattern_line}
-use Rattle.grb_market.proofs.entry.pattern_entry.Goals as goal
-
-pub returns-clause-some : goal.returns-clause-some
-returns-clause-some c = pattern_line c.args.head c.args.size c.args.text.now _ _ _ _ c.requires c.in-Some.ensures c.entry_from.ensures.is

@@ -1,0 +1,91 @@
+-- A list of calls on the whole store and on the part, one after another.
+use Rattle.std.proofs.Common.{◌≡◌, ℕ, zero, suc, ◌<◌, Bool, List, [], ◌∷◌, refl, sym, ap, subst, ◌∙◌, arith, length, drop, take, get_or, Option}
+use Rattle.grb_call.specs.declared.call.Call.{Call}
+use Rattle.grb_call.specs.declared.ids.Object.{Object}
+use Rattle.grb_call.specs.Shapes.{ObjectShapes}
+use Rattle.grb_call.specs.Refused.{shapes_after}
+use Rattle.grb_call.specs.Store.{Store, shapes_of}
+use Rattle.grb_call.specs.After.{after}
+use Rattle.grb_call.specs.History.{after_all}
+use Rattle.grb_call.proofs.ShapesAfter.{shapes_of-after}
+use Rattle.grb_slices.specs.Content.{effective_target}
+use Rattle.grb_slices.specs.Slice.{Step, Entry, Wants, entries, sliced}
+use Rattle.grb_slices.specs.Steps.{steps_of}
+use Rattle.grb_slices.specs.Wanted.{is_chosen, wants_behind}
+use Rattle.grb_slices.specs.Followed.{Follows, GoesOn, part_after, targets_of}
+use Rattle.grb_slices.proofs.Followed.{follows_next, same_wants}
+use Rattle.grb_slices.proofs.Walked.{sliced_behind}
+
+first_of : {X : Type 0} (x y : X) (xs ys : List X) → ◌≡◌ {A = List X} (x ∷ xs) (y ∷ ys) → x ≡ y
+first_of x y xs ys e = cc
+
+rest_of : {X : Type 0} (x y : X) (xs ys : List X) → ◌≡◌ {A = List X} (x ∷ xs) (y ∷ ys) → xs ≡ ys
+rest_of x y xs ys e = cc
+
+goes_next : (w : Wants) (s part : Store) (c : Call) (cs : List Call) (t : Option Object) (ts : List (Option Object)) (b : Bool) (bs : List Bool) →
+    GoesOn w s (c ∷ cs) (t ∷ ts) (b ∷ bs) part → GoesOn w (after s c) cs ts bs (part_after b t c part)
+goes_next w s part c cs t ts b bs goes =
+    let target : t ≡ effective_target (shapes_of s) c = first_of t _ ts _ goes.targets_are in
+    let v : Wants = (sliced w (entries ts cs)).wanted in
+    let chose : b ≡ is_chosen v t = first_of b _ bs _ goes.chosen_are in
+    let before : Follows (wants_behind v t c) s part = same_wants (sliced w (Entry t c ∷ entries ts cs)).wanted (wants_behind v t c) s part (sliced_behind w t c (entries ts cs)) goes.follows in
+    record {
+      targets_are = rest_of t _ ts _ goes.targets_are ∙ ap (λ (u : ObjectShapes). targets_of u cs) (sym (shapes_of-after s c));
+      chosen_are = rest_of b _ bs _ goes.chosen_are;
+      follows = subst (λ (d : Bool). Follows v (after s c) (part_after d t c part)) (sym chose)
+          (subst (λ (u : Option Object). Follows v (after s c) (part_after (is_chosen v u) u c part)) (sym target)
+          (follows_next v s part c (subst (λ (u : Option Object). Follows (wants_behind v u c) s part) target before)));
+    }
+
+pub drop_at : {X : Type 0} (xs : List X) (k : ℕ) (d : X) → k < length xs → drop k xs ≡ get_or xs k d ∷ drop (suc k) xs
+drop_at [] k d h = absurd (omega arith)
+drop_at (x ∷ xs) zero d h = refl
+drop_at (x ∷ xs) (suc k) d h = drop_at xs k d (omega arith)
+
+pub after_at : (s : Store) (cs : List Call) (k : ℕ) (d : Call) → k < length cs → after_all s (take (suc k) cs) ≡ after (after_all s (take k cs)) (get_or cs k d)
+after_at s [] k d h = absurd (omega arith)
+after_at s (c ∷ cs) zero d h = refl
+after_at s (c ∷ cs) (suc k) d h = after_at (after s c) cs k d (omega arith)
+
+-- at each place of the lists
+pub goes_at : (w : Wants) (s part : Store) (cs : List Call) (ts : List (Option Object)) (bs : List Bool) (k : ℕ) (c : Call) (t : Option Object) (b : Bool) →
+    k < length cs → length ts ≡ length cs → length bs ≡ length cs → get_or cs k c ≡ c → get_or ts k t ≡ t → get_or bs k b ≡ b →
+    GoesOn w (after_all s (take k cs)) (drop k cs) (drop k ts) (drop k bs) part →
+    GoesOn w (after_all s (take (suc k) cs)) (drop (suc k) cs) (drop (suc k) ts) (drop (suc k) bs) (part_after b t c part)
+goes_at w s part cs ts bs k c t b within same_t same_b ec et eb goes =
+    let here_c : drop k cs ≡ c ∷ drop (suc k) cs = drop_at cs k c within ∙ ap (λ x. x ∷ drop (suc k) cs) ec in
+    let here_t : drop k ts ≡ t ∷ drop (suc k) ts = drop_at ts k t (omega (arith, within, same_t)) ∙ ap (λ x. x ∷ drop (suc k) ts) et in
+    let here_b : drop k bs ≡ b ∷ drop (suc k) bs = drop_at bs k b (omega (arith, within, same_b)) ∙ ap (λ x. x ∷ drop (suc k) bs) eb in
+    let whole : after_all s (take (suc k) cs) ≡ after (after_all s (take k cs)) c = after_at s cs k c within ∙ ap (after (after_all s (take k cs))) ec in
+    subst (λ (u : Store). GoesOn w u (drop (suc k) cs) (drop (suc k) ts) (drop (suc k) bs) (part_after b t c part)) (sym whole)
+    (goes_next w (after_all s (take k cs)) part c (drop (suc k) cs) t (drop (suc k) ts) b (drop (suc k) bs)
+    (subst (λ (x : List Call). GoesOn w (after_all s (take k cs)) x (t ∷ drop (suc k) ts) (b ∷ drop (suc k) bs) part) here_c
+    (subst (λ (x : List (Option Object)). GoesOn w (after_all s (take k cs)) (drop k cs) x (b ∷ drop (suc k) bs) part) here_t
+    (subst (λ (x : List Bool). GoesOn w (after_all s (take k cs)) (drop k cs) (drop k ts) x part) here_b goes))))
+
+pub drop_all : {X : Type 0} (xs : List X) (n : ℕ) → n ≡ length xs → drop n xs ≡ []
+drop_all [] n e = ap (λ m. drop m []) e
+drop_all (x ∷ xs) n e = ap (λ m. drop m (x ∷ xs)) e ∙ drop_all xs (length xs) refl
+
+pub take_all : {X : Type 0} (xs : List X) (n : ℕ) → n ≡ length xs → take n xs ≡ xs
+take_all [] n e = ap (λ m. take m []) e
+take_all (x ∷ xs) n e = ap (λ m. take m (x ∷ xs)) e ∙ ap (λ ys. x ∷ ys) (take_all xs (length xs) refl)
+
+-- at the end of the lists the part holds what was wanted
+pub goes_end : (w : Wants) (s part : Store) (cs : List Call) (ts : List (Option Object)) (bs : List Bool) (n : ℕ) → n ≡ length cs → length ts ≡ length cs →
+    GoesOn w (after_all s (take n cs)) (drop n cs) (drop n ts) (drop n bs) part → Follows w (after_all s cs) part
+goes_end w s part cs ts bs n e same goes =
+    subst (λ (x : List Call). Follows w (after_all s x) part) (take_all cs n e)
+    (subst (λ (x : List Step). Follows (sliced w x).wanted (after_all s (take n cs)) part)
+    (ap (λ (x : List Call). entries (drop n ts) x) (drop_all cs n e) ∙ ap (λ (x : List (Option Object)). entries x []) (drop_all ts n (e ∙ sym same))) goes.follows)
+
+-- the entries of these targets are those that one walk over shapes finds
+pub entries_are : (s : ObjectShapes) (cs : List Call) → entries (targets_of s cs) cs ≡ steps_of s cs
+entries_are s [] = refl
+entries_are s (c ∷ cs) = ap (λ xs. Entry (effective_target s c) c ∷ xs) (entries_are (shapes_after s c) cs)
+
+-- inside a list the default does not matter
+pub inside_default : {X : Type 0} (xs : List X) (k : ℕ) (d e : X) → k < length xs → get_or xs k d ≡ get_or xs k e
+inside_default [] k d e h = absurd (omega arith)
+inside_default (x ∷ xs) zero d e h = refl
+inside_default (x ∷ xs) (suc k) d e h = inside_default xs k d e (omega arith)

@@ -1,0 +1,191 @@
+-- Why a call is refused is a matter of what it reads.
+use Rattle.std.proofs.Common.{◌≡◌, ℕ, Bool, true, not, ◌&&◌, nat_lt, if◌then◌else◌, List, [], ◌∷◌, refl, sym, ap, ◌∙◌, Option, Some, None, option_map, is_some}
+use Rattle.std.specs.Prelude.{◌==◌}
+use Rattle.std.specs.List.{list_all}
+use Rattle.std.specs.Option.{option_map_or}
+use Rattle.grb_core.specs.declared.domain.Domain.{Domain}
+use Rattle.grb_core.specs.declared.refusal.Refusal.{Refusal}
+use Rattle.grb_core.specs.declared.refusal.Refusal.TheVariants.{UninitializedObject, InvalidValue, InvalidIndex, DomainMismatch, DimensionMismatch}
+use Rattle.grb_core.specs.Contents.{Matrix, Vector}
+use Rattle.grb_call.specs.declared.call.Call.{Call}
+use Rattle.grb_call.specs.declared.call.Call.TheVariants as call
+use Rattle.grb_call.specs.declared.ids.MatrixId.{MatrixId}
+use Rattle.grb_call.specs.declared.ids.VectorId.{VectorId}
+use Rattle.grb_call.specs.declared.ids.Object.{Object}
+use Rattle.grb_call.specs.declared.ids.Object.TheVariants as object
+use Rattle.grb_call.specs.Operands.{operands, masks, matrix_mask, vector_mask, given_domains}
+use Rattle.grb_call.specs.Shapes.{ObjectShapes, MatrixShape, VectorShape, matrix_shape_at, vector_shape_at, is_live, domain_at, nrows_at, ncols_at, size_at}
+use Rattle.grb_call.specs.Refused.{is_initialized, has_valid_values, has_valid_index, has_one_domain, has_fitting_dims, same_domain, are_of_domain, is_one_domain, matrix_mask_fits, vector_mask_fits, refused_by_shapes}
+use Rattle.grb_call.specs.Store.{Store, shapes_of, matrix_shape, vector_shape, matrix_at, vector_at}
+use Rattle.grb_call.proofs.ShapesAfter.{object_at-map}
+use Rattle.grb_slices.specs.Content.{Content, MatrixContent, VectorContent, content_at, objects_read}
+use Rattle.grb_slices.specs.Slice.{is_among}
+use Rattle.grb_slices.specs.Steps.{AgreeOn}
+use Rattle.grb_slices.proofs.Wants.{among_first, among_next, among_before, among_after}
+
+-- the shapes have the same of this object
+abbrev SameAt : ObjectShapes → ObjectShapes → Object → Type 0
+SameAt s t (object.Matrix a) = matrix_shape_at s a ≡ matrix_shape_at t a
+SameAt s t (object.Vector v) = vector_shape_at s v ≡ vector_shape_at t v
+
+abbrev SameOn : ObjectShapes → ObjectShapes → List Object → Type 0
+SameOn s t os = (o : Object) → is_among os o ≡ true → SameAt s t o
+
+-- the refusals of a call whose objects are all there
+abbrev later : Call → Bool → Bool → Bool → Option Refusal
+later c i d f = if not (has_valid_values c) then Some InvalidValue else (if not i then Some InvalidIndex else (if not d then Some DomainMismatch else (if not f then Some DimensionMismatch else None)))
+
+module _ (s t : ObjectShapes) where
+  first : (o : Object) (os : List Object) → SameOn s t (o ∷ os) → SameAt s t o
+  first o os same = same o (among_first o os)
+
+  next : (o : Object) (os : List Object) → SameOn s t (o ∷ os) → SameOn s t os
+  next o os same p wanted = same p (among_next p o os wanted)
+
+  live : (o : Object) → SameAt s t o → is_live s o ≡ is_live t o
+  live (object.Matrix a) e = ap (λ m. is_some m) e
+  live (object.Vector v) e = ap (λ x. is_some x) e
+
+  domain : (o : Object) → SameAt s t o → domain_at s o ≡ domain_at t o
+  domain (object.Matrix a) e = ap (λ m. option_map (λ x. x.0) m) e
+  domain (object.Vector v) e = ap (λ m. option_map (λ x. x.0) m) e
+
+  all_live : (os : List Object) → SameOn s t os → list_all (is_live s) os ≡ list_all (is_live t) os
+  all_live [] same = refl
+  all_live (o ∷ os) same = ap (λ b. b && list_all (is_live s) os) (live o (first o os same)) ∙ ap (λ b. is_live t o && b) (all_live os (next o os same))
+
+  all_of : (d : Domain) (os : List Object) → SameOn s t os → are_of_domain s d os ≡ are_of_domain t d os
+  all_of d [] same = refl
+  all_of d (o ∷ os) same = ap (λ m. option_map_or (same_domain d) m true && are_of_domain s d os) (domain o (first o os same))
+      ∙ ap (λ b. option_map_or (same_domain d) (domain_at t o) true && b) (all_of d os (next o os same))
+
+  of_first : (d : Option Domain) (os : List Object) (given : List Domain) → SameOn s t os →
+      option_map_or (λ d. are_of_domain s d os && list_all (same_domain d) given) d true ≡ option_map_or (λ d. are_of_domain t d os && list_all (same_domain d) given) d true
+  of_first None os given same = refl
+  of_first (Some d) os given same = ap (λ b. b && list_all (same_domain d) given) (all_of d os same)
+
+  one_domain : (os : List Object) (given : List Domain) → SameOn s t os → is_one_domain s os given ≡ is_one_domain t os given
+  one_domain [] given same = refl
+  one_domain (o ∷ os) given same = ap (λ d. option_map_or (λ d. are_of_domain s d os && list_all (same_domain d) given) d true) (domain o (first o os same))
+      ∙ of_first (domain_at t o) os given (next o os same)
+
+  rows : (a : MatrixId) → SameAt s t (object.Matrix a) → nrows_at s a ≡ nrows_at t a
+  rows a e = ap (λ m. option_map_or (λ x. x.1) m 0) e
+
+  columns : (a : MatrixId) → SameAt s t (object.Matrix a) → ncols_at s a ≡ ncols_at t a
+  columns a e = ap (λ m. option_map_or (λ x. x.2) m 0) e
+
+  size : (v : VectorId) → SameAt s t (object.Vector v) → size_at s v ≡ size_at t v
+  size v e = ap (λ m. option_map_or (λ x. x.1) m 0) e
+
+  cell : (a : MatrixId) (i j : ℕ) → SameAt s t (object.Matrix a) → (nat_lt i (nrows_at s a) && nat_lt j (ncols_at s a)) ≡ (nat_lt i (nrows_at t a) && nat_lt j (ncols_at t a))
+  cell a i j e = ap (λ n. nat_lt i n && nat_lt j (ncols_at s a)) (rows a e) ∙ ap (λ n. nat_lt i (nrows_at t a) && nat_lt j n) (columns a e)
+
+  index : (v : VectorId) (i : ℕ) → SameAt s t (object.Vector v) → nat_lt i (size_at s v) ≡ nat_lt i (size_at t v)
+  index v i e = ap (nat_lt i) (size v e)
+
+  valid_index : (c : Call) → SameOn s t (operands c) → has_valid_index s c ≡ has_valid_index t c
+  valid_index (call.SetMatrix a i j value) same = cell a i j (first (object.Matrix a) [] same)
+  valid_index (call.SetVector v i value) same = index v i (first (object.Vector v) [] same)
+  valid_index (call.RemoveMatrix a i j) same = cell a i j (first (object.Matrix a) [] same)
+  valid_index (call.RemoveVector v i) same = index v i (first (object.Vector v) [] same)
+  valid_index (call.GetMatrix a i j) same = cell a i j (first (object.Matrix a) [] same)
+  valid_index (call.GetVector v i) same = index v i (first (object.Vector v) [] same)
+  valid_index _ same = refl
+
+  dims : (a b : MatrixId) → SameAt s t (object.Matrix a) → SameAt s t (object.Matrix b) →
+      ((nrows_at s a == nrows_at s b) && (ncols_at s a == ncols_at s b)) ≡ ((nrows_at t a == nrows_at t b) && (ncols_at t a == ncols_at t b))
+  dims a b x y = ap (λ n. (n == nrows_at s b) && (ncols_at s a == ncols_at s b)) (rows a x) ∙ (ap (λ n. (nrows_at t a == n) && (ncols_at s a == ncols_at s b)) (rows b y)
+      ∙ (ap (λ n. (nrows_at t a == nrows_at t b) && (n == ncols_at s b)) (columns a x) ∙ ap (λ n. (nrows_at t a == nrows_at t b) && (ncols_at t a == n)) (columns b y)))
+
+  sizes : (u v : VectorId) → SameAt s t (object.Vector u) → SameAt s t (object.Vector v) → (size_at s u == size_at s v) ≡ (size_at t u == size_at t v)
+  sizes u v x y = ap (λ n. n == size_at s v) (size u x) ∙ ap (λ n. size_at t u == n) (size v y)
+
+  matrix_mask_same : (mask : Option MatrixId) (c : MatrixId) → SameAt s t (object.Matrix c) → SameOn s t (matrix_mask mask) → matrix_mask_fits s mask c ≡ matrix_mask_fits t mask c
+  matrix_mask_same None c x same = refl
+  matrix_mask_same (Some m) c x same = dims m c (first (object.Matrix m) [] same) x
+
+  vector_mask_same : (mask : Option VectorId) (w : VectorId) → SameAt s t (object.Vector w) → SameOn s t (vector_mask mask) → vector_mask_fits s mask w ≡ vector_mask_fits t mask w
+  vector_mask_same None w x same = refl
+  vector_mask_same (Some m) w x same = sizes m w (first (object.Vector m) [] same) x
+
+  rows_rows : (a b : MatrixId) → SameAt s t (object.Matrix a) → SameAt s t (object.Matrix b) → (nrows_at s a == nrows_at s b) ≡ (nrows_at t a == nrows_at t b)
+  rows_rows a b x y = ap (λ n. n == nrows_at s b) (rows a x) ∙ ap (λ n. nrows_at t a == n) (rows b y)
+
+  columns_columns : (a b : MatrixId) → SameAt s t (object.Matrix a) → SameAt s t (object.Matrix b) → (ncols_at s a == ncols_at s b) ≡ (ncols_at t a == ncols_at t b)
+  columns_columns a b x y = ap (λ n. n == ncols_at s b) (columns a x) ∙ ap (λ n. ncols_at t a == n) (columns b y)
+
+  columns_rows : (a b : MatrixId) → SameAt s t (object.Matrix a) → SameAt s t (object.Matrix b) → (ncols_at s a == nrows_at s b) ≡ (ncols_at t a == nrows_at t b)
+  columns_rows a b x y = ap (λ n. n == nrows_at s b) (columns a x) ∙ ap (λ n. ncols_at t a == n) (rows b y)
+
+  rows_size : (a : MatrixId) (v : VectorId) → SameAt s t (object.Matrix a) → SameAt s t (object.Vector v) → (nrows_at s a == size_at s v) ≡ (nrows_at t a == size_at t v)
+  rows_size a v x y = ap (λ n. n == size_at s v) (rows a x) ∙ ap (λ n. nrows_at t a == n) (size v y)
+
+  columns_size : (a : MatrixId) (v : VectorId) → SameAt s t (object.Matrix a) → SameAt s t (object.Vector v) → (ncols_at s a == size_at s v) ≡ (ncols_at t a == size_at t v)
+  columns_size a v x y = ap (λ n. n == size_at s v) (columns a x) ∙ ap (λ n. ncols_at t a == n) (size v y)
+
+  both : (a b x y : Bool) → a ≡ x → b ≡ y → (a && b) ≡ (x && y)
+  both a b x y e f = ap (λ n. n && b) e ∙ ap (λ n. x && n) f
+
+  fitting : (c : Call) → SameOn s t (operands c) → SameOn s t (masks c) → has_fitting_dims s c ≡ has_fitting_dims t c
+  fitting (call.EwiseAddMatrix c mask accum op a b d) same masked =
+      let one = first (object.Matrix c) (object.Matrix a ∷ object.Matrix b ∷ []) same in let rest = next (object.Matrix c) (object.Matrix a ∷ object.Matrix b ∷ []) same in
+      let two = first (object.Matrix a) (object.Matrix b ∷ []) rest in let three = first (object.Matrix b) [] (next (object.Matrix a) (object.Matrix b ∷ []) rest) in
+      both _ _ _ _ (dims a c two one) (both _ _ _ _ (dims b c three one) (matrix_mask_same mask c one masked))
+  fitting (call.EwiseMultMatrix c mask accum op a b d) same masked =
+      let one = first (object.Matrix c) (object.Matrix a ∷ object.Matrix b ∷ []) same in let rest = next (object.Matrix c) (object.Matrix a ∷ object.Matrix b ∷ []) same in
+      let two = first (object.Matrix a) (object.Matrix b ∷ []) rest in let three = first (object.Matrix b) [] (next (object.Matrix a) (object.Matrix b ∷ []) rest) in
+      both _ _ _ _ (dims a c two one) (both _ _ _ _ (dims b c three one) (matrix_mask_same mask c one masked))
+  fitting (call.EwiseAddVector w mask accum op u v d) same masked =
+      let one = first (object.Vector w) (object.Vector u ∷ object.Vector v ∷ []) same in let rest = next (object.Vector w) (object.Vector u ∷ object.Vector v ∷ []) same in
+      let two = first (object.Vector u) (object.Vector v ∷ []) rest in let three = first (object.Vector v) [] (next (object.Vector u) (object.Vector v ∷ []) rest) in
+      both _ _ _ _ (sizes u w two one) (both _ _ _ _ (sizes v w three one) (vector_mask_same mask w one masked))
+  fitting (call.EwiseMultVector w mask accum op u v d) same masked =
+      let one = first (object.Vector w) (object.Vector u ∷ object.Vector v ∷ []) same in let rest = next (object.Vector w) (object.Vector u ∷ object.Vector v ∷ []) same in
+      let two = first (object.Vector u) (object.Vector v ∷ []) rest in let three = first (object.Vector v) [] (next (object.Vector u) (object.Vector v ∷ []) rest) in
+      both _ _ _ _ (sizes u w two one) (both _ _ _ _ (sizes v w three one) (vector_mask_same mask w one masked))
+  fitting (call.Mxv w mask accum semiring a u d) same masked =
+      let one = first (object.Vector w) (object.Matrix a ∷ object.Vector u ∷ []) same in let rest = next (object.Vector w) (object.Matrix a ∷ object.Vector u ∷ []) same in
+      let two = first (object.Matrix a) (object.Vector u ∷ []) rest in let three = first (object.Vector u) [] (next (object.Matrix a) (object.Vector u ∷ []) rest) in
+      both _ _ _ _ (rows_size a w two one) (both _ _ _ _ (columns_size a u two three) (vector_mask_same mask w one masked))
+  fitting (call.Mxm c mask accum semiring a b d) same masked =
+      let one = first (object.Matrix c) (object.Matrix a ∷ object.Matrix b ∷ []) same in let rest = next (object.Matrix c) (object.Matrix a ∷ object.Matrix b ∷ []) same in
+      let two = first (object.Matrix a) (object.Matrix b ∷ []) rest in let three = first (object.Matrix b) [] (next (object.Matrix a) (object.Matrix b ∷ []) rest) in
+      both _ _ _ _ (rows_rows a c two one) (both _ _ _ _ (columns_columns b c three one) (both _ _ _ _ (columns_rows a b two three) (matrix_mask_same mask c one masked)))
+  fitting (call.ReduceRows w mask accum monoid a d) same masked =
+      let one = first (object.Vector w) (object.Matrix a ∷ []) same in let two = first (object.Matrix a) [] (next (object.Vector w) (object.Matrix a ∷ []) same) in
+      both _ _ _ _ (rows_size a w two one) (vector_mask_same mask w one masked)
+  fitting _ same masked = refl
+
+  refusal_same : (c : Call) → SameOn s t (objects_read c) → refused_by_shapes s c ≡ refused_by_shapes t c
+  refusal_same c same =
+      let os : SameOn s t (operands c) = λ o wanted. same o (among_before o (operands c) (masks c) wanted) in
+      let ms : SameOn s t (masks c) = λ o wanted. same o (among_after o (operands c) (masks c) wanted) in
+      ap (λ b. if not b then Some UninitializedObject else later c (has_valid_index s c) (has_one_domain s c) (has_fitting_dims s c)) (all_live (objects_read c) same)
+      ∙ (ap (λ b. if not (is_initialized t c) then Some UninitializedObject else later c b (has_one_domain s c) (has_fitting_dims s c)) (valid_index c os)
+      ∙ (ap (λ b. if not (is_initialized t c) then Some UninitializedObject else later c (has_valid_index t c) b (has_fitting_dims s c)) (one_domain (operands c) (given_domains c) os)
+      ∙ ap (λ b. if not (is_initialized t c) then Some UninitializedObject else later c (has_valid_index t c) (has_one_domain t c) b) (fitting c os ms)))
+
+-- the shape of what an object holds
+abbrev shape_of_matrix : Option Content → Option MatrixShape
+shape_of_matrix (Some (MatrixContent m)) = Some (matrix_shape m)
+shape_of_matrix _ = None
+
+abbrev shape_of_vector : Option Content → Option VectorShape
+shape_of_vector (Some (VectorContent x)) = Some (vector_shape x)
+shape_of_vector _ = None
+
+held_shape_m : (o : Option Matrix) → option_map matrix_shape o ≡ shape_of_matrix (option_map MatrixContent o)
+held_shape_m None = refl
+held_shape_m (Some m) = refl
+
+held_shape_v : (o : Option Vector) → option_map vector_shape o ≡ shape_of_vector (option_map VectorContent o)
+held_shape_v None = refl
+held_shape_v (Some x) = refl
+
+shapes_same : (s t : Store) (o : Object) → content_at s o ≡ content_at t o → SameAt (shapes_of s) (shapes_of t) o
+shapes_same s t (object.Matrix a) e = (object_at-map matrix_shape s.matrices a.0 ∙ held_shape_m (matrix_at s a)) ∙ (ap shape_of_matrix e ∙ sym (object_at-map matrix_shape t.matrices a.0 ∙ held_shape_m (matrix_at t a)))
+shapes_same s t (object.Vector v) e = (object_at-map vector_shape s.vectors v.0 ∙ held_shape_v (vector_at s v)) ∙ (ap shape_of_vector e ∙ sym (object_at-map vector_shape t.vectors v.0 ∙ held_shape_v (vector_at t v)))
+
+pub same_refusal : (s t : Store) (c : Call) → AgreeOn (is_among (objects_read c)) (content_at s) (content_at t) → refused_by_shapes (shapes_of s) c ≡ refused_by_shapes (shapes_of t) c
+same_refusal s t c agree = refusal_same (shapes_of s) (shapes_of t) c (λ o wanted. shapes_same s t o (agree o wanted))

@@ -1,0 +1,45 @@
+-- A store that holds of another what is wanted, and has a place for each object that the other has (own): what evaluating a slice in place
+-- of all calls leaves.
+use Rattle.std.specs.Prelude.{◌≡◌, List, [], ◌∷◌, length, Bool, true, false, Option, Some, None}
+use Rattle.std.specs.Option.{option_map_or}
+use Rattle.grb_core.specs.declared.domain.Domain.TheVariants as domain
+use Rattle.grb_call.specs.declared.call.Call.{Call}
+use Rattle.grb_call.specs.declared.call.Call.TheVariants as call
+use Rattle.grb_call.specs.declared.ids.Object.{Object}
+use Rattle.grb_call.specs.declared.ids.Object.TheVariants as object
+use Rattle.grb_call.specs.Output.{output_of}
+use Rattle.grb_call.specs.Shapes.{ObjectShapes}
+use Rattle.grb_call.specs.Refused.{shapes_after}
+use Rattle.grb_call.specs.Store.{Store, shapes_of}
+use Rattle.grb_call.specs.After.{after}
+use Rattle.grb_slices.specs.Content.{content_at, effective_target}
+use Rattle.grb_slices.specs.Slice.{Wants, choices, entries, sliced}
+use Rattle.grb_slices.specs.Steps.{AgreeOn}
+
+pub record Follows (w : Wants) (whole part : Store) : Type 0 where
+  pub matrices : length part.matrices ≡ length whole.matrices
+  pub vectors : length part.vectors ≡ length whole.vectors
+  pub agree : AgreeOn w (content_at whole) (content_at part)
+
+-- a call that makes a small object without entries, for the place of one that is not wanted
+abbrev pub place_for : Object → Call
+place_for (object.Matrix a) = call.NewMatrix domain.Bool 1 1
+place_for (object.Vector v) = call.NewVector domain.Bool 1
+
+-- what becomes of the part at one entry: a chosen call is made; of one that is not, the object that it would make gets a place
+abbrev pub part_after : Bool → Option Object → Call → Store → Store
+part_after true t c s = after s c
+part_after false None c s = s
+part_after false (Some o) c s = option_map_or (λ _. s) (output_of c) (after s (place_for o))
+
+-- the targets of the calls, each at its place, by one walk over shapes
+abbrev pub targets_of : ObjectShapes → List Call → List (Option Object)
+targets_of s [] = []
+targets_of s (c ∷ cs) = effective_target s c ∷ targets_of (shapes_after s c) cs
+
+-- these are the targets of the calls that come on the whole store, and the choices of their slice; and the part holds what is wanted
+-- before them
+pub record GoesOn (w : Wants) (whole : Store) (calls : List Call) (targets : List (Option Object)) (chosen : List Bool) (part : Store) : Type 0 where
+  pub targets_are : targets ≡ targets_of (shapes_of whole) calls
+  pub chosen_are : chosen ≡ choices w (entries targets calls)
+  pub follows : Follows (sliced w (entries targets calls)).wanted whole part

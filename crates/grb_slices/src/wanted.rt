@@ -1,0 +1,170 @@
+ghost use Rattle.std.specs.Prelude.{true, [], Some, ◌≡◌, ◌<◌, ◌≤◌, ◌||◌, ◌==◌, ℕ, false, if◌then◌else◌, length, IfOk, OnOk, OnErr};
+ghost use Rattle.grb_call.specs.Status.{is_same_object};
+ghost use Rattle.grb_call.specs.declared.ids.Object.{Object};
+ghost use Rattle.grb_slices.specs.Slice.{is_among};
+ghost use Rattle.grb_slices.specs.Wanted.{HasPlace, HavePlaces, KeepsPlaces, is_chosen, is_wanted, marked, objects_of, wants_behind, with_object};
+
+use crate::reads::{Reads, reads_of};
+use grb_call::{Call, Object};
+use std::alloc::{AllocError, Global};
+use std::marker::Model;
+
+/// The objects that are wanted at a place of a list of calls, for one who goes back over them from the last: those of which what they
+/// hold there is asked for, or is read by a later call that was chosen. Each is a mark by its number.
+#[derive(Drop)]
+pub struct Wanted {
+    matrices: Vec<bool>,
+    vectors: Vec<bool>,
+}
+
+impl Model for Wanted {
+    ghost use Rattle.grb_slices.specs.Wanted.{Marks};
+
+    ghost Value = { Marks };
+
+    ghost view = { λ w. record { matrices = w.matrices.items; vectors = w.vectors.items } };
+}
+
+/// The mark with this number; none where it has no place.
+fn mark_at(marks: &[bool], number: u32) -> bool
+    ensures { result ≡ marked marks.now number }
+{
+    marks.get(number as usize).copied().unwrap_or(false)
+}
+
+/// Makes a place for the mark with this number, if it has none. `AllocError` where memory is refused.
+fn make_place_at(marks: &mut Vec<bool>, number: u32) -> Result<(), AllocError>
+    ensures same { (n : ℕ) → marked marks.new.items n ≡ marked marks.old.items n }
+    ensures place { OnOk result (number < length marks.new.items) }
+    ensures kept { length marks.old.items ≤ length marks.new.items }
+{
+    let place = number as usize;
+    if marks.len() <= place {
+        marks.resize(place + 1, false)?;
+    }
+    Ok(())
+}
+
+/// Puts the mark with this number, which has a place.
+fn put_mark(marks: &mut [bool], number: u32, mark: bool)
+    requires { number < length marks.old }
+    ensures { (n : ℕ) → marked marks.new n ≡ (if number == n then mark else marked marks.old n) }
+{
+    marks[number as usize] = mark;
+}
+
+impl Wanted {
+    /// No object is wanted. Takes no memory.
+    pub fn new(alloc: Global) -> Wanted
+        ensures { (o : Object) → is_wanted result o ≡ false }
+    {
+        Wanted {
+            matrices: Vec::new(alloc),
+            vectors: Vec::new(alloc),
+        }
+    }
+
+    /// Whether the object is wanted. Takes no memory.
+    pub fn contains(&self, object: Object) -> bool
+        ensures { result ≡ is_wanted self.now object }
+    {
+        match object {
+            Object::Matrix(a) => mark_at(&self.matrices, a.0),
+            Object::Vector(v) => mark_at(&self.vectors, v.0),
+        }
+    }
+
+    /// Makes a place for the mark of the object, if there is one and it has none. `AllocError` where memory is refused.
+    fn make_place(&mut self, object: Option<Object>) -> Result<(), AllocError>
+        ensures same { (o : Object) → is_wanted self.new o ≡ is_wanted self.old o }
+        ensures place { OnOk result (HasPlace self.new object) }
+        ensures kept { KeepsPlaces self.old self.new }
+    {
+        match object {
+            Some(Object::Matrix(a)) => make_place_at(&mut self.matrices, a.0),
+            Some(Object::Vector(v)) => make_place_at(&mut self.vectors, v.0),
+            None => Ok(()),
+        }
+    }
+
+    /// The object is wanted or not from now on. It has a place.
+    fn put(&mut self, object: Object, mark: bool)
+        requires { HasPlace self.old (Some object) }
+        ensures marks { (o : Object) → is_wanted self.new o ≡ (if is_same_object object o then mark else is_wanted self.old o) }
+        ensures kept { KeepsPlaces self.old self.new }
+    {
+        match object {
+            Object::Matrix(a) => put_mark(&mut self.matrices, a.0, mark),
+            Object::Vector(v) => put_mark(&mut self.vectors, v.0, mark),
+        }
+    }
+
+    /// The object is wanted from now on, if there is one. It has a place.
+    fn mark(&mut self, object: Option<Object>)
+        requires { HasPlace self.old object }
+        ensures marks { (o : Object) → is_wanted self.new o ≡ (is_among (with_object object []) o || is_wanted self.old o) }
+        ensures kept { KeepsPlaces self.old self.new }
+    {
+        if let Some(object) = object {
+            self.put(object, true);
+        }
+    }
+
+    /// The object is wanted too. `AllocError` where memory is refused; then nothing more is wanted.
+    pub fn want(&mut self, object: Object) -> Result<(), AllocError>
+        ensures ok { OnOk result ((o : Object) → is_wanted self.new o ≡ (is_same_object object o || is_wanted self.old o)) }
+        ensures err { OnErr result ((o : Object) → is_wanted self.new o ≡ is_wanted self.old o) }
+    {
+        self.make_place(Some(object))?;
+        self.put(object, true);
+        Ok(())
+    }
+
+    /// Makes a place for each object that is read. `AllocError` where memory is refused.
+    fn make_places(&mut self, reads: &Reads) -> Result<(), AllocError>
+        ensures same { (o : Object) → is_wanted self.new o ≡ is_wanted self.old o }
+        ensures places { OnOk result (HavePlaces self.new reads.now) }
+        ensures kept { KeepsPlaces self.old self.new }
+    {
+        self.make_place(reads.output)?;
+        self.make_place(reads.first)?;
+        self.make_place(reads.second)?;
+        self.make_place(reads.mask)?;
+        Ok(())
+    }
+
+    /// What is read is wanted from now on. Each object has a place.
+    fn mark_all(&mut self, reads: &Reads)
+        requires { HavePlaces self.old reads.now }
+        ensures { (o : Object) → is_wanted self.new o ≡ (is_among (objects_of reads.now) o || is_wanted self.old o) }
+    {
+        self.mark(reads.mask);
+        self.mark(reads.second);
+        self.mark(reads.first);
+        self.mark(reads.output);
+    }
+
+    /// Goes back over a call that has this target at its place, none where it is refused there: whether the target is wanted, so that the
+    /// call is chosen. What it reads is wanted then, and the target only where it is read. `AllocError` where memory is refused; then the
+    /// same objects are wanted as before.
+    ///
+    /// Source: Weiser, "Program slicing", 1981; over calls own.
+    pub fn go_back(&mut self, target: Option<Object>, call: &Call) -> Result<bool, AllocError>
+        ensures chosen { IfOk result (λ chosen. chosen ≡ is_chosen (is_wanted self.old) target) }
+        ensures wanted { OnOk result ((o : Object) → is_wanted self.new o ≡ wants_behind (is_wanted self.old) target call.now o) }
+        ensures err { OnErr result ((o : Object) → is_wanted self.new o ≡ is_wanted self.old o) }
+    {
+        let Some(object) = target else {
+            return Ok(false);
+        };
+        if !self.contains(object) {
+            return Ok(false);
+        }
+        let reads = reads_of(call);
+        self.make_places(&reads)?;
+        self.make_place(target)?;
+        self.put(object, false);
+        self.mark_all(&reads);
+        Ok(true)
+    }
+}

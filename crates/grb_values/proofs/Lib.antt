@@ -1,0 +1,2 @@
+mod NextTarget
+mod Valued

@@ -1,0 +1,11 @@
+//! What an object holds after a list of calls, from only the calls that it depends on.
+//!
+//! `value_of` finds the slice of the object by shapes alone, makes the calls of the slice on a state, and holds what came out. Nothing here
+//! knows of passes or of an order: the caller brings the calls.
+#![tactic(auto)]
+
+mod part;
+mod targets;
+mod value;
+
+pub use value::{Held, value_of};

@@ -1,0 +1,89 @@
+ghost use Rattle.std.specs.Prelude.{◌≡◌, ◌<◌, ◌^◌, false, length, map, IfOk, Some};
+ghost use Rattle.grb_call.specs.Kinds.{enters, is_size};
+ghost use Rattle.grb_call.specs.Status.{is_same_object, object_of};
+ghost use Rattle.grb_call.specs.Store.{Store, empty_store, shapes_of};
+ghost use Rattle.grb_call.specs.After.{answer};
+ghost use Rattle.grb_call.specs.History.{after_all};
+ghost use Rattle.grb_slices.specs.Content.{content_at};
+ghost use Rattle.grb_slices.specs.Slice.{sliced};
+ghost use Rattle.grb_slices.specs.Steps.{steps_of};
+
+use crate::part::make_chosen;
+use crate::targets::targets_of;
+use grb_call::{Call, Object, Reply, Shapes};
+use grb_core::Refusal;
+use grb_replay::State;
+use grb_slices::slice_of;
+use std::alloc::{AllocError, Global};
+use std::marker::Model;
+
+/// What an object holds after a list of calls, or that it is not there then.
+#[derive(Drop)]
+pub struct Held {
+    object: Object,
+    // The part of the store that the object depends on.
+    state: State,
+    evaluated: u32,
+}
+
+impl Model for Held {
+    ghost use Rattle.grb_values.specs.Held.{HeldObject};
+
+    ghost Value = { HeldObject };
+
+    ghost view = { λ h. record { object = h.object; part = h.state; evaluated = h.evaluated } };
+}
+
+/// What the object holds after these calls on the empty store, from only the calls that it depends on: the others are passed over by
+/// their shapes. It takes memory for the slice and for what its calls make. `AllocError` where memory is refused.
+///
+/// Source: GraphBLAS C API 2.0, "Execution modes": a method may be executed when an answer needs it; the form is own.
+pub fn value_of(alloc: Global, calls: &[&Call], object: Object) -> Result<Held, AllocError>
+    requires { length calls.now < 2 ^ 32 }
+    ensures object { IfOk result (λ held. held.object ≡ object) }
+    ensures content { IfOk result (λ held. content_at (after_all empty_store (map (λ c. c.now) calls.now)) object ≡ content_at held.part.store object) }
+    ensures evaluated { IfOk result (λ held. held.evaluated ≡ length (sliced (is_same_object object) (steps_of (shapes_of empty_store) (map (λ c. c.now) calls.now))).tasks) }
+{
+    let room = calls.len() as u32;
+    let mut shapes = Shapes::open(alloc, room)?;
+    let targets = targets_of(alloc, &mut shapes, calls)?;
+    let places = targets.as_slice();
+    let slice = slice_of(alloc, places, calls, object)?;
+    let chosen = slice.chosen.as_slice();
+    let mut state = State::open(alloc, room)?;
+    make_chosen(&mut state, places, calls, chosen)?;
+    Ok(Held {
+        object,
+        state,
+        evaluated: slice.count as u32,
+    })
+}
+
+impl Held {
+    /// How many calls were made for it. Takes no memory.
+    pub fn evaluated(&self) -> u32
+        ensures { result ≡ self.now.evaluated }
+    {
+        self.evaluated
+    }
+
+    /// The answer to a call that only reads the object, as a store answers where the object holds the same. A total and a wait have the
+    /// changes done that wait in it. `AllocError` where memory is refused to that.
+    pub fn answer(&mut self, call: &Call) -> Result<Result<Reply, Refusal>, AllocError>
+        requires reads { enters call.now ≡ false }
+        requires no_size { is_size call.now ≡ false }
+        requires about { object_of call.now ≡ Some self.old.object }
+        ensures answer { IfOk result (λ given. (whole : Store) → content_at whole self.old.object ≡ content_at self.old.part.store self.old.object → given ≡ answer whole call.now) }
+        ensures object { self.new.object ≡ self.old.object }
+        ensures store { self.new.part.store ≡ self.old.part.store }
+        ensures evaluated { self.new.evaluated ≡ self.old.evaluated }
+    {
+        match self.state.refused(call) {
+            Some(refusal) => Ok(Err(refusal)),
+            None => {
+                self.state.settle(call)?;
+                Ok(Ok(self.state.reply(call)))
+            }
+        }
+    }
+}
