@@ -1,9 +1,11 @@
-//! Trials of `grb_sparse`, `grb_market` and `grb_replay` by what they offer: sparse objects, also beside plain lists and after a refused
-//! allocation, Matrix Market texts, and the store that a list of calls leaves.
+//! Trials of `grb_sparse`, `grb_market`, `grb_replay` and `grb_values` by what they offer: sparse objects, also beside plain lists and
+//! after a refused allocation, Matrix Market texts, the store that a list of calls leaves, and what one object of it holds.
 //!
 //! Nothing stands on it, and it has nothing but tests, so that the crates that it tries need not be proved a second time for them.
 #![tactic(auto)]
 
+#[cfg(test)]
+mod draw;
 #[cfg(test)]
 mod matrices;
 #[cfg(test)]
@@ -16,5 +18,7 @@ mod stores;
 mod texts_read;
 #[cfg(test)]
 mod texts_written;
+#[cfg(test)]
+mod values;
 #[cfg(test)]
 mod vectors;

@@ -1,4 +1,5 @@
 //! Both sorts against a plain list of what they store: many methods, drawn from a fixed row of numbers, and each answer compared.
+use crate::draw::Draw;
 use crate::same::same;
 use grb_core::{Domain, Monoid, Value};
 use grb_sparse::{SparseMatrix, SparseVector};
@@ -8,26 +9,6 @@ use std::test::Fail;
 
 /// Vectors have up to this size, and matrices up to as many rows and columns.
 const SIDE: u64 = 6;
-
-/// Numbers that look drawn by chance, the same in each run (Knuth's linear congruential generator).
-#[derive(Drop)]
-struct Draw {
-    state: u64,
-}
-
-impl Draw {
-    /// The next number below `n`, or 0.
-    fn below(&mut self, n: u64) -> u64 {
-        self.state = self
-            .state
-            .wrapping_mul(6_364_136_223_846_793_005)
-            .wrapping_add(1_442_695_040_888_963_407);
-        if n == 0 {
-            return 0;
-        }
-        (self.state >> 33) % n
-    }
-}
 
 /// A list of places, none of which stores anything.
 fn no_entries(alloc: Global) -> Result<Vec<Option<u64>>, AllocError> {

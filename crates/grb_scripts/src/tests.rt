@@ -5,6 +5,7 @@ mod faults;
 mod gates;
 mod loads;
 mod products;
+mod program;
 mod runs;
 mod sections;
 mod sinks;

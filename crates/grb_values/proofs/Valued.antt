@@ -1,5 +1,5 @@
 -- The object after all calls, and how many of them were made for it.
-use Rattle.std.proofs.Common.{◌≡◌, Bool, false, List, length, refl, sym, ap, subst, ◌∙◌, Option, Some, None, Result, Ok, Err, ℕ}
+use Rattle.std.proofs.Common.{◌≡◌, Bool, false, List, length, refl, sym, ap, subst, ◌∙◌, Option, Some, None, option_map, is_some, Result, Ok, Err, ℕ}
 use Rattle.std.specs.Option.{option_map_or}
 use Rattle.grb_core.specs.declared.refusal.Refusal.{Refusal}
 use Rattle.grb_call.specs.declared.reply.Reply.{Reply}
@@ -7,11 +7,13 @@ use Rattle.grb_call.specs.Kinds.{enters}
 use Rattle.grb_call.specs.After.{answer, refused, reply_of}
 use Rattle.grb_call.specs.declared.call.Call.{Call}
 use Rattle.grb_call.specs.declared.ids.Object.{Object}
-use Rattle.grb_call.specs.Shapes.{ObjectShapes}
+use Rattle.grb_call.specs.Shapes.{ObjectShapes, is_live}
 use Rattle.grb_call.specs.Status.{is_same_object, object_of}
-use Rattle.grb_call.specs.Store.{Store, empty_store, shapes_of}
+use Rattle.grb_call.specs.Store.{Store, empty_store, shapes_of, matrix_at, vector_at, matrix_shape, vector_shape}
 use Rattle.grb_call.specs.History.{after_all}
-use Rattle.grb_slices.specs.Content.{content_at}
+use Rattle.grb_call.proofs.ShapesAfter.{object_at-map}
+use Rattle.grb_call.specs.declared.ids.Object.TheVariants as object
+use Rattle.grb_slices.specs.Content.{MatrixContent, VectorContent, content_at}
 use Rattle.grb_slices.specs.Slice.{Step, Wants, choices, entries, sliced}
 use Rattle.grb_slices.specs.Steps.{steps_of}
 use Rattle.grb_slices.specs.Followed.{Follows, GoesOn, targets_of}

@@ -1,12 +1,15 @@
 ghost use Rattle.std.specs.Prelude.{◌≡◌, ◌<◌, ◌^◌, false, length, map, IfOk, Some};
 ghost use Rattle.grb_call.specs.Kinds.{enters, is_size};
 ghost use Rattle.grb_call.specs.Status.{is_same_object, object_of};
+ghost use Rattle.grb_call.specs.Shapes.{is_live};
 ghost use Rattle.grb_call.specs.Store.{Store, empty_store, shapes_of};
 ghost use Rattle.grb_call.specs.After.{answer};
 ghost use Rattle.grb_call.specs.History.{after_all};
 ghost use Rattle.grb_slices.specs.Content.{content_at};
 ghost use Rattle.grb_slices.specs.Slice.{sliced};
 ghost use Rattle.grb_slices.specs.Steps.{steps_of};
+ghost use Rattle.grb_slices.specs.Followed.{targets_of};
+ghost use Rattle.grb_values.specs.Held.{tasks_of};
 
 use crate::part::make_chosen;
 use crate::targets::targets_of;
@@ -34,29 +37,63 @@ impl Model for Held {
     ghost view = { λ h. record { object = h.object; part = h.state; evaluated = h.evaluated } };
 }
 
+/// Whether the object was made and not freed.
+fn is_live(shapes: &Shapes, object: Object) -> bool
+    ensures { result ≡ is_live shapes.now.objects object }
+{
+    match object {
+        Object::Matrix(a) => shapes.matrix(a).is_some(),
+        Object::Vector(v) => shapes.vector(v).is_some(),
+    }
+}
+
+/// What the object holds after these calls on the empty store, which have these targets at their places, where it is there then.
+fn evaluate(
+    alloc: Global,
+    targets: &[Option<Object>],
+    calls: &[&Call],
+    object: Object,
+) -> Result<Held, AllocError>
+    requires few { length calls.now < 2 ^ 32 }
+    requires targets { targets.now ≡ targets_of (shapes_of empty_store) (map (λ c. c.now) calls.now) }
+    requires count { length targets.now ≡ length calls.now }
+    ensures object { IfOk result (λ held. held.object ≡ object) }
+    ensures content { IfOk result (λ held. content_at (after_all empty_store (map (λ c. c.now) calls.now)) object ≡ content_at held.part.store object) }
+    ensures evaluated { IfOk result (λ held. held.evaluated ≡ length (sliced (is_same_object object) (steps_of (shapes_of empty_store) (map (λ c. c.now) calls.now))).tasks) }
+{
+    let slice = slice_of(alloc, targets, calls, object)?;
+    let chosen = slice.chosen.as_slice();
+    let mut state = State::open(alloc, calls.len() as u32)?;
+    make_chosen(&mut state, targets, calls, chosen)?;
+    Ok(Held {
+        object,
+        state,
+        evaluated: slice.count as u32,
+    })
+}
+
 /// What the object holds after these calls on the empty store, from only the calls that it depends on: the others are passed over by
-/// their shapes. It takes memory for the slice and for what its calls make. `AllocError` where memory is refused.
+/// their shapes, and all are where the object is not there after them. It takes memory for the slice and for what its calls make.
+/// `AllocError` where memory is refused.
 ///
 /// Source: GraphBLAS C API 2.0, "Execution modes": a method may be executed when an answer needs it; the form is own.
 pub fn value_of(alloc: Global, calls: &[&Call], object: Object) -> Result<Held, AllocError>
     requires { length calls.now < 2 ^ 32 }
     ensures object { IfOk result (λ held. held.object ≡ object) }
     ensures content { IfOk result (λ held. content_at (after_all empty_store (map (λ c. c.now) calls.now)) object ≡ content_at held.part.store object) }
-    ensures evaluated { IfOk result (λ held. held.evaluated ≡ length (sliced (is_same_object object) (steps_of (shapes_of empty_store) (map (λ c. c.now) calls.now))).tasks) }
+    ensures evaluated { IfOk result (λ held. held.evaluated ≡ tasks_of object (map (λ c. c.now) calls.now)) }
 {
-    let room = calls.len() as u32;
-    let mut shapes = Shapes::open(alloc, room)?;
+    let mut shapes = Shapes::open(alloc, calls.len() as u32)?;
     let targets = targets_of(alloc, &mut shapes, calls)?;
-    let places = targets.as_slice();
-    let slice = slice_of(alloc, places, calls, object)?;
-    let chosen = slice.chosen.as_slice();
-    let mut state = State::open(alloc, room)?;
-    make_chosen(&mut state, places, calls, chosen)?;
-    Ok(Held {
-        object,
-        state,
-        evaluated: slice.count as u32,
-    })
+    if !is_live(&shapes, object) {
+        return Ok(Held {
+            object,
+            state: State::open(alloc, 0)?,
+            evaluated: 0,
+        });
+    }
+    let held = evaluate(alloc, targets.as_slice(), calls, object)?;
+    Ok(held)
 }
 
 impl Held {

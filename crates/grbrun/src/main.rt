@@ -8,17 +8,9 @@
 
 ghost use Rattle.std.specs.Prelude.{◌<◌, ◌≤◌};
 
-mod arguments;
-mod command_line;
-mod files;
-mod output;
-mod report;
-
-use crate::arguments::Options;
-use crate::command_line::options;
-use crate::files::FileSource;
-use crate::output::OutputSink;
-use crate::report::{report_run, report_unread_words, report_words};
+use grb_command::{
+    FileSource, Options, OutputSink, options, report_run, report_unread_words, report_words,
+};
 use grb_driver::{OpenGate, RunFault, run_script};
 use std::process::ExitCode;
 use std::rt::{Env, Files};

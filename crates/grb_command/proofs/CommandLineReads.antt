@@ -27,8 +27,8 @@ use Rattle.clap.proofs.CallerLemmas.{required_has_value}
 use Rattle.clap.proofs.SimpleLemmas.{is_false, is_nil, ready_simple, simple_groups}
 use Rattle.clap.proofs.CallerReads.{signed_reads}
 use Rattle.clap.proofs.WalkLemmas.{both, first_value-rows, one_text-rows}
-use Rattle.grbrun.specs.CommandLine.{command_line, faults_of, number_spelled, room_option, script_argument}
-use Rattle.grbrun.proofs.DefaultReads.{default_reads}
+use Rattle.grb_command.specs.CommandLine.{command_line, faults_of, number_spelled, room_option, script_argument}
+use Rattle.grb_command.proofs.DefaultReads.{default_reads}
 
 abbrev arguments : List Rule
 arguments = room_option ∷ script_argument ∷ []

@@ -5,8 +5,8 @@ use Rattle.clap.specs.Words.{Shape, app_of, new_app, rule_of, with_rule}
 use Rattle.clap.specs.Simple.{app_of_fields, on_top}
 use Rattle.clap.specs.declared.builder.value_parser.ValueParser.{ValueParser}
 use Rattle.clap.specs.declared.builder.value_parser.ValueParser.TheVariants as parser
-use Rattle.grbrun.specs.CommandLine.{command_line, room_option, script_argument}
-use Rattle.grbrun.proofs.command_line.command.Goals as goal
+use Rattle.grb_command.specs.CommandLine.{command_line, room_option, script_argument}
+use Rattle.grb_command.proofs.command_line.command.Goals as goal
 
 -- no word names the program
 abbrev unnamed : Shape → Shape

@@ -1,7 +1,7 @@
 ghost use Rattle.std.specs.Prelude.{◌≡◌, ◌-◌, ◌<◌, ◌≤◌, ◌^◌, None, IfOk, IfSome, IsErrOf, length};
 ghost use Rattle.std.specs.IoError.{error_kind};
 ghost use Rattle.grb_driver.specs.Source.{AreCountable, IsGiven, counts_after};
-ghost use Rattle.grbrun.specs.Files.{counts_of, fault_of_kind};
+ghost use Rattle.grb_command.specs.Files.{counts_of, fault_of_kind};
 
 use grb_driver::{MAX_FILE, MAX_SCRIPT, Source, SourceFault};
 use std::alloc::Global;
@@ -14,10 +14,14 @@ use std::{fs, io};
 #[derive(Drop)]
 pub struct FileSource<'a, R> {
     rt: &'a R,
-    script: &'a str,
-    cannot_read: u64,
-    too_long: u64,
-    out_of_memory: u64,
+    /// The path of the script.
+    pub script: &'a str,
+    /// How often a file could not be read, the script among them.
+    pub cannot_read: u64,
+    /// How often a file had more bytes than its limit.
+    pub too_long: u64,
+    /// How often a file was not read since memory was refused.
+    pub out_of_memory: u64,
 }
 
 impl<'a, R: Files + AllocGlobal> FileSource<'a, R> {
@@ -63,8 +67,13 @@ fn fault_of(error: io::Error) -> SourceFault
     }
 }
 
-/// All bytes that a reader gives, where they are no more than the limit.
-fn read_all<F: Read + Drop>(alloc: Global, reader: F, limit: usize) -> Result<Vec<u8>, SourceFault>
+/// All bytes that a reader gives, where they are no more than the limit, and else `TooLong`. Where memory is refused it is
+/// `OutOfMemory`, and where the reader fails in another way `CannotRead`.
+pub fn read_all<F: Read + Drop>(
+    alloc: Global,
+    reader: F,
+    limit: usize,
+) -> Result<Vec<u8>, SourceFault>
     requires { limit < 2 ^ 64 - 1 }
     ensures given { IfOk result (λ bytes. IsGiven (F.remaining reader) limit bytes.items) }
     ensures too_long { IsErrOf result SourceFault.TooLong → IfSome (F.remaining reader) (λ xs. limit < length xs) }
@@ -107,105 +116,5 @@ impl<R: Files + AllocGlobal> Source for FileSource<'_, R> {
 
     fn file(&mut self, path: &str) -> Result<Vec<u8>, SourceFault> {
         self.read(path, MAX_FILE)
-    }
-}
-
-#[cfg(test)]
-mod tests {
-    use super::{FileSource, read_all};
-    use grb_driver::{Source, SourceFault};
-    use std::io;
-    use std::io::{ErrorKind, Read};
-    use std::test::Fail;
-
-    #[test]
-    fn a_reader_is_read_to_its_end_or_to_the_limit(rt: HostRuntime) {
-        let rows: [(&[u8], usize, bool); 5] = [
-            (b"", 0, true),
-            (b"a", 0, false),
-            (b"abc", 3, true),
-            (b"abcd", 3, false),
-            (b"abc", 4, true),
-        ];
-        for (bytes, limit, is_read) in rows {
-            match read_all(rt.alloc(), bytes, limit) {
-                Ok(read) => assert!(rt;
-                    is_read && read.as_slice() == bytes,
-                    "{bytes:?} within {limit}"
-                ),
-                Err(fault) => assert!(rt;
-                    !is_read && fault == SourceFault::TooLong,
-                    "{bytes:?} within {limit}"
-                ),
-            }
-        }
-    }
-
-    /// A reader that gives one byte and then fails.
-    #[derive(Drop)]
-    struct Failing {
-        has_given: bool,
-        kind: ErrorKind,
-    }
-
-    impl Read for Failing {
-        fn read(&mut self, buf: &mut [u8]) -> io::Result<usize> {
-            if self.has_given || buf.is_empty() {
-                return Err(io::Error::from(self.kind));
-            }
-            self.has_given = true;
-            buf[0] = b'a';
-            Ok(1)
-        }
-    }
-
-    #[test]
-    fn a_failing_reader_gives_nothing(rt: HostRuntime) {
-        let rows = [
-            (ErrorKind::OutOfMemory, SourceFault::OutOfMemory),
-            (ErrorKind::IsADirectory, SourceFault::CannotRead),
-            (ErrorKind::Other, SourceFault::CannotRead),
-        ];
-        for (kind, fault) in rows {
-            let reader = Failing {
-                has_given: false,
-                kind,
-            };
-            match read_all(rt.alloc(), reader, 100) {
-                Ok(_) => assert!(rt; false, "read {kind:?}"),
-                Err(met) => assert_eq!(rt; met, fault, "{kind:?}"),
-            }
-        }
-    }
-
-    #[test]
-    fn faults_are_counted_one_by_one(rt: HostRuntime) -> Result<(), Fail> {
-        let mut source = FileSource::new(&rt, "/dev/null");
-        assert!(rt; source.script()?.is_empty());
-        assert!(rt;
-            matches!(
-                source.file("no such folder/x"),
-                Err(SourceFault::CannotRead)
-            )
-        );
-        assert!(rt; matches!(source.file("/"), Err(SourceFault::CannotRead)));
-        assert!(rt; source.file("/dev/null")?.is_empty());
-        assert_eq!(rt;
-            (source.cannot_read, source.too_long, source.out_of_memory),
-            (2, 0, 0)
-        );
-        let mut endless = FileSource::new(&rt, "/dev/zero");
-        match endless.script() {
-            Err(SourceFault::TooLong) => {}
-            other => {
-                other?;
-                assert!(rt; false, "an endless file was read");
-            }
-        }
-        assert_eq!(rt;
-            (endless.cannot_read, endless.too_long, endless.out_of_memory),
-            (0, 1, 0)
-        );
-        Ok(())
     }
 }

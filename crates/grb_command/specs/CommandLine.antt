@@ -10,7 +10,7 @@ use Rattle.clap.specs.declared.builder.action.ArgAction.TheVariants.{Set}
 use Rattle.clap.specs.declared.builder.value_parser.ValueParser.TheVariants as parser
 use Rattle.clap.specs.declared.error.kind.ErrorKind.{ErrorKind}
 use Rattle.clap.specs.declared.error.kind.ErrorKind.TheVariants.{DisplayHelp}
-use Rattle.grbrun.specs.declared.arguments.Options.{Options}
+use Rattle.grb_command.specs.declared.arguments.Options.{Options}
 
 -- '--room N', with N from 1 to 4096, and 4096 where it is not given
 abbrev pub room_option : Rule

@@ -10,8 +10,10 @@ use std::io::{ErrorKind, Write};
 /// A sink that writes to a writer. It tells the bytes that the writer tells.
 #[derive(Drop)]
 pub struct OutputSink<W> {
-    writer: W,
-    failures: u64,
+    /// Where the bytes go.
+    pub writer: W,
+    /// How many pieces failed: their write failed, or took no byte of one that is not empty.
+    pub failures: u64,
 }
 
 impl<W: Write> OutputSink<W> {
@@ -60,46 +62,5 @@ impl<W: Write> Sink for OutputSink<W> {
                 Err(SinkFault)
             }
         }
-    }
-}
-
-#[cfg(test)]
-mod tests {
-    use super::OutputSink;
-    use grb_market::{Sink, SinkFault};
-    use std::io;
-    use std::io::{ErrorKind, Write};
-
-    /// A writer that is interrupted twice, takes two bytes, takes none, and then fails.
-    #[derive(Drop)]
-    struct Slow {
-        calls: u8,
-    }
-
-    impl Write for Slow {
-        fn write(&mut self, buf: &[u8]) -> io::Result<usize> {
-            self.calls = self.calls.saturating_add(1);
-            match self.calls {
-                1 | 2 => Err(io::Error::from(ErrorKind::Interrupted)),
-                3 => Ok(buf.len().min(2)),
-                4 => Ok(0),
-                _ => Err(io::Error::from(ErrorKind::StorageFull)),
-            }
-        }
-
-        fn flush(&mut self) -> io::Result<()> {
-            Ok(())
-        }
-    }
-
-    #[test]
-    fn an_interrupted_write_is_tried_again_and_a_failure_is_counted(rt: HostRuntime) {
-        let mut sink = OutputSink::new(Slow { calls: 0 });
-        assert_eq!(rt; sink.put(b"abc"), Ok(2));
-        assert_eq!(rt; sink.failures, 0);
-        assert_eq!(rt; sink.put(b"abc"), Ok(0));
-        assert_eq!(rt; sink.failures, 1);
-        assert_eq!(rt; sink.put(b"abc"), Err(SinkFault));
-        assert_eq!(rt; sink.failures, 2);
     }
 }

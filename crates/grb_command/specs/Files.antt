@@ -1,7 +1,7 @@
 -- What the source of the program counts, and the fault that an error of a file is (own).
 use Rattle.std.specs.declared.io.ErrorKind.{ErrorKind}
 use Rattle.std.specs.declared.io.ErrorKind.TheVariants as kind
-use Rattle.grbrun.specs.declared.files.FileSource.{FileSource}
+use Rattle.grb_command.specs.declared.files.FileSource.{FileSource}
 use Rattle.grb_driver.specs.declared.source.SourceFault.{SourceFault}
 use Rattle.grb_driver.specs.declared.source.SourceFault.TheVariants.{CannotRead, OutOfMemory}
 use Rattle.grb_driver.specs.Source.{FaultCounts}

@@ -1,8 +1,8 @@
 use Rattle.std.proofs.Common.{◌≡◌, ◌∙◌, ℕ, List, Option, ap, arith, refl, sym}
 use Rattle.std.specs.Prelude.{Ok, option_map, unwrap_or}
 use Rattle.std.specs.Borrow.{Bor}
-use Rattle.grbrun.proofs.CommandLineReads.{fails_as, fails_up, path_given, room_given}
-use Rattle.grbrun.proofs.command_line.options.Goals as goal
+use Rattle.grb_command.proofs.CommandLineReads.{fails_as, fails_up, path_given, room_given}
+use Rattle.grb_command.proofs.command_line.options.Goals as goal
 
 pub returns-in_err-matches-clause-faults : goal.returns-in_err-matches-clause-faults
 returns-in_err-matches-clause-faults c =

@@ -3,7 +3,7 @@ use Rattle.std.proofs.Common.{◌≡◌, ℕ, List, [], ◌∷◌, Some, codes, 
 use Rattle.clap.specs.Words.{Text, first_of, matches_of, one_of}
 use Rattle.clap.specs.declared.error.kind.ErrorKind.TheVariants.{ArgumentConflict, DisplayHelp, MissingRequiredArgument, UnknownArgument, ValueValidation}
 use Rattle.clap.proofs.OnLiterals.{clap_on_literals}
-use Rattle.grbrun.specs.CommandLine.{command_line, faults_of, number_spelled}
+use Rattle.grb_command.specs.CommandLine.{command_line, faults_of, number_spelled}
 
 -- the room and the path that the words give
 Gives : List Text → ℕ → Text → Type 0

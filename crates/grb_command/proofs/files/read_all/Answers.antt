@@ -1,6 +1,6 @@
 use Rattle.std.proofs.Common.{arith, sym}
-use Rattle.grbrun.proofs.FileBytes.{whole_below_limit}
-use Rattle.grbrun.proofs.files.read_all.Goals as goal
+use Rattle.grb_command.proofs.FileBytes.{whole_below_limit}
+use Rattle.grb_command.proofs.files.read_all.Goals as goal
 
 pub returns-clause-given : goal.returns-clause-given
 returns-clause-given g c = record {

@@ -1,0 +1,65 @@
+ghost use Rattle.std.specs.Prelude.{◌≡◌, ◌<◌, ◌≤◌, IfOk, is_ok, map, if◌then◌else◌};
+ghost use Rattle.clap.specs.Words.{FailsBy, app_of, kind_of};
+ghost use Rattle.grb_command.specs.CommandLine.{GivesOptions, command_line, faults_of, status_of_kind};
+
+use crate::arguments::Options;
+use clap::error::ErrorKind;
+use clap::{Arg, ArgAction, Command, Error, value_parser};
+use grb_driver::RunFault;
+use std::alloc::{AllocError, Global};
+
+/// The command `[--room N] SCRIPT`.
+fn command<'a>(alloc: Global) -> Result<Command<'a>, AllocError>
+    ensures { IfOk result (λ c. app_of c ≡ command_line) }
+{
+    let room = Arg::new(alloc, "room")
+        .long("room")
+        .value_name("N")
+        .action(ArgAction::Set)
+        .value_parser(value_parser!(u32).range(1..=4096))
+        .default_value("4096")
+        .help("How many calls may change the store, two of each load, from 1 to 4096");
+    let script = Arg::new(alloc, "script")
+        .value_name("SCRIPT")
+        .action(ArgAction::Set)
+        .required(true)
+        .help("The script to run; the paths of its loads begin in the working folder");
+    Command::new(alloc, "grbrun")
+        .about("Runs a script of GraphBLAS calls on one shared store")
+        .no_binary_name(true)
+        .arg(room)?
+        .arg(script)
+}
+
+/// The options that these words give, which are the words after the program's name: `[--room N] SCRIPT`, with N from 1 to 4096, and
+/// 4096 where it is not given (own).
+///
+/// An error of the kind `DisplayHelp` is a request for help, and holds its text. Any other error says what is wrong with the words, or
+/// that memory was refused.
+pub fn options<'a>(alloc: Global, words: &'a [&'a str]) -> Result<Options<'a>, Error>
+    ensures room { IfOk result (λ o. (0 < o.room) × (o.room ≤ 4096)) }
+    ensures given { IfOk result (GivesOptions (map (λ w. w.now) words.entry.now)) }
+    ensures faults { FailsBy (faults_of (map (λ w. w.now) words.entry.now)) result }
+{
+    let matches = command(alloc)?.try_get_matches_from(words)?;
+    let room = matches.get_one::<u32>("room").unwrap();
+    let path = matches.get_str("script").unwrap();
+    Ok(Options { room, path })
+}
+
+/// The exit status of a run: 0 where all was written, and else 1.
+pub fn status_of_run(outcome: &Result<(), RunFault>) -> u8
+    ensures { result ≡ (if is_ok outcome.now then 0 else 1) }
+{
+    if outcome.is_ok() { 0 } else { 1 }
+}
+
+/// The exit status where the words give no options: 0 for help, and else 2.
+pub fn status_of_words(error: &Error) -> u8
+    ensures { result ≡ status_of_kind (kind_of error.now) }
+{
+    match error.kind() {
+        ErrorKind::DisplayHelp => 0,
+        _ => 2,
+    }
+}

@@ -1,0 +1,4 @@
+mod command_line;
+mod files;
+mod output;
+mod report;

@@ -1,0 +1,115 @@
+use grb_command::{Options, options, status_of_run, status_of_words};
+use grb_driver::RunFault;
+use grb_script::FaultKind;
+use std::test::Fail;
+
+const HELP: &str = "Runs a script of GraphBLAS calls on one shared store\n\n\
+    Usage: grbrun [OPTIONS] <SCRIPT>\n\n\
+    Arguments:\n  <SCRIPT>  The script to run; the paths of its loads begin in the working folder\n\n\
+    Options:\n      --room <N>  How many calls may change the store, two of each load, from 1 to 4096 [default: 4096]\n  \
+    -h, --help      Print help\n";
+
+const MISSING_SCRIPT: &str =
+    "error: the following required arguments were not provided:\n  <SCRIPT>\n\n\
+    Usage: grbrun <SCRIPT>\n\nFor more information, try '--help'.\n";
+
+const ROOM_OF_0: &str = "error: invalid value '0' for '--room <N>': 0 is not in 1..=4096\n\n\
+    For more information, try '--help'.\n";
+
+const ROOM_OF_X: &str =
+    "error: invalid value 'x' for '--room <N>': invalid digit found in string\n\n\
+    For more information, try '--help'.\n";
+
+const UNEXPECTED_Y: &str = "error: unexpected argument 'y' found\n\n\
+    Usage: grbrun [OPTIONS] <SCRIPT>\n\nFor more information, try '--help'.\n";
+
+#[test]
+fn words_give_a_room_and_a_path(rt: HostRuntime) -> Result<(), Fail> {
+    let rows: [(&[&str], u32, &str); 8] = [
+        (&["first.grb"], 4096, "first.grb"),
+        (&["--room", "1", "x"], 1, "x"),
+        (&["--room", "4096", "x"], 4096, "x"),
+        (&["--room=7", "x"], 7, "x"),
+        (&["x", "--room", "7"], 7, "x"),
+        (
+            &["--room", "2", "folder/with a space.grb"],
+            2,
+            "folder/with a space.grb",
+        ),
+        (&["--", "--room"], 4096, "--room"),
+        (&["-"], 4096, "-"),
+    ];
+    for (words, room, path) in rows {
+        let given = options(rt.alloc(), words)?;
+        assert_eq!(rt; given, Options { room, path }, "{words:?}");
+    }
+    Ok(())
+}
+
+#[test]
+fn other_words_are_faulty_or_ask_for_help(rt: HostRuntime) -> Result<(), Fail> {
+    let rows = [
+        ("--room 0 x", 2),
+        ("--room 4097 x", 2),
+        ("--room 18446744073709551616 x", 2),
+        ("--room -1 x", 2),
+        ("--room many x", 2),
+        ("--room= x", 2),
+        ("--room x", 2),
+        ("--room 1 --room 2 x", 2),
+        ("", 2),
+        ("x y", 2),
+        ("--rooms 3 x", 2),
+        ("--version", 2),
+        ("--help", 0),
+        ("-h", 0),
+    ];
+    for (line, status) in rows {
+        let words: Vec<&str> = line.split_whitespace().collect(rt.alloc())?;
+        match options(rt.alloc(), &words) {
+            Ok(given) => assert!(rt; false, "{line} gives {given:?}"),
+            Err(error) => assert_eq!(rt; status_of_words(&error), status, "{line}"),
+        }
+    }
+    Ok(())
+}
+
+#[test]
+fn help_and_what_is_wrong_are_told_in_words(rt: HostRuntime) -> Result<(), Fail> {
+    let rows = [
+        ("--help", HELP),
+        ("", MISSING_SCRIPT),
+        ("--room 0 x", ROOM_OF_0),
+        ("--room x x", ROOM_OF_X),
+        ("x y", UNEXPECTED_Y),
+    ];
+    for (line, text) in rows {
+        let words: Vec<&str> = line.split_whitespace().collect(rt.alloc())?;
+        match options(rt.alloc(), &words) {
+            Ok(given) => assert!(rt; false, "{line} gives {given:?}"),
+            Err(error) => {
+                let told = format!(in rt.alloc(); "{error}")?;
+                assert_eq!(rt; told.as_str(), text, "{line}");
+            }
+        }
+    }
+    Ok(())
+}
+
+#[test]
+fn every_fault_of_a_run_has_the_status_1(rt: HostRuntime) {
+    assert_eq!(rt; status_of_run(&Ok(())), 0);
+    let faults = [
+        RunFault::Script {
+            line: 1,
+            kind: FaultKind::Statement,
+        },
+        RunFault::CannotReadScript,
+        RunFault::ScriptTooLong,
+        RunFault::OutOfMemory,
+        RunFault::CannotWrite,
+    ];
+    for fault in faults {
+        assert_eq!(rt; status_of_run(&Err(fault)), 1);
+    }
+}
