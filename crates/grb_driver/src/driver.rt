@@ -40,6 +40,47 @@ fn open_store(
     Ok((context, main, passes))
 }
 
+/// The answers to the steps of a script, in a new store with these passes: main's, and one for each thread section.
+fn answers_in<R: Threads + Wait + Sync, G: Gate + Sync>(
+    rt: &R,
+    alloc: Global,
+    context: &Context,
+    main: &mut Pass,
+    passes: Vec<Pass>,
+    script: ScriptSteps,
+    gate: &G,
+) -> Result<Vec<Answer>, RunFault>
+    requires main { IsPassOf context.now main.old }
+    requires passes { All (IsPassOf context.now) passes.items }
+    requires new { AreNew context.now.order (length script.threads.items + 1) (main.old ∷ passes.items) (length script.threads.items + 1) }
+    requires count { length passes.items ≡ length script.threads.items }
+    ensures answers { IfOk result (λ answers. AreAnswers (room_of context.now.order) (steps_listed script) answers.items) }
+    ensures fault { IfErr result (IsStopOf (map (λ steps. steps.items) script.threads.items)) }
+{
+    let ScriptSteps {
+        main: steps,
+        threads,
+        finally,
+    } = script;
+    let begun = u32::try_from(steps.len()).unwrap_or(u32::MAX);
+    let mut objects = Vec::new(alloc);
+    let mut answers = answers_by(alloc, context, main, &mut objects, steps, 0, gate)?;
+    run_threads(
+        rt,
+        alloc,
+        context,
+        main,
+        &objects,
+        passes,
+        threads,
+        &mut answers,
+        gate,
+    )?;
+    let mut last = answers_by(alloc, context, main, &mut objects, finally, begun, gate)?;
+    answers.append(&mut last)?;
+    Ok(answers)
+}
+
 /// The answers to the steps of a script, in a new store with room for so many calls: main's, those of the thread sections by their
 /// numbers, and those of the last section.
 fn answers_to<R: Threads + Wait + Sync, G: Gate + Sync>(
@@ -54,37 +95,8 @@ fn answers_to<R: Threads + Wait + Sync, G: Gate + Sync>(
     ensures answers { IfOk result (λ answers. AreAnswers room (steps_listed script) answers.items) }
     ensures fault { IfErr result (IsStopOf (map (λ steps. steps.items) script.threads.items)) }
 {
-    let ScriptSteps {
-        main: steps,
-        threads,
-        finally,
-    } = script;
-    let begun = u32::try_from(steps.len()).unwrap_or(u32::MAX);
-    let (context, mut main, passes) = open_store(alloc, room, threads.len())?;
-    let mut objects = Vec::new(alloc);
-    let mut answers = answers_by(alloc, &context, &mut main, &mut objects, steps, 0, gate)?;
-    run_threads(
-        rt,
-        alloc,
-        &context,
-        &mut main,
-        &objects,
-        passes,
-        threads,
-        &mut answers,
-        gate,
-    )?;
-    let mut last = answers_by(
-        alloc,
-        &context,
-        &mut main,
-        &mut objects,
-        finally,
-        begun,
-        gate,
-    )?;
-    answers.append(&mut last)?;
-    Ok(answers)
+    let (context, mut main, passes) = open_store(alloc, room, script.threads.len())?;
+    answers_in(rt, alloc, &context, &mut main, passes, script, gate)
 }
 
 /// Runs the script of a source in a new store with room for `room` calls, and puts a line for each statement into the sink: main's, those

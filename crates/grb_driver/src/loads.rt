@@ -17,7 +17,7 @@ use grb_script::{Command, FilePath, Numbered, Script, Statement};
 use std::alloc::{AllocError, Global};
 
 /// What a line of a script does in the store, once the file of each load is read.
-#[derive(Debug, Drop)]
+#[derive(Drop)]
 pub enum Step {
     /// The call of a statement.
     Statement(Statement),
@@ -115,7 +115,7 @@ fn steps_of<S: Source>(
 }
 
 /// The steps of a script, by section.
-#[derive(Debug, Drop)]
+#[derive(Drop)]
 pub struct ScriptSteps {
     pub(crate) main: Vec<Step>,
     pub(crate) threads: Vec<Vec<Step>>,

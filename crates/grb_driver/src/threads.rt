@@ -1,5 +1,6 @@
-ghost use Rattle.std.specs.Prelude.{◌≡◌, length, map, All, IfOk, IfErr, OnOk, OnErr};
+ghost use Rattle.std.specs.Prelude.{◌≡◌, length, map, All, Ok, IfOk, IfErr, OnOk, OnErr};
 ghost use Rattle.grb_context.specs.Known.{IsPassOf};
+ghost use Rattle.grb_context.specs.Meeting.{Met};
 ghost use Rattle.grb_driver.specs.Threads.{IsJob, AreJobs, IsEnded, AreEnded, AreAsked, IsGathered, AreGathered, AreThreadsRun, IsStop};
 
 use crate::fault::RunFault;
@@ -63,6 +64,29 @@ fn run_job<G: Gate>(
     Ok(Ended { pass, answers })
 }
 
+/// Lets a thread section's pass meet main's, and gives the names that the section begins with.
+fn names_for(
+    alloc: Global,
+    context: &Context,
+    main: &mut Pass,
+    objects: &[Object],
+    pass: &mut Pass,
+) -> Result<Vec<Object>, RunFault>
+    requires main { IsPassOf context.now main.old }
+    requires pass { IsPassOf context.now pass.old }
+    ensures main { main.new ≡ main.old }
+    ensures pass { IsPassOf context.now pass.new }
+    ensures met { IfOk result (λ names. Met context.now pass.old pass.new main.old (Ok tt)) }
+    ensures names { IfOk result (λ names. names.items ≡ objects.now) }
+    ensures fault { IfErr result IsStop }
+{
+    match context.meet(pass, main) {
+        Ok(()) => {}
+        Err(_) => return Err(RunFault::Panic),
+    }
+    Ok(Vec::from_slice(alloc, objects)?)
+}
+
 /// A thread section that is to run by this pass, which meets main's.
 fn job_of(
     alloc: Global,
@@ -78,11 +102,7 @@ fn job_of(
     ensures job { IfOk result (IsJob context.now (record { objects = objects.now; pass = main.old }) pass steps.items) }
     ensures fault { IfErr result IsStop }
 {
-    match context.meet(&mut pass, main) {
-        Ok(()) => {}
-        Err(_) => return Err(RunFault::Panic),
-    }
-    let objects = Vec::from_slice(alloc, objects)?;
+    let objects = names_for(alloc, context, main, objects, &mut pass)?;
     Ok(Job {
         pass,
         objects,
@@ -192,12 +212,33 @@ fn run_jobs<R: Threads + Wait + Sync, G: Gate + Sync>(
     )
 }
 
-/// Lets main's pass learn what a thread section's pass knows, and keeps the answers of the section.
+/// Lets main's pass learn what a thread section's pass knows, and moves the answers of the section behind these.
+fn gather_from(
+    context: &Context,
+    main: &mut Pass,
+    answers: &mut Vec<Answer>,
+    ended: &mut Ended,
+) -> Result<(), RunFault>
+    requires main { IsPassOf context.now main.old }
+    requires ended { IsPassOf context.now ended.old.pass }
+    ensures main { IsPassOf context.now main.new }
+    ensures gathered { OnOk result (IsGathered context.now main.old answers.old.items ended.old main.new answers.new.items) }
+    ensures fault { IfErr result IsStop }
+{
+    match context.meet(main, &mut ended.pass) {
+        Ok(()) => {}
+        Err(_) => return Err(RunFault::Panic),
+    }
+    answers.append(&mut ended.answers)?;
+    Ok(())
+}
+
+/// Lets main's pass learn what the pass of a thread section knows, moves the answers of the section behind these, and lets the section go.
 fn gather(
     context: &Context,
     main: &mut Pass,
     answers: &mut Vec<Answer>,
-    ended: Ended,
+    mut ended: Ended,
 ) -> Result<(), RunFault>
     requires main { IsPassOf context.now main.old }
     requires ended { IsPassOf context.now ended.pass }
@@ -205,16 +246,7 @@ fn gather(
     ensures gathered { OnOk result (IsGathered context.now main.old answers.old.items ended main.new answers.new.items) }
     ensures fault { IfErr result IsStop }
 {
-    let Ended {
-        mut pass,
-        answers: mut more,
-    } = ended;
-    match context.meet(main, &mut pass) {
-        Ok(()) => {}
-        Err(_) => return Err(RunFault::Panic),
-    }
-    answers.append(&mut more)?;
-    Ok(())
+    gather_from(context, main, answers, &mut ended)
 }
 
 /// Does so of each thread section in turn.

@@ -1,18 +1,9 @@
-use Rattle.std.proofs.Common.{◌≡◌, ◌++◌, length, map, sym, ◌∙◌, subst, rules}
-use Rattle.std.proofs.lemmas.List.{length-map}
-use Rattle.grb_driver.specs.Threads.{AreThreadsRun}
-use Rattle.grb_driver.proofs.ScriptEnds.{all_answered}
+use Rattle.std.specs.Prelude.{IfOk}
+use Rattle.std.proofs.Common.{subst}
+use Rattle.grb_driver.specs.Loads.{steps_listed}
+use Rattle.grb_driver.specs.Sections.{AreAnswers}
 use Rattle.grb_driver.proofs.driver.answers_to.Goals as goal
 
 pub returns-clause-answers : goal.returns-clause-answers
 returns-clause-answers g c =
-    let count : c.len-2.result ≡ length c.args.script.threads.items = search rules in
-    let total : c.append.new.self.items ≡ c.run_threads.new.answers.items ++ c.in_ok-last.last.items = search rules in
-    all_answered _ _ _ c.len-2.result _ _ _ (record { objects = c.answers_by.new.objects.items; pass = c.answers_by.new.pass }) _ _ _ _ _ _ c.in_ok-context.ensures.room
-    (count ∙ sym (length-map c.args.script.threads.items (λ steps. steps.items))) c.in_ok-context.ensures.new c.new-objects.ensures.items c.in_ok-answers.ensures.told
-    (subst
-    (λ o.
-    AreThreadsRun c.in_ok-context.context (record { objects = o; pass = c.answers_by.new.pass }) c.in_ok-context.passes.items (map (λ steps. steps.items) c.args.script.threads.items)
-    c.in_ok-answers.answers.items c.run_threads.new.main c.run_threads.new.answers.items)
-    c.deref.ensures.value c.in_ok-run_threads.ensures.run)
-    c.in_ok-last.ensures.told total
+    subst (λ room. IfOk c.answers_in.result (λ answers. AreAnswers room (steps_listed c.args.script) answers.items)) c.in_ok-context.ensures.room c.answers_in.ensures.answers

@@ -1,4 +1,5 @@
-use Rattle.std.proofs.Common.{◌≡◌, ◌<◌, arith, ap, sym, ◌∙◌, length, get_or, false}
+use Prim.{search}
+use Rattle.std.proofs.Common.{rules, ◌≡◌, ◌<◌, arith, ap, sym, ◌∙◌, length, get_or, false}
 use Rattle.std.specs.Prelude.{Some}
 use Rattle.std.proofs.lemmas.List.{length-set}
 use Rattle.grb_core.specs.Operator.{value_of_op}
@@ -32,3 +33,6 @@ returns-clause-others g c = λ p n. marked-set_other g.T.Scalar.value c.args.mar
 pub returns-clause-clear : goal.returns-clause-clear
 returns-clause-clear g c =
     hold_marked g.T.Scalar.value (identity_of g.M.MonoidOver.monoid) c.args.marks.now c.args.sums.now c.args.at c.add.result c.requires.in_range (length-set c.args.sums.now c.args.at c.add.result) c.requires.clear
+
+pub returns-clause-among : goal.returns-clause-among
+returns-clause-among g c = search rules

@@ -1,4 +1,5 @@
-use Rattle.std.proofs.Common.{◌≡◌, ◌+◌, ◌++◌, ◌∷◌, [], ap, sym, subst, ◌∙◌, take}
+use Prim.{search}
+use Rattle.std.proofs.Common.{rules, ◌≡◌, ◌+◌, ◌++◌, ◌∷◌, [], ap, sym, subst, ◌∙◌, take}
 use Rattle.std.specs.Prelude.{map}
 use Rattle.std.proofs.lemmas.List.{map_more}
 use Rattle.grb_core.specs.declared.value.Value.{Value}
@@ -33,3 +34,6 @@ returns-then-is_terminal g c =
     subst (λ y. (v : Value) → value_of_op (monoid_op m) (tv y) v ≡ tv y) c.read-value.ensures.same (c.is_terminal.ensures c.if-is_terminal.true) in
     ◌∙◌ {b = tv x} (ap tv c.read-value.ensures.same)
     (met_terminal m tv c.args.values.now c.values.x-index x (tv c.values.sum) c.values.invariant is stays c.values-test.true c.x-item.is)
+
+pub values-init : goal.values-init
+values-init g c = search rules

@@ -1,4 +1,5 @@
-use Rattle.std.proofs.Common.{refl, ◌∙◌}
+use Prim.{search}
+use Rattle.std.proofs.Common.{rules, refl, ◌∙◌}
 use Rattle.std.specs.Ordering.{nat_cmp}
 use Rattle.std.specs.FinMap.{find}
 use Rattle.grb_kernels.specs.Typed.{entries_of}
@@ -13,3 +14,6 @@ returns g c =
     c.in_ok-made-2.ensures
     ∙ mxv_of-products (record { monoid = g.M.MonoidOver.monoid; op = g.O.Operator.op }) (decoded c.args.lists.now.entries) (entries_of tv u.indices.now u.values.now)
     (λ j. find nat_cmp j (entries_of tv u.indices.now u.values.now)) c.requires.ordered (λ j. refl)
+
+pub multiply_open-requires-clause-short : goal.multiply_open-requires-clause-short
+multiply_open-requires-clause-short g c = search rules

@@ -1,3 +1,4 @@
+use Prim.{search}
 use Rattle.std.proofs.Common.{◌≡◌, false, refl, rules}
 use Rattle.grb_words.specs.Line.{is_skipped, is_section}
 use Rattle.grb_words.proofs.TupleLemmas.{now_of}
@@ -19,3 +20,6 @@ returns-clause-kept c =
     let begins : is_section words ≡ false = search rules in
     asked-IsKept words stays begins c.args.scope.now (record { section = c.args.scope.now.section; main = c.args.scope.now.main; names = c.read_command.new.names }) c.in_ok-command.command
     refl refl c.requires.kept c.in_ok-command.ensures.read
+
+pub returns-in_err-command-clause-fault : goal.returns-in_err-command-clause-fault
+returns-in_err-command-clause-fault c = search rules

@@ -1,4 +1,5 @@
-use Rattle.std.proofs.Common.{◌∙◌, arith}
+use Prim.{search}
+use Rattle.std.proofs.Common.{rules, ◌∙◌, arith}
 use Rattle.std.proofs.lemmas.Bool.Decides.{nat_tests}
 use Rattle.std.proofs.lemmas.Result.{err_from_is_err_and}
 use Rattle.grb_words.specs.Line.{ended, lines_of}
@@ -31,3 +32,6 @@ returns-clause-read c =
     let now = c.loop-rest in
     let p = Reached-end c.args.text.now now.rest.now now.number (seen now.scope) (listed now.script) now.asked.items (grind (arith, nat_tests)) now.invariant.reached in
     (p.0, c.in_ok-end_section.ensures.added ∙ p.1)
+
+pub loop-rest-init : goal.loop-rest-init
+loop-rest-init c = search rules

@@ -1,4 +1,5 @@
-use Rattle.std.proofs.Common.{◌≡◌, ℕ, ◌+◌, ◌++◌, ◌∷◌, [], List, length, take, sym, ap, subst, ◌∙◌, arith}
+use Prim.{search}
+use Rattle.std.proofs.Common.{rules, ◌≡◌, ℕ, ◌+◌, ◌++◌, ◌∷◌, [], List, length, take, sym, ap, subst, ◌∙◌, arith}
 use Rattle.std.proofs.lemmas.List.{take_more, take_all, length_push}
 use Rattle.grb_call.specs.declared.call.Call.{Call}
 use Rattle.grb_context.specs.Explains.{Answer}
@@ -27,3 +28,6 @@ returns-clause-ran c =
     let whole : take c.loop-call.call-index calls ≡ calls = take_all c.loop-call.call-index calls (omega (arith, c.loop-call-test.false)) in
     ran context old new calls c.loop-call.answers.items
     (subst (λ (l : List Call). AreAnswered context old l c.loop-call.answers.items new) whole c.loop-call.invariant.each)
+
+pub returns-in_default-clause-unmade : goal.returns-in_default-clause-unmade
+returns-in_default-clause-unmade c = search rules

@@ -1,3 +1,5 @@
+use Rattle.std.proofs.lemmas.Grind.{common_steps}
+use Prim.{grind}
 use Rattle.std.proofs.Common.{◌≡◌, ◌<◌, ◌≤◌, ◌∷◌, [], ◌++◌, length, sym, ap, ◌∙◌, subst, arith, eqb}
 use mathlib.Core.Option.{none}
 use prog.Atomic.{either}
@@ -64,3 +66,6 @@ returns-then-found-eq0-clause-sound c = (invariant_of-place c).sound
 
 pub returns-clause-sound : goal.returns-clause-sound
 returns-clause-sound c = (invariant_of-place-2 c).sound
+
+pub returns-clause-entered : goal.returns-clause-entered
+returns-clause-entered c = grind (arith, common_steps)

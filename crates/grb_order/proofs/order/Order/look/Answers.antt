@@ -1,4 +1,5 @@
-use Rattle.std.proofs.Common.{◌≡◌, ◌<◌, ◌≤◌, length, sym, refl, ap, ◌∙◌, arith}
+use Prim.{search}
+use Rattle.std.proofs.Common.{rules, ◌≡◌, ◌<◌, ◌≤◌, length, sym, refl, ap, ◌∙◌, arith}
 use Rattle.grb_order.specs.declared.standing.Standing.{Standing}
 use Rattle.grb_order.proofs.Steps.{looks}
 use Rattle.grb_order.proofs.Seats.{seated_vacant, seated_learns, moved}
@@ -39,3 +40,6 @@ returns-then-found-eq0-clause-sound c = (invariant_of-place c).sound
 
 pub returns-clause-sound : goal.returns-clause-sound
 returns-clause-sound c = (invariant_of-place-2 c).sound
+
+pub returns-clause-look : goal.returns-clause-look
+returns-clause-look c = search rules

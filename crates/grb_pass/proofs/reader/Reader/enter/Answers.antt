@@ -1,4 +1,6 @@
-use Rattle.std.proofs.Common.{◌≡◌, length, subst, sym, ap, ◌∙◌}
+use Rattle.std.proofs.lemmas.Grind.{common_steps}
+use Prim.{grind}
+use Rattle.std.proofs.Common.{◌≡◌, length, subst, sym, ap, ◌∙◌, arith}
 use Rattle.grb_order.specs.Word.{order_word}
 use Rattle.grb_order.specs.View.{enters_word}
 use Rattle.grb_pass.specs.Known.{Knowing}
@@ -31,3 +33,9 @@ returns-in-Won-clause-steady c = steady _ _ _ _ _ _ (invariant_of-self c) _ _
 
 pub returns-in-Lost-clause-steady : goal.returns-in-Lost-clause-steady
 returns-in-Lost-clause-steady c = steady _ _ _ _ _ _ (invariant_of-self-in-Lost c) _ _
+
+pub returns-in-Lost-clause-counts : goal.returns-in-Lost-clause-counts
+returns-in-Lost-clause-counts c = grind (arith, common_steps)
+
+pub returns-in-Won-clause-counts : goal.returns-in-Won-clause-counts
+returns-in-Won-clause-counts c = grind (arith, common_steps)

@@ -1,4 +1,5 @@
-use Rattle.std.proofs.Common.{refl, ap, subst, ◌∙◌}
+use Prim.{search}
+use Rattle.std.proofs.Common.{rules, refl, ap, subst, ◌∙◌}
 use Rattle.grb_records.specs.Token.{IsOf}
 use Rattle.grb_pass.specs.Known.{Shared}
 use Rattle.grb_pass.proofs.Learnt.{learns_then, learns_shown, pass_push, unshown_few}
@@ -17,3 +18,6 @@ records-preserved c =
       steps = ap (λ p. p.steps) c.admit.ensures ∙ c.records.invariant.steps;
       learns = learns_then old mid new c.records.invariant.learns (learns_shown mid new token c.in-Some.word c.in-Some.ensures.next c.admit.ensures);
     }
+
+pub admit-requires-clause-index : goal.admit-requires-clause-index
+admit-requires-clause-index c = search rules

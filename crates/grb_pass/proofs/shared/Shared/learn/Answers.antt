@@ -1,4 +1,5 @@
-use Rattle.std.proofs.Common.{ap, arith, ◌∙◌}
+use Prim.{search}
+use Rattle.std.proofs.Common.{rules, ap, arith, ◌∙◌}
 use Rattle.grb_order.specs.declared.view.View.{View}
 use Rattle.grb_pass.specs.Learning.{Learns}
 use Rattle.grb_pass.proofs.Counted.{counts_same, counts_then, steps_few}
@@ -36,3 +37,6 @@ returns-in-Full-clause-learns c =
     let old = c.args.reader.now in let p = c.catch_up.new.reader in let q = c.look.new.self in
     let first : Learns old p = learns_then old _ p c.words.invariant.learns c.catch_up.ensures.learns in
     learns_then old p q first (learns_same p q c.catch_up.ensures.steady.few c.look.ensures.shown c.look.ensures.statuses c.in-Full.ensures.look.0)
+
+pub returns-in-Full-clause-finds : goal.returns-in-Full-clause-finds
+returns-in-Full-clause-finds c = search rules

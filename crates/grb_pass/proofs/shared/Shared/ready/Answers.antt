@@ -1,4 +1,5 @@
-use Rattle.std.proofs.Common.{sym, subst}
+use Prim.{search}
+use Rattle.std.proofs.Common.{rules, sym, subst}
 use Rattle.std.specs.Prelude.{Ok}
 use Rattle.std.proofs.lemmas.Result.{err_from_is_err_and}
 use Rattle.grb_core.specs.declared.refusal.Refusal.TheVariants.{OrderFull}
@@ -21,3 +22,6 @@ returns-in-Full-clause-refused c =
     let room = room_of c.args.self.now.order in let mid = c.learn.new.reader in let call = c.args.call.now in
     let f = subst (λ (end : End). Finds room c.pass.inside.reader (Ok end) mid) c.in-Full.is c.in_ok-end.ensures.finds in
     subst (λ (k : Knowing × Knowing). IsRefused room k.0 k.1 call OrderFull) (λ i. (c.pass.view_is i, sym c.check.ensures.same i)) (refused_by_room room c.pass.inside.reader mid call f c.requires.enters c.in_ok-check.ensures.checked)
+
+pub returns-in-Vacant-clause-refused : goal.returns-in-Vacant-clause-refused
+returns-in-Vacant-clause-refused c = search rules

@@ -1,3 +1,5 @@
+use Rattle.std.proofs.lemmas.Grind.{common_steps}
+use Prim.{grind}
 use Rattle.std.proofs.Common.{◌≡◌, ◌<◌, ◌≤◌, ◌∙◌, ℕ, length, get_or, take, ap, sym, subst, arith, List, false}
 use Rattle.std.specs.Prelude.{map}
 use Rattle.std.specs.List.{AllByRecursion}
@@ -24,3 +26,6 @@ push_reserved-requires-clause-above c =
     let k = (get_or m i d).0 in
     subst (λ (x : VectorEntries). AllByRecursion (λ e. e.0 < k) x) (sym c.loop-entry.invariant.entries)
     (below_taken k m i (λ a e l n. subst (λ (x : ℕ × Value). (get_or m a e).0 < x.0) (get_or_default m i e d c.loop-entry-test.true) (keys_rise m e (holds c.requires.ordered) a i l c.loop-entry-test.true)))
+
+pub loop-entry-preserved : goal.loop-entry-preserved
+loop-entry-preserved c = grind (arith, common_steps)

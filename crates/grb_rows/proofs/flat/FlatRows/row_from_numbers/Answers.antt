@@ -1,4 +1,5 @@
-use Rattle.std.proofs.Common.{◌∙◌, ◌<◌, length, List, ℕ, Bool, sym, ap, subst, arith}
+use Prim.{search}
+use Rattle.std.proofs.Common.{rules, ◌∙◌, ◌<◌, length, List, ℕ, Bool, sym, ap, subst}
 use Rattle.std.specs.Prelude.{IsTrue, map}
 use Rattle.std.specs.Ordering.{nat_cmp}
 use Rattle.std.specs.FinMap.{is_sorted}
@@ -18,3 +19,6 @@ returns-clause-entries c =
     c.from_numbers.ensures.entries
     ∙ ap (λ (ks : List ℕ). paired ks (map (λ (x : ℕ). value.Uint64 x) c.args.numbers.items))
     (codes-first_row c.in_ok-rows.rows.items c.in_ok-rows.starts.items c.args.columns.items c.in_ok-rows.ensures.rows c.in_ok-rows.ensures.starts)
+
+pub returns-then-is_empty-clause-domain : goal.returns-then-is_empty-clause-domain
+returns-then-is_empty-clause-domain c = search rules

@@ -1,3 +1,4 @@
+use Prim.{search}
 use Rattle.std.proofs.Common.{refl, sym, ap, subst, ◌∙◌, arith, get_or, take, drop, rules, ◌≡◌, ◌+◌, ◌-◌, ◌*◌, ◌/◌, ◌%◌, ◌<◌, ◌≤◌, ◌^◌, ◌++◌, ℕ, [], ◌∷◌, None, length, map, All, IfOk, IfSome, IfNone, IsTrue, slice_set, slice_index_or, slice_index, Bool, true, false, nat_eq, nat_lt, List, bit_and, bit_or, Fits, w8, w32, w64, Bor, MutBor}
 use Rattle.std.specs.List.{AllByRecursion}
 use Rattle.std.specs.Ordering.{nat_cmp}
@@ -63,3 +64,6 @@ returns-clause-first c =
     let sames = flat.same in
     let first = flat.first in
     (some, λ d. row 0 d m ∙ row_at-at rows starts 0 0 0 sames some (omega (arith, first)) (λ j a b. let up = flat.rise 0 j a b in omega (arith, up))))
+
+pub returns-clause-list : goal.returns-clause-list
+returns-clause-list c = search rules

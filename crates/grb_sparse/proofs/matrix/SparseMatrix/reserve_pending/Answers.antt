@@ -1,4 +1,5 @@
-use Rattle.std.proofs.Common.{◌≡◌, ◌<◌, ◌≤◌, ◌+◌, ◌*◌, ◌^◌, ◌∙◌, ℕ, List, [], ◌∷◌, ◌++◌, length, get_or, ap, sym, subst, refl, arith, true, false, cond, Some, None, Option, IsTrue, inl, inr}
+use Prim.{search}
+use Rattle.std.proofs.Common.{rules, ◌≡◌, ◌<◌, ◌≤◌, ◌+◌, ◌*◌, ◌^◌, ◌∙◌, ℕ, List, [], ◌∷◌, ◌++◌, length, get_or, ap, sym, subst, refl, arith, true, false, cond, Some, None, Option, IsTrue, inl, inr}
 use Rattle.std.specs.Prelude.{map, is_some, All}
 use Rattle.std.specs.Ordering.{nat_cmp}
 use Rattle.std.specs.FinMap.{find, put, is_sorted}
@@ -40,3 +41,6 @@ returns-then-is_empty-clause-matrix c =
     same_matrix i.lists.domain i.lists.domain i.nrows i.ncols _ _ refl
     (ap decoded (stored-marked i.lists i.deleted.items is c.in_ok-deleted.deleted.items c.in_ok-deleted.ensures.unset i.pending.changes c.reserve.new.self.changes c.reserve.ensures.changes))
     ∙ ap (λ (v : SparseMatrixView). v.matrix) c.self.view_is
+
+pub invariant_of-self-2 : goal.invariant_of-self-2
+invariant_of-self-2 c = search rules

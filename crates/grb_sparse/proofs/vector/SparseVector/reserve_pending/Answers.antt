@@ -1,4 +1,5 @@
-use Rattle.std.proofs.Common.{◌≡◌, ◌<◌, ◌+◌, ◌^◌, ◌∙◌, ℕ, List, [], length, get_or, ap, sym, subst, refl, arith, true, false, cond, Some, None, Option}
+use Prim.{search}
+use Rattle.std.proofs.Common.{rules, ◌≡◌, ◌<◌, ◌+◌, ◌^◌, ◌∙◌, ℕ, List, [], length, get_or, ap, sym, subst, refl, arith, true, false, cond, Some, None, Option}
 use Rattle.std.specs.Prelude.{map, is_some}
 use Rattle.std.specs.Ordering.{nat_cmp}
 use Rattle.std.specs.FinMap.{find, put}
@@ -33,3 +34,6 @@ returns-then-is_empty-clause-vector c =
     same_vector i.row.domain i.row.domain i.size _ _ refl
     (stored-marked i.row i.deleted.items is c.in_ok-deleted.deleted.items c.in_ok-deleted.ensures.unset i.pending.changes c.reserve.new.self.changes c.reserve.ensures.changes)
     ∙ ap (λ (v : SparseVectorView). v.vector) c.self.view_is
+
+pub invariant_of-self-2 : goal.invariant_of-self-2
+invariant_of-self-2 c = search rules

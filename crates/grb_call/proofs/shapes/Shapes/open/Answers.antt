@@ -1,0 +1,6 @@
+use Prim.{search}
+use Rattle.std.proofs.Common.{rules}
+use Rattle.grb_call.proofs.shapes.Shapes.open.Goals as goal
+
+pub returns-clause-room : goal.returns-clause-room
+returns-clause-room c = search rules

@@ -1,0 +1,9 @@
+use Prim.{search}
+use Rattle.std.proofs.Common.{rules}
+use Rattle.grb_call.proofs.status.made_by.Goals as goal
+
+pub returns-in_default : goal.returns-in_default
+returns-in_default c = search rules
+
+pub returns-in_default-2 : goal.returns-in_default-2
+returns-in_default-2 c = search rules
