@@ -14,8 +14,6 @@ mod place;
 mod rule;
 mod standing;
 mod step;
-#[cfg(test)]
-mod tests;
 mod view;
 mod word;
 

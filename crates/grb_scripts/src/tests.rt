@@ -7,6 +7,7 @@ mod loads;
 mod products;
 mod program;
 mod runs;
+mod same;
 mod sections;
 mod sinks;
 mod sources;

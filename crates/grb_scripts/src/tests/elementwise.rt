@@ -1,5 +1,4 @@
-use crate::tests::runs::{sink_of, source_of};
-use grb_driver::{OpenGate, run_script};
+use crate::tests::runs::expect_lines;
 use std::test::Fail;
 
 #[test]
@@ -67,14 +66,7 @@ fn element_wise_statements_print_their_lines(rt: HostRuntime) -> Result<(), Fail
         ),
     ];
     for (room, script, lines) in rows {
-        let mut source = source_of(rt.alloc(), script);
-        let mut sink = sink_of(rt.alloc(), 1000, 1000);
-        run_script(&rt, rt.alloc(), room, &mut source, &mut sink, &OpenGate)?;
-        assert_eq!(rt;
-            sink.taken.as_slice(),
-            lines.as_bytes(),
-            "room {room}: {script}"
-        );
+        expect_lines(&rt, rt.alloc(), room, script, &[], lines)?;
     }
     Ok(())
 }
@@ -109,14 +101,7 @@ fn element_wise_statements_are_refused_by_the_first_reason(rt: HostRuntime) -> R
         ),
     ];
     for (room, script, lines) in rows {
-        let mut source = source_of(rt.alloc(), script);
-        let mut sink = sink_of(rt.alloc(), 1000, 1000);
-        run_script(&rt, rt.alloc(), room, &mut source, &mut sink, &OpenGate)?;
-        assert_eq!(rt;
-            sink.taken.as_slice(),
-            lines.as_bytes(),
-            "room {room}: {script}"
-        );
+        expect_lines(&rt, rt.alloc(), room, script, &[], lines)?;
     }
     Ok(())
 }
@@ -213,10 +198,7 @@ fn each_choice_of_mask_accumulator_and_replace_writes_its_output(
             "{MASKED}ewiseadd c a a first{options}\nget c 0\nget c 1\nget c 2\nget c 3\n"
         )?;
         let lines = format!(in rt.alloc(); "ok\nok\nok\nok\nok\nok\nok\n{values}")?;
-        let mut source = source_of(rt.alloc(), &script);
-        let mut sink = sink_of(rt.alloc(), 1000, 1000);
-        run_script(&rt, rt.alloc(), 8, &mut source, &mut sink, &OpenGate)?;
-        assert_eq!(rt; sink.taken.as_slice(), lines.as_bytes(), "{options}");
+        expect_lines(&rt, rt.alloc(), 8, &script, &[], &lines)?;
     }
     Ok(())
 }
@@ -237,10 +219,7 @@ fn each_operator_combines_its_values(rt: HostRuntime) -> Result<(), Fail> {
             "vector a uint64 1\nset a 0 6\nvector b uint64 1\nset b 0 9\newisemult a a b {op}\nget a 0\n"
         )?;
         let lines = format!(in rt.alloc(); "ok\nok\nok\nok\nok\n{value}")?;
-        let mut source = source_of(rt.alloc(), &script);
-        let mut sink = sink_of(rt.alloc(), 1000, 1000);
-        run_script(&rt, rt.alloc(), 8, &mut source, &mut sink, &OpenGate)?;
-        assert_eq!(rt; sink.taken.as_slice(), lines.as_bytes(), "{op}");
+        expect_lines(&rt, rt.alloc(), 8, &script, &[], &lines)?;
     }
     Ok(())
 }
@@ -272,10 +251,7 @@ fn each_operator_on_truth_values_has_its_table(rt: HostRuntime) -> Result<(), Fa
             "vector a bool 4\nbuild a lor 0 true 1 true 2 false 3 false\nvector b bool 4\nbuild b lor 0 true 1 false 2 true 3 false\newiseadd a a b {op}\nget a 0\nget a 1\nget a 2\nget a 3\n"
         )?;
         let lines = format!(in rt.alloc(); "ok\nok\nok\nok\nok\n{values}")?;
-        let mut source = source_of(rt.alloc(), &script);
-        let mut sink = sink_of(rt.alloc(), 1000, 1000);
-        run_script(&rt, rt.alloc(), 8, &mut source, &mut sink, &OpenGate)?;
-        assert_eq!(rt; sink.taken.as_slice(), lines.as_bytes(), "{op}");
+        expect_lines(&rt, rt.alloc(), 8, &script, &[], &lines)?;
     }
     Ok(())
 }

@@ -1,5 +1,6 @@
 use crate::tests::gates::CountingGate;
 use crate::tests::runs::{FIRST, FIRST_LINES, sink_of, source_of};
+use crate::tests::same::same;
 use crate::tests::sinks::Full;
 use crate::tests::sources::TextSource;
 use grb_driver::{OpenGate, RunFault, SourceFault, run_script};
@@ -57,9 +58,10 @@ fn a_script_with_a_fault_writes_nothing(rt: HostRuntime) -> Result<(), Fail> {
         let mut source = source_of(rt.alloc(), script);
         let mut sink = sink_of(rt.alloc(), 1000, 1000);
         let result = run_script(&rt, rt.alloc(), 4096, &mut source, &mut sink, &OpenGate);
-        assert_eq!(rt; result, Err(RunFault::Script { line, kind }), "{script}");
-        assert_eq!(rt; sink.taken.len(), 0, "{script}");
-        assert_eq!(rt; sink.failures, 0, "{script}");
+        let fault = RunFault::Script { line, kind };
+        same(&rt, &result, &Err(fault), ("the end", script));
+        same(&rt, sink.taken.len(), 0, ("bytes written", script));
+        same(&rt, sink.failures, 0, ("failures", script));
     }
     Ok(())
 }
@@ -80,13 +82,10 @@ fn a_source_that_fails_writes_nothing(rt: HostRuntime) -> Result<(), Fail> {
         source.fault = Some(fault);
         let mut sink = sink_of(rt.alloc(), 1000, 1000);
         let result = run_script(&rt, rt.alloc(), 4096, &mut source, &mut sink, &OpenGate);
-        assert_eq!(rt; result, Err(run_fault), "{fault:?}");
-        assert_eq!(rt;
-            (source.cannot_read, source.too_long, source.out_of_memory),
-            counts,
-            "{fault:?}"
-        );
-        assert_eq!(rt; sink.taken.len(), 0, "{fault:?}");
+        let met = (source.cannot_read, source.too_long, source.out_of_memory);
+        same(&rt, &result, &Err(run_fault), ("the end", fault));
+        same(&rt, met, counts, ("counts", fault));
+        same(&rt, sink.taken.len(), 0, ("bytes written", fault));
     }
     Ok(())
 }
@@ -142,7 +141,7 @@ fn a_script_is_at_most_a_mebibyte(rt: HostRuntime) -> Result<(), Fail> {
         };
         let mut sink = sink_of(rt.alloc(), 1000, 1000);
         let result = run_script(&rt, rt.alloc(), 4096, &mut source, &mut sink, &OpenGate);
-        assert_eq!(rt; result, expected, "{length} bytes");
+        same(&rt, &result, &expected, ("bytes", length));
     }
     Ok(())
 }
@@ -157,25 +156,19 @@ fn a_sink_that_fails_has_a_beginning(rt: HostRuntime) -> Result<(), Fail> {
             sink.full = full;
             let result = run_script(&rt, rt.alloc(), 4096, &mut source, &mut sink, &OpenGate);
             let is_cut = room < lines.len();
-            assert_eq!(rt;
-                result,
-                if is_cut {
-                    Err(RunFault::CannotWrite)
-                } else {
-                    Ok(())
-                },
-                "step {step}, room {room}"
-            );
-            assert_eq!(rt;
+            let (expected, failures) = if is_cut {
+                (Err(RunFault::CannotWrite), 1)
+            } else {
+                (Ok(()), 0)
+            };
+            same(&rt, &result, &expected, ("the end", step, room));
+            same(
+                &rt,
                 sink.taken.as_slice(),
                 &lines[..room],
-                "step {step}, room {room}"
+                ("bytes written", step, room),
             );
-            assert_eq!(rt;
-                sink.failures,
-                if is_cut { 1 } else { 0 },
-                "step {step}, room {room}"
-            );
+            same(&rt, sink.failures, failures, ("failures", step, room));
         }
     }
     Ok(())
@@ -194,9 +187,24 @@ fn the_gate_stands_round_each_statement(rt: HostRuntime) -> Result<(), Fail> {
         let mut sink = sink_of(rt.alloc(), 1000, 1000);
         let gate = CountingGate::new();
         let _ = run_script(&rt, rt.alloc(), 4096, &mut source, &mut sink, &gate);
-        assert_eq!(rt; gate.before.load(Ordering::SeqCst), count, "{script}");
-        assert_eq!(rt; gate.after.load(Ordering::SeqCst), count, "{script}");
-        assert_eq!(rt; gate.wrong.load(Ordering::SeqCst), 0, "{script}");
+        same(
+            &rt,
+            gate.before.load(Ordering::SeqCst),
+            count,
+            ("calls before", script),
+        );
+        same(
+            &rt,
+            gate.after.load(Ordering::SeqCst),
+            count,
+            ("calls after", script),
+        );
+        same(
+            &rt,
+            gate.wrong.load(Ordering::SeqCst),
+            0,
+            ("wrong calls", script),
+        );
     }
     Ok(())
 }

@@ -1,5 +1,4 @@
-use crate::tests::runs::{FIRST, FIRST_LINES, sink_of, source_of};
-use grb_driver::{OpenGate, run_script};
+use crate::tests::runs::{FIRST, FIRST_LINES, expect_lines};
 use std::test::Fail;
 
 /// A script of one vector that fills a history with room for two calls.
@@ -49,15 +48,7 @@ fn a_script_prints_its_lines(rt: HostRuntime) -> Result<(), Fail> {
         ),
     ];
     for (room, script, lines) in rows {
-        let mut source = source_of(rt.alloc(), script);
-        let mut sink = sink_of(rt.alloc(), 1000, 1000);
-        run_script(&rt, rt.alloc(), room, &mut source, &mut sink, &OpenGate)?;
-        assert_eq!(rt;
-            sink.taken.as_slice(),
-            lines.as_bytes(),
-            "room {room}: {script}"
-        );
-        assert_eq!(rt; sink.failures, 0, "room {room}: {script}");
+        expect_lines(&rt, rt.alloc(), room, script, &[], lines)?;
     }
     Ok(())
 }
@@ -133,14 +124,7 @@ fn statements_on_matrices_and_vectors_print_their_lines(rt: HostRuntime) -> Resu
         ),
     ];
     for (room, script, lines) in rows {
-        let mut source = source_of(rt.alloc(), script);
-        let mut sink = sink_of(rt.alloc(), 1000, 1000);
-        run_script(&rt, rt.alloc(), room, &mut source, &mut sink, &OpenGate)?;
-        assert_eq!(rt;
-            sink.taken.as_slice(),
-            lines.as_bytes(),
-            "room {room}: {script}"
-        );
+        expect_lines(&rt, rt.alloc(), room, script, &[], lines)?;
     }
     Ok(())
 }

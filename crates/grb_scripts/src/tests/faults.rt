@@ -1,3 +1,4 @@
+use crate::tests::same::same;
 use grb_driver::RunFault;
 use grb_words::FaultKind;
 use std::test::Fail;
@@ -16,7 +17,7 @@ fn a_fault_is_printed_by_its_line_and_kind(rt: HostRuntime) -> Result<(), Fail> 
     ];
     for (kind, expected) in rows {
         let printed = format!(in rt.alloc(); "{}", RunFault::Script { line: 7, kind })?;
-        assert_eq!(rt; printed.as_str(), expected);
+        same(&rt, printed.as_str(), expected, "a fault");
     }
     Ok(())
 }
@@ -28,7 +29,7 @@ fn a_run_of_threads_has_two_faults_of_its_own(rt: HostRuntime) -> Result<(), Fai
         (RunFault::Panic, "GrB_PANIC"),
     ] {
         let printed = format!(in rt.alloc(); "{fault}")?;
-        assert_eq!(rt; printed.as_str(), expected);
+        same(&rt, printed.as_str(), expected, "a fault");
     }
     Ok(())
 }

@@ -1,5 +1,6 @@
 use crate::tests::gates::CountingGate;
-use crate::tests::runs::{sink_of, source_with};
+use crate::tests::runs::{expect_lines, sink_of, source_with};
+use crate::tests::same::same;
 use crate::tests::sources::NamedFile;
 use grb_driver::{OpenGate, RunFault, SourceFault, run_script};
 use grb_market::{FaultKind, MarketFault};
@@ -77,14 +78,7 @@ fn a_script_with_loads_prints_its_lines(rt: HostRuntime) -> Result<(), Fail> {
         ),
     ];
     for (room, script, lines) in rows {
-        let mut source = source_with(rt.alloc(), script, &FILES);
-        let mut sink = sink_of(rt.alloc(), 1000, 1000);
-        run_script(&rt, rt.alloc(), room, &mut source, &mut sink, &OpenGate)?;
-        assert_eq!(rt;
-            sink.taken.as_slice(),
-            lines.as_bytes(),
-            "room {room}: {script}"
-        );
+        expect_lines(&rt, rt.alloc(), room, script, &FILES, lines)?;
     }
     Ok(())
 }
@@ -154,9 +148,14 @@ fn the_first_fault_of_the_script_or_else_of_its_loads_is_answered(
         let mut sink = sink_of(rt.alloc(), 1000, 1000);
         let gate = CountingGate::new();
         let result = run_script(&rt, rt.alloc(), 4096, &mut source, &mut sink, &gate);
-        assert_eq!(rt; result, Err(fault), "{script}");
-        assert_eq!(rt; sink.taken.len(), 0, "{script}");
-        assert_eq!(rt; gate.before.load(Ordering::SeqCst), 0, "{script}");
+        same(&rt, &result, &Err(fault), ("the end", script));
+        same(&rt, sink.taken.len(), 0, ("bytes written", script));
+        same(
+            &rt,
+            gate.before.load(Ordering::SeqCst),
+            0,
+            ("statements", script),
+        );
     }
     Ok(())
 }
@@ -173,11 +172,8 @@ fn each_fault_of_a_file_is_counted_once(rt: HostRuntime) {
         let mut source = source_with(rt.alloc(), script, &FILES);
         let mut sink = sink_of(rt.alloc(), 1000, 1000);
         let _ = run_script(&rt, rt.alloc(), 4096, &mut source, &mut sink, &OpenGate);
-        assert_eq!(rt;
-            (source.cannot_read, source.too_long, source.out_of_memory),
-            counts,
-            "{script}"
-        );
+        let met = (source.cannot_read, source.too_long, source.out_of_memory);
+        same(&rt, met, counts, script);
     }
 }
 
@@ -187,8 +183,8 @@ fn the_gate_stands_round_a_load_once(rt: HostRuntime) -> Result<(), Fail> {
     let mut sink = sink_of(rt.alloc(), 1000, 1000);
     let gate = CountingGate::new();
     run_script(&rt, rt.alloc(), 4096, &mut source, &mut sink, &gate)?;
-    assert_eq!(rt; gate.before.load(Ordering::SeqCst), 3);
-    assert_eq!(rt; gate.after.load(Ordering::SeqCst), 3);
-    assert_eq!(rt; gate.wrong.load(Ordering::SeqCst), 0);
+    same(&rt, gate.before.load(Ordering::SeqCst), 3, "calls before");
+    same(&rt, gate.after.load(Ordering::SeqCst), 3, "calls after");
+    same(&rt, gate.wrong.load(Ordering::SeqCst), 0, "wrong calls");
     Ok(())
 }

@@ -1,5 +1,4 @@
-use crate::tests::runs::{sink_of, source_of};
-use grb_driver::{OpenGate, run_script};
+use crate::tests::runs::expect_lines;
 use std::test::Fail;
 
 #[test]
@@ -56,14 +55,7 @@ fn products_reductions_and_waits_print_their_lines(rt: HostRuntime) -> Result<()
         ),
     ];
     for (room, script, lines) in rows {
-        let mut source = source_of(rt.alloc(), script);
-        let mut sink = sink_of(rt.alloc(), 1000, 1000);
-        run_script(&rt, rt.alloc(), room, &mut source, &mut sink, &OpenGate)?;
-        assert_eq!(rt;
-            sink.taken.as_slice(),
-            lines.as_bytes(),
-            "room {room}: {script}"
-        );
+        expect_lines(&rt, rt.alloc(), room, script, &[], lines)?;
     }
     Ok(())
 }
@@ -84,14 +76,7 @@ fn products_and_reductions_are_refused_by_the_first_reason(rt: HostRuntime) -> R
         ),
     ];
     for (room, script, lines) in rows {
-        let mut source = source_of(rt.alloc(), script);
-        let mut sink = sink_of(rt.alloc(), 1000, 1000);
-        run_script(&rt, rt.alloc(), room, &mut source, &mut sink, &OpenGate)?;
-        assert_eq!(rt;
-            sink.taken.as_slice(),
-            lines.as_bytes(),
-            "room {room}: {script}"
-        );
+        expect_lines(&rt, rt.alloc(), room, script, &[], lines)?;
     }
     Ok(())
 }

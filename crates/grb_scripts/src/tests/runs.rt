@@ -1,8 +1,14 @@
-ghost use Rattle.std.specs.Prelude.{◌≡◌};
+ghost use Rattle.std.specs.Prelude.{◌≡◌, ◌<◌, ◌≤◌};
 
+use crate::tests::same::same;
 use crate::tests::sinks::{Full, SmallSink};
 use crate::tests::sources::{NamedFile, TextSource};
+use grb_driver::{OpenGate, run_script};
 use std::alloc::Global;
+use std::process::Abort;
+use std::sync::Wait;
+use std::test::Fail;
+use std::thread::Threads;
 
 pub(super) const FIRST: &str = "vector v uint64 5\nset v 2 7\nget v 2\nget v 3\nnvals v\n";
 
@@ -42,4 +48,29 @@ pub(super) fn sink_of(alloc: Global, step: usize, room: usize) -> SmallSink
         full: Full::Fails,
         failures: 0,
     }
+}
+
+/// A script that runs with room for so many calls, and with these files, writes these lines. One function runs the scripts of many tests,
+/// since what a run owns is dear to follow.
+pub(super) fn expect_lines<R: Abort + Threads + Wait + Sync>(
+    rt: &R,
+    alloc: Global,
+    room: u32,
+    script: &str,
+    files: &[NamedFile<'_>],
+    lines: &str,
+) -> Result<(), Fail>
+    requires { (0 < room) × (room ≤ 4096) }
+{
+    let mut source = source_with(alloc, script, files);
+    let mut sink = sink_of(alloc, 1000, 1000);
+    run_script(rt, alloc, room, &mut source, &mut sink, &OpenGate)?;
+    same(
+        rt,
+        sink.taken.as_slice(),
+        lines.as_bytes(),
+        ("room", room, script),
+    );
+    same(rt, sink.failures, 0, ("failures", room, script));
+    Ok(())
 }

@@ -1,4 +1,5 @@
 use crate::tests::runs::{sink_of, source_of};
+use crate::tests::same::same;
 use grb_driver::{Gate, OpenGate, run_script};
 use std::alloc::Global;
 use std::process::Abort;
@@ -10,6 +11,8 @@ use std::thread::Threads;
 /// Two sections that each set an entry of their own and read it.
 const OWN: &str =
     "vector v uint64 4\nthread 1\nset v 0 1\nget v 0\nthread 2\nset v 1 2\nget v 1\nfinally\nnvals v\n";
+
+const OWN_LINES: &str = "ok\nok\nvalue 1\nok\nvalue 2\ncount 2\n";
 
 /// A section that makes a vector smaller, and one that sets an entry which it then no longer has room for.
 const RESIZED: &str =
@@ -37,21 +40,23 @@ fn lines_of<R: Abort + Threads + Wait + Sync, G: Gate + Sync>(
 
 #[test]
 fn two_sections_set_entries_of_their_own(rt: HostRuntime) -> Result<(), Fail> {
-    for _ in 0..1000 {
+    for run in 0..1000 {
         let lines = lines_of(&rt, rt.alloc(), OWN, &OpenGate)?;
-        assert_eq!(rt;
-            lines.as_slice(),
-            "ok\nok\nvalue 1\nok\nvalue 2\ncount 2\n".as_bytes()
-        );
+        same(&rt, lines.as_slice(), OWN_LINES.as_bytes(), ("run", run));
     }
     Ok(())
 }
 
 #[test]
 fn the_example_prints_the_same_lines_in_each_run(rt: HostRuntime) -> Result<(), Fail> {
-    for _ in 0..100 {
+    for run in 0..100 {
         let lines = lines_of(&rt, rt.alloc(), EXAMPLE, &OpenGate)?;
-        assert_eq!(rt; lines.as_slice(), EXAMPLE_LINES.as_bytes());
+        same(
+            &rt,
+            lines.as_slice(),
+            EXAMPLE_LINES.as_bytes(),
+            ("run", run),
+        );
     }
     Ok(())
 }
@@ -119,10 +124,7 @@ fn two_sections_meet(rt: HostRuntime) -> Result<(), Fail> {
         given_up: AtomicU64::new(0),
     };
     let lines = lines_of(&rt, rt.alloc(), OWN, &gate)?;
-    assert_eq!(rt;
-        lines.as_slice(),
-        "ok\nok\nvalue 1\nok\nvalue 2\ncount 2\n".as_bytes()
-    );
-    assert_eq!(rt; gate.given_up.load(Ordering::SeqCst), 0);
+    same(&rt, lines.as_slice(), OWN_LINES.as_bytes(), "lines");
+    same(&rt, gate.given_up.load(Ordering::SeqCst), 0, "given up");
     Ok(())
 }

@@ -1,5 +1,6 @@
 ghost use Rattle.std.specs.Prelude.{Some};
 
+use crate::tests::same::same;
 use grb_market::{Sink, SinkFault, put_all};
 use std::test::Fail;
 
@@ -66,17 +67,15 @@ fn all_is_put_or_a_beginning(rt: HostRuntime) -> Result<(), Fail> {
             failures: 0,
         };
         let result = put_all(&mut sink, b"12345");
-        assert_eq!(rt; result.is_ok(), succeeds, "step {step}, room {room}");
-        assert_eq!(rt;
+        let failures = if succeeds { 0 } else { 1 };
+        same(&rt, result.is_ok(), succeeds, ("success", step, room));
+        same(
+            &rt,
             sink.taken.as_slice(),
             taken.as_bytes(),
-            "step {step}, room {room}"
+            ("bytes taken", step, room),
         );
-        assert_eq!(rt;
-            sink.failures,
-            if succeeds { 0 } else { 1 },
-            "step {step}, room {room}"
-        );
+        same(&rt, sink.failures, failures, ("failures", step, room));
     }
     Ok(())
 }
@@ -90,6 +89,6 @@ fn nothing_is_put_of_no_bytes(rt: HostRuntime) {
         full: Full::Fails,
         failures: 0,
     };
-    assert_eq!(rt; put_all(&mut sink, b""), Ok(()));
-    assert_eq!(rt; sink.failures, 0);
+    same(&rt, put_all(&mut sink, b""), Ok(()), "no bytes");
+    same(&rt, sink.failures, 0, "failures");
 }

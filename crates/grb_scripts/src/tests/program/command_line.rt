@@ -1,3 +1,4 @@
+use crate::tests::same::same;
 use grb_command::{Options, options, status_of_run, status_of_words};
 use grb_driver::RunFault;
 use grb_script::FaultKind;
@@ -41,7 +42,7 @@ fn words_give_a_room_and_a_path(rt: HostRuntime) -> Result<(), Fail> {
     ];
     for (words, room, path) in rows {
         let given = options(rt.alloc(), words)?;
-        assert_eq!(rt; given, Options { room, path }, "{words:?}");
+        same(&rt, given, Options { room, path }, words);
     }
     Ok(())
 }
@@ -68,7 +69,7 @@ fn other_words_are_faulty_or_ask_for_help(rt: HostRuntime) -> Result<(), Fail> {
         let words: Vec<&str> = line.split_whitespace().collect(rt.alloc())?;
         match options(rt.alloc(), &words) {
             Ok(given) => assert!(rt; false, "{line} gives {given:?}"),
-            Err(error) => assert_eq!(rt; status_of_words(&error), status, "{line}"),
+            Err(error) => same(&rt, status_of_words(&error), status, line),
         }
     }
     Ok(())
@@ -89,7 +90,7 @@ fn help_and_what_is_wrong_are_told_in_words(rt: HostRuntime) -> Result<(), Fail>
             Ok(given) => assert!(rt; false, "{line} gives {given:?}"),
             Err(error) => {
                 let told = format!(in rt.alloc(); "{error}")?;
-                assert_eq!(rt; told.as_str(), text, "{line}");
+                same(&rt, told.as_str(), text, line);
             }
         }
     }
@@ -98,7 +99,7 @@ fn help_and_what_is_wrong_are_told_in_words(rt: HostRuntime) -> Result<(), Fail>
 
 #[test]
 fn every_fault_of_a_run_has_the_status_1(rt: HostRuntime) {
-    assert_eq!(rt; status_of_run(&Ok(())), 0);
+    same(&rt, status_of_run(&Ok(())), 0, "no fault");
     let faults = [
         RunFault::Script {
             line: 1,
@@ -110,6 +111,7 @@ fn every_fault_of_a_run_has_the_status_1(rt: HostRuntime) {
         RunFault::CannotWrite,
     ];
     for fault in faults {
-        assert_eq!(rt; status_of_run(&Err(fault)), 1);
+        let run = Err(fault);
+        same(&rt, status_of_run(&run), 1, &run);
     }
 }

@@ -1,3 +1,4 @@
+use crate::tests::same::same;
 use grb_command::{FileSource, read_all};
 use grb_driver::{Source, SourceFault};
 use std::io;
@@ -59,7 +60,7 @@ fn a_failing_reader_gives_nothing(rt: HostRuntime) {
         };
         match read_all(rt.alloc(), reader, 100) {
             Ok(_) => assert!(rt; false, "read {kind:?}"),
-            Err(met) => assert_eq!(rt; met, fault, "{kind:?}"),
+            Err(met) => same(&rt, met, fault, kind),
         }
     }
 }
@@ -76,10 +77,8 @@ fn faults_are_counted_one_by_one(rt: HostRuntime) -> Result<(), Fail> {
     );
     assert!(rt; matches!(source.file("/"), Err(SourceFault::CannotRead)));
     assert!(rt; source.file("/dev/null")?.is_empty());
-    assert_eq!(rt;
-        (source.cannot_read, source.too_long, source.out_of_memory),
-        (2, 0, 0)
-    );
+    let met = (source.cannot_read, source.too_long, source.out_of_memory);
+    same(&rt, met, (2, 0, 0), "faults of the folder");
     let mut endless = FileSource::new(&rt, "/dev/zero");
     match endless.script() {
         Err(SourceFault::TooLong) => {}
@@ -88,9 +87,7 @@ fn faults_are_counted_one_by_one(rt: HostRuntime) -> Result<(), Fail> {
             assert!(rt; false, "an endless file was read");
         }
     }
-    assert_eq!(rt;
-        (endless.cannot_read, endless.too_long, endless.out_of_memory),
-        (0, 1, 0)
-    );
+    let met = (endless.cannot_read, endless.too_long, endless.out_of_memory);
+    same(&rt, met, (0, 1, 0), "faults of the endless file");
     Ok(())
 }

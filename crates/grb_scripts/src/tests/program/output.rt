@@ -1,3 +1,4 @@
+use crate::tests::same::same;
 use grb_command::OutputSink;
 use grb_market::{Sink, SinkFault};
 use std::io;
@@ -28,10 +29,10 @@ impl Write for Slow {
 #[test]
 fn an_interrupted_write_is_tried_again_and_a_failure_is_counted(rt: HostRuntime) {
     let mut sink = OutputSink::new(Slow { calls: 0 });
-    assert_eq!(rt; sink.put(b"abc"), Ok(2));
-    assert_eq!(rt; sink.failures, 0);
-    assert_eq!(rt; sink.put(b"abc"), Ok(0));
-    assert_eq!(rt; sink.failures, 1);
-    assert_eq!(rt; sink.put(b"abc"), Err(SinkFault));
-    assert_eq!(rt; sink.failures, 2);
+    same(&rt, sink.put(b"abc"), Ok(2), "two bytes");
+    same(&rt, sink.failures, 0, "failures after two bytes");
+    same(&rt, sink.put(b"abc"), Ok(0), "no byte");
+    same(&rt, sink.failures, 1, "failures after no byte");
+    same(&rt, sink.put(b"abc"), Err(SinkFault), "a failure");
+    same(&rt, sink.failures, 2, "failures after a failure");
 }

@@ -1,3 +1,4 @@
+use crate::tests::same::same;
 use grb_command::{options, report_run, report_unread_words, report_words};
 use grb_driver::RunFault;
 use grb_market::MarketFault;
@@ -70,7 +71,7 @@ fn help_goes_to_output_and_a_fault_to_standard_error(rt: HostRuntime) -> Result<
             Err(error) => {
                 let status = report_words(&screen, &error);
                 let met = (status, screen.printed.get(), screen.explained.get());
-                assert_eq!(rt; met, expected, "{word}, full: {is_full}");
+                same(&rt, met, expected, (word, "full", is_full));
             }
         }
     }
@@ -80,10 +81,16 @@ fn help_goes_to_output_and_a_fault_to_standard_error(rt: HostRuntime) -> Result<
 #[test]
 fn a_run_that_is_done_says_nothing(rt: HostRuntime) {
     let screen = Streams::new(true);
-    assert_eq!(rt; report_run(&screen, &Ok(())), 0);
-    assert_eq!(rt; screen.explained.get(), 0);
-    assert_eq!(rt; report_run(&screen, &Err(RunFault::CannotWrite)), 1);
-    assert_eq!(rt; screen.explained.get(), 1);
+    same(&rt, report_run(&screen, &Ok(())), 0, "a run that is done");
+    same(&rt, screen.explained.get(), 0, "what is then explained");
+    let fault = Err(RunFault::CannotWrite);
+    same(
+        &rt,
+        report_run(&screen, &fault),
+        1,
+        "a run that cannot write",
+    );
+    same(&rt, screen.explained.get(), 1, "what is then explained");
 }
 
 #[test]
@@ -91,9 +98,10 @@ fn words_that_are_no_text_are_a_fault_of_the_command_line(rt: HostRuntime) {
     let screen = Streams::new(false);
     for (kind, status) in [(ErrorKind::InvalidData, 2), (ErrorKind::OutOfMemory, 1)] {
         let met = report_unread_words(&screen, &io::Error::from(kind));
-        assert_eq!(rt; met, status, "{kind:?}");
+        same(&rt, met, status, kind);
     }
-    assert_eq!(rt; (screen.printed.get(), screen.explained.get()), (0, 2));
+    let met = (screen.printed.get(), screen.explained.get());
+    same(&rt, met, (0, 2), "what was printed and explained");
 }
 
 #[test]
@@ -127,7 +135,7 @@ fn a_fault_is_printed_behind_the_name_of_the_program(rt: HostRuntime) -> Result<
     ];
     for (fault, text) in rows {
         let printed = format!(in rt.alloc(); "grbrun: {fault}")?;
-        assert_eq!(rt; printed.as_str(), text);
+        same(&rt, printed.as_str(), text, "a fault");
     }
     Ok(())
 }
