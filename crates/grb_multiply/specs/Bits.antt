@@ -47,3 +47,9 @@ AreAmong marks allowed = (p : ℕ) → slice_index_or marks p false ≡ true →
 -- the place stands in the list
 abbrev pub StandsIn : List ℕ → ℕ → Type 0
 StandsIn places p = (k : ℕ) × (k < length places) × (slice_index places k ≡ p)
+
+-- memory to work in at one row of this many places: room for a sum and for an entry at each
+pub record IsRoom {V : Type 0} (count : ℕ) (sums : List V) (columns : List ℕ) (values : List V) : Type 0 where
+  pub long : length sums ≡ count
+  pub columns_long : length columns ≡ count
+  pub values_long : length values ≡ count

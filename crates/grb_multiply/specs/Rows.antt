@@ -5,6 +5,8 @@ use Rattle.grb_core.specs.Entries.{VectorEntries, MatrixEntries, cell_cmp, befor
 use Rattle.grb_core.specs.Mask.{is_selected}
 use Rattle.grb_core.specs.Results.{columns_of, column_of, product_of, mxm_of}
 use Rattle.grb_core.specs.Semiring.{SemiringParts}
+use Rattle.grb_rows.specs.Cells.{IsFlat}
+use Rattle.grb_ops.specs.Rows.{flat_entries}
 
 -- a row with each column of a matrix
 abbrev pub product_row : SemiringParts → VectorEntries → MatrixEntries → VectorEntries
@@ -39,3 +41,9 @@ selected_product s structure (Some mask) a b = restricted (is_selected cell_cmp 
 -- the mask that bounds the work: none, where its complement is meant
 abbrev pub bounding : Bool → Option MatrixEntries → Option MatrixEntries
 bounding comp mask = if comp then None else mask
+
+-- lists that lie as those of a matrix do, with a value for each column, have these entries
+pub record AreRows {V : Type 0} (tv : V → Value) (rows starts columns : List ℕ) (values : List V) (made : MatrixEntries) : Type 0 where
+  pub flat : IsFlat rows starts columns
+  pub same : length values ≡ length columns
+  pub entries : flat_entries tv rows starts columns values ≡ made

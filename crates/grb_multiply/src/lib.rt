@@ -15,6 +15,7 @@ mod multiply;
 mod places;
 mod ranked;
 mod ranks;
+mod room;
 mod rows;
 mod whole;
 

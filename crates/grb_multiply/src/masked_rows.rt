@@ -5,9 +5,8 @@ ghost use Rattle.grb_core.specs.Entries.{cell_cmp};
 ghost use Rattle.grb_core.specs.Monoid.{identity_of};
 ghost use Rattle.grb_core.specs.Results.{row_of};
 ghost use Rattle.grb_kernels.specs.Typed.{entries_of};
-ghost use Rattle.grb_rows.specs.Cells.{decoded, IsFlat};
-ghost use Rattle.grb_ops.specs.Rows.{flat_entries};
-ghost use Rattle.grb_multiply.specs.Rows.{IsTable, selected_product};
+ghost use Rattle.grb_rows.specs.Cells.{decoded};
+ghost use Rattle.grb_multiply.specs.Rows.{AreRows, IsTable, selected_product};
 ghost use Rattle.grb_multiply.specs.Bits.{HoldUnmarked};
 
 use crate::mask_rows::MaskRows;
@@ -75,9 +74,7 @@ pub(crate) fn multiply_masked_rows<T: Stored + Drop, M: MonoidOver<T>, O: Operat
     requires clear { HoldUnmarked T.value (identity_of M.monoid) marks.old sums.old }
     requires room { length marks.old ≤ length made_columns.old }
     requires room_same { length made_columns.old ≡ length made_values.old }
-    ensures flat { IfOk result (λ made. IsFlat made.rows.items made.starts.items made.columns.items) }
-    ensures same { IfOk result (λ made. length made.values.items ≡ length made.columns.items) }
-    ensures entries { IfOk result (λ made. flat_entries T.value made.rows.items made.starts.items made.columns.items made.values.items ≡ selected_product (record { monoid = M.monoid; op = O.op }) mask.now.structure (Some (decoded mask.now.lists.now.entries)) (decoded a.now.entries) (decoded b.now.lists.now.entries)) }
+    ensures { IfOk result (λ made. AreRows T.value made.rows.items made.starts.items made.columns.items made.values.items (selected_product (record { monoid = M.monoid; op = O.op }) mask.now.structure (Some (decoded mask.now.lists.now.entries)) (decoded a.now.entries) (decoded b.now.lists.now.entries))) }
 {
     let numbers = mask.lists.rows();
     let mut rows = Vec::new(alloc);

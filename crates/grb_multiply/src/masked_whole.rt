@@ -3,9 +3,8 @@
 ghost use Rattle.std.specs.Prelude.{◌≡◌, ◌<◌, ◌^◌, ℕ, false, length, map, slice_index_or, Some, All, IsTrue, IfOk};
 ghost use Rattle.std.specs.FinMap.{is_sorted};
 ghost use Rattle.grb_core.specs.Entries.{cell_cmp};
-ghost use Rattle.grb_rows.specs.Cells.{decoded, IsFlat};
-ghost use Rattle.grb_ops.specs.Rows.{flat_entries};
-ghost use Rattle.grb_multiply.specs.Rows.{name_in, Rise, IsTable, selected_product};
+ghost use Rattle.grb_rows.specs.Cells.{decoded};
+ghost use Rattle.grb_multiply.specs.Rows.{AreRows, name_in, Rise, IsTable, selected_product};
 
 use crate::bits::clear_all;
 use crate::mask_rows::MaskRows;
@@ -13,6 +12,7 @@ use crate::masked_rows::multiply_masked_rows;
 use crate::places::table_of;
 use crate::ranked::RankedRows;
 use crate::ranks::{distinct, numbers_below, ranks_of};
+use crate::room::row_room;
 use crate::rows::MadeRows;
 use grb_kernels::Operator;
 use grb_products::{MonoidOver, Stored, is_worth_opening};
@@ -39,17 +39,12 @@ fn multiply_masked_marked<T: Stored + Drop, M: MonoidOver<T>, O: Operator<T>>(
     requires allowed { length allowed.old ≡ length marks.old }
     requires none_allowed { (p : ℕ) → slice_index_or allowed.old p false ≡ false }
     requires none { (p : ℕ) → slice_index_or marks.old p false ≡ false }
-    ensures flat { IfOk result (λ made. IsFlat made.rows.items made.starts.items made.columns.items) }
-    ensures same { IfOk result (λ made. length made.values.items ≡ length made.columns.items) }
-    ensures entries { IfOk result (λ made. flat_entries T.value made.rows.items made.starts.items made.columns.items made.values.items ≡ selected_product (record { monoid = M.monoid; op = O.op }) mask.now.structure (Some (decoded mask.now.lists.now.entries)) (decoded a.now.entries) (decoded b.now.lists.now.entries)) }
+    ensures { IfOk result (λ made. AreRows T.value made.rows.items made.starts.items made.columns.items made.values.items (selected_product (record { monoid = M.monoid; op = O.op }) mask.now.structure (Some (decoded mask.now.lists.now.entries)) (decoded a.now.entries) (decoded b.now.lists.now.entries))) }
 {
-    let count = b.names.len();
-    let mut sums = vec![in alloc; T::any(); count]?;
-    let mut columns = vec![in alloc; 0u32; count]?;
-    let mut values = vec![in alloc; T::any(); count]?;
-    let open_sums = sums.as_mut_slice();
+    let mut room = row_room::<T>(alloc, b.names.len())?;
+    let open_sums = room.sums.as_mut_slice();
     clear_all::<T, M>(open_sums);
-    let made = multiply_masked_rows::<T, M, O>(
+    multiply_masked_rows::<T, M, O>(
         alloc,
         a,
         table,
@@ -58,10 +53,9 @@ fn multiply_masked_marked<T: Stored + Drop, M: MonoidOver<T>, O: Operator<T>>(
         allowed,
         marks,
         open_sums,
-        columns.as_mut_slice(),
-        values.as_mut_slice(),
-    )?;
-    Ok(made)
+        room.columns.as_mut_slice(),
+        room.values.as_mut_slice(),
+    )
 }
 
 /// The product of two matrices at the cells that a mask selects, where the columns of the second have ranks and so have those of the mask.
@@ -75,15 +69,13 @@ fn multiply_masked_ranked<T: Stored + Drop, M: MonoidOver<T>, O: Operator<T>>(
     requires domain { a.now.domain ≡ T.domain }
     requires ordered { IsTrue (is_sorted cell_cmp (decoded a.now.entries)) }
     requires names { mask.now.names.now ≡ b.now.names.now }
-    ensures flat { IfOk result (λ made. IsFlat made.rows.items made.starts.items made.columns.items) }
-    ensures same { IfOk result (λ made. length made.values.items ≡ length made.columns.items) }
-    ensures entries { IfOk result (λ made. flat_entries T.value made.rows.items made.starts.items made.columns.items made.values.items ≡ selected_product (record { monoid = M.monoid; op = O.op }) mask.now.structure (Some (decoded mask.now.lists.now.entries)) (decoded a.now.entries) (decoded b.now.lists.now.entries)) }
+    ensures { IfOk result (λ made. AreRows T.value made.rows.items made.starts.items made.columns.items made.values.items (selected_product (record { monoid = M.monoid; op = O.op }) mask.now.structure (Some (decoded mask.now.lists.now.entries)) (decoded a.now.entries) (decoded b.now.lists.now.entries))) }
 {
     let count = b.names.len();
     let table = table_of(alloc, a.rows(), a.len() + mask.lists.len())?;
     let mut allowed = vec![in alloc; false; count]?;
     let mut marks = vec![in alloc; false; count]?;
-    let made = multiply_masked_marked::<T, M, O>(
+    multiply_masked_marked::<T, M, O>(
         alloc,
         a,
         table.as_slice(),
@@ -91,8 +83,7 @@ fn multiply_masked_ranked<T: Stored + Drop, M: MonoidOver<T>, O: Operator<T>>(
         &*mask,
         allowed.as_mut_slice(),
         marks.as_mut_slice(),
-    )?;
-    Ok(made)
+    )
 }
 
 /// The same by these ranks and names, and this table of the rows of the second.
@@ -118,9 +109,7 @@ fn multiply_masked_by_names<T: Stored + Drop, M: MonoidOver<T>, O: Operator<T>>(
     requires mask_named { map (name_in names.now) mask_ranks.now ≡ map (λ e. e.0.1) (decoded mask.now.entries) }
     requires rising { Rise names.now }
     requires tabled { 0 < length table.now → IsTable b.now.rows table.now }
-    ensures flat { IfOk result (λ made. IsFlat made.rows.items made.starts.items made.columns.items) }
-    ensures same { IfOk result (λ made. length made.values.items ≡ length made.columns.items) }
-    ensures entries { IfOk result (λ made. flat_entries T.value made.rows.items made.starts.items made.columns.items made.values.items ≡ selected_product (record { monoid = M.monoid; op = O.op }) structure (Some (decoded mask.now.entries)) (decoded a.now.entries) (decoded b.now.entries)) }
+    ensures { IfOk result (λ made. AreRows T.value made.rows.items made.starts.items made.columns.items made.values.items (selected_product (record { monoid = M.monoid; op = O.op }) structure (Some (decoded mask.now.entries)) (decoded a.now.entries) (decoded b.now.entries))) }
 {
     let ranked: RankedRows<T> = RankedRows {
         lists: b,
@@ -157,14 +146,12 @@ fn multiply_masked_own_columns<T: Stored + Drop, M: MonoidOver<T>, O: Operator<T
     requires in_range { All (λ e. e.0.1 < ncols) (decoded b.now.entries) }
     requires mask_in_range { All (λ e. e.0.1 < ncols) (decoded mask.now.entries) }
     requires tabled { 0 < length table.now → IsTable b.now.rows table.now }
-    ensures flat { IfOk result (λ made. IsFlat made.rows.items made.starts.items made.columns.items) }
-    ensures same { IfOk result (λ made. length made.values.items ≡ length made.columns.items) }
-    ensures entries { IfOk result (λ made. flat_entries T.value made.rows.items made.starts.items made.columns.items made.values.items ≡ selected_product (record { monoid = M.monoid; op = O.op }) structure (Some (decoded mask.now.entries)) (decoded a.now.entries) (decoded b.now.entries)) }
+    ensures { IfOk result (λ made. AreRows T.value made.rows.items made.starts.items made.columns.items made.values.items (selected_product (record { monoid = M.monoid; op = O.op }) structure (Some (decoded mask.now.entries)) (decoded a.now.entries) (decoded b.now.entries))) }
 {
     let columns = b.columns();
     let mask_columns = mask.columns();
     let names = numbers_below(alloc, ncols as u32)?;
-    let made = multiply_masked_by_names::<T, M, O>(
+    multiply_masked_by_names::<T, M, O>(
         alloc,
         structure,
         mask,
@@ -174,8 +161,7 @@ fn multiply_masked_own_columns<T: Stored + Drop, M: MonoidOver<T>, O: Operator<T
         columns,
         names.as_slice(),
         table,
-    )?;
-    Ok(made)
+    )
 }
 
 /// The product of two matrices at the cells that a mask selects, where the columns in which the second or the mask stores something have
@@ -194,16 +180,14 @@ fn multiply_masked_ranked_columns<T: Stored + Drop, M: MonoidOver<T>, O: Operato
     requires b_ordered { IsTrue (is_sorted cell_cmp (decoded b.now.entries)) }
     requires mask_ordered { IsTrue (is_sorted cell_cmp (decoded mask.now.entries)) }
     requires tabled { 0 < length table.now → IsTable b.now.rows table.now }
-    ensures flat { IfOk result (λ made. IsFlat made.rows.items made.starts.items made.columns.items) }
-    ensures same { IfOk result (λ made. length made.values.items ≡ length made.columns.items) }
-    ensures entries { IfOk result (λ made. flat_entries T.value made.rows.items made.starts.items made.columns.items made.values.items ≡ selected_product (record { monoid = M.monoid; op = O.op }) structure (Some (decoded mask.now.entries)) (decoded a.now.entries) (decoded b.now.entries)) }
+    ensures { IfOk result (λ made. AreRows T.value made.rows.items made.starts.items made.columns.items made.values.items (selected_product (record { monoid = M.monoid; op = O.op }) structure (Some (decoded mask.now.entries)) (decoded a.now.entries) (decoded b.now.entries))) }
 {
     let columns = b.columns();
     let mask_columns = mask.columns();
     let names = distinct(alloc, columns, mask_columns)?;
     let ranks = ranks_of(alloc, columns, names.as_slice())?;
     let mask_ranks = ranks_of(alloc, mask_columns, names.as_slice())?;
-    let made = multiply_masked_by_names::<T, M, O>(
+    multiply_masked_by_names::<T, M, O>(
         alloc,
         structure,
         mask,
@@ -213,8 +197,7 @@ fn multiply_masked_ranked_columns<T: Stored + Drop, M: MonoidOver<T>, O: Operato
         ranks.as_slice(),
         names.as_slice(),
         table,
-    )?;
-    Ok(made)
+    )
 }
 
 /// The product of two matrices at the cells that a mask selects, by a monoid and an operator as types. The columns of the second and of
@@ -235,14 +218,12 @@ pub(crate) fn multiply_masked<T: Stored + Drop, M: MonoidOver<T>, O: Operator<T>
     requires mask_ordered { IsTrue (is_sorted cell_cmp (decoded mask.now.entries)) }
     requires in_range { All (λ e. e.0.1 < ncols) (decoded b.now.entries) }
     requires mask_in_range { All (λ e. e.0.1 < ncols) (decoded mask.now.entries) }
-    ensures flat { IfOk result (λ made. IsFlat made.rows.items made.starts.items made.columns.items) }
-    ensures same { IfOk result (λ made. length made.values.items ≡ length made.columns.items) }
-    ensures entries { IfOk result (λ made. flat_entries T.value made.rows.items made.starts.items made.columns.items made.values.items ≡ selected_product (record { monoid = M.monoid; op = O.op }) structure (Some (decoded mask.now.entries)) (decoded a.now.entries) (decoded b.now.entries)) }
+    ensures { IfOk result (λ made. AreRows T.value made.rows.items made.starts.items made.columns.items made.values.items (selected_product (record { monoid = M.monoid; op = O.op }) structure (Some (decoded mask.now.entries)) (decoded a.now.entries) (decoded b.now.entries))) }
 {
     let entries = a.len() + b.len();
     let table = table_of(alloc, b.rows(), entries)?;
     if is_worth_opening(ncols, entries) {
-        let made = multiply_masked_own_columns::<T, M, O>(
+        return multiply_masked_own_columns::<T, M, O>(
             alloc,
             ncols,
             structure,
@@ -250,16 +231,7 @@ pub(crate) fn multiply_masked<T: Stored + Drop, M: MonoidOver<T>, O: Operator<T>
             a,
             b,
             table.as_slice(),
-        )?;
-        return Ok(made);
+        );
     }
-    let made = multiply_masked_ranked_columns::<T, M, O>(
-        alloc,
-        structure,
-        mask,
-        a,
-        b,
-        table.as_slice(),
-    )?;
-    Ok(made)
+    multiply_masked_ranked_columns::<T, M, O>(alloc, structure, mask, a, b, table.as_slice())
 }

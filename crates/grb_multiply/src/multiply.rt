@@ -13,7 +13,7 @@ ghost use Rattle.grb_core.specs.Written.{AccumulatesIn, written};
 ghost use Rattle.grb_core.specs.Results.{mxm_of};
 ghost use Rattle.grb_rows.specs.Cells.{decoded, IsFlat};
 ghost use Rattle.grb_ops.specs.Rows.{flat_entries};
-ghost use Rattle.grb_multiply.specs.Rows.{selected_product, bounding};
+ghost use Rattle.grb_multiply.specs.Rows.{AreRows, selected_product, bounding};
 
 use crate::masked_whole::multiply_masked;
 use crate::rows::MadeRows;
@@ -48,9 +48,7 @@ fn multiply<T: Stored + Drop, M: MonoidOver<T>, O: Operator<T>>(
     requires mask_ordered { IfSome mask (λ m. IsTrue (is_sorted cell_cmp (decoded m.now.entries))) }
     requires in_range { All (λ e. e.0.1 < ncols) (decoded b.now.entries) }
     requires mask_in_range { IfSome mask (λ m. All (λ e. e.0.1 < ncols) (decoded m.now.entries)) }
-    ensures flat { IfOk result (λ made. IsFlat made.rows.items made.starts.items made.columns.items) }
-    ensures same { IfOk result (λ made. length made.values.items ≡ length made.columns.items) }
-    ensures entries { IfOk result (λ made. flat_entries T.value made.rows.items made.starts.items made.columns.items made.values.items ≡ selected_product (record { monoid = M.monoid; op = O.op }) structure (option_map (λ m. decoded m.now.entries) mask.entry) (decoded a.now.entries) (decoded b.now.entries)) }
+    ensures { IfOk result (λ made. AreRows T.value made.rows.items made.starts.items made.columns.items made.values.items (selected_product (record { monoid = M.monoid; op = O.op }) structure (option_map (λ m. decoded m.now.entries) mask.entry) (decoded a.now.entries) (decoded b.now.entries))) }
 {
     match mask {
         None => multiply_whole::<T, M, O>(alloc, ncols, a, b),
@@ -77,9 +75,7 @@ fn multiply_bools_by<M: MonoidOver<bool>>(
     requires mask_ordered { IfSome mask (λ m. IsTrue (is_sorted cell_cmp (decoded m.now.entries))) }
     requires in_range { All (λ e. e.0.1 < ncols) (decoded b.now.entries) }
     requires mask_in_range { IfSome mask (λ m. All (λ e. e.0.1 < ncols) (decoded m.now.entries)) }
-    ensures flat { IfOk result (λ made. IsFlat made.rows.items made.starts.items made.columns.items) }
-    ensures same { IfOk result (λ made. length made.values.items ≡ length made.columns.items) }
-    ensures entries { IfOk result (λ made. flat_entries (λ b. value.Bool b) made.rows.items made.starts.items made.columns.items made.values.items ≡ selected_product (record { monoid = M.monoid; op = op }) structure (option_map (λ m. decoded m.now.entries) mask.entry) (decoded a.now.entries) (decoded b.now.entries)) }
+    ensures { IfOk result (λ made. AreRows (λ b. value.Bool b) made.rows.items made.starts.items made.columns.items made.values.items (selected_product (record { monoid = M.monoid; op = op }) structure (option_map (λ m. decoded m.now.entries) mask.entry) (decoded a.now.entries) (decoded b.now.entries))) }
 {
     match op {
         BinaryOp::Lor => multiply::<bool, M, Lor>(alloc, ncols, structure, mask, a, b),
@@ -119,9 +115,7 @@ fn multiply_numbers_by<M: MonoidOver<u64>>(
     requires mask_ordered { IfSome mask (λ m. IsTrue (is_sorted cell_cmp (decoded m.now.entries))) }
     requires in_range { All (λ e. e.0.1 < ncols) (decoded b.now.entries) }
     requires mask_in_range { IfSome mask (λ m. All (λ e. e.0.1 < ncols) (decoded m.now.entries)) }
-    ensures flat { IfOk result (λ made. IsFlat made.rows.items made.starts.items made.columns.items) }
-    ensures same { IfOk result (λ made. length made.values.items ≡ length made.columns.items) }
-    ensures entries { IfOk result (λ made. flat_entries (λ n. value.Uint64 n) made.rows.items made.starts.items made.columns.items made.values.items ≡ selected_product (record { monoid = M.monoid; op = op }) structure (option_map (λ m. decoded m.now.entries) mask.entry) (decoded a.now.entries) (decoded b.now.entries)) }
+    ensures { IfOk result (λ made. AreRows (λ n. value.Uint64 n) made.rows.items made.starts.items made.columns.items made.values.items (selected_product (record { monoid = M.monoid; op = op }) structure (option_map (λ m. decoded m.now.entries) mask.entry) (decoded a.now.entries) (decoded b.now.entries))) }
 {
     match op {
         BinaryOp::Plus => multiply::<u64, M, Plus>(alloc, ncols, structure, mask, a, b),
@@ -160,9 +154,7 @@ fn multiply_bools(
     requires mask_ordered { IfSome mask (λ m. IsTrue (is_sorted cell_cmp (decoded m.now.entries))) }
     requires in_range { All (λ e. e.0.1 < ncols) (decoded b.now.entries) }
     requires mask_in_range { IfSome mask (λ m. All (λ e. e.0.1 < ncols) (decoded m.now.entries)) }
-    ensures flat { IfOk result (λ made. IsFlat made.rows.items made.starts.items made.columns.items) }
-    ensures same { IfOk result (λ made. length made.values.items ≡ length made.columns.items) }
-    ensures entries { IfOk result (λ made. flat_entries (λ b. value.Bool b) made.rows.items made.starts.items made.columns.items made.values.items ≡ selected_product semiring structure (option_map (λ m. decoded m.now.entries) mask.entry) (decoded a.now.entries) (decoded b.now.entries)) }
+    ensures { IfOk result (λ made. AreRows (λ b. value.Bool b) made.rows.items made.starts.items made.columns.items made.values.items (selected_product semiring structure (option_map (λ m. decoded m.now.entries) mask.entry) (decoded a.now.entries) (decoded b.now.entries))) }
 {
     match semiring.monoid() {
         Monoid::Lor => multiply_bools_by::<Lor>(alloc, semiring.op(), ncols, structure, mask, a, b),
@@ -217,9 +209,7 @@ fn multiply_numbers(
     requires mask_ordered { IfSome mask (λ m. IsTrue (is_sorted cell_cmp (decoded m.now.entries))) }
     requires in_range { All (λ e. e.0.1 < ncols) (decoded b.now.entries) }
     requires mask_in_range { IfSome mask (λ m. All (λ e. e.0.1 < ncols) (decoded m.now.entries)) }
-    ensures flat { IfOk result (λ made. IsFlat made.rows.items made.starts.items made.columns.items) }
-    ensures same { IfOk result (λ made. length made.values.items ≡ length made.columns.items) }
-    ensures entries { IfOk result (λ made. flat_entries (λ n. value.Uint64 n) made.rows.items made.starts.items made.columns.items made.values.items ≡ selected_product semiring structure (option_map (λ m. decoded m.now.entries) mask.entry) (decoded a.now.entries) (decoded b.now.entries)) }
+    ensures { IfOk result (λ made. AreRows (λ n. value.Uint64 n) made.rows.items made.starts.items made.columns.items made.values.items (selected_product semiring structure (option_map (λ m. decoded m.now.entries) mask.entry) (decoded a.now.entries) (decoded b.now.entries))) }
 {
     match semiring.monoid() {
         Monoid::Plus => multiply_numbers_by::<Plus>(

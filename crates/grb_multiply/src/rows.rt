@@ -4,8 +4,8 @@ ghost use Rattle.std.specs.FinMap.{is_sorted};
 ghost use Rattle.grb_core.specs.Entries.{cell_cmp};
 ghost use Rattle.grb_core.specs.Monoid.{identity_of};
 ghost use Rattle.grb_core.specs.Results.{mxm_of};
-ghost use Rattle.grb_rows.specs.Cells.{decoded, IsFlat};
-ghost use Rattle.grb_ops.specs.Rows.{flat_entries};
+ghost use Rattle.grb_rows.specs.Cells.{decoded};
+ghost use Rattle.grb_multiply.specs.Rows.{AreRows};
 ghost use Rattle.grb_multiply.specs.Bits.{HoldAll};
 
 use crate::gustavson::multiply_row;
@@ -70,9 +70,7 @@ pub(crate) fn multiply_rows<T: Stored + Drop, M: MonoidOver<T>, O: Operator<T>>(
     requires clear { HoldAll T.value (identity_of M.monoid) sums.old }
     requires room { length sums.old ≤ length made_columns.old }
     requires room_same { length made_columns.old ≡ length made_values.old }
-    ensures flat { IfOk result (λ made. IsFlat made.rows.items made.starts.items made.columns.items) }
-    ensures same { IfOk result (λ made. length made.values.items ≡ length made.columns.items) }
-    ensures entries { IfOk result (λ made. flat_entries T.value made.rows.items made.starts.items made.columns.items made.values.items ≡ mxm_of (record { monoid = M.monoid; op = O.op }) (decoded a.now.entries) (decoded b.now.lists.now.entries)) }
+    ensures { IfOk result (λ made. AreRows T.value made.rows.items made.starts.items made.columns.items made.values.items (mxm_of (record { monoid = M.monoid; op = O.op }) (decoded a.now.entries) (decoded b.now.lists.now.entries))) }
 {
     let numbers = a.rows();
     let mut rows = Vec::new(alloc);

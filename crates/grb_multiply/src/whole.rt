@@ -3,14 +3,14 @@ ghost use Rattle.std.specs.Prelude.{◌≡◌, ◌<◌, ◌^◌, length, map, Al
 ghost use Rattle.std.specs.FinMap.{is_sorted};
 ghost use Rattle.grb_core.specs.Entries.{cell_cmp};
 ghost use Rattle.grb_core.specs.Results.{mxm_of};
-ghost use Rattle.grb_rows.specs.Cells.{decoded, IsFlat};
-ghost use Rattle.grb_ops.specs.Rows.{flat_entries};
-ghost use Rattle.grb_multiply.specs.Rows.{name_in, Rise, IsTable};
+ghost use Rattle.grb_rows.specs.Cells.{decoded};
+ghost use Rattle.grb_multiply.specs.Rows.{AreRows, name_in, Rise, IsTable};
 
 use crate::bits::clear_all;
 use crate::places::table_of;
 use crate::ranked::RankedRows;
 use crate::ranks::{distinct, numbers_below, ranks_of};
+use crate::room::row_room;
 use crate::rows::{MadeRows, multiply_rows};
 use grb_kernels::Operator;
 use grb_products::{MonoidOver, Stored, is_worth_opening};
@@ -26,27 +26,22 @@ fn multiply_ranked<T: Stored + Drop, M: MonoidOver<T>, O: Operator<T>>(
 ) -> Result<MadeRows<T>, AllocError>
     requires domain { a.now.domain ≡ T.domain }
     requires ordered { IsTrue (is_sorted cell_cmp (decoded a.now.entries)) }
-    ensures flat { IfOk result (λ made. IsFlat made.rows.items made.starts.items made.columns.items) }
-    ensures same { IfOk result (λ made. length made.values.items ≡ length made.columns.items) }
-    ensures entries { IfOk result (λ made. flat_entries T.value made.rows.items made.starts.items made.columns.items made.values.items ≡ mxm_of (record { monoid = M.monoid; op = O.op }) (decoded a.now.entries) (decoded b.now.lists.now.entries)) }
+    ensures { IfOk result (λ made. AreRows T.value made.rows.items made.starts.items made.columns.items made.values.items (mxm_of (record { monoid = M.monoid; op = O.op }) (decoded a.now.entries) (decoded b.now.lists.now.entries))) }
 {
     let count = b.names.len();
-    let mut sums = vec![in alloc; T::any(); count]?;
     let mut words = vec![in alloc; 0u64; count / 64 + 1]?;
-    let mut columns = vec![in alloc; 0u32; count]?;
-    let mut values = vec![in alloc; T::any(); count]?;
-    let open_sums = sums.as_mut_slice();
+    let mut room = row_room::<T>(alloc, count)?;
+    let open_sums = room.sums.as_mut_slice();
     clear_all::<T, M>(open_sums);
-    let made = multiply_rows::<T, M, O>(
+    multiply_rows::<T, M, O>(
         alloc,
         a,
         &*b,
         open_sums,
         words.as_mut_slice(),
-        columns.as_mut_slice(),
-        values.as_mut_slice(),
-    )?;
-    Ok(made)
+        room.columns.as_mut_slice(),
+        room.values.as_mut_slice(),
+    )
 }
 
 /// The product of two matrices, where the columns of the second have these ranks by these names, and its rows this table.
@@ -66,9 +61,7 @@ fn multiply_by_names<T: Stored + Drop, M: MonoidOver<T>, O: Operator<T>>(
     requires named { map (name_in names.now) ranks.now ≡ map (λ e. e.0.1) (decoded b.now.entries) }
     requires rising { Rise names.now }
     requires tabled { 0 < length table.now → IsTable b.now.rows table.now }
-    ensures flat { IfOk result (λ made. IsFlat made.rows.items made.starts.items made.columns.items) }
-    ensures same { IfOk result (λ made. length made.values.items ≡ length made.columns.items) }
-    ensures entries { IfOk result (λ made. flat_entries T.value made.rows.items made.starts.items made.columns.items made.values.items ≡ mxm_of (record { monoid = M.monoid; op = O.op }) (decoded a.now.entries) (decoded b.now.entries)) }
+    ensures { IfOk result (λ made. AreRows T.value made.rows.items made.starts.items made.columns.items made.values.items (mxm_of (record { monoid = M.monoid; op = O.op }) (decoded a.now.entries) (decoded b.now.entries))) }
 {
     let ranked: RankedRows<T> = RankedRows {
         lists: b,
@@ -95,14 +88,11 @@ fn multiply_own_columns<T: Stored + Drop, M: MonoidOver<T>, O: Operator<T>>(
     requires b_ordered { IsTrue (is_sorted cell_cmp (decoded b.now.entries)) }
     requires in_range { All (λ e. e.0.1 < ncols) (decoded b.now.entries) }
     requires tabled { 0 < length table.now → IsTable b.now.rows table.now }
-    ensures flat { IfOk result (λ made. IsFlat made.rows.items made.starts.items made.columns.items) }
-    ensures same { IfOk result (λ made. length made.values.items ≡ length made.columns.items) }
-    ensures entries { IfOk result (λ made. flat_entries T.value made.rows.items made.starts.items made.columns.items made.values.items ≡ mxm_of (record { monoid = M.monoid; op = O.op }) (decoded a.now.entries) (decoded b.now.entries)) }
+    ensures { IfOk result (λ made. AreRows T.value made.rows.items made.starts.items made.columns.items made.values.items (mxm_of (record { monoid = M.monoid; op = O.op }) (decoded a.now.entries) (decoded b.now.entries))) }
 {
     let columns = b.columns();
     let names = numbers_below(alloc, ncols as u32)?;
-    let made = multiply_by_names::<T, M, O>(alloc, a, b, columns, names.as_slice(), table)?;
-    Ok(made)
+    multiply_by_names::<T, M, O>(alloc, a, b, columns, names.as_slice(), table)
 }
 
 /// The product of two matrices, where the columns of the second that store something have ranks.
@@ -117,22 +107,12 @@ fn multiply_ranked_columns<T: Stored + Drop, M: MonoidOver<T>, O: Operator<T>>(
     requires a_ordered { IsTrue (is_sorted cell_cmp (decoded a.now.entries)) }
     requires b_ordered { IsTrue (is_sorted cell_cmp (decoded b.now.entries)) }
     requires tabled { 0 < length table.now → IsTable b.now.rows table.now }
-    ensures flat { IfOk result (λ made. IsFlat made.rows.items made.starts.items made.columns.items) }
-    ensures same { IfOk result (λ made. length made.values.items ≡ length made.columns.items) }
-    ensures entries { IfOk result (λ made. flat_entries T.value made.rows.items made.starts.items made.columns.items made.values.items ≡ mxm_of (record { monoid = M.monoid; op = O.op }) (decoded a.now.entries) (decoded b.now.entries)) }
+    ensures { IfOk result (λ made. AreRows T.value made.rows.items made.starts.items made.columns.items made.values.items (mxm_of (record { monoid = M.monoid; op = O.op }) (decoded a.now.entries) (decoded b.now.entries))) }
 {
     let columns = b.columns();
     let names = distinct(alloc, columns, &[])?;
     let ranks = ranks_of(alloc, columns, names.as_slice())?;
-    let made = multiply_by_names::<T, M, O>(
-        alloc,
-        a,
-        b,
-        ranks.as_slice(),
-        names.as_slice(),
-        table,
-    )?;
-    Ok(made)
+    multiply_by_names::<T, M, O>(alloc, a, b, ranks.as_slice(), names.as_slice(), table)
 }
 
 /// The product of two matrices, by a monoid and an operator as types. Where the columns are not many more than the entries, each is its
@@ -149,16 +129,12 @@ pub(crate) fn multiply_whole<T: Stored + Drop, M: MonoidOver<T>, O: Operator<T>>
     requires a_ordered { IsTrue (is_sorted cell_cmp (decoded a.now.entries)) }
     requires b_ordered { IsTrue (is_sorted cell_cmp (decoded b.now.entries)) }
     requires in_range { All (λ e. e.0.1 < ncols) (decoded b.now.entries) }
-    ensures flat { IfOk result (λ made. IsFlat made.rows.items made.starts.items made.columns.items) }
-    ensures same { IfOk result (λ made. length made.values.items ≡ length made.columns.items) }
-    ensures entries { IfOk result (λ made. flat_entries T.value made.rows.items made.starts.items made.columns.items made.values.items ≡ mxm_of (record { monoid = M.monoid; op = O.op }) (decoded a.now.entries) (decoded b.now.entries)) }
+    ensures { IfOk result (λ made. AreRows T.value made.rows.items made.starts.items made.columns.items made.values.items (mxm_of (record { monoid = M.monoid; op = O.op }) (decoded a.now.entries) (decoded b.now.entries))) }
 {
     let entries = a.len() + b.len();
     let table = table_of(alloc, b.rows(), entries)?;
     if is_worth_opening(ncols, entries) {
-        let made = multiply_own_columns::<T, M, O>(alloc, ncols, a, b, table.as_slice())?;
-        return Ok(made);
+        return multiply_own_columns::<T, M, O>(alloc, ncols, a, b, table.as_slice());
     }
-    let made = multiply_ranked_columns::<T, M, O>(alloc, a, b, table.as_slice())?;
-    Ok(made)
+    multiply_ranked_columns::<T, M, O>(alloc, a, b, table.as_slice())
 }

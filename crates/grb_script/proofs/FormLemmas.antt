@@ -1,11 +1,12 @@
 -- What form words have, and what a statement of it leaves of the names.
-use Rattle.std.proofs.Common.{◌≡◌, ℕ, ◌-◌, ◌≤◌, Bool, true, false, List, [], ◌∷◌, length, get_or, take, drop, Option, Some, None, Ok, Err, Bor, Result, if◌then◌else◌, refl, sym, ap, ◌∙◌, arith}
+use Rattle.std.proofs.Common.{◌≡◌, ◌≢◌, ℕ, ◌-◌, ◌≤◌, Bool, true, false, List, [], ◌∷◌, length, get_or, take, drop, Option, Some, None, Ok, Err, Bor, Result, if◌then◌else◌, refl, sym, ap, ◌∙◌, arith}
 use Rattle.std.proofs.lemmas.List.{take_all}
 use Rattle.std.specs.Option.{option_and_then, option_map, option_map_or, ok_or}
 use Rattle.grb_words.specs.declared.fault.FaultKind.{FaultKind}
 use Rattle.grb_words.specs.declared.fault.FaultKind.TheVariants.{Statement, UnknownName}
 use Rattle.grb_words.specs.declared.keyword.Ewise.{Ewise}
 use Rattle.grb_words.specs.declared.keyword.Keyword.{Keyword}
+use Rattle.grb_words.specs.declared.keyword.Keyword.TheVariants as keyword
 use Rattle.grb_words.specs.declared.keyword.Multiply.{Multiply}
 use Rattle.grb_words.specs.declared.keyword.Placed.{Placed}
 use Rattle.grb_words.specs.declared.keyword.Placed.TheVariants.{Remove, Get, Resize}
@@ -51,6 +52,23 @@ three_words (a ∷ []) l = absurd (omega arith)
 three_words (a ∷ b ∷ []) l = absurd (omega arith)
 three_words (a ∷ b ∷ c ∷ []) l = refl
 three_words (a ∷ b ∷ c ∷ d ∷ more) l = absurd (omega arith)
+
+-- words by the first of them and the others as a slice has them, and by the first two and three
+pub one_and_more : (words : List (Bor (List ℕ))) → 1 ≤ length words → now_of words ≡ (get_or words 0 no_word).now ∷ now_of (take (length words - 1) (drop 1 words))
+one_and_more [] l = absurd (omega arith)
+one_and_more (a ∷ more) l = ap (λ ws. a.now ∷ now_of ws) (sym (take_all (length (a ∷ more) - 1) more (omega arith)))
+
+pub two_and_more : (words : List (Bor (List ℕ))) → 2 ≤ length words → now_of words ≡ (get_or words 0 no_word).now ∷ (get_or words 1 no_word).now ∷ others_of words
+two_and_more [] l = absurd (omega arith)
+two_and_more (a ∷ []) l = absurd (omega arith)
+two_and_more (a ∷ b ∷ more) l = ap (λ ws. a.now ∷ b.now ∷ now_of ws) (sym (take_all (length (a ∷ b ∷ more) - 2) more (omega arith)))
+
+pub three_and_more : (words : List (Bor (List ℕ))) → 3 ≤ length words
+    → now_of words ≡ (get_or words 0 no_word).now ∷ (get_or words 1 no_word).now ∷ (get_or words 2 no_word).now ∷ now_of (take (length words - 3) (drop 3 words))
+three_and_more [] l = absurd (omega arith)
+three_and_more (a ∷ []) l = absurd (omega arith)
+three_and_more (a ∷ b ∷ []) l = absurd (omega arith)
+three_and_more (a ∷ b ∷ c ∷ more) l = ap (λ ws. a.now ∷ b.now ∷ c.now ∷ now_of ws) (sym (take_all (length (a ∷ b ∷ c ∷ more) - 3) more (omega arith)))
 
 -- words by their keyword and their name
 pub form_of-words : (words : List (Bor (List ℕ))) (k : Keyword) → 2 ≤ length words → is_name (get_or words 1 no_word).now ≡ true → keyword_of (get_or words 0 no_word).now ≡ Some k
@@ -124,11 +142,11 @@ module _ (names : List Name) where
       (Err UnknownName)
 
   -- what a `set` says
-  pub reading-set_form : (name : Word) (others : List Word) (p : Indices) (x : Value) (r : Option (ℕ × Sort)) → Ok (p, x) ≡ ok_or (indices_and_value_of others) Statement
+  pub reading-set_form : (name : Word) (others : List Word) (p : Indices) (x : Value) (r : Option (ℕ × Sort)) → Some (p, x) ≡ indices_and_value_of others
       → r ≡ name_found names name → option_map_or (λ n. set_at n.0 n.1 p x) r (Err UnknownName) ≡ reading names (set_form name others)
   reading-set_form name others p x r e f =
       (λ j. option_map_or (λ n. set_at n.0 n.1 p x) (f j) (Err UnknownName))
-      ∙ ap (λ o. reading names (option_map (λ p. SetForm name p.0 p.1) o)) (some_of_ok (indices_and_value_of others) Statement (p, x) e)
+      ∙ ap (λ o. reading names (option_map (λ p. SetForm name p.0 p.1) o)) e
 
   -- a form that is made of a value, or of two in turn, and makes no name
   kept-map : {A : Type 0} (f : A → Form) → ((a : A) → names_behind names (Some (f a)) ≡ names) → (o : Option A) → names_behind names (option_map f o) ≡ names
@@ -199,3 +217,18 @@ module _ (names : List Name) where
   names_behind-wait name [] = refl
   names_behind-wait name (mode ∷ []) = kept-map (WaitForm name) (λ m. refl) (wait_mode_of mode)
   names_behind-wait name (a ∷ b ∷ more) = refl
+
+  -- nor do the forms of all other keywords
+  pub names_behind-other : (k : Keyword) (name : Word) (others : List Word) → k ≢ keyword.Matrix → k ≢ keyword.Vector → k ≢ keyword.Dup → names_behind names (form_with k name others) ≡ names
+  names_behind-other keyword.Matrix name others m v d = absurd (m refl)
+  names_behind-other keyword.Vector name others m v d = absurd (v refl)
+  names_behind-other keyword.Dup name others m v d = absurd (d refl)
+  names_behind-other (keyword.Whole w) name others m v d = names_behind-whole w name others
+  names_behind-other (keyword.Placed w) name others m v d = names_behind-placed w name others
+  names_behind-other keyword.Set name others m v d = names_behind-set name others
+  names_behind-other keyword.Build name others m v d = names_behind-build name others
+  names_behind-other (keyword.Ewise w) name others m v d = names_behind-ewise w name others
+  names_behind-other (keyword.Multiply w) name others m v d = names_behind-product w name others
+  names_behind-other keyword.Reduce name others m v d = names_behind-reduce name others
+  names_behind-other keyword.Total name others m v d = names_behind-total name others
+  names_behind-other keyword.Wait name others m v d = names_behind-wait name others

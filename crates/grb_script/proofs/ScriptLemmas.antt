@@ -19,7 +19,7 @@ use Rattle.grb_script.specs.declared.line.Said.TheVariants as said
 use Rattle.grb_script.specs.Command.{commands_in, names_behind_words}
 use Rattle.grb_script.specs.Said.{IsTaken, Says}
 use Rattle.grb_script.specs.Scope.{Scope, at_start, begun, with_names, may_follow, section_on, scope_behind_line, scope_behind_lines, scope_behind_words, scope_of}
-use Rattle.grb_script.specs.Script.{with_before, asked_at, asked_in_section, thread_part, finally_part, main_part, part_of, threads_in, finally_in, Sections, sections_in, sections_of, joined}
+use Rattle.grb_script.specs.Script.{with_before, asked_at, asked_in_section, thread_part, finally_part, main_part, part_of, threads_in, finally_in, Sections, nothing, sections_in, sections_of, joined}
 use Rattle.grb_script.specs.ScriptFault.{line_fault, first_fault, script_fault, IsWhyLineUnread, IsWhyTextUnread}
 
 -- where the next line stands, behind one line more
@@ -31,9 +31,6 @@ scope_behind_lines-push scope (first ∷ more) line = scope_behind_lines-push (s
 abbrev pub total : Sections → Option Section → List Numbered → List (List Line × Line) → Sections
 total ended section asked lines =
     joined ended (joined (part_of section (asked ++ asked_in_section lines)) (record { main = []; threads = threads_in lines; finally = finally_in lines }))
-
-abbrev pub nothing : Sections
-nothing = record { main = []; threads = []; finally = [] }
 
 total-start : (lines : List (List Line × Line)) → total nothing None [] lines ≡ sections_in lines
 total-start lines = λ j. record { main = append-nil (asked_in_section lines) j; threads = threads_in lines; finally = finally_in lines }

@@ -36,3 +36,9 @@ IsTaken number section None script asked script_after asked_after = (script_afte
 IsTaken number section (Some (said.Section next)) script asked script_after asked_after = (script_after ≡ joined script (part_of section asked)) × (asked_after ≡ [])
 IsTaken number section (Some (said.Command command)) script asked script_after asked_after =
     (script_after ≡ script) × (asked_after ≡ asked ++ record { line = number; command = command } ∷ [])
+
+-- the same before and after a line of this number with these words, which was read and taken
+pub record IsLineTaken (number : ℕ) (scope : Scope) (words : List Word) (script : Sections) (asked : List Numbered) (scope_after : Scope) (script_after : Sections) (asked_after : List Numbered) : Type 0 where
+  pub said : Option Said
+  pub read : IsRead scope words said scope_after
+  pub taken : IsTaken number scope.section said script asked script_after asked_after

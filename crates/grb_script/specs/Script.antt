@@ -55,6 +55,10 @@ pub record Sections : Type 0 where
   pub threads : List (List Numbered)
   pub finally : List Numbered
 
+-- where nothing is asked for
+abbrev pub nothing : Sections
+nothing = record { main = []; threads = []; finally = [] }
+
 -- what these lines ask for, the first of which stands in main
 abbrev pub sections_in : List (List Line × Line) → Sections
 sections_in lines = record { main = asked_in_section lines; threads = threads_in lines; finally = finally_in lines }

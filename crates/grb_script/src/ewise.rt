@@ -1,4 +1,4 @@
-ghost use Rattle.std.specs.Prelude.{◌≡◌, Some, None, map};
+ghost use Rattle.std.specs.Prelude.{◌≡◌, ◌∷◌, Some, None, map};
 ghost use Rattle.std.specs.Option.{ok_or, option_map, option_map_or};
 ghost use Rattle.grb_words.specs.Form.{EwiseForm, ewise_form};
 ghost use Rattle.grb_script.specs.Names.{same_sort};
@@ -133,6 +133,30 @@ fn ewise_of(
     ewise_on(ewise, output, left, right, mask, op, options)
 }
 
+/// `ewiseadd NAME NAME NAME OP OPTIONS` or `ewisemult NAME NAME NAME OP OPTIONS`, by each of its words.
+fn ewise_by_words(
+    ewise: Ewise,
+    output: &[u8],
+    left: &[u8],
+    right: &[u8],
+    op: &[u8],
+    options: &[&[u8]],
+    names: &Names,
+) -> Result<Statement, FaultKind>
+    ensures { result ≡ reading names.now (ewise_form ewise output.now (left.now ∷ right.now ∷ op.now ∷ map (λ word. word.now) options.now)) }
+{
+    if !word::is_name(left) || !word::is_name(right) {
+        return Err(FaultKind::Statement);
+    }
+    let Some(op) = word::operator(op) else {
+        return Err(FaultKind::Statement);
+    };
+    let Some(options) = options_of(options) else {
+        return Err(FaultKind::Statement);
+    };
+    ewise_of(ewise, output, left, right, op, &options, names)
+}
+
 /// `ewiseadd NAME NAME NAME OP OPTIONS` or `ewisemult NAME NAME NAME OP OPTIONS`, where `output` is the first name.
 pub(crate) fn ewise(
     ewise: Ewise,
@@ -145,10 +169,5 @@ pub(crate) fn ewise(
     let [left, right, op, options @ ..] = others else {
         return Err(FaultKind::Statement);
     };
-    if !word::is_name(left) || !word::is_name(right) {
-        return Err(FaultKind::Statement);
-    }
-    let op = word::operator(op).ok_or(FaultKind::Statement)?;
-    let options = options_of(options).ok_or(FaultKind::Statement)?;
-    ewise_of(ewise, output, left, right, op, &options, names)
+    ewise_by_words(ewise, output, left, right, op, options, names)
 }

@@ -1,4 +1,4 @@
-ghost use Rattle.std.specs.Prelude.{◌≡◌, map};
+ghost use Rattle.std.specs.Prelude.{◌≡◌, ◌∷◌, map};
 ghost use Rattle.grb_script.specs.Reading.{reading, saying, product_sort, product_statement, semiring_made, product_on};
 ghost use Rattle.grb_words.specs.Form.{ProductForm, ReduceForm, product_form, reduce_form};
 ghost use Rattle.grb_words.specs.Options.{spelled};
@@ -121,6 +121,30 @@ fn product_of(
     product_on(multiply, output, left, right, mask, semiring, options)
 }
 
+/// `mxv NAME NAME NAME SEMIRING OPTIONS` or `mxm NAME NAME NAME SEMIRING OPTIONS`, by each of its words.
+fn product_by_words(
+    multiply: Multiply,
+    output: &[u8],
+    left: &[u8],
+    right: &[u8],
+    semiring: &[u8],
+    options: &[&[u8]],
+    names: &Names,
+) -> Result<Statement, FaultKind>
+    ensures { result ≡ reading names.now (product_form multiply output.now (left.now ∷ right.now ∷ semiring.now ∷ map (λ word. word.now) options.now)) }
+{
+    if !word::is_name(left) || !word::is_name(right) {
+        return Err(FaultKind::Statement);
+    }
+    let Some(semiring) = word::semiring(semiring) else {
+        return Err(FaultKind::Statement);
+    };
+    let Some(options) = options_of(options) else {
+        return Err(FaultKind::Statement);
+    };
+    product_of(multiply, output, left, right, semiring, &options, names)
+}
+
 /// `mxv NAME NAME NAME SEMIRING OPTIONS` or `mxm NAME NAME NAME SEMIRING OPTIONS`, where `output` is the first name.
 pub(crate) fn read_product(
     multiply: Multiply,
@@ -133,12 +157,7 @@ pub(crate) fn read_product(
     let [left, right, semiring, options @ ..] = others else {
         return Err(FaultKind::Statement);
     };
-    if !word::is_name(left) || !word::is_name(right) {
-        return Err(FaultKind::Statement);
-    }
-    let semiring = word::semiring(semiring).ok_or(FaultKind::Statement)?;
-    let options = options_of(options).ok_or(FaultKind::Statement)?;
-    product_of(multiply, output, left, right, semiring, &options, names)
+    product_by_words(multiply, output, left, right, semiring, options, names)
 }
 
 /// What the words of a reduction say where these names stand.
@@ -170,6 +189,28 @@ fn reduction_of(
     }))
 }
 
+/// `reduce NAME NAME MONOID OPTIONS`, by each of its words.
+fn reduction_by_words(
+    output: &[u8],
+    input: &[u8],
+    monoid: &[u8],
+    options: &[&[u8]],
+    names: &Names,
+) -> Result<Statement, FaultKind>
+    ensures { result ≡ reading names.now (reduce_form output.now (input.now ∷ monoid.now ∷ map (λ word. word.now) options.now)) }
+{
+    if !word::is_name(input) {
+        return Err(FaultKind::Statement);
+    }
+    let Some(monoid) = word::monoid(monoid) else {
+        return Err(FaultKind::Statement);
+    };
+    let Some(options) = options_of(options) else {
+        return Err(FaultKind::Statement);
+    };
+    reduction_of(output, input, monoid, &options, names)
+}
+
 /// `reduce NAME NAME MONOID OPTIONS`, where `output` is the first name.
 pub(crate) fn read_reduction(
     output: &[u8],
@@ -181,10 +222,5 @@ pub(crate) fn read_reduction(
     let [input, monoid, options @ ..] = others else {
         return Err(FaultKind::Statement);
     };
-    if !word::is_name(input) {
-        return Err(FaultKind::Statement);
-    }
-    let monoid = word::monoid(monoid).ok_or(FaultKind::Statement)?;
-    let options = options_of(options).ok_or(FaultKind::Statement)?;
-    reduction_of(output, input, monoid, &options, names)
+    reduction_by_words(output, input, monoid, options, names)
 }

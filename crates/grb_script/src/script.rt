@@ -1,7 +1,9 @@
 ghost use Rattle.std.specs.Prelude.{◌≡◌, ◌≤◌, [], None, IfOk, IfErr, OnOk, length};
-ghost use Rattle.grb_script.specs.Script.{listed, joined, part_of, sections_of};
-ghost use Rattle.grb_script.specs.Said.{IsTaken};
-ghost use Rattle.grb_script.specs.ScriptFault.{script_fault, IsWhyTextUnread};
+ghost use Rattle.grb_words.specs.Line.{ended, words_of};
+ghost use Rattle.grb_script.specs.Scope.{at_start, seen, IsKept};
+ghost use Rattle.grb_script.specs.Script.{listed, joined, nothing, part_of, sections_of};
+ghost use Rattle.grb_script.specs.Said.{IsLineTaken, IsTaken};
+ghost use Rattle.grb_script.specs.ScriptFault.{line_fault, script_fault, IsWhyLineUnread, IsWhyTextUnread};
 
 use crate::command::Numbered;
 use crate::fault::ReadFault;
@@ -66,6 +68,55 @@ fn take(
     }
 }
 
+/// Reads a line of this number, and takes what it says.
+fn take_line(
+    alloc: Global,
+    script: &mut Script,
+    asked: &mut Vec<Numbered>,
+    scope: &mut Scope,
+    number: u64,
+    line: &[u8],
+) -> Result<(), ReadFault>
+    requires kept { IsKept scope.old }
+    ensures faultless { OnOk result (line_fault (seen scope.old) (ended line.now) ≡ None) }
+    ensures taken { OnOk result (IsLineTaken number (seen scope.old) (words_of line.now) (listed script.old) asked.old.items (seen scope.new) (listed script.new) asked.new.items) }
+    ensures kept { OnOk result (IsKept scope.new) }
+    ensures fault { IfErr result (IsWhyLineUnread number (seen scope.old) (ended line.now)) }
+{
+    let section = scope.section;
+    let said = read_line(alloc, number, line, scope)?;
+    Ok(take(alloc, script, section, asked, number, said)?)
+}
+
+/// Reads the lines of a text into a script that asks for nothing, where nothing is asked for so far.
+fn read_lines(
+    alloc: Global,
+    text: &[u8],
+    script: &mut Script,
+    asked: &mut Vec<Numbered>,
+    scope: &mut Scope,
+) -> Result<(), ReadFault>
+    requires start { seen scope.old ≡ at_start }
+    requires kept { IsKept scope.old }
+    requires none { listed script.old ≡ nothing }
+    requires none_asked { asked.old.items ≡ [] }
+    ensures read { OnOk result ((script_fault text.now ≡ None) × (listed script.new ≡ sections_of text.now)) }
+    ensures few { OnOk result (length script.new.threads.items ≤ 63) }
+    ensures fault { IfErr result (IsWhyTextUnread text.now) }
+{
+    let mut rest = text;
+    let mut number: u64 = 1;
+    while !rest.is_empty() {
+        let Some((line, after)) = next_line(rest) else {
+            return Err(fault(number, FaultKind::UnendedLine));
+        };
+        take_line(alloc, script, asked, scope, number, line)?;
+        rest = after;
+        number += 1;
+    }
+    Ok(end_section(alloc, script, scope.section, asked)?)
+}
+
 /// What a script asks for, section by section and line by line, or its first fault. Takes time linear in the text.
 ///
 /// A line ends with a byte 0x0A, and its words are parted by spaces. A line without words and a comment, whose first byte other
@@ -82,18 +133,6 @@ pub fn read_script(alloc: Global, text: &[u8]) -> Result<Script, ReadFault>
         finally: Vec::new(alloc),
     };
     let mut asked = Vec::new(alloc);
-    let mut rest = text;
-    let mut number: u64 = 1;
-    while !rest.is_empty() {
-        let Some((line, after)) = next_line(rest) else {
-            return Err(fault(number, FaultKind::UnendedLine));
-        };
-        let section = scope.section;
-        let said = read_line(alloc, number, line, &mut scope)?;
-        take(alloc, &mut script, section, &mut asked, number, said)?;
-        rest = after;
-        number += 1;
-    }
-    end_section(alloc, &mut script, scope.section, &mut asked)?;
+    read_lines(alloc, text, &mut script, &mut asked, &mut scope)?;
     Ok(script)
 }

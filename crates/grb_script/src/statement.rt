@@ -1,8 +1,9 @@
-ghost use Rattle.std.specs.Prelude.{◌≡◌, [], ◌∷◌, Ok, IfOk, IfErr, map};
+ghost use Rattle.std.specs.Prelude.{◌≡◌, ◌≢◌, [], ◌∷◌, Some, Ok, IfOk, IfErr, map};
 ghost use Rattle.std.specs.Option.{ok_or};
 ghost use Rattle.grb_script.specs.Names.{name_found};
-ghost use Rattle.grb_words.specs.Form.{form_of, form_with, matrix_form, vector_form, dup_form, whole_form, placed_form, set_form, build_form, total_form, wait_form};
-ghost use Rattle.grb_script.specs.Reading.{reading, set_at, remove_at, get_at, resize_to, IsReading, IsWhyUnread};
+ghost use Rattle.grb_words.specs.declared.keyword.Keyword.TheVariants as keywords;
+ghost use Rattle.grb_words.specs.Form.{BuildForm, form_of, form_with, matrix_form, vector_form, dup_form, whole_form, placed_form, set_form, build_form, total_form, wait_form};
+ghost use Rattle.grb_script.specs.Reading.{reading, saying, set_at, remove_at, get_at, resize_to, IsReading, IsWhyUnread};
 
 use crate::ewise::{Elementwise, ewise};
 use crate::names::{Names, Sort};
@@ -155,9 +156,15 @@ fn matrix_of(
     ensures read { IfOk result (λ s. IsReading names.old (matrix_form name.now (domain.now ∷ nrows.now ∷ ncols.now ∷ [])) s names.new) }
     ensures fault { IfErr result (IsWhyUnread names.old (matrix_form name.now (domain.now ∷ nrows.now ∷ ncols.now ∷ []))) }
 {
-    let domain = word::domain(domain).ok_or(FaultKind::Statement)?;
-    let nrows = word::number(nrows).ok_or(FaultKind::Statement)?;
-    let ncols = word::number(ncols).ok_or(FaultKind::Statement)?;
+    let Some(domain) = word::domain(domain) else {
+        return Err(Unread::Fault(FaultKind::Statement));
+    };
+    let Some(nrows) = word::number(nrows) else {
+        return Err(Unread::Fault(FaultKind::Statement));
+    };
+    let Some(ncols) = word::number(ncols) else {
+        return Err(Unread::Fault(FaultKind::Statement));
+    };
     if names.find(name).is_some() {
         return Err(Unread::Fault(FaultKind::NameTaken));
     }
@@ -190,8 +197,12 @@ fn vector_of(
     ensures read { IfOk result (λ s. IsReading names.old (vector_form name.now (domain.now ∷ size.now ∷ [])) s names.new) }
     ensures fault { IfErr result (IsWhyUnread names.old (vector_form name.now (domain.now ∷ size.now ∷ []))) }
 {
-    let domain = word::domain(domain).ok_or(FaultKind::Statement)?;
-    let size = word::number(size).ok_or(FaultKind::Statement)?;
+    let Some(domain) = word::domain(domain) else {
+        return Err(Unread::Fault(FaultKind::Statement));
+    };
+    let Some(size) = word::number(size) else {
+        return Err(Unread::Fault(FaultKind::Statement));
+    };
     if names.find(name).is_some() {
         return Err(Unread::Fault(FaultKind::NameTaken));
     }
@@ -288,7 +299,9 @@ fn placed(
 ) -> Result<Statement, FaultKind>
     ensures { result ≡ reading names.now (placed_form placed name.now (map (λ word. word.now) others.now)) }
 {
-    let indices = indices_of(others).ok_or(FaultKind::Statement)?;
+    let Some(indices) = indices_of(others) else {
+        return Err(FaultKind::Statement);
+    };
     let (name, sort) = used(name, names)?;
     match placed {
         Placed::Remove => remove_at(name, sort, indices),
@@ -311,9 +324,53 @@ fn set_at(name: usize, sort: Sort, indices: Indices, value: Value) -> Result<Sta
 fn set(name: &[u8], others: &[&[u8]], names: &Names) -> Result<Statement, FaultKind>
     ensures { result ≡ reading names.now (set_form name.now (map (λ word. word.now) others.now)) }
 {
-    let (indices, value) = indices_and_value_of(others).ok_or(FaultKind::Statement)?;
+    let Some((indices, value)) = indices_and_value_of(others) else {
+        return Err(FaultKind::Statement);
+    };
     let (name, sort) = used(name, names)?;
     set_at(name, sort, indices, value)
+}
+
+/// `build NAME MONOID ..` by its values.
+fn build_of(
+    alloc: Global,
+    name: &[u8],
+    dup: Monoid,
+    values: &[Value],
+    names: &Names,
+) -> Result<Statement, Unread>
+    ensures says { IfOk result (λ s. saying names.now (BuildForm name.now dup values.now) ≡ Ok s) }
+    ensures fault { IfErr result (IsWhyUnread names.now (Some (BuildForm name.now dup values.now))) }
+{
+    let (name, sort) = used(name, names)?;
+    match sort {
+        Sort::Matrix => {
+            let tuples = matrix_tuples(alloc, values)?;
+            Ok(Statement::BuildMatrix { name, tuples, dup })
+        }
+        Sort::Vector => {
+            let tuples = vector_tuples(alloc, values)?;
+            Ok(Statement::BuildVector { name, tuples, dup })
+        }
+    }
+}
+
+/// `build NAME MONOID ..`, where the list behind the monoid is apart.
+fn build_by_words(
+    alloc: Global,
+    name: &[u8],
+    monoid: &[u8],
+    list: &[&[u8]],
+    names: &Names,
+) -> Result<Statement, Unread>
+    ensures says { IfOk result (λ s. reading names.now (build_form name.now (monoid.now ∷ map (λ word. word.now) list.now)) ≡ Ok s) }
+    ensures fault { IfErr result (IsWhyUnread names.now (build_form name.now (monoid.now ∷ map (λ word. word.now) list.now))) }
+{
+    let Some(dup) = word::monoid(monoid) else {
+        return Err(Unread::Fault(FaultKind::Statement));
+    };
+    let values = values(alloc, list)?;
+    build_of(alloc, name, dup, &values, names)
 }
 
 /// `build NAME MONOID ..`.
@@ -324,19 +381,7 @@ fn build(alloc: Global, name: &[u8], others: &[&[u8]], names: &Names) -> Result<
     let [monoid, list @ ..] = others else {
         return Err(Unread::Fault(FaultKind::Statement));
     };
-    let dup = word::monoid(monoid).ok_or(FaultKind::Statement)?;
-    let values = values(alloc, list)?;
-    let (name, sort) = used(name, names)?;
-    match sort {
-        Sort::Matrix => {
-            let tuples = matrix_tuples(alloc, &values)?;
-            Ok(Statement::BuildMatrix { name, tuples, dup })
-        }
-        Sort::Vector => {
-            let tuples = vector_tuples(alloc, &values)?;
-            Ok(Statement::BuildVector { name, tuples, dup })
-        }
-    }
+    build_by_words(alloc, name, monoid, list, names)
 }
 
 /// `total NAME MONOID`.
@@ -346,7 +391,9 @@ fn total(name: &[u8], others: &[&[u8]], names: &Names) -> Result<Statement, Faul
     let [monoid] = others else {
         return Err(FaultKind::Statement);
     };
-    let monoid = word::monoid(monoid).ok_or(FaultKind::Statement)?;
+    let Some(monoid) = word::monoid(monoid) else {
+        return Err(FaultKind::Statement);
+    };
     let (name, sort) = used(name, names)?;
     Ok(Statement::Total { name, sort, monoid })
 }
@@ -358,9 +405,38 @@ fn wait(name: &[u8], others: &[&[u8]], names: &Names) -> Result<Statement, Fault
     let [mode] = others else {
         return Err(FaultKind::Statement);
     };
-    let mode = word::wait_mode(mode).ok_or(FaultKind::Statement)?;
+    let Some(mode) = word::wait_mode(mode) else {
+        return Err(FaultKind::Statement);
+    };
     let (name, sort) = used(name, names)?;
     Ok(Statement::Wait { name, sort, mode })
+}
+
+/// The statement that this keyword, this name and the words behind them spell where these names stand, or what is wrong with it. It makes
+/// no name, and its words are all that it says.
+fn statement_on(
+    keyword: Keyword,
+    name: &[u8],
+    others: &[&[u8]],
+    names: &Names,
+) -> Result<Statement, FaultKind>
+    requires matrix { keyword ≢ keywords.Matrix }
+    requires vector { keyword ≢ keywords.Vector }
+    requires dup { keyword ≢ keywords.Dup }
+    requires build { keyword ≢ keywords.Build }
+    ensures { result ≡ reading names.now (form_with keyword name.now (map (λ word. word.now) others.now)) }
+{
+    match keyword {
+        Keyword::Whole(word) => whole(word, name, others, names),
+        Keyword::Placed(word) => placed(word, name, others, names),
+        Keyword::Set => set(name, others, names),
+        Keyword::Ewise(word) => ewise(word, name, others, names),
+        Keyword::Multiply(word) => read_product(word, name, others, names),
+        Keyword::Reduce => read_reduction(name, others, names),
+        Keyword::Total => total(name, others, names),
+        Keyword::Wait => wait(name, others, names),
+        Keyword::Matrix | Keyword::Vector | Keyword::Dup | Keyword::Build => unreachable!(),
+    }
 }
 
 /// The statement that this keyword, this name and the words behind them spell where these names stand, or what is wrong with it. The name
@@ -379,15 +455,8 @@ fn statement_with(
         Keyword::Matrix => matrix(name, others, names),
         Keyword::Vector => vector(name, others, names),
         Keyword::Dup => dup(name, others, names),
-        Keyword::Whole(word) => Ok(whole(word, name, others, names)?),
-        Keyword::Placed(word) => Ok(placed(word, name, others, names)?),
-        Keyword::Set => Ok(set(name, others, names)?),
         Keyword::Build => build(alloc, name, others, names),
-        Keyword::Ewise(word) => Ok(ewise(word, name, others, names)?),
-        Keyword::Multiply(word) => Ok(read_product(word, name, others, names)?),
-        Keyword::Reduce => Ok(read_reduction(name, others, names)?),
-        Keyword::Total => Ok(total(name, others, names)?),
-        Keyword::Wait => Ok(wait(name, others, names)?),
+        _ => Ok(statement_on(keyword, name, others, names)?),
     }
 }
 
@@ -406,6 +475,8 @@ pub(crate) fn read_statement(
     if !word::is_name(name) {
         return Err(Unread::Fault(FaultKind::Statement));
     }
-    let keyword = word::keyword(first).ok_or(FaultKind::Statement)?;
+    let Some(keyword) = word::keyword(first) else {
+        return Err(Unread::Fault(FaultKind::Statement));
+    };
     statement_with(alloc, keyword, name, others, names)
 }

@@ -65,11 +65,15 @@ rows-preserved g c =
           pushed.rows_pushed pushed.starts_pushed pushed.rows_same pushed.starts_same pushed.columns pushed.values;
     }
 
-pub returns-clause-entries : goal.returns-clause-entries
-returns-clause-entries g c =
+pub returns : goal.returns
+returns g c =
     let s : SemiringParts = record { monoid = g.M.MonoidOver.monoid; op = g.O.Operator.op } in
     let a = decoded c.args.a.now.entries in
     let b = decoded c.args.b.now.lists.now.entries in
     let numbers = c.rows-numbers.result.now in
     let listed = c.rows-numbers.ensures in
-    making_ends g.T.Scalar.value (mxm_of s a b) numbers (rise_as numbers c.args.a.now.rows listed.list listed.rise) c.rows.place c.rows.rows.items c.rows.starts.items c.rows.columns.items c.rows.values.items c.rows.invariant.making c.rows-test.false
+    record {
+      flat = c.rows.invariant.making.flat;
+      same = sym c.rows.invariant.making.same;
+      entries = making_ends g.T.Scalar.value (mxm_of s a b) numbers (rise_as numbers c.args.a.now.rows listed.list listed.rise) c.rows.place c.rows.rows.items c.rows.starts.items c.rows.columns.items c.rows.values.items c.rows.invariant.making c.rows-test.false;
+    }

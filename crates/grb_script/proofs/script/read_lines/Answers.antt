@@ -6,23 +6,23 @@ use Rattle.grb_words.specs.Line.{ended, lines_of}
 use Rattle.grb_script.specs.Scope.{seen}
 use Rattle.grb_script.specs.Script.{listed}
 use Rattle.grb_script.proofs.ScriptLemmas.{unread, Reached-next, Reached-end}
-use Rattle.grb_script.proofs.script.read_script.Goals as goal
+use Rattle.grb_script.proofs.script.read_lines.Goals as goal
 
-pub returns-in_err-said-clause-fault : goal.returns-in_err-said-clause-fault
-returns-in_err-said-clause-fault c =
+pub returns-in_err-take_line-clause-fault : goal.returns-in_err-take_line-clause-fault
+returns-in_err-take_line-clause-fault c =
     let now = c.loop-rest in
     let p = err_from_is_err_and c.from_residual.result c.from_residual.ensures.1 in
     rw (p.1, p.2)
-    (unread c.args.text.now now.rest.now now.number (seen now.scope) (listed now.script) now.asked.items now.invariant.reached (ended c.in-Some.line.now) (lines_of c.in-Some.after.now) c.in-Some.ensures.ended _ c.in_err-said.ensures.fault)
+    (unread c.args.text.now now.rest.now now.number (seen now.scope) (listed now.script) now.asked.items now.invariant.reached (ended c.in-Some.line.now) (lines_of c.in-Some.after.now) c.in-Some.ensures.ended _ c.in_err-take_line.ensures.fault)
 
 pub loop-rest-preserved : goal.loop-rest-preserved
 loop-rest-preserved c =
     let now = c.loop-rest in
-    let line = c.in_ok-said.ensures in
+    let line = c.in_ok-take_line.ensures in
     record {
       reached =
           Reached-next c.args.text.now now.rest.now now.number (seen now.scope) (listed now.script) now.asked.items now.invariant.reached c.in-Some.after.now c.in-Some.line.now
-          c.in-Some.ensures.ended line.faultless _ line.read.behind c.in_ok-said.said _ _ line.read.says c.in_ok-take.ensures;
+          c.in-Some.ensures.ended line.faultless _ line.taken.read.behind line.taken.said _ _ line.taken.read.says line.taken.taken;
       kept = line.kept;
       numbered = omega (arith, now.invariant.numbered, c.in-Some.ensures.shorter);
     }

@@ -2,7 +2,7 @@ use Rattle.std.proofs.Common.{◌+◌, ◌≤◌, length}
 use Rattle.grb_script.specs.Scope.{seen, IsKept}
 use Rattle.grb_script.specs.Script.{listed}
 use Rattle.grb_script.proofs.ScriptLemmas.{Reached}
-use Rattle.grb_script.proofs.script.read_script.Given as goal
+use Rattle.grb_script.proofs.script.read_lines.Given as goal
 
 abbrev pub invariant-loop-rest : goal.invariant-loop-rest
 invariant-loop-rest l = record {
