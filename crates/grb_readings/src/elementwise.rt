@@ -1,7 +1,9 @@
-use crate::reading::{first_fault, statements_of};
+use crate::reading::{expect_faults_behind, expect_last, expect_last_statements};
 use grb_call::Descriptor;
 use grb_core::BinaryOp;
 use grb_script::{Elementwise, FaultKind, Sort, Statement};
+use std::alloc::{AllocError, Global};
+use std::process::Abort;
 use std::test::Fail;
 
 /// An element-wise statement on the first name of a script, whose inputs are the second and the third, with no option.
@@ -28,7 +30,6 @@ fn element_wise_statements_are_read(rt: HostRuntime) -> Result<(), Fail> {
         ewiseadd C A B lor\newisemult C A B second_bool\n\
         ewisemult mask mask mask minus mask mask structure comp accum max replace\n\
         ewiseadd C B A lxor  comp \n ewiseadd C A B lor mask A accum land\n";
-    let statements = statements_of(rt.alloc(), text)?;
     let all_one = Elementwise {
         sort: Sort::Vector,
         output: 3,
@@ -65,52 +66,65 @@ fn element_wise_statements_are_read(rt: HostRuntime) -> Result<(), Fail> {
         Statement::EwiseAdd(exchanged),
         Statement::EwiseAdd(accumulated),
     ];
-    assert_eq!(rt; statements.len(), 9);
-    for (statement, expected) in statements.iter().skip(4).zip(&expected) {
-        assert_eq!(rt; statement, expected);
+    expect_last_statements(&rt, rt.alloc(), text, 9, &expected)
+}
+
+/// The bits of a choice, and the options that they stand for.
+static OPTIONS: [(u32, &str); 5] = [
+    (1, " mask b"),
+    (2, " structure"),
+    (4, " comp"),
+    (8, " accum times"),
+    (16, " replace"),
+];
+
+/// A script whose last line has the options of a choice.
+fn text_of_choice(alloc: Global, choice: u32) -> Result<String, AllocError> {
+    let mut text = String::new(alloc);
+    text.push_str("vector c uint64 1\nvector a uint64 1\nvector b uint64 1\newiseadd c a b plus")?;
+    for (bit, words) in &OPTIONS {
+        if choice & *bit != 0 {
+            text.push_str(*words)?;
+        }
     }
-    Ok(())
+    text.push('\n')?;
+    Ok(text)
+}
+
+fn statement_of_choice(choice: u32) -> Statement {
+    let (is_masked, is_accumulated) = (choice & 1 != 0, choice & 8 != 0);
+    Statement::EwiseAdd(Elementwise {
+        mask: if is_masked { Some(2) } else { None },
+        accum: if is_accumulated {
+            Some(BinaryOp::Times)
+        } else {
+            None
+        },
+        descriptor: Descriptor {
+            structure: choice & 2 != 0,
+            comp: choice & 4 != 0,
+            replace: choice & 16 != 0,
+        },
+        ..plain(Sort::Vector, BinaryOp::Plus)
+    })
+}
+
+fn expect_choice(rt: &impl Abort, alloc: Global, choice: u32) -> Result<(), Fail> {
+    let text = text_of_choice(alloc, choice)?;
+    let expected = statement_of_choice(choice);
+    expect_last(rt, alloc, text.as_bytes(), &expected)
 }
 
 #[test]
 fn each_choice_of_options_is_read(rt: HostRuntime) -> Result<(), Fail> {
-    for choice in 0..32u32 {
-        let (is_masked, is_accumulated) = (choice & 1 != 0, choice & 8 != 0);
-        let descriptor = Descriptor {
-            structure: choice & 2 != 0,
-            comp: choice & 4 != 0,
-            replace: choice & 16 != 0,
-        };
-        let text = format!(in rt.alloc();
-            "vector c uint64 1\nvector a uint64 1\nvector b uint64 1\newiseadd c a b plus{}{}{}{}{}\n",
-            if is_masked { " mask b" } else { "" },
-            if descriptor.structure {
-                " structure"
-            } else {
-                ""
-            },
-            if descriptor.comp { " comp" } else { "" },
-            if is_accumulated { " accum times" } else { "" },
-            if descriptor.replace { " replace" } else { "" }
-        )?;
-        let expected = Statement::EwiseAdd(Elementwise {
-            mask: if is_masked { Some(2) } else { None },
-            accum: if is_accumulated {
-                Some(BinaryOp::Times)
-            } else {
-                None
-            },
-            descriptor,
-            ..plain(Sort::Vector, BinaryOp::Plus)
-        });
-        let statements = statements_of(rt.alloc(), text.as_bytes())?;
-        assert!(rt; statements.last() == Some(&expected), "{text}");
+    for choice in 0..32 {
+        expect_choice(&rt, rt.alloc(), choice)?;
     }
     Ok(())
 }
 
 /// Each word of an operator.
-const OPERATORS: [(&str, BinaryOp); 13] = [
+static OPERATORS: [(&str, BinaryOp); 13] = [
     ("lor", BinaryOp::Lor),
     ("land", BinaryOp::Land),
     ("lxor", BinaryOp::Lxor),
@@ -126,24 +140,39 @@ const OPERATORS: [(&str, BinaryOp); 13] = [
     ("second_bool", BinaryOp::SecondBool),
 ];
 
+/// A script whose last line has the operator of a word, which accumulates too.
+fn text_of_operator(alloc: Global, word: &str) -> Result<String, AllocError> {
+    let mut text = String::new(alloc);
+    text.push_str("vector c bool 1\nvector a bool 1\nvector b bool 1\newisemult c a b ")?;
+    text.push_str(word)?;
+    text.push_str(" accum ")?;
+    text.push_str(word)?;
+    text.push('\n')?;
+    Ok(text)
+}
+
+fn expect_operator(rt: &impl Abort, alloc: Global, word: &str, op: BinaryOp) -> Result<(), Fail> {
+    let text = text_of_operator(alloc, word)?;
+    let expected = Statement::EwiseMult(Elementwise {
+        accum: Some(op),
+        ..plain(Sort::Vector, op)
+    });
+    expect_last(rt, alloc, text.as_bytes(), &expected)
+}
+
 #[test]
 fn each_operator_is_read_by_its_word(rt: HostRuntime) -> Result<(), Fail> {
-    for (word, op) in OPERATORS {
-        let text = format!(in rt.alloc();
-            "vector c bool 1\nvector a bool 1\nvector b bool 1\newisemult c a b {word} accum {word}\n"
-        )?;
-        let expected = Statement::EwiseMult(Elementwise {
-            accum: Some(op),
-            ..plain(Sort::Vector, op)
-        });
-        let statements = statements_of(rt.alloc(), text.as_bytes())?;
-        assert!(rt; statements.last() == Some(&expected), "{word}");
+    for (word, op) in &OPERATORS {
+        expect_operator(&rt, rt.alloc(), *word, *op)?;
     }
     Ok(())
 }
 
-/// Element-wise lines behind a `c`, an `a` and an `M`, and their first fault.
-const FAULTY: [(&str, FaultKind); 46] = [
+/// The names `c`, `a` and `M`.
+const NAMES: &str = "vector c uint64 2\nvector a bool 3\nmatrix M bool 2 2\n";
+
+/// Element-wise lines behind these names, and their first fault.
+static FAULTY: [(&str, FaultKind); 46] = [
     ("ewiseadd", FaultKind::Statement),
     ("ewiseadd c", FaultKind::Statement),
     ("ewiseadd c a plus", FaultKind::Statement),
@@ -206,16 +235,6 @@ const FAULTY: [(&str, FaultKind); 46] = [
 
 #[test]
 fn an_element_wise_line_with_a_fault_is_told_by_its_first(rt: HostRuntime) -> Result<(), Fail> {
-    for (line, kind) in FAULTY {
-        let text = format!(in rt.alloc();
-            "vector c uint64 2\nvector a bool 3\nmatrix M bool 2 2\n{line}\n"
-        )?;
-        let expected = Some((4, kind));
-        assert_eq!(rt;
-            first_fault(rt.alloc(), text.as_bytes())?,
-            expected,
-            "{line}"
-        );
-    }
+    expect_faults_behind(&rt, rt.alloc(), NAMES, 4, &FAULTY)?;
     Ok(())
 }

@@ -1,9 +1,9 @@
-use crate::reading::first_fault;
+use crate::reading::{expect_fault, expect_faults};
 use grb_script::FaultKind;
 use std::test::Fail;
 
 /// Texts, the line of their first fault and what it is.
-const FIRST: [(&[u8], u64, FaultKind); 35] = [
+static FIRST: [(&[u8], u64, FaultKind); 35] = [
     (b"nvals v", 1, FaultKind::UnendedLine),
     (b"\n ", 2, FaultKind::UnendedLine),
     (b"nvals v\r\n", 1, FaultKind::BadByte),
@@ -63,18 +63,12 @@ const FIRST: [(&[u8], u64, FaultKind); 35] = [
 
 #[test]
 fn the_first_fault_of_the_first_faulty_line_is_answered(rt: HostRuntime) -> Result<(), Fail> {
-    for (text, line, kind) in FIRST {
-        assert_eq!(rt;
-            first_fault(rt.alloc(), text)?,
-            Some((line, kind)),
-            "{text:?}"
-        );
-    }
+    expect_faults(&rt, rt.alloc(), &FIRST)?;
     Ok(())
 }
 
 /// Lines that have no form.
-const FORMLESS: [&[u8]; 35] = [
+static FORMLESS: [&[u8]; 35] = [
     b"matrix A uint64 2\n",
     b"matrix A uint64 2 2 2\n",
     b"matrix A 2 2 uint64\n",
@@ -114,15 +108,14 @@ const FORMLESS: [&[u8]; 35] = [
 
 #[test]
 fn words_that_have_no_form_are_no_statement(rt: HostRuntime) -> Result<(), Fail> {
-    for text in FORMLESS {
-        let expected = Some((1, FaultKind::Statement));
-        assert_eq!(rt; first_fault(rt.alloc(), text)?, expected, "{text:?}");
+    for text in &FORMLESS {
+        expect_fault(&rt, rt.alloc(), *text, 1, FaultKind::Statement)?;
     }
     Ok(())
 }
 
 /// The same of names that are made or used wrongly.
-const NAMES: [(&[u8], u64, FaultKind); 37] = [
+static NAMES: [(&[u8], u64, FaultKind); 37] = [
     (
         b"vector v uint64 5\nvector v bool 1\n",
         2,
@@ -240,12 +233,6 @@ const NAMES: [(&[u8], u64, FaultKind); 37] = [
 
 #[test]
 fn a_name_is_made_once_and_used_as_its_sort_is(rt: HostRuntime) -> Result<(), Fail> {
-    for (text, line, kind) in NAMES {
-        assert_eq!(rt;
-            first_fault(rt.alloc(), text)?,
-            Some((line, kind)),
-            "{text:?}"
-        );
-    }
+    expect_faults(&rt, rt.alloc(), &NAMES)?;
     Ok(())
 }

@@ -18,6 +18,8 @@ mod products;
 #[cfg(test)]
 mod reading;
 #[cfg(test)]
+mod same;
+#[cfg(test)]
 mod sections;
 #[cfg(test)]
 mod statements;

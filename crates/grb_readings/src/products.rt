@@ -1,7 +1,9 @@
-use crate::reading::{first_fault, statements_of};
+use crate::reading::{expect_faults_behind, expect_last, expect_last_statements, text_of};
 use grb_call::{Descriptor, WaitMode};
 use grb_core::{BinaryOp, Monoid, Semiring};
 use grb_script::{FaultKind, Product, Reduction, Sort, Statement};
+use std::alloc::Global;
+use std::process::Abort;
 use std::test::Fail;
 
 const PLAIN: Descriptor = Descriptor {
@@ -10,57 +12,81 @@ const PLAIN: Descriptor = Descriptor {
     replace: false,
 };
 
+/// The words behind the names of a product, its semiring, its mask, its accumulator and its descriptor.
+type Row = (
+    &'static str,
+    Monoid,
+    BinaryOp,
+    Option<usize>,
+    Option<BinaryOp>,
+    Descriptor,
+);
+
+static ROWS: [Row; 4] = [
+    (" lor.land", Monoid::Lor, BinaryOp::Land, None, None, PLAIN),
+    (
+        " min.plus mask w",
+        Monoid::Min,
+        BinaryOp::Plus,
+        Some(0),
+        None,
+        PLAIN,
+    ),
+    (
+        " max.second accum minus",
+        Monoid::Max,
+        BinaryOp::Second,
+        None,
+        Some(BinaryOp::Minus),
+        PLAIN,
+    ),
+    (
+        " lxnor.first_bool  comp replace ",
+        Monoid::Lxnor,
+        BinaryOp::FirstBool,
+        None,
+        None,
+        Descriptor {
+            structure: false,
+            comp: true,
+            replace: true,
+        },
+    ),
+];
+
+/// A line of a product behind its names.
+const PRODUCT: &str = "vector w uint64 2\nmatrix A bool 2 3\nvector u uint64 3\nmxv w A u";
+
+fn semiring_of(rt: &impl Abort, monoid: Monoid, op: BinaryOp) -> Semiring {
+    let Ok(semiring) = Semiring::new(monoid, op) else {
+        panic!(rt; "{monoid:?} and {op:?} make no semiring");
+    };
+    semiring
+}
+
+fn product_of(rt: &impl Abort, row: &Row) -> Product {
+    let (_, monoid, op, mask, accum, descriptor) = *row;
+    Product {
+        output: 0,
+        mask,
+        accum,
+        semiring: semiring_of(rt, monoid, op),
+        left: 1,
+        right: 2,
+        descriptor,
+    }
+}
+
+fn expect_product(rt: &impl Abort, alloc: Global, row: &Row) -> Result<(), Fail> {
+    let text = text_of(alloc, PRODUCT, row.0)?;
+    let expected = Statement::Mxv(product_of(rt, row));
+    expect_last(rt, alloc, text.as_bytes(), &expected)
+}
+
 #[test]
 fn a_product_is_read_with_its_semiring_and_options(rt: HostRuntime) -> Result<(), Fail> {
-    let rows = [
-        (" lor.land", Monoid::Lor, BinaryOp::Land, None, None, PLAIN),
-        (
-            " min.plus mask w",
-            Monoid::Min,
-            BinaryOp::Plus,
-            Some(0),
-            None,
-            PLAIN,
-        ),
-        (
-            " max.second accum minus",
-            Monoid::Max,
-            BinaryOp::Second,
-            None,
-            Some(BinaryOp::Minus),
-            PLAIN,
-        ),
-        (
-            " lxnor.first_bool  comp replace ",
-            Monoid::Lxnor,
-            BinaryOp::FirstBool,
-            None,
-            None,
-            Descriptor {
-                structure: false,
-                comp: true,
-                replace: true,
-            },
-        ),
-    ];
-    for (words, monoid, op, mask, accum, descriptor) in rows {
-        let text = format!(in rt.alloc();
-            "vector w uint64 2\nmatrix A bool 2 3\nvector u uint64 3\nmxv w A u{words}\n"
-        )?;
-        let Ok(semiring) = Semiring::new(monoid, op) else {
-            panic!(rt; "{monoid:?} and {op:?} make no semiring");
-        };
-        let expected = Statement::Mxv(Product {
-            output: 0,
-            mask,
-            accum,
-            semiring,
-            left: 1,
-            right: 2,
-            descriptor,
-        });
-        let statements = statements_of(rt.alloc(), text.as_bytes())?;
-        assert!(rt; statements.last() == Some(&expected), "{words}");
+    for row in &ROWS {
+        expect_product(&rt, rt.alloc(), row)?;
     }
     Ok(())
 }
@@ -70,9 +96,7 @@ fn products_of_matrices_reductions_and_waits_are_read(rt: HostRuntime) -> Result
     let text =
         b"matrix A bool 2 3\nvector w uint64 2\nmatrix C uint64 2 2\nmxm C A C plus.times mask A structure\n\
         reduce w A max mask w accum plus\ntotal A lxor\ntotal w times\nwait C complete\nwait w materialize\n";
-    let Ok(semiring) = Semiring::new(Monoid::Plus, BinaryOp::Times) else {
-        panic!(rt; "plus and times make no semiring");
-    };
+    let semiring = semiring_of(&rt, Monoid::Plus, BinaryOp::Times);
     let expected = [
         Statement::Mxm(Product {
             output: 2,
@@ -116,16 +140,15 @@ fn products_of_matrices_reductions_and_waits_are_read(rt: HostRuntime) -> Result
             mode: WaitMode::Materialize,
         },
     ];
-    let statements = statements_of(rt.alloc(), text)?;
-    assert_eq!(rt; statements.len(), 9);
-    for (statement, expected) in statements.iter().skip(3).zip(&expected) {
-        assert_eq!(rt; statement, expected);
-    }
-    Ok(())
+    expect_last_statements(&rt, rt.alloc(), text, 9, &expected)
 }
 
-/// Lines behind the names `w`, `u`, `A`, `C` and `M`, and their first fault.
-const FAULTY: [(&str, FaultKind); 53] = [
+/// The names `w`, `u`, `A`, `C` and `M`.
+const NAMES: &str =
+    "vector w uint64 2\nvector u bool 3\nmatrix A uint64 2 3\nmatrix C bool 2 2\nmatrix M bool 2 2\n";
+
+/// Lines behind these names, and their first fault.
+static FAULTY: [(&str, FaultKind); 53] = [
     ("mxv", FaultKind::Statement),
     ("mxv w A u", FaultKind::Statement),
     ("mxv w A u plus", FaultKind::Statement),
@@ -186,12 +209,6 @@ const FAULTY: [(&str, FaultKind); 53] = [
 
 #[test]
 fn a_line_with_a_faulty_product_is_told_by_its_first_fault(rt: HostRuntime) -> Result<(), Fail> {
-    for (line, kind) in FAULTY {
-        let text = format!(in rt.alloc();
-            "vector w uint64 2\nvector u bool 3\nmatrix A uint64 2 3\nmatrix C bool 2 2\nmatrix M bool 2 2\n{line}\n"
-        )?;
-        let met = first_fault(rt.alloc(), text.as_bytes())?;
-        assert_eq!(rt; met, Some((6, kind)), "{line}");
-    }
+    expect_faults_behind(&rt, rt.alloc(), NAMES, 6, &FAULTY)?;
     Ok(())
 }

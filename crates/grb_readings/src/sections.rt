@@ -1,111 +1,117 @@
-use crate::reading::{counts, first_fault};
+use crate::reading::{expect_counts, expect_fault, expect_faults};
+use crate::same::same;
 use grb_script::{Command, FaultKind, Numbered, Script, Sort, Statement, read_script};
 use std::alloc::{AllocError, Global};
+use std::process::Abort;
 use std::test::Fail;
 
 /// Texts with a section line that may not stand where it does, the line's number, and its first fault.
-const SECTIONS: [(&str, u64, FaultKind); 30] = [
-    ("thread\n", 1, FaultKind::Section),
-    ("thread 0\n", 1, FaultKind::Section),
-    ("thread 2\n", 1, FaultKind::Section),
-    ("thread 01\n", 1, FaultKind::Section),
-    ("thread x\n", 1, FaultKind::Section),
-    ("thread 1 x\n", 1, FaultKind::Section),
-    ("thread 18446744073709551616\n", 1, FaultKind::Section),
-    ("thread finally\n", 1, FaultKind::Section),
-    ("finally 1\n", 1, FaultKind::Section),
-    ("finally thread\n", 1, FaultKind::Section),
-    ("vector v bool 1\nthread 2\n", 2, FaultKind::Section),
-    ("thread 1\nthread 1\n", 2, FaultKind::Section),
-    ("thread 1\n\nthread 3\n", 3, FaultKind::Section),
-    ("finally\nfinally\n", 2, FaultKind::Section),
-    ("finally\nthread 1\n", 2, FaultKind::Section),
-    ("thread 1\nfinally\nthread 2\n", 3, FaultKind::Section),
-    ("thread 1\nfinally\n# end\nfinally\n", 4, FaultKind::Section),
-    ("thread 2", 1, FaultKind::UnendedLine),
-    ("thread 1\nfinally", 2, FaultKind::UnendedLine),
-    ("thread 2\r\n", 1, FaultKind::BadByte),
-    ("thread\t1\n", 1, FaultKind::BadByte),
-    ("finally nvals x\n", 1, FaultKind::Section),
-    ("thread nvals\n", 1, FaultKind::Section),
-    ("thread v bool 1\n", 1, FaultKind::Section),
-    ("thread 2\nget x 01\n", 1, FaultKind::Section),
-    ("get x 01\nthread 2\n", 1, FaultKind::Statement),
-    ("thread 1\nget x 01\n", 2, FaultKind::Statement),
-    ("threads 1\n", 1, FaultKind::Statement),
-    ("Finally\n", 1, FaultKind::Statement),
-    ("nvals thread\n", 1, FaultKind::UnknownName),
+static SECTIONS: [(&[u8], u64, FaultKind); 30] = [
+    (b"thread\n", 1, FaultKind::Section),
+    (b"thread 0\n", 1, FaultKind::Section),
+    (b"thread 2\n", 1, FaultKind::Section),
+    (b"thread 01\n", 1, FaultKind::Section),
+    (b"thread x\n", 1, FaultKind::Section),
+    (b"thread 1 x\n", 1, FaultKind::Section),
+    (b"thread 18446744073709551616\n", 1, FaultKind::Section),
+    (b"thread finally\n", 1, FaultKind::Section),
+    (b"finally 1\n", 1, FaultKind::Section),
+    (b"finally thread\n", 1, FaultKind::Section),
+    (b"vector v bool 1\nthread 2\n", 2, FaultKind::Section),
+    (b"thread 1\nthread 1\n", 2, FaultKind::Section),
+    (b"thread 1\n\nthread 3\n", 3, FaultKind::Section),
+    (b"finally\nfinally\n", 2, FaultKind::Section),
+    (b"finally\nthread 1\n", 2, FaultKind::Section),
+    (b"thread 1\nfinally\nthread 2\n", 3, FaultKind::Section),
+    (
+        b"thread 1\nfinally\n# end\nfinally\n",
+        4,
+        FaultKind::Section,
+    ),
+    (b"thread 2", 1, FaultKind::UnendedLine),
+    (b"thread 1\nfinally", 2, FaultKind::UnendedLine),
+    (b"thread 2\r\n", 1, FaultKind::BadByte),
+    (b"thread\t1\n", 1, FaultKind::BadByte),
+    (b"finally nvals x\n", 1, FaultKind::Section),
+    (b"thread nvals\n", 1, FaultKind::Section),
+    (b"thread v bool 1\n", 1, FaultKind::Section),
+    (b"thread 2\nget x 01\n", 1, FaultKind::Section),
+    (b"get x 01\nthread 2\n", 1, FaultKind::Statement),
+    (b"thread 1\nget x 01\n", 2, FaultKind::Statement),
+    (b"threads 1\n", 1, FaultKind::Statement),
+    (b"Finally\n", 1, FaultKind::Statement),
+    (b"nvals thread\n", 1, FaultKind::UnknownName),
 ];
 
 /// The same of names that do not stand in a section, or stand there already.
-const NAMES: [(&str, u64, FaultKind); 10] = [
+static NAMES: [(&[u8], u64, FaultKind); 10] = [
     (
-        "vector v bool 1\nthread 1\nvector v bool 1\n",
+        b"vector v bool 1\nthread 1\nvector v bool 1\n",
         3,
         FaultKind::NameTaken,
     ),
     (
-        "vector v bool 1\nthread 1\nload v a\n",
+        b"vector v bool 1\nthread 1\nload v a\n",
         3,
         FaultKind::NameTaken,
     ),
     (
-        "thread 1\nvector v bool 1\nvector v bool 1\n",
+        b"thread 1\nvector v bool 1\nvector v bool 1\n",
         3,
         FaultKind::NameTaken,
     ),
     (
-        "vector v bool 1\nfinally\nvector v bool 1\n",
+        b"vector v bool 1\nfinally\nvector v bool 1\n",
         3,
         FaultKind::NameTaken,
     ),
     (
-        "thread 1\nvector v bool 1\nthread 2\nnvals v\n",
+        b"thread 1\nvector v bool 1\nthread 2\nnvals v\n",
         4,
         FaultKind::UnknownName,
     ),
     (
-        "thread 1\nvector v bool 1\nfinally\nnvals v\n",
+        b"thread 1\nvector v bool 1\nfinally\nnvals v\n",
         4,
         FaultKind::UnknownName,
     ),
     (
-        "thread 1\nnvals v\nfinally\nvector v bool 1\n",
+        b"thread 1\nnvals v\nfinally\nvector v bool 1\n",
         2,
         FaultKind::UnknownName,
     ),
     (
-        "thread 1\nvector v bool 1\nthread 2\nmatrix v bool 1 1\nget v 0\n",
+        b"thread 1\nvector v bool 1\nthread 2\nmatrix v bool 1 1\nget v 0\n",
         5,
         FaultKind::WrongKind,
     ),
     (
-        "vector v bool 1\nthread 1\nget v 0 0\n",
+        b"vector v bool 1\nthread 1\nget v 0 0\n",
         3,
         FaultKind::WrongKind,
     ),
-    ("finally\nload P a\nget P 0\n", 3, FaultKind::WrongKind),
+    (b"finally\nload P a\nget P 0\n", 3, FaultKind::WrongKind),
 ];
 
 /// Texts without fault: how many commands main has, how many thread sections there are, and how many commands `finally` has.
-const COUNTS: [(&str, [usize; 3]); 8] = [
-    ("thread 1\n", [0, 1, 0]),
-    ("finally\n", [0, 0, 0]),
-    ("finally\nvector v bool 1\nnvals v\n", [0, 0, 2]),
-    ("vector v bool 1\nthread 1\nthread 2\nfinally\n", [1, 2, 0]),
+static COUNTS: [(&[u8], [usize; 3]); 8] = [
+    (b"thread 1\n", [0, 1, 0]),
+    (b"finally\n", [0, 0, 0]),
+    (b"finally\nvector v bool 1\nnvals v\n", [0, 0, 2]),
+    (b"vector v bool 1\nthread 1\nthread 2\nfinally\n", [1, 2, 0]),
     (
-        "# a\n thread  1 \n# b\n\nvector v bool 1\n\n  thread 2\n# c\n   finally  \n# d\n",
+        b"# a\n thread  1 \n# b\n\nvector v bool 1\n\n  thread 2\n# c\n   finally  \n# d\n",
         [0, 2, 0],
     ),
     (
-        "thread 1\nvector v bool 1\nthread 2\nvector v bool 1\nfinally\nmatrix v bool 1 1\n",
+        b"thread 1\nvector v bool 1\nthread 2\nvector v bool 1\nfinally\nmatrix v bool 1 1\n",
         [0, 2, 1],
     ),
     (
-        "vector thread bool 1\nvector finally bool 1\nthread 1\nnvals finally\n",
+        b"vector thread bool 1\nvector finally bool 1\nthread 1\nnvals finally\n",
         [2, 1, 0],
     ),
-    ("#thread 2\n# finally\nfinally\n#finally\n", [0, 0, 0]),
+    (b"#thread 2\n# finally\nfinally\n#finally\n", [0, 0, 0]),
 ];
 
 /// Names of main, and one name of each section but the third.
@@ -115,7 +121,7 @@ const SCRIPT: &str =
 
 /// The statements `nvals` of that script: the part (0 is main, 4 `finally`), the place in it, the line, and the number and sort of the
 /// name.
-const USES: [(usize, usize, u64, usize, Sort); 5] = [
+static USES: [(usize, usize, u64, usize, Sort); 5] = [
     (1, 1, 6, 2, Sort::Vector),
     (1, 2, 7, 1, Sort::Matrix),
     (2, 1, 12, 2, Sort::Matrix),
@@ -154,10 +160,7 @@ fn threads(alloc: Global, count: u64) -> Result<String, AllocError> {
 
 #[test]
 fn a_section_stands_in_its_order_alone(rt: HostRuntime) -> Result<(), Fail> {
-    for (text, line, kind) in SECTIONS {
-        let fault = first_fault(rt.alloc(), text.as_bytes())?;
-        assert_eq!(rt; fault, Some((line, kind)), "{text}");
-    }
+    expect_faults(&rt, rt.alloc(), &SECTIONS)?;
     Ok(())
 }
 
@@ -165,30 +168,42 @@ fn a_section_stands_in_its_order_alone(rt: HostRuntime) -> Result<(), Fail> {
 fn names_of_main_stand_in_each_section_and_others_in_their_own(
     rt: HostRuntime,
 ) -> Result<(), Fail> {
-    for (text, line, kind) in NAMES {
-        let fault = first_fault(rt.alloc(), text.as_bytes())?;
-        assert_eq!(rt; fault, Some((line, kind)), "{text}");
-    }
+    expect_faults(&rt, rt.alloc(), &NAMES)?;
     Ok(())
 }
 
 #[test]
 fn a_script_has_the_commands_of_each_section(rt: HostRuntime) -> Result<(), Fail> {
-    for (text, expected) in COUNTS {
-        let met = counts(rt.alloc(), text.as_bytes())?;
-        assert_eq!(rt; met, Some(expected), "{text}");
+    for (text, expected) in &COUNTS {
+        expect_counts(&rt, rt.alloc(), *text, *expected)?;
     }
     Ok(())
+}
+
+/// How many commands each part has.
+static LENGTHS: [(usize, usize); 5] = [(0, 2), (1, 3), (2, 2), (3, 0), (4, 4)];
+
+fn expect_lengths(rt: &impl Abort, script: &Script) {
+    for (number, expected) in &LENGTHS {
+        let met = part(script, *number).map(|asked| asked.len());
+        same(rt, met, Some(*expected), *number);
+    }
 }
 
 #[test]
 fn each_part_has_its_commands(rt: HostRuntime) -> Result<(), Fail> {
     let script = read_script(rt.alloc(), SCRIPT.as_bytes())?;
-    for (number, expected) in [(0, 2), (1, 3), (2, 2), (3, 0), (4, 4)] {
-        let met = part(&script, number).map(|asked| asked.len());
-        assert_eq!(rt; met, Some(expected), "part {number}");
-    }
+    expect_lengths(&rt, &script);
     Ok(())
+}
+
+fn expect_uses(rt: &impl Abort, script: &Script) {
+    for (number, place, line, name, sort) in &USES {
+        let met = part(script, *number)
+            .and_then(|asked| asked.get(*place))
+            .and_then(used);
+        same(rt, met, Some((*line, *name, *sort)), *line);
+    }
 }
 
 #[test]
@@ -196,23 +211,23 @@ fn a_name_has_its_number_among_those_of_main_and_of_its_section(
     rt: HostRuntime,
 ) -> Result<(), Fail> {
     let script = read_script(rt.alloc(), SCRIPT.as_bytes())?;
-    for (number, place, line, name, sort) in USES {
-        let met = part(&script, number)
-            .and_then(|asked| asked.get(place))
-            .and_then(used);
-        assert_eq!(rt; met, Some((line, name, sort)), "line {line}");
-    }
+    expect_uses(&rt, &script);
     Ok(())
+}
+
+fn expect_most(rt: &impl Abort, alloc: Global) -> Result<(), AllocError> {
+    let most = threads(alloc, 63)?;
+    expect_counts(rt, alloc, most.as_bytes(), [0, 63, 0])
+}
+
+fn expect_more(rt: &impl Abort, alloc: Global) -> Result<(), AllocError> {
+    let more = threads(alloc, 64)?;
+    expect_fault(rt, alloc, more.as_bytes(), 64, FaultKind::Section)
 }
 
 #[test]
 fn a_script_has_at_most_63_thread_sections(rt: HostRuntime) -> Result<(), Fail> {
-    let most = threads(rt.alloc(), 63)?;
-    assert_eq!(rt; counts(rt.alloc(), most.as_bytes())?, Some([0, 63, 0]));
-    let more = threads(rt.alloc(), 64)?;
-    assert_eq!(rt;
-        first_fault(rt.alloc(), more.as_bytes())?,
-        Some((64, FaultKind::Section))
-    );
+    expect_most(&rt, rt.alloc())?;
+    expect_more(&rt, rt.alloc())?;
     Ok(())
 }

@@ -1,7 +1,9 @@
-use crate::reading::statements_of;
+use crate::reading::{expect_statements, statements_of};
+use crate::same::same;
 use grb_call::{MatrixTuples, VectorTuples};
 use grb_core::{Domain, Monoid, Value};
 use grb_script::{Sort, Statement};
+use std::process::Abort;
 use std::test::Fail;
 
 #[test]
@@ -9,7 +11,6 @@ fn names_are_numbered_in_the_order_of_making(rt: HostRuntime) -> Result<(), Fail
     let text =
         b"vector a bool 1\n  matrix   b_2 uint64 4294967295 7 \nset b_2 7 0 18446744073709551615\n\
         dup c a\nset a 0 false\nset c 0 true\nget b_2 7 0\nfree b_2\nnvals a\n";
-    let statements = statements_of(rt.alloc(), text)?;
     let expected = [
         Statement::Vector {
             domain: Domain::Bool,
@@ -54,15 +55,13 @@ fn names_are_numbered_in_the_order_of_making(rt: HostRuntime) -> Result<(), Fail
             sort: Sort::Vector,
         },
     ];
-    assert_eq!(rt; statements.as_slice(), expected.as_slice());
-    Ok(())
+    expect_statements(&rt, rt.alloc(), text, &expected)
 }
 
 #[test]
 fn each_form_on_a_matrix_is_read(rt: HostRuntime) -> Result<(), Fail> {
     let text = b"matrix A bool 3 4\nset A 1 2 true\nremove A 0 3\nget A 2 1\nresize A 5 6\n\
         build A land 1 0 true 0 1 false\nnvals A\nsize A\nclear A\ndup B A\nfree B\n";
-    let statements = statements_of(rt.alloc(), text)?;
     let tuples = vec![in rt.alloc(); (1, 0, Value::Bool(true)), (0, 1, Value::Bool(false))]?;
     let expected = [
         Statement::Matrix {
@@ -117,15 +116,13 @@ fn each_form_on_a_matrix_is_read(rt: HostRuntime) -> Result<(), Fail> {
             sort: Sort::Matrix,
         },
     ];
-    assert_eq!(rt; statements.as_slice(), expected.as_slice());
-    Ok(())
+    expect_statements(&rt, rt.alloc(), text, &expected)
 }
 
 #[test]
 fn each_form_on_a_vector_is_read(rt: HostRuntime) -> Result<(), Fail> {
     let text = b"vector v uint64 5\nset v 4 9\nremove v 4\nget v 3\nresize v 7\n\
         build v max 2 5 0 true 2 6\nbuild v plus\nnvals v\nsize v\nclear v\nfree v\n";
-    let statements = statements_of(rt.alloc(), text)?;
     let tuples = vec![in rt.alloc();
         (2, Value::Uint64(5)),
         (0, Value::Bool(true)),
@@ -171,31 +168,43 @@ fn each_form_on_a_vector_is_read(rt: HostRuntime) -> Result<(), Fail> {
             sort: Sort::Vector,
         },
     ];
-    assert_eq!(rt; statements.as_slice(), expected.as_slice());
-    Ok(())
+    expect_statements(&rt, rt.alloc(), text, &expected)
+}
+
+const BUILDS: &[u8] = b"vector v bool 1\nbuild v lor\nbuild v land\nbuild v lxor\nbuild v lxnor\n\
+    build v plus\nbuild v times\nbuild v min\nbuild v max\n";
+
+/// The places of its statements that build, and the monoids that they build by.
+static MONOIDS: [(usize, Monoid); 8] = [
+    (1, Monoid::Lor),
+    (2, Monoid::Land),
+    (3, Monoid::Lxor),
+    (4, Monoid::Lxnor),
+    (5, Monoid::Plus),
+    (6, Monoid::Times),
+    (7, Monoid::Min),
+    (8, Monoid::Max),
+];
+
+/// The monoid that a vector is built by.
+fn built_by(statement: &Statement) -> Option<Monoid> {
+    match statement {
+        Statement::BuildVector { dup, .. } => Some(*dup),
+        _ => None,
+    }
+}
+
+fn expect_monoids(rt: &impl Abort, statements: &[Statement]) {
+    same(rt, statements.len(), 9, "the statements");
+    for (place, expected) in &MONOIDS {
+        let met = statements.get(*place).and_then(built_by);
+        same(rt, met, Some(*expected), *place);
+    }
 }
 
 #[test]
 fn each_monoid_is_read_by_its_word(rt: HostRuntime) -> Result<(), Fail> {
-    let text = b"vector v bool 1\nbuild v lor\nbuild v land\nbuild v lxor\nbuild v lxnor\n\
-        build v plus\nbuild v times\nbuild v min\nbuild v max\n";
-    let monoids = [
-        Monoid::Lor,
-        Monoid::Land,
-        Monoid::Lxor,
-        Monoid::Lxnor,
-        Monoid::Plus,
-        Monoid::Times,
-        Monoid::Min,
-        Monoid::Max,
-    ];
-    let statements = statements_of(rt.alloc(), text)?;
-    assert_eq!(rt; statements.len(), 9);
-    for (statement, expected) in statements.iter().skip(1).zip(monoids) {
-        assert!(rt;
-            matches!(statement, Statement::BuildVector { dup, .. } if *dup == expected),
-            "{expected:?}"
-        );
-    }
+    let statements = statements_of(rt.alloc(), BUILDS)?;
+    expect_monoids(&rt, &statements);
     Ok(())
 }

@@ -90,7 +90,7 @@ pub(crate) fn plain_product(rt: &impl Abort, monoid: Monoid, op: BinaryOp) -> Ch
     ensures { result.domain ≡ op_domain op }
 {
     let domain = op.domain();
-    same_domain(rt, monoid.domain(), domain, (monoid, op));
+    same_domain(rt, monoid.domain(), domain);
     Choice {
         domain,
         mask_domain: domain,

@@ -1,18 +1,16 @@
 //! Element-wise operations of drawn objects beside plain tables: at each place the definition in words, with operators of its own.
 ghost use Rattle.std.specs.Prelude.{◌≡◌, ◌<◌};
-ghost use Rattle.grb_core.specs.Contents.{IsDimension};
 ghost use Rattle.grb_core.specs.Operator.{op_domain};
 
 use crate::choices::op_of;
 use crate::options::{
-    Operation, Options, Tables, accum_of, expect_combined_matrix, expect_combined_vector,
+    Operation, Options, accum_of, expect_combined_matrix, expect_combined_vector,
 };
-use crate::tables::{Table, stored};
+use crate::tables::{Table, Tables, put, stored};
 use grb_call::Descriptor;
 use grb_core::{BinaryOp, Domain};
 use std::alloc::{AllocError, Global};
 use std::process::Abort;
-use std::test::Fail;
 
 /// Numbers that look drawn by chance, the same in each run (Knuth's linear congruential generator).
 #[derive(Drop)]
@@ -83,53 +81,26 @@ impl Draw {
         }
     }
 
-    /// A table that stores something at some of its places: at none, at a few, at most or at all of them.
-    pub(crate) fn table(
-        &mut self,
-        alloc: Global,
-        domain: Domain,
-        places: u64,
-    ) -> Result<Table, AllocError> {
+    /// A table that stores something at some of its first places: at none, at a few, at most or at all of them.
+    pub(crate) fn table(&mut self, domain: Domain, places: u64) -> Table {
         let share = self.below(4);
-        let mut table = Vec::new(alloc);
-        for _ in 0..places {
+        let mut table = [None; 25];
+        for at in 0..places {
             let number = self.number(domain);
             if self.below(3) < share {
-                table.push(Some(number))?;
-            } else {
-                table.push(None)?;
+                put(&mut table, at as usize, Some(number));
             }
         }
-        Ok(table)
+        table
     }
 
-    pub(crate) fn two_tables(
-        &mut self,
-        alloc: Global,
-        domains: (Domain, Domain),
-        places: u64,
-    ) -> Result<(Table, Table), AllocError> {
-        let first = self.table(alloc, domains.0, places)?;
-        let second = self.table(alloc, domains.1, places)?;
-        Ok((first, second))
-    }
-
-    fn tables(
-        &mut self,
-        alloc: Global,
-        options: Options,
-        places: u64,
-    ) -> Result<Tables, AllocError> {
-        let domains = (options.domain, options.mask_domain);
-        let (output, mask) = self.two_tables(alloc, domains, places)?;
-        let domains = (options.domain, options.domain);
-        let (first, second) = self.two_tables(alloc, domains, places)?;
-        Ok(Tables {
-            output,
-            mask,
-            first,
-            second,
-        })
+    fn tables(&mut self, options: Options, places: u64) -> Tables {
+        Tables {
+            output: self.table(options.domain, places),
+            mask: self.table(options.mask_domain, places),
+            first: self.table(options.domain, places),
+            second: self.table(options.domain, places),
+        }
     }
 }
 
@@ -199,41 +170,12 @@ fn wanted_at(options: Options, tables: &Tables, at: usize) -> Option<u64> {
 }
 
 /// What the output stores after the operation.
-fn wanted(alloc: Global, options: Options, tables: &Tables) -> Result<Table, AllocError> {
-    let mut wanted = Vec::new(alloc);
-    for at in 0..tables.output.len() {
-        wanted.push(wanted_at(options, tables, at))?;
+fn wanted(options: Options, tables: &Tables) -> Table {
+    let mut wanted = [None; 25];
+    for at in 0..25 {
+        put(&mut wanted, at, wanted_at(options, tables, at));
     }
-    Ok(wanted)
-}
-
-fn expect_wanted_vector(
-    rt: &impl Abort,
-    alloc: Global,
-    options: Options,
-    size: u64,
-    tables: &Tables,
-    case: usize,
-) -> Result<(), AllocError>
-    requires { IsDimension size }
-{
-    let want = wanted(alloc, options, tables)?;
-    expect_combined_vector(rt, alloc, options, size, tables, &want, case)
-}
-
-fn expect_wanted_matrix(
-    rt: &impl Abort,
-    alloc: Global,
-    options: Options,
-    dims: (u64, u64),
-    tables: &Tables,
-    case: usize,
-) -> Result<(), AllocError>
-    requires rows { IsDimension dims.0 }
-    requires columns { IsDimension dims.1 }
-{
-    let want = wanted(alloc, options, tables)?;
-    expect_combined_matrix(rt, alloc, options, dims, tables, &want, case)
+    wanted
 }
 
 /// A drawn operation on drawn vectors of at most 12 places.
@@ -246,8 +188,9 @@ fn try_vectors(
 ) -> Result<(), AllocError> {
     let options = draw.options(operation);
     let size = 1 + draw.below(12);
-    let tables = draw.tables(alloc, options, size)?;
-    expect_wanted_vector(rt, alloc, options, size, &tables, case)
+    let tables = draw.tables(options, size);
+    let want = wanted(options, &tables);
+    expect_combined_vector(rt, alloc, options, size, &tables, &want, case)
 }
 
 /// A drawn operation on drawn matrices of at most 5 rows and columns.
@@ -261,12 +204,13 @@ fn try_matrices(
     let options = draw.options(operation);
     let nrows = 1 + draw.below(5);
     let ncols = 1 + draw.below(5);
-    let tables = draw.tables(alloc, options, nrows * ncols)?;
-    expect_wanted_matrix(rt, alloc, options, (nrows, ncols), &tables, case)
+    let tables = draw.tables(options, nrows * ncols);
+    let want = wanted(options, &tables);
+    expect_combined_matrix(rt, alloc, options, (nrows, ncols), &tables, &want, case)
 }
 
 #[test]
-fn drawn_vectors_are_combined_as_their_tables_are(rt: HostRuntime) -> Result<(), Fail> {
+fn drawn_vectors_are_combined_as_their_tables_are(rt: HostRuntime) -> Result<(), AllocError> {
     let mut draw = Draw { state: 20_261_123 };
     for case in 0..2_500 {
         try_vectors(&rt, rt.alloc(), &mut draw, Operation::Add, case)?;
@@ -276,7 +220,7 @@ fn drawn_vectors_are_combined_as_their_tables_are(rt: HostRuntime) -> Result<(),
 }
 
 #[test]
-fn drawn_matrices_are_combined_as_their_tables_are(rt: HostRuntime) -> Result<(), Fail> {
+fn drawn_matrices_are_combined_as_their_tables_are(rt: HostRuntime) -> Result<(), AllocError> {
     let mut draw = Draw { state: 5_151 };
     for case in 0..2_500 {
         try_matrices(&rt, rt.alloc(), &mut draw, Operation::Add, case)?;

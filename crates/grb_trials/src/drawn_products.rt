@@ -1,11 +1,11 @@
 //! mxv, mxm and the reductions of drawn objects beside plain loops over tables.
 use crate::choices::monoid_of;
 use crate::drawn::Draw;
-use crate::products::{Choice, Dims, Tables, expect_folds, expect_mxm, expect_mxv, expect_totals};
+use crate::products::{Choice, Dims, expect_folds, expect_mxm, expect_mxv, expect_totals};
+use crate::tables::Tables;
 use grb_call::Descriptor;
 use std::alloc::{AllocError, Global};
 use std::process::Abort;
-use std::test::Fail;
 
 /// A drawn product.
 fn drawn_choice(draw: &mut Draw) -> Choice {
@@ -51,23 +51,14 @@ fn narrow(dims: Dims) -> Dims {
     }
 }
 
-fn drawn_tables(
-    draw: &mut Draw,
-    alloc: Global,
-    choice: Choice,
-    dims: Dims,
-) -> Result<Tables, AllocError> {
+fn drawn_tables(draw: &mut Draw, choice: Choice, dims: Dims) -> Tables {
     let (rows, inner, columns) = (dims.rows, dims.inner, dims.columns);
-    let domains = (choice.domain, choice.mask_domain);
-    let (output, mask) = draw.two_tables(alloc, domains, rows.wrapping_mul(columns))?;
-    let first = draw.table(alloc, choice.domain, rows.wrapping_mul(inner))?;
-    let second = draw.table(alloc, choice.domain, inner.wrapping_mul(columns))?;
-    Ok(Tables {
-        output,
-        mask,
-        first,
-        second,
-    })
+    Tables {
+        output: draw.table(choice.domain, rows.wrapping_mul(columns)),
+        mask: draw.table(choice.mask_domain, rows.wrapping_mul(columns)),
+        first: draw.table(choice.domain, rows.wrapping_mul(inner)),
+        second: draw.table(choice.domain, inner.wrapping_mul(columns)),
+    }
 }
 
 fn expect_drawn_mxm(
@@ -78,12 +69,12 @@ fn expect_drawn_mxm(
 ) -> Result<(), AllocError> {
     let choice = drawn_choice(draw);
     let dims = drawn_dims(draw);
-    let tables = drawn_tables(draw, alloc, choice, dims)?;
+    let tables = drawn_tables(draw, choice, dims);
     expect_mxm(rt, alloc, choice, dims, &tables, case)
 }
 
 #[test]
-fn drawn_matrices_are_multiplied_as_their_tables_are(rt: HostRuntime) -> Result<(), Fail> {
+fn drawn_matrices_are_multiplied_as_their_tables_are(rt: HostRuntime) -> Result<(), AllocError> {
     let mut draw = Draw { state: 20_261_123 };
     for case in 0..3_000 {
         expect_drawn_mxm(&rt, rt.alloc(), &mut draw, case)?;
@@ -99,14 +90,14 @@ fn expect_drawn_mxv(
 ) -> Result<(), AllocError> {
     let choice = drawn_choice(draw);
     let dims = narrow(drawn_dims(draw));
-    let tables = drawn_tables(draw, alloc, choice, dims)?;
+    let tables = drawn_tables(draw, choice, dims);
     expect_mxv(rt, alloc, choice, dims, &tables, case)
 }
 
 #[test]
 fn drawn_matrices_and_vectors_are_multiplied_as_their_tables_are(
     rt: HostRuntime,
-) -> Result<(), Fail> {
+) -> Result<(), AllocError> {
     let mut draw = Draw { state: 7_919 };
     for case in 0..3_000 {
         expect_drawn_mxv(&rt, rt.alloc(), &mut draw, case)?;
@@ -122,12 +113,12 @@ fn expect_drawn_folds(
 ) -> Result<(), AllocError> {
     let choice = drawn_choice(draw);
     let dims = narrow(drawn_dims(draw));
-    let tables = drawn_tables(draw, alloc, choice, dims)?;
+    let tables = drawn_tables(draw, choice, dims);
     expect_folds(rt, alloc, choice, dims, &tables, case)
 }
 
 #[test]
-fn drawn_rows_are_folded_as_their_tables_are(rt: HostRuntime) -> Result<(), Fail> {
+fn drawn_rows_are_folded_as_their_tables_are(rt: HostRuntime) -> Result<(), AllocError> {
     let mut draw = Draw { state: 31_337 };
     for case in 0..3_000 {
         expect_drawn_folds(&rt, rt.alloc(), &mut draw, case)?;
@@ -143,12 +134,12 @@ fn expect_drawn_totals(
 ) -> Result<(), AllocError> {
     let choice = drawn_choice(draw);
     let dims = narrow(drawn_dims(draw));
-    let tables = drawn_tables(draw, alloc, choice, dims)?;
+    let tables = drawn_tables(draw, choice, dims);
     expect_totals(rt, alloc, choice, dims, &tables, case)
 }
 
 #[test]
-fn drawn_totals_are_those_of_their_tables(rt: HostRuntime) -> Result<(), Fail> {
+fn drawn_totals_are_those_of_their_tables(rt: HostRuntime) -> Result<(), AllocError> {
     let mut draw = Draw { state: 104_729 };
     for case in 0..3_000 {
         expect_drawn_totals(&rt, rt.alloc(), &mut draw, case)?;

@@ -2,16 +2,15 @@
 ghost use Rattle.std.specs.Prelude.{◌≡◌};
 
 use crate::options::{
-    Operation, Options, combine_matrix_with_itself, combine_vector_with_itself,
-    expect_combined_matrix, expect_combined_vector, tables_of,
+    Operation, Options, combine_matrices, combine_vectors, expect_combined_matrix,
+    expect_combined_vector,
 };
-use crate::tables::{expect_matrix, expect_vector, matrix_of, vector_of};
+use crate::tables::{expect_matrix, expect_vector, matrix_of, tables_of, vector_of};
 use crate::tuples::{expect_matrix_tuples, matrix_of_tuples};
 use grb_call::Descriptor;
 use grb_core::{BinaryOp, Domain};
 use std::alloc::{AllocError, Global};
 use std::process::Abort;
-use std::test::Fail;
 
 const PLAIN: Descriptor = Descriptor {
     structure: false,
@@ -26,7 +25,7 @@ const REPLACE: Descriptor = Descriptor {
 };
 
 /// A place that is outside the mask by value, one that stores nothing, and one that takes part.
-static ONE: [Option<u64>; 4] = [Some(5), None, Some(0), Some(2)];
+const ONE: [Option<u64>; 4] = [Some(5), None, Some(0), Some(2)];
 
 /// 5 - (5 + 5) and 2 - (2 + 2), modulo 2^64.
 static SUMS: [Option<u64>; 4] = [
@@ -78,22 +77,20 @@ fn expect_of_vector(
     want: &[Option<u64>],
 ) -> Result<(), AllocError> {
     let w = vector_of(alloc, options.domain, 4, &ONE)?;
-    let made = combine_vector_with_itself(alloc, options, &w)?;
-    expect_vector(rt, &made, want, 0);
-    expect_vector(rt, &w, &ONE, 1);
+    let made = combine_vectors(alloc, options, &w, &w, &w, &w)?;
+    expect_vector(rt, &made, options.domain, want, 0);
+    expect_vector(rt, &w, options.domain, &ONE, 1);
     Ok(())
 }
 
 #[test]
-fn one_vector_may_be_output_mask_and_both_inputs(rt: HostRuntime) -> Result<(), Fail> {
-    expect_of_vector(&rt, rt.alloc(), taken_away(), &SUMS)?;
-    Ok(())
+fn one_vector_may_be_output_mask_and_both_inputs(rt: HostRuntime) -> Result<(), AllocError> {
+    expect_of_vector(&rt, rt.alloc(), taken_away(), &SUMS)
 }
 
 #[test]
-fn one_vector_may_be_multiplied_with_itself_into_itself(rt: HostRuntime) -> Result<(), Fail> {
-    expect_of_vector(&rt, rt.alloc(), in_its_place(), &PRODUCTS)?;
-    Ok(())
+fn one_vector_may_be_multiplied_with_itself_into_itself(rt: HostRuntime) -> Result<(), AllocError> {
+    expect_of_vector(&rt, rt.alloc(), in_its_place(), &PRODUCTS)
 }
 
 /// An operation on one matrix in all places, which stays as it was.
@@ -104,22 +101,20 @@ fn expect_of_matrix(
     want: &[Option<u64>],
 ) -> Result<(), AllocError> {
     let c = matrix_of(alloc, options.domain, 2, 2, &ONE)?;
-    let made = combine_matrix_with_itself(alloc, options, &c)?;
-    expect_matrix(rt, &made, want, 0);
-    expect_matrix(rt, &c, &ONE, 1);
+    let made = combine_matrices(alloc, options, &c, &c, &c, &c)?;
+    expect_matrix(rt, &made, options.domain, want, 0);
+    expect_matrix(rt, &c, options.domain, &ONE, 1);
     Ok(())
 }
 
 #[test]
-fn one_matrix_may_be_output_mask_and_both_inputs(rt: HostRuntime) -> Result<(), Fail> {
-    expect_of_matrix(&rt, rt.alloc(), taken_away(), &SUMS)?;
-    Ok(())
+fn one_matrix_may_be_output_mask_and_both_inputs(rt: HostRuntime) -> Result<(), AllocError> {
+    expect_of_matrix(&rt, rt.alloc(), taken_away(), &SUMS)
 }
 
 #[test]
-fn one_matrix_may_be_multiplied_with_itself_into_itself(rt: HostRuntime) -> Result<(), Fail> {
-    expect_of_matrix(&rt, rt.alloc(), in_its_place(), &PRODUCTS)?;
-    Ok(())
+fn one_matrix_may_be_multiplied_with_itself_into_itself(rt: HostRuntime) -> Result<(), AllocError> {
+    expect_of_matrix(&rt, rt.alloc(), in_its_place(), &PRODUCTS)
 }
 
 /// An operation by the sum, with no mask and no accumulator.
@@ -136,7 +131,7 @@ fn plain(operation: Operation) -> Options {
     }
 }
 
-static NONE: [Option<u64>; 4] = [None, None, None, None];
+const NONE: [Option<u64>; 4] = [None, None, None, None];
 
 /// What an operation makes of these inputs, of vectors and of matrices of one row.
 fn expect_of(
@@ -147,24 +142,46 @@ fn expect_of(
     second: &[Option<u64>],
     want: &[Option<u64>],
 ) -> Result<(), AllocError> {
-    let tables = tables_of(alloc, &ONE, &NONE, first, second)?;
+    let tables = tables_of(&ONE, &NONE, first, second);
     expect_combined_vector(rt, alloc, options, 4, &tables, want, 0)?;
     expect_combined_matrix(rt, alloc, options, (1, 4), &tables, want, 1)
 }
 
-#[test]
-fn an_input_that_stores_nothing_adds_nothing(rt: HostRuntime) -> Result<(), Fail> {
-    expect_of(&rt, rt.alloc(), plain(Operation::Add), &ONE, &NONE, &ONE)?;
-    expect_of(&rt, rt.alloc(), plain(Operation::Add), &NONE, &ONE, &ONE)?;
-    expect_of(&rt, rt.alloc(), plain(Operation::Add), &NONE, &NONE, &NONE)?;
+/// Two inputs, and what an operation makes of them.
+type Row = (
+    &'static [Option<u64>],
+    &'static [Option<u64>],
+    &'static [Option<u64>],
+);
+
+fn expect_rows(
+    rt: &impl Abort,
+    alloc: Global,
+    operation: Operation,
+    rows: &[Row],
+) -> Result<(), AllocError> {
+    for (first, second, want) in rows {
+        expect_of(rt, alloc, plain(operation), *first, *second, *want)?;
+    }
     Ok(())
 }
 
+static ADDED: [Row; 3] = [
+    (&ONE, &NONE, &ONE),
+    (&NONE, &ONE, &ONE),
+    (&NONE, &NONE, &NONE),
+];
+
 #[test]
-fn an_input_that_stores_nothing_multiplies_to_nothing(rt: HostRuntime) -> Result<(), Fail> {
-    expect_of(&rt, rt.alloc(), plain(Operation::Mult), &ONE, &NONE, &NONE)?;
-    expect_of(&rt, rt.alloc(), plain(Operation::Mult), &NONE, &ONE, &NONE)?;
-    Ok(())
+fn an_input_that_stores_nothing_adds_nothing(rt: HostRuntime) -> Result<(), AllocError> {
+    expect_rows(&rt, rt.alloc(), Operation::Add, &ADDED)
+}
+
+static MULTIPLIED: [Row; 2] = [(&ONE, &NONE, &NONE), (&NONE, &ONE, &NONE)];
+
+#[test]
+fn an_input_that_stores_nothing_multiplies_to_nothing(rt: HostRuntime) -> Result<(), AllocError> {
+    expect_rows(&rt, rt.alloc(), Operation::Mult, &MULTIPLIED)
 }
 
 /// What an operator makes of two numbers, where truth values are 0 and 1.
@@ -189,25 +206,28 @@ fn expect_value(
     expect_of(rt, alloc, options, &[Some(x)], &[Some(y)], &[Some(want)])
 }
 
+/// An operator, two numbers, and what it makes of them.
+static EXAMPLES: [(BinaryOp, (u64, u64, u64)); 13] = [
+    (BinaryOp::Plus, (9, 2, 11)),
+    (BinaryOp::Times, (9, 2, 18)),
+    (BinaryOp::Min, (9, 2, 2)),
+    (BinaryOp::Max, (9, 2, 9)),
+    (BinaryOp::Minus, (9, 2, 7)),
+    (BinaryOp::First, (9, 2, 9)),
+    (BinaryOp::Second, (9, 2, 2)),
+    (BinaryOp::Lor, (1, 0, 1)),
+    (BinaryOp::Land, (1, 0, 0)),
+    (BinaryOp::Lxor, (1, 0, 1)),
+    (BinaryOp::Lxnor, (1, 0, 0)),
+    (BinaryOp::FirstBool, (1, 0, 1)),
+    (BinaryOp::SecondBool, (1, 0, 0)),
+];
+
 #[test]
-fn each_operator_combines_in_its_order(rt: HostRuntime) -> Result<(), Fail> {
-    for (op, example) in [
-        (BinaryOp::Plus, (9, 2, 11)),
-        (BinaryOp::Times, (9, 2, 18)),
-        (BinaryOp::Min, (9, 2, 2)),
-        (BinaryOp::Max, (9, 2, 9)),
-        (BinaryOp::Minus, (9, 2, 7)),
-        (BinaryOp::First, (9, 2, 9)),
-        (BinaryOp::Second, (9, 2, 2)),
-        (BinaryOp::Lor, (1, 0, 1)),
-        (BinaryOp::Land, (1, 0, 0)),
-        (BinaryOp::Lxor, (1, 0, 1)),
-        (BinaryOp::Lxnor, (1, 0, 0)),
-        (BinaryOp::FirstBool, (1, 0, 1)),
-        (BinaryOp::SecondBool, (1, 0, 0)),
-    ] {
-        expect_value(&rt, rt.alloc(), op, Operation::Add, example)?;
-        expect_value(&rt, rt.alloc(), op, Operation::Mult, example)?;
+fn each_operator_combines_in_its_order(rt: HostRuntime) -> Result<(), AllocError> {
+    for (op, example) in &EXAMPLES {
+        expect_value(&rt, rt.alloc(), *op, Operation::Add, *example)?;
+        expect_value(&rt, rt.alloc(), *op, Operation::Mult, *example)?;
     }
     Ok(())
 }
@@ -236,10 +256,10 @@ fn added_to_itself() -> Options
 }
 
 #[test]
-fn the_last_row_and_column_take_part(rt: HostRuntime) -> Result<(), Fail> {
+fn the_last_row_and_column_take_part(rt: HostRuntime) -> Result<(), AllocError> {
     let size = 4_294_967_295;
     let a = matrix_of_tuples(rt.alloc(), Domain::Uint64, size, size, &AT_THE_LAST)?;
-    let sum = combine_matrix_with_itself(rt.alloc(), added_to_itself(), &a)?;
+    let sum = combine_matrices(rt.alloc(), added_to_itself(), &a, &a, &a, &a)?;
     expect_matrix_tuples(&rt, &sum, Domain::Uint64, &TWICE, 0);
     Ok(())
 }

@@ -1,19 +1,16 @@
 //! mxm of one matrix in every place, of the largest dimensions, modulo 2^64, and after a refused allocation.
 ghost use Rattle.std.specs.Prelude.{◌≡◌, true, IfOk};
-ghost use Rattle.grb_core.specs.declared.domain.Domain.TheVariants as domains;
 
 use crate::choices::plain_product;
-use crate::products::{Choice, multiplied};
+use crate::products::{Choice, Dims, expect_product, expect_total_of_matrix, multiplied};
 use crate::same::same;
-use crate::tables::{expect_matrix, matrix_of};
+use crate::tables::{expect_matrix, matrix_of, tables_of};
 use crate::tuples::{expect_matrix_tuples, matrix_of_tuples};
 use grb_call::Descriptor;
-use grb_core::{BinaryOp, Domain, Monoid, Value};
-use grb_products::reduce_matrix;
+use grb_core::{BinaryOp, Domain, Monoid};
 use grb_sparse::SparseMatrix;
 use std::alloc::{AllocError, Global};
 use std::process::Abort;
-use std::test::Fail;
 
 /// Sums of products of numbers, with a mask, and added to the output but where it is replaced.
 pub(crate) fn added_up(structure: bool, replace: bool) -> Choice
@@ -35,37 +32,7 @@ pub(crate) fn added_up(structure: bool, replace: bool) -> Choice
     }
 }
 
-/// A matrix of numbers of two rows and columns.
-#[derive(Drop)]
-pub(crate) struct Square {
-    pub(crate) held: SparseMatrix,
-    ghost of_numbers: { held.matrix.domain ≡ domains.Uint64 },
-    ghost rows: { held.matrix.nrows ≡ 2 },
-    ghost columns: { held.matrix.ncols ≡ 2 },
-    ghost assembled: { held.assembled ≡ true },
-}
-
-/// The matrix of four numbers. Where memory is refused it is made once more.
-pub(crate) fn square_of(alloc: Global, table: &[Option<u64>]) -> Result<Square, AllocError> {
-    if let Ok(held) = matrix_of(alloc, Domain::Uint64, 2, 2, table) {
-        return Ok(Square { held });
-    }
-    let held = matrix_of(alloc, Domain::Uint64, 2, 2, table)?;
-    Ok(Square { held })
-}
-
 /// One matrix as output, mask and both inputs, with an accumulator.
-fn product_with_itself(
-    rt: &impl Abort,
-    alloc: Global,
-    a: &Square,
-    structure: bool,
-) -> Result<SparseMatrix, AllocError> {
-    let choice = added_up(structure, false);
-    let a = &a.held;
-    multiplied(rt, alloc, choice, a, a, a, a)
-}
-
 fn expect_alias(
     rt: &impl Abort,
     alloc: Global,
@@ -73,26 +40,45 @@ fn expect_alias(
     want: &[Option<u64>],
     structure: bool,
 ) -> Result<(), AllocError> {
-    let a = square_of(alloc, table)?;
-    let made = product_with_itself(rt, alloc, &a, structure)?;
-    expect_matrix(rt, &made, want, 0);
+    let a = matrix_of(alloc, Domain::Uint64, 2, 2, table)?;
+    let choice = added_up(structure, false);
+    let made = multiplied(rt, alloc, choice, &a, &a, &a, &a)?;
+    expect_matrix(rt, &made, Domain::Uint64, want, 0);
     same(rt, made.domain(), Domain::Uint64, "the product");
     Ok(())
 }
 
-#[test]
-fn one_matrix_is_output_mask_and_both_inputs(rt: HostRuntime) -> Result<(), Fail> {
+/// A matrix, what it stores after the call, and whether the mask is read by its structure.
+static ALIASES: [(&[Option<u64>], &[Option<u64>], bool); 4] = [
     // The square of (1, 2; 0, 3) is (1, 8; 0, 9).
-    let a = [Some(1), Some(2), Some(0), Some(3)];
-    let by_structure = [Some(2), Some(10), Some(0), Some(12)];
-    expect_alias(&rt, rt.alloc(), &a, &by_structure, true)?;
-    expect_alias(&rt, rt.alloc(), &a, &by_structure, false)?;
-    let with_a_gap = [Some(1), Some(2), None, Some(3)];
-    let of_a_gap = [Some(2), Some(10), None, Some(12)];
-    expect_alias(&rt, rt.alloc(), &with_a_gap, &of_a_gap, false)?;
+    (
+        &[Some(1), Some(2), Some(0), Some(3)],
+        &[Some(2), Some(10), Some(0), Some(12)],
+        true,
+    ),
+    (
+        &[Some(1), Some(2), Some(0), Some(3)],
+        &[Some(2), Some(10), Some(0), Some(12)],
+        false,
+    ),
+    (
+        &[Some(1), Some(2), None, Some(3)],
+        &[Some(2), Some(10), None, Some(12)],
+        false,
+    ),
     // That of (-, 2; 5, -) has entries at (0, 0) and (1, 1) alone, which the mask does not select.
-    let apart = [None, Some(2), Some(5), None];
-    expect_alias(&rt, rt.alloc(), &apart, &apart, true)?;
+    (
+        &[None, Some(2), Some(5), None],
+        &[None, Some(2), Some(5), None],
+        true,
+    ),
+];
+
+#[test]
+fn one_matrix_is_output_mask_and_both_inputs(rt: HostRuntime) -> Result<(), AllocError> {
+    for (table, want, structure) in &ALIASES {
+        expect_alias(&rt, rt.alloc(), *table, *want, *structure)?;
+    }
     Ok(())
 }
 
@@ -125,7 +111,7 @@ fn last_product(
 }
 
 #[test]
-fn the_last_row_and_column_are_multiplied_with_a_mask(rt: HostRuntime) -> Result<(), Fail> {
+fn the_last_row_and_column_are_multiplied_with_a_mask(rt: HostRuntime) -> Result<(), AllocError> {
     let a = large(rt.alloc(), &[(0, LAST, 2), (LAST, 0, 3)])?;
     let made = last_product(&rt, rt.alloc(), &a)?;
     expect_matrix_tuples(&rt, &made, Domain::Uint64, &[(LAST, LAST, 6)], 0);
@@ -135,44 +121,23 @@ fn the_last_row_and_column_are_multiplied_with_a_mask(rt: HostRuntime) -> Result
 /// 2^63.
 const HALF: u64 = 9_223_372_036_854_775_808;
 
-/// The row (2^63, 2^63) multiplied with the column (1, 3).
-fn product_of_halves(
-    rt: &impl Abort,
-    alloc: Global,
-    a: &SparseMatrix,
-) -> Result<SparseMatrix, AllocError>
-    requires domain { a.now.matrix.domain ≡ Domain.Uint64 }
-    requires rows { a.now.matrix.nrows ≡ 1 }
-    requires columns { a.now.matrix.ncols ≡ 2 }
-    requires assembled { a.now.assembled ≡ true }
-{
-    let none = SparseMatrix::new(alloc, Domain::Uint64, 1, 1);
-    let b = matrix_of(alloc, Domain::Uint64, 2, 1, &[Some(1), Some(3)])?;
-    let choice = plain_product(rt, Monoid::Plus, BinaryOp::Times);
-    multiplied(rt, alloc, choice, &none, &none, a, &b)
-}
+static HALVES: [Option<u64>; 2] = [Some(HALF), Some(HALF)];
 
-fn expect_nothing_left(rt: &impl Abort, a: &SparseMatrix)
-    requires domain { a.now.matrix.domain ≡ Domain.Uint64 }
-    requires assembled { a.now.assembled ≡ true }
-{
-    same(
-        rt,
-        reduce_matrix(a, Monoid::Plus),
-        Value::Uint64(0),
-        "the total",
-    );
-}
+static TIMES: [Option<u64>; 2] = [Some(1), Some(3)];
 
-/// What a sum of two products makes that passes 2^64: both wrap around.
+/// What a sum of two products makes that passes 2^64: both wrap around. So does the sum of 2^63 and 2^63.
 #[test]
-fn sums_and_products_wrap_around(rt: HostRuntime) -> Result<(), Fail> {
-    let a = matrix_of(rt.alloc(), Domain::Uint64, 1, 2, &[Some(HALF), Some(HALF)])?;
-    expect_nothing_left(&rt, &a);
-    // 2^63 + 3 * 2^63 is 2 * 2^64.
-    let made = product_of_halves(&rt, rt.alloc(), &a)?;
-    expect_matrix(&rt, &made, &[Some(0)], 0);
-    Ok(())
+fn sums_and_products_wrap_around(rt: HostRuntime) -> Result<(), AllocError> {
+    let dims = Dims {
+        rows: 1,
+        inner: 2,
+        columns: 1,
+    };
+    let choice = plain_product(&rt, Monoid::Plus, BinaryOp::Times);
+    expect_total_of_matrix(&rt, rt.alloc(), choice, dims, &HALVES, 0, 0)?;
+    // The row (2^63, 2^63) multiplied with the column (1, 3): 2^63 + 3 * 2^63 is 2 * 2^64.
+    let tables = tables_of(&[], &[], &HALVES, &TIMES);
+    expect_product(&rt, rt.alloc(), choice, dims, &tables, &[Some(0)], 0)
 }
 
 static OUTPUT: [Option<u64>; 4] = [Some(30), Some(40), Some(50), None];
@@ -183,75 +148,17 @@ static FIRST: [Option<u64>; 4] = [Some(2), Some(3), None, Some(5)];
 
 static SECOND: [Option<u64>; 4] = [Some(7), None, Some(11), Some(13)];
 
-/// The output, the mask and both inputs.
-#[derive(Drop)]
-struct Squares {
-    output: Square,
-    mask: Square,
-    first: Square,
-    second: Square,
-}
-
-fn two_squares(
-    alloc: Global,
-    first: &[Option<u64>],
-    second: &[Option<u64>],
-) -> Result<(Square, Square), AllocError> {
-    let one = square_of(alloc, first)?;
-    let other = square_of(alloc, second)?;
-    Ok((one, other))
-}
-
-fn four_squares(alloc: Global) -> Result<Squares, AllocError> {
-    let (output, mask) = two_squares(alloc, &OUTPUT, &MASK)?;
-    let (first, second) = two_squares(alloc, &FIRST, &SECOND)?;
-    Ok(Squares {
-        output,
-        mask,
-        first,
-        second,
-    })
-}
-
-fn expect_same(rt: &impl Abort, squares: &Squares) {
-    expect_matrix(rt, &squares.output.held, &OUTPUT, 0);
-    expect_matrix(rt, &squares.mask.held, &MASK, 1);
-    expect_matrix(rt, &squares.first.held, &FIRST, 2);
-    expect_matrix(rt, &squares.second.held, &SECOND, 3);
-}
-
-fn product_of(
-    rt: &impl Abort,
-    alloc: Global,
-    squares: &Squares,
-) -> Result<SparseMatrix, AllocError> {
-    let output = &squares.output.held;
-    let mask = &squares.mask.held;
-    let (a, b) = (&squares.first.held, &squares.second.held);
-    multiplied(rt, alloc, added_up(false, false), output, mask, a, b)
-}
-
-/// Makes the product. Where memory is refused nothing has changed, and it is made once more.
-fn product_after_a_refusal(
-    rt: &impl Abort,
-    alloc: Global,
-    squares: &Squares,
-) -> Result<SparseMatrix, AllocError> {
-    match product_of(rt, alloc, squares) {
-        Ok(made) => Ok(made),
-        Err(_) => {
-            expect_same(rt, squares);
-            product_of(rt, alloc, squares)
-        }
-    }
-}
+/// The product is (47, 39; 55, 65), and the mask selects (0, 0) and (1, 1).
+static WANTED: [Option<u64>; 4] = [Some(77), Some(40), Some(50), Some(65)];
 
 #[test]
-fn a_refused_product_changes_nothing(rt: HostRuntime) -> Result<(), Fail> {
-    let squares = four_squares(rt.alloc())?;
-    let made = product_after_a_refusal(&rt, rt.alloc(), &squares)?;
-    // The product is (47, 39; 55, 65), and the mask selects (0, 0) and (1, 1).
-    expect_matrix(&rt, &made, &[Some(77), Some(40), Some(50), Some(65)], 4);
-    expect_same(&rt, &squares);
-    Ok(())
+fn a_refused_product_changes_nothing(rt: HostRuntime) -> Result<(), AllocError> {
+    let tables = tables_of(&OUTPUT, &MASK, &FIRST, &SECOND);
+    let dims = Dims {
+        rows: 2,
+        inner: 2,
+        columns: 2,
+    };
+    let choice = added_up(false, false);
+    expect_product(&rt, rt.alloc(), choice, dims, &tables, &WANTED, 0)
 }

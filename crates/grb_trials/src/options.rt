@@ -4,7 +4,7 @@ ghost use Rattle.grb_core.specs.Contents.{IsDimension};
 ghost use Rattle.grb_core.specs.Operator.{op_domain};
 ghost use Rattle.grb_core.specs.Written.{AccumulatesIn};
 
-use crate::tables::{Table, expect_matrix, expect_vector, matrix_of, vector_of};
+use crate::tables::{Tables, expect_matrix, expect_vector, matrix_of, vector_of};
 use grb_call::Descriptor;
 use grb_core::{BinaryOp, Domain};
 use grb_ops::{ewise_add_matrix, ewise_add_vector, ewise_mult_matrix, ewise_mult_vector};
@@ -47,61 +47,6 @@ pub(crate) fn accum_of(options: Options) -> Option<BinaryOp>
     None
 }
 
-/// What the output, the mask and both inputs store.
-#[derive(Drop)]
-pub(crate) struct Tables {
-    pub(crate) output: Table,
-    pub(crate) mask: Table,
-    pub(crate) first: Table,
-    pub(crate) second: Table,
-}
-
-fn two_tables(
-    alloc: Global,
-    first: &[Option<u64>],
-    second: &[Option<u64>],
-) -> Result<(Table, Table), AllocError> {
-    let one = Vec::from_slice(alloc, first)?;
-    let other = Vec::from_slice(alloc, second)?;
-    Ok((one, other))
-}
-
-/// Copies of four tables.
-pub(crate) fn tables_of(
-    alloc: Global,
-    output: &[Option<u64>],
-    mask: &[Option<u64>],
-    first: &[Option<u64>],
-    second: &[Option<u64>],
-) -> Result<Tables, AllocError> {
-    let (output, mask) = two_tables(alloc, output, mask)?;
-    let (first, second) = two_tables(alloc, first, second)?;
-    Ok(Tables {
-        output,
-        mask,
-        first,
-        second,
-    })
-}
-
-/// The output, the mask and both inputs of an operation on vectors.
-#[derive(Drop)]
-pub(crate) struct Vectors {
-    pub(crate) output: SparseVector,
-    pub(crate) mask: SparseVector,
-    pub(crate) first: SparseVector,
-    pub(crate) second: SparseVector,
-    ghost output_assembled: { output.assembled ≡ true },
-    ghost mask_assembled: { mask.assembled ≡ true },
-    ghost first_assembled: { first.assembled ≡ true },
-    ghost second_assembled: { second.assembled ≡ true },
-    ghost first_domain: { first.vector.domain ≡ output.vector.domain },
-    ghost second_domain: { second.vector.domain ≡ output.vector.domain },
-    ghost mask_size: { mask.vector.size ≡ output.vector.size },
-    ghost first_size: { first.vector.size ≡ output.vector.size },
-    ghost second_size: { second.vector.size ≡ output.vector.size },
-}
-
 /// The vectors that two tables stand for.
 fn two_vectors(
     alloc: Global,
@@ -123,43 +68,27 @@ fn two_vectors(
     Ok((one, other))
 }
 
-/// The vectors that four tables stand for.
-pub(crate) fn vectors_of(
-    alloc: Global,
-    options: Options,
-    size: u64,
-    tables: &Tables,
-) -> Result<Vectors, AllocError>
-    requires { IsDimension size }
-    ensures { IfOk result (λ made. made.output.vector.domain ≡ options.domain) }
-{
-    let domains = (options.domain, options.mask_domain);
-    let (output, mask) = two_vectors(alloc, domains, size, &tables.output, &tables.mask)?;
-    let domains = (options.domain, options.domain);
-    let (first, second) = two_vectors(alloc, domains, size, &tables.first, &tables.second)?;
-    Ok(Vectors {
-        output,
-        mask,
-        first,
-        second,
-    })
-}
-
-/// Calls an operation on vectors.
+/// Calls an operation on these vectors.
 pub(crate) fn combine_vectors(
     alloc: Global,
     options: Options,
-    vectors: &Vectors,
+    output: &SparseVector,
+    mask: &SparseVector,
+    u: &SparseVector,
+    v: &SparseVector,
 ) -> Result<SparseVector, AllocError>
-    requires { vectors.now.output.vector.domain ≡ options.domain }
+    requires domain { output.now.vector.domain ≡ options.domain }
+    requires assembled { output.now.assembled ≡ true }
+    requires mask_size { mask.now.vector.size ≡ output.now.vector.size }
+    requires mask_assembled { mask.now.assembled ≡ true }
+    requires u_domain { u.now.vector.domain ≡ options.domain }
+    requires u_size { u.now.vector.size ≡ output.now.vector.size }
+    requires u_assembled { u.now.assembled ≡ true }
+    requires v_domain { v.now.vector.domain ≡ options.domain }
+    requires v_size { v.now.vector.size ≡ output.now.vector.size }
+    requires v_assembled { v.now.assembled ≡ true }
 {
-    let mask = if options.masked {
-        Some(&vectors.mask)
-    } else {
-        None
-    };
-    let output = &vectors.output;
-    let (u, v) = (&vectors.first, &vectors.second);
+    let mask = if options.masked { Some(mask) } else { None };
     let accum = accum_of(options);
     let (op, descriptor) = (options.op, options.descriptor);
     match options.operation {
@@ -168,39 +97,61 @@ pub(crate) fn combine_vectors(
     }
 }
 
-/// Calls an operation on one vector as output, mask and both inputs.
-pub(crate) fn combine_vector_with_itself(
-    alloc: Global,
+/// The vectors are those of the tables.
+fn expect_vectors(
+    rt: &impl Abort,
     options: Options,
-    w: &SparseVector,
-) -> Result<SparseVector, AllocError>
-    requires domain { w.now.vector.domain ≡ options.domain }
-    requires assembled { w.now.assembled ≡ true }
-{
-    let (mask, accum) = (Some(w), accum_of(options));
-    let (op, descriptor) = (options.op, options.descriptor);
-    match options.operation {
-        Operation::Add => ewise_add_vector(alloc, w, mask, accum, op, w, w, descriptor),
-        Operation::Mult => ewise_mult_vector(alloc, w, mask, accum, op, w, w, descriptor),
-    }
+    tables: &Tables,
+    output: &SparseVector,
+    mask: &SparseVector,
+    u: &SparseVector,
+    v: &SparseVector,
+    case: usize,
+) {
+    let (domain, mask_domain) = (options.domain, options.mask_domain);
+    expect_vector(rt, output, domain, &tables.output, case);
+    expect_vector(rt, mask, mask_domain, &tables.mask, case);
+    expect_vector(rt, u, domain, &tables.first, case);
+    expect_vector(rt, v, domain, &tables.second, case);
 }
 
 fn expect_made_vector(
     rt: &impl Abort,
     alloc: Global,
     options: Options,
-    vectors: &Vectors,
+    tables: &Tables,
+    output: &SparseVector,
+    mask: &SparseVector,
+    u: &SparseVector,
+    v: &SparseVector,
     want: &[Option<u64>],
     case: usize,
 ) -> Result<(), AllocError>
-    requires { vectors.now.output.vector.domain ≡ options.domain }
+    requires domain { output.now.vector.domain ≡ options.domain }
+    requires assembled { output.now.assembled ≡ true }
+    requires mask_size { mask.now.vector.size ≡ output.now.vector.size }
+    requires mask_assembled { mask.now.assembled ≡ true }
+    requires u_domain { u.now.vector.domain ≡ options.domain }
+    requires u_size { u.now.vector.size ≡ output.now.vector.size }
+    requires u_assembled { u.now.assembled ≡ true }
+    requires v_domain { v.now.vector.domain ≡ options.domain }
+    requires v_size { v.now.vector.size ≡ output.now.vector.size }
+    requires v_assembled { v.now.assembled ≡ true }
 {
-    let made = combine_vectors(alloc, options, vectors)?;
-    expect_vector(rt, &made, want, case);
+    match combine_vectors(alloc, options, output, mask, u, v) {
+        Ok(made) => expect_vector(rt, &made, options.domain, want, case),
+        Err(_) => {
+            expect_vectors(rt, options, tables, output, mask, u, v, case);
+            let made = combine_vectors(alloc, options, output, mask, u, v)?;
+            expect_vector(rt, &made, options.domain, want, case);
+        }
+    }
+    expect_vectors(rt, options, tables, output, mask, u, v, case);
     Ok(())
 }
 
-/// An operation on the vectors of four tables stores what the table `want` does.
+/// An operation on the vectors of four tables stores what the table `want` does, and changes none of them. Where memory is refused nothing
+/// has changed, and it is made once more.
 pub(crate) fn expect_combined_vector(
     rt: &impl Abort,
     alloc: Global,
@@ -212,29 +163,13 @@ pub(crate) fn expect_combined_vector(
 ) -> Result<(), AllocError>
     requires { IsDimension size }
 {
-    let vectors = vectors_of(alloc, options, size, tables)?;
-    expect_made_vector(rt, alloc, options, &vectors, want, case)
-}
-
-/// The output, the mask and both inputs of an operation on matrices.
-#[derive(Drop)]
-pub(crate) struct Matrices {
-    pub(crate) output: SparseMatrix,
-    pub(crate) mask: SparseMatrix,
-    pub(crate) first: SparseMatrix,
-    pub(crate) second: SparseMatrix,
-    ghost output_assembled: { output.assembled ≡ true },
-    ghost mask_assembled: { mask.assembled ≡ true },
-    ghost first_assembled: { first.assembled ≡ true },
-    ghost second_assembled: { second.assembled ≡ true },
-    ghost first_domain: { first.matrix.domain ≡ output.matrix.domain },
-    ghost second_domain: { second.matrix.domain ≡ output.matrix.domain },
-    ghost mask_rows: { mask.matrix.nrows ≡ output.matrix.nrows },
-    ghost first_rows: { first.matrix.nrows ≡ output.matrix.nrows },
-    ghost second_rows: { second.matrix.nrows ≡ output.matrix.nrows },
-    ghost mask_columns: { mask.matrix.ncols ≡ output.matrix.ncols },
-    ghost first_columns: { first.matrix.ncols ≡ output.matrix.ncols },
-    ghost second_columns: { second.matrix.ncols ≡ output.matrix.ncols },
+    let domains = (options.domain, options.mask_domain);
+    let (output, mask) = two_vectors(alloc, domains, size, &tables.output, &tables.mask)?;
+    let domains = (options.domain, options.domain);
+    let (u, v) = two_vectors(alloc, domains, size, &tables.first, &tables.second)?;
+    expect_made_vector(
+        rt, alloc, options, tables, &output, &mask, &u, &v, want, case,
+    )
 }
 
 /// The matrices that two tables stand for.
@@ -262,52 +197,30 @@ fn two_matrices(
     Ok((one, other))
 }
 
-/// The matrices that four tables stand for.
-pub(crate) fn matrices_of(
-    alloc: Global,
-    options: Options,
-    nrows: u64,
-    ncols: u64,
-    tables: &Tables,
-) -> Result<Matrices, AllocError>
-    requires rows { IsDimension nrows }
-    requires columns { IsDimension ncols }
-    ensures { IfOk result (λ made. made.output.matrix.domain ≡ options.domain) }
-{
-    let domains = (options.domain, options.mask_domain);
-    let (output, mask) = two_matrices(alloc, domains, nrows, ncols, &tables.output, &tables.mask)?;
-    let domains = (options.domain, options.domain);
-    let (first, second) = two_matrices(
-        alloc,
-        domains,
-        nrows,
-        ncols,
-        &tables.first,
-        &tables.second,
-    )?;
-    Ok(Matrices {
-        output,
-        mask,
-        first,
-        second,
-    })
-}
-
-/// Calls an operation on matrices.
+/// Calls an operation on these matrices.
 pub(crate) fn combine_matrices(
     alloc: Global,
     options: Options,
-    matrices: &Matrices,
+    output: &SparseMatrix,
+    mask: &SparseMatrix,
+    a: &SparseMatrix,
+    b: &SparseMatrix,
 ) -> Result<SparseMatrix, AllocError>
-    requires { matrices.now.output.matrix.domain ≡ options.domain }
+    requires domain { output.now.matrix.domain ≡ options.domain }
+    requires assembled { output.now.assembled ≡ true }
+    requires mask_rows { mask.now.matrix.nrows ≡ output.now.matrix.nrows }
+    requires mask_columns { mask.now.matrix.ncols ≡ output.now.matrix.ncols }
+    requires mask_assembled { mask.now.assembled ≡ true }
+    requires a_domain { a.now.matrix.domain ≡ options.domain }
+    requires a_rows { a.now.matrix.nrows ≡ output.now.matrix.nrows }
+    requires a_columns { a.now.matrix.ncols ≡ output.now.matrix.ncols }
+    requires a_assembled { a.now.assembled ≡ true }
+    requires b_domain { b.now.matrix.domain ≡ options.domain }
+    requires b_rows { b.now.matrix.nrows ≡ output.now.matrix.nrows }
+    requires b_columns { b.now.matrix.ncols ≡ output.now.matrix.ncols }
+    requires b_assembled { b.now.assembled ≡ true }
 {
-    let mask = if options.masked {
-        Some(&matrices.mask)
-    } else {
-        None
-    };
-    let output = &matrices.output;
-    let (a, b) = (&matrices.first, &matrices.second);
+    let mask = if options.masked { Some(mask) } else { None };
     let accum = accum_of(options);
     let (op, descriptor) = (options.op, options.descriptor);
     match options.operation {
@@ -316,39 +229,64 @@ pub(crate) fn combine_matrices(
     }
 }
 
-/// Calls an operation on one matrix as output, mask and both inputs.
-pub(crate) fn combine_matrix_with_itself(
-    alloc: Global,
+/// The matrices are those of the tables.
+fn expect_matrices(
+    rt: &impl Abort,
     options: Options,
-    c: &SparseMatrix,
-) -> Result<SparseMatrix, AllocError>
-    requires domain { c.now.matrix.domain ≡ options.domain }
-    requires assembled { c.now.assembled ≡ true }
-{
-    let (mask, accum) = (Some(c), accum_of(options));
-    let (op, descriptor) = (options.op, options.descriptor);
-    match options.operation {
-        Operation::Add => ewise_add_matrix(alloc, c, mask, accum, op, c, c, descriptor),
-        Operation::Mult => ewise_mult_matrix(alloc, c, mask, accum, op, c, c, descriptor),
-    }
+    tables: &Tables,
+    output: &SparseMatrix,
+    mask: &SparseMatrix,
+    a: &SparseMatrix,
+    b: &SparseMatrix,
+    case: usize,
+) {
+    let (domain, mask_domain) = (options.domain, options.mask_domain);
+    expect_matrix(rt, output, domain, &tables.output, case);
+    expect_matrix(rt, mask, mask_domain, &tables.mask, case);
+    expect_matrix(rt, a, domain, &tables.first, case);
+    expect_matrix(rt, b, domain, &tables.second, case);
 }
 
 fn expect_made_matrix(
     rt: &impl Abort,
     alloc: Global,
     options: Options,
-    matrices: &Matrices,
+    tables: &Tables,
+    output: &SparseMatrix,
+    mask: &SparseMatrix,
+    a: &SparseMatrix,
+    b: &SparseMatrix,
     want: &[Option<u64>],
     case: usize,
 ) -> Result<(), AllocError>
-    requires { matrices.now.output.matrix.domain ≡ options.domain }
+    requires domain { output.now.matrix.domain ≡ options.domain }
+    requires assembled { output.now.assembled ≡ true }
+    requires mask_rows { mask.now.matrix.nrows ≡ output.now.matrix.nrows }
+    requires mask_columns { mask.now.matrix.ncols ≡ output.now.matrix.ncols }
+    requires mask_assembled { mask.now.assembled ≡ true }
+    requires a_domain { a.now.matrix.domain ≡ options.domain }
+    requires a_rows { a.now.matrix.nrows ≡ output.now.matrix.nrows }
+    requires a_columns { a.now.matrix.ncols ≡ output.now.matrix.ncols }
+    requires a_assembled { a.now.assembled ≡ true }
+    requires b_domain { b.now.matrix.domain ≡ options.domain }
+    requires b_rows { b.now.matrix.nrows ≡ output.now.matrix.nrows }
+    requires b_columns { b.now.matrix.ncols ≡ output.now.matrix.ncols }
+    requires b_assembled { b.now.assembled ≡ true }
 {
-    let made = combine_matrices(alloc, options, matrices)?;
-    expect_matrix(rt, &made, want, case);
+    match combine_matrices(alloc, options, output, mask, a, b) {
+        Ok(made) => expect_matrix(rt, &made, options.domain, want, case),
+        Err(_) => {
+            expect_matrices(rt, options, tables, output, mask, a, b, case);
+            let made = combine_matrices(alloc, options, output, mask, a, b)?;
+            expect_matrix(rt, &made, options.domain, want, case);
+        }
+    }
+    expect_matrices(rt, options, tables, output, mask, a, b, case);
     Ok(())
 }
 
-/// An operation on the matrices of four tables stores what the table `want` does.
+/// An operation on the matrices of four tables stores what the table `want` does, and changes none of them. Where memory is refused nothing
+/// has changed, and it is made once more.
 pub(crate) fn expect_combined_matrix(
     rt: &impl Abort,
     alloc: Global,
@@ -361,6 +299,12 @@ pub(crate) fn expect_combined_matrix(
     requires rows { IsDimension dims.0 }
     requires columns { IsDimension dims.1 }
 {
-    let matrices = matrices_of(alloc, options, dims.0, dims.1, tables)?;
-    expect_made_matrix(rt, alloc, options, &matrices, want, case)
+    let (nrows, ncols) = dims;
+    let domains = (options.domain, options.mask_domain);
+    let (output, mask) = two_matrices(alloc, domains, nrows, ncols, &tables.output, &tables.mask)?;
+    let domains = (options.domain, options.domain);
+    let (a, b) = two_matrices(alloc, domains, nrows, ncols, &tables.first, &tables.second)?;
+    expect_made_matrix(
+        rt, alloc, options, tables, &output, &mask, &a, &b, want, case,
+    )
 }

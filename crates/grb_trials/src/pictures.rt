@@ -3,13 +3,12 @@
 //! output alone, the third of the result alone, and the fourth of both.
 ghost use Rattle.std.specs.Prelude.{◌<◌};
 
-use crate::options::{Operation, Options, Tables, expect_combined_matrix, expect_combined_vector};
-use crate::tables::Table;
+use crate::options::{Operation, Options, expect_combined_matrix, expect_combined_vector};
+use crate::tables::{Table, Tables, put};
 use grb_call::Descriptor;
 use grb_core::{BinaryOp, Domain};
 use std::alloc::{AllocError, Global};
 use std::process::Abort;
-use std::test::Fail;
 
 /// How a mask is read, and what the output then stores: with neither accumulator nor replace, with replace, with the accumulator, with
 /// both.
@@ -127,36 +126,30 @@ fn number_behind(letter: u8) -> Option<u64> {
 }
 
 /// The table of a picture, whose rows have a space between them.
-fn table_of(alloc: Global, picture: &[u8]) -> Result<Table, AllocError> {
-    let mut table = Vec::new(alloc);
+fn table_of(picture: &[u8]) -> Table {
+    let mut table = [None; 25];
+    let mut at: usize = 0;
     'letters: for letter in picture {
         if *letter != b' ' {
-            table.push(number_behind(*letter))?;
+            put(&mut table, at, number_behind(*letter));
+            at = at.wrapping_add(1);
         }
     }
-    Ok(table)
-}
-
-fn two_tables(alloc: Global, first: &[u8], second: &[u8]) -> Result<(Table, Table), AllocError> {
-    let one = table_of(alloc, first)?;
-    let other = table_of(alloc, second)?;
-    Ok((one, other))
+    table
 }
 
 /// Both inputs of the operation, of which the result is the same: an addition stores what one of them stores, a multiplication what both do.
-fn tables_for(alloc: Global, operation: Operation) -> Result<Tables, AllocError> {
+fn tables_for(operation: Operation) -> Tables {
     let (first, second) = match operation {
         Operation::Add => (b"..uu ..uu ..uu", b"..vv ..vv ..vv"),
         Operation::Mult => (b"uuuu u.uu .uuu", b"..vv .vvv v.vv"),
     };
-    let (output, mask) = two_tables(alloc, b".w.w .w.w .w.w", b".... 0000 1111")?;
-    let (first, second) = two_tables(alloc, first, second)?;
-    Ok(Tables {
-        output,
-        mask,
-        first,
-        second,
-    })
+    Tables {
+        output: table_of(b".w.w .w.w .w.w"),
+        mask: table_of(b".... 0000 1111"),
+        first: table_of(first),
+        second: table_of(second),
+    }
 }
 
 /// The options of a case: each row of the table has four.
@@ -180,31 +173,11 @@ fn options_of(operation: Operation, mask_domain: Domain, case: usize) -> Options
     }
 }
 
-fn expect_vector_of_case(
-    rt: &impl Abort,
-    alloc: Global,
-    options: Options,
-    tables: &Tables,
-    case: usize,
-) -> Result<(), AllocError>
+/// What the output of a case then stores.
+fn wanted_of(case: usize) -> Table
     requires { case < 32 }
 {
-    let want = table_of(alloc, WANTED[case / 4].output[case % 4])?;
-    expect_combined_vector(rt, alloc, options, 12, tables, &want, case)
-}
-
-fn expect_each_vector(
-    rt: &impl Abort,
-    alloc: Global,
-    operation: Operation,
-    mask_domain: Domain,
-    tables: &Tables,
-) -> Result<(), AllocError> {
-    for case in 0..32 {
-        let options = options_of(operation, mask_domain, case);
-        expect_vector_of_case(rt, alloc, options, tables, case)?;
-    }
-    Ok(())
+    table_of(WANTED[case / 4].output[case % 4])
 }
 
 /// Each way to call the operation on vectors, by a mask of this domain.
@@ -214,33 +187,11 @@ fn expect_vectors(
     operation: Operation,
     mask_domain: Domain,
 ) -> Result<(), AllocError> {
-    let tables = tables_for(alloc, operation)?;
-    expect_each_vector(rt, alloc, operation, mask_domain, &tables)
-}
-
-fn expect_matrix_of_case(
-    rt: &impl Abort,
-    alloc: Global,
-    options: Options,
-    tables: &Tables,
-    case: usize,
-) -> Result<(), AllocError>
-    requires { case < 32 }
-{
-    let want = table_of(alloc, WANTED[case / 4].output[case % 4])?;
-    expect_combined_matrix(rt, alloc, options, (3, 4), tables, &want, case)
-}
-
-fn expect_each_matrix(
-    rt: &impl Abort,
-    alloc: Global,
-    operation: Operation,
-    mask_domain: Domain,
-    tables: &Tables,
-) -> Result<(), AllocError> {
+    let tables = tables_for(operation);
     for case in 0..32 {
         let options = options_of(operation, mask_domain, case);
-        expect_matrix_of_case(rt, alloc, options, tables, case)?;
+        let want = wanted_of(case);
+        expect_combined_vector(rt, alloc, options, 12, &tables, &want, case)?;
     }
     Ok(())
 }
@@ -252,30 +203,37 @@ fn expect_matrices(
     operation: Operation,
     mask_domain: Domain,
 ) -> Result<(), AllocError> {
-    let tables = tables_for(alloc, operation)?;
-    expect_each_matrix(rt, alloc, operation, mask_domain, &tables)
-}
-
-#[test]
-fn an_addition_of_vectors_is_written_as_its_options_say(rt: HostRuntime) -> Result<(), Fail> {
-    expect_vectors(&rt, rt.alloc(), Operation::Add, Domain::Bool)?;
+    let tables = tables_for(operation);
+    for case in 0..32 {
+        let options = options_of(operation, mask_domain, case);
+        let want = wanted_of(case);
+        expect_combined_matrix(rt, alloc, options, (3, 4), &tables, &want, case)?;
+    }
     Ok(())
 }
 
 #[test]
-fn a_multiplication_of_vectors_is_written_as_its_options_say(rt: HostRuntime) -> Result<(), Fail> {
-    expect_vectors(&rt, rt.alloc(), Operation::Mult, Domain::Uint64)?;
-    Ok(())
+fn an_addition_of_vectors_is_written_as_its_options_say(rt: HostRuntime) -> Result<(), AllocError> {
+    expect_vectors(&rt, rt.alloc(), Operation::Add, Domain::Bool)
 }
 
 #[test]
-fn an_addition_of_matrices_is_written_as_its_options_say(rt: HostRuntime) -> Result<(), Fail> {
-    expect_matrices(&rt, rt.alloc(), Operation::Add, Domain::Uint64)?;
-    Ok(())
+fn a_multiplication_of_vectors_is_written_as_its_options_say(
+    rt: HostRuntime,
+) -> Result<(), AllocError> {
+    expect_vectors(&rt, rt.alloc(), Operation::Mult, Domain::Uint64)
 }
 
 #[test]
-fn a_multiplication_of_matrices_is_written_as_its_options_say(rt: HostRuntime) -> Result<(), Fail> {
-    expect_matrices(&rt, rt.alloc(), Operation::Mult, Domain::Bool)?;
-    Ok(())
+fn an_addition_of_matrices_is_written_as_its_options_say(
+    rt: HostRuntime,
+) -> Result<(), AllocError> {
+    expect_matrices(&rt, rt.alloc(), Operation::Add, Domain::Uint64)
+}
+
+#[test]
+fn a_multiplication_of_matrices_is_written_as_its_options_say(
+    rt: HostRuntime,
+) -> Result<(), AllocError> {
+    expect_matrices(&rt, rt.alloc(), Operation::Mult, Domain::Bool)
 }

@@ -7,9 +7,11 @@ ghost use Rattle.grb_core.specs.Written.{AccumulatesIn};
 
 use crate::drawn::applied;
 use crate::same::same;
-use crate::tables::{Table, expect_matrix, expect_vector, matrix_of, number_of, stored, vector_of};
+use crate::tables::{
+    Table, Tables, expect_matrix, expect_vector, matrix_of, put, stored, value_of, vector_of,
+};
 use grb_call::Descriptor;
-use grb_core::{BinaryOp, Domain, Monoid, Semiring, Value};
+use grb_core::{BinaryOp, Domain, Monoid, Semiring};
 use grb_multiply::mxm;
 use grb_products::{mxv, reduce_matrix, reduce_rows, reduce_vector};
 use grb_sparse::{SparseMatrix, SparseVector};
@@ -90,7 +92,7 @@ pub(crate) fn semiring_of(rt: &impl Abort, choice: Choice) -> Semiring
 {
     let (monoid, op) = (choice.monoid, choice.op);
     let Ok(semiring) = Semiring::new(monoid, op) else {
-        panic!(rt; "{monoid:?} and {op:?} make no semiring");
+        panic!(rt; "a monoid and an operator of one domain make no semiring");
     };
     semiring
 }
@@ -104,15 +106,6 @@ pub(crate) struct Dims {
     ghost has_rows: { IsDimension rows },
     ghost has_inner: { IsDimension inner },
     ghost has_columns: { IsDimension columns },
-}
-
-/// What the output, the mask and both inputs store.
-#[derive(Drop)]
-pub(crate) struct Tables {
-    pub(crate) output: Table,
-    pub(crate) mask: Table,
-    pub(crate) first: Table,
-    pub(crate) second: Table,
 }
 
 /// The product at a row and a column, by one loop over the places between.
@@ -178,35 +171,27 @@ fn written_at(choice: Choice, tables: &Tables, at: usize, computed: Option<u64>)
 }
 
 /// What the output of a product stores after the call; with `columns` 1, that of a matrix and a vector.
-fn wanted_product(
-    alloc: Global,
-    choice: Choice,
-    dims: Dims,
-    tables: &Tables,
-) -> Result<Table, AllocError> {
-    let mut wanted = Vec::new(alloc);
+fn wanted_product(choice: Choice, dims: Dims, tables: &Tables) -> Table {
+    let mut wanted = [None; 25];
     for at in 0..dims.rows.wrapping_mul(dims.columns) {
         let i = at / dims.columns.max(1);
         let j = at % dims.columns.max(1);
         let computed = product_at(choice, dims, tables, i, j);
-        wanted.push(written_at(choice, tables, at as usize, computed))?;
+        let at = at as usize;
+        put(&mut wanted, at, written_at(choice, tables, at, computed));
     }
-    Ok(wanted)
+    wanted
 }
 
 /// What the output of a reduction of rows stores after the call.
-fn wanted_folds(
-    alloc: Global,
-    choice: Choice,
-    dims: Dims,
-    tables: &Tables,
-) -> Result<Table, AllocError> {
-    let mut wanted = Vec::new(alloc);
+fn wanted_folds(choice: Choice, dims: Dims, tables: &Tables) -> Table {
+    let mut wanted = [None; 25];
     for i in 0..dims.rows {
         let computed = fold_at(choice, dims, tables, i);
-        wanted.push(written_at(choice, tables, i as usize, computed))?;
+        let at = i as usize;
+        put(&mut wanted, at, written_at(choice, tables, at, computed));
     }
-    Ok(wanted)
+    wanted
 }
 
 /// mxm of these matrices.
@@ -246,8 +231,62 @@ pub(crate) fn multiplied(
     )
 }
 
-/// mxm of the matrices of the first two tables.
-fn product(
+/// The matrices are those of the tables.
+fn expect_matrices(
+    rt: &impl Abort,
+    choice: Choice,
+    tables: &Tables,
+    output: &SparseMatrix,
+    mask: &SparseMatrix,
+    a: &SparseMatrix,
+    b: &SparseMatrix,
+    case: usize,
+) {
+    let (domain, mask_domain) = (choice.domain, choice.mask_domain);
+    expect_matrix(rt, output, domain, &tables.output, case);
+    expect_matrix(rt, mask, mask_domain, &tables.mask, case);
+    expect_matrix(rt, a, domain, &tables.first, case);
+    expect_matrix(rt, b, domain, &tables.second, case);
+}
+
+fn expect_made_product(
+    rt: &impl Abort,
+    alloc: Global,
+    choice: Choice,
+    tables: &Tables,
+    output: &SparseMatrix,
+    mask: &SparseMatrix,
+    a: &SparseMatrix,
+    b: &SparseMatrix,
+    want: &[Option<u64>],
+    case: usize,
+) -> Result<(), AllocError>
+    requires domain { output.now.matrix.domain ≡ choice.domain }
+    requires assembled { output.now.assembled ≡ true }
+    requires mask_rows { mask.now.matrix.nrows ≡ output.now.matrix.nrows }
+    requires mask_columns { mask.now.matrix.ncols ≡ output.now.matrix.ncols }
+    requires mask_assembled { mask.now.assembled ≡ true }
+    requires a_domain { a.now.matrix.domain ≡ choice.domain }
+    requires a_rows { a.now.matrix.nrows ≡ output.now.matrix.nrows }
+    requires a_assembled { a.now.assembled ≡ true }
+    requires b_domain { b.now.matrix.domain ≡ choice.domain }
+    requires b_rows { b.now.matrix.nrows ≡ a.now.matrix.ncols }
+    requires b_columns { b.now.matrix.ncols ≡ output.now.matrix.ncols }
+    requires b_assembled { b.now.assembled ≡ true }
+{
+    match multiplied(rt, alloc, choice, output, mask, a, b) {
+        Ok(made) => expect_matrix(rt, &made, choice.domain, want, case),
+        Err(_) => {
+            expect_matrices(rt, choice, tables, output, mask, a, b, case);
+            let made = multiplied(rt, alloc, choice, output, mask, a, b)?;
+            expect_matrix(rt, &made, choice.domain, want, case);
+        }
+    }
+    expect_matrices(rt, choice, tables, output, mask, a, b, case);
+    Ok(())
+}
+
+fn expect_product_into(
     rt: &impl Abort,
     alloc: Global,
     choice: Choice,
@@ -255,7 +294,9 @@ fn product(
     tables: &Tables,
     output: &SparseMatrix,
     mask: &SparseMatrix,
-) -> Result<SparseMatrix, AllocError>
+    want: &[Option<u64>],
+    case: usize,
+) -> Result<(), AllocError>
     requires domain { output.now.matrix.domain ≡ choice.domain }
     requires rows { output.now.matrix.nrows ≡ dims.rows }
     requires columns { output.now.matrix.ncols ≡ dims.columns }
@@ -267,21 +308,24 @@ fn product(
     let (rows, inner, columns) = (dims.rows, dims.inner, dims.columns);
     let a = matrix_of(alloc, choice.domain, rows, inner, &tables.first)?;
     let b = matrix_of(alloc, choice.domain, inner, columns, &tables.second)?;
-    multiplied(rt, alloc, choice, output, mask, &a, &b)
+    expect_made_product(rt, alloc, choice, tables, output, mask, &a, &b, want, case)
 }
 
-fn expect_product(
+/// mxm of the matrices of four tables stores what the table `want` does, and changes none of them. Where memory is refused nothing has
+/// changed, and it is made once more.
+pub(crate) fn expect_product(
     rt: &impl Abort,
     alloc: Global,
     choice: Choice,
     dims: Dims,
     tables: &Tables,
-    made: &SparseMatrix,
+    want: &[Option<u64>],
     case: usize,
 ) -> Result<(), AllocError> {
-    let want = wanted_product(alloc, choice, dims, tables)?;
-    expect_matrix(rt, made, &want, case);
-    Ok(())
+    let (rows, columns) = (dims.rows, dims.columns);
+    let output = matrix_of(alloc, choice.domain, rows, columns, &tables.output)?;
+    let mask = matrix_of(alloc, choice.mask_domain, rows, columns, &tables.mask)?;
+    expect_product_into(rt, alloc, choice, dims, tables, &output, &mask, want, case)
 }
 
 /// mxm stores what a plain loop does.
@@ -293,11 +337,8 @@ pub(crate) fn expect_mxm(
     tables: &Tables,
     case: usize,
 ) -> Result<(), AllocError> {
-    let (rows, columns) = (dims.rows, dims.columns);
-    let output = matrix_of(alloc, choice.domain, rows, columns, &tables.output)?;
-    let mask = matrix_of(alloc, choice.mask_domain, rows, columns, &tables.mask)?;
-    let made = product(rt, alloc, choice, dims, tables, &output, &mask)?;
-    expect_product(rt, alloc, choice, dims, tables, &made, case)
+    let want = wanted_product(choice, dims, tables);
+    expect_product(rt, alloc, choice, dims, tables, &want, case)
 }
 
 /// mxv of this matrix and this vector.
@@ -335,8 +376,60 @@ pub(crate) fn column_of(
     )
 }
 
-/// mxv of the matrix of the first table and the vector of the second.
-fn column(
+/// The objects are those of the tables.
+fn expect_factors(
+    rt: &impl Abort,
+    choice: Choice,
+    tables: &Tables,
+    output: &SparseVector,
+    mask: &SparseVector,
+    a: &SparseMatrix,
+    u: &SparseVector,
+    case: usize,
+) {
+    let (domain, mask_domain) = (choice.domain, choice.mask_domain);
+    expect_vector(rt, output, domain, &tables.output, case);
+    expect_vector(rt, mask, mask_domain, &tables.mask, case);
+    expect_matrix(rt, a, domain, &tables.first, case);
+    expect_vector(rt, u, domain, &tables.second, case);
+}
+
+fn expect_made_column(
+    rt: &impl Abort,
+    alloc: Global,
+    choice: Choice,
+    tables: &Tables,
+    output: &SparseVector,
+    mask: &SparseVector,
+    a: &SparseMatrix,
+    u: &SparseVector,
+    want: &[Option<u64>],
+    case: usize,
+) -> Result<(), AllocError>
+    requires domain { output.now.vector.domain ≡ choice.domain }
+    requires assembled { output.now.assembled ≡ true }
+    requires mask_size { mask.now.vector.size ≡ output.now.vector.size }
+    requires mask_assembled { mask.now.assembled ≡ true }
+    requires a_domain { a.now.matrix.domain ≡ choice.domain }
+    requires a_rows { a.now.matrix.nrows ≡ output.now.vector.size }
+    requires a_assembled { a.now.assembled ≡ true }
+    requires u_domain { u.now.vector.domain ≡ choice.domain }
+    requires u_size { u.now.vector.size ≡ a.now.matrix.ncols }
+    requires u_assembled { u.now.assembled ≡ true }
+{
+    match column_of(rt, alloc, choice, output, mask, a, u) {
+        Ok(made) => expect_vector(rt, &made, choice.domain, want, case),
+        Err(_) => {
+            expect_factors(rt, choice, tables, output, mask, a, u, case);
+            let made = column_of(rt, alloc, choice, output, mask, a, u)?;
+            expect_vector(rt, &made, choice.domain, want, case);
+        }
+    }
+    expect_factors(rt, choice, tables, output, mask, a, u, case);
+    Ok(())
+}
+
+fn expect_column_into(
     rt: &impl Abort,
     alloc: Global,
     choice: Choice,
@@ -344,7 +437,9 @@ fn column(
     tables: &Tables,
     output: &SparseVector,
     mask: &SparseVector,
-) -> Result<SparseVector, AllocError>
+    want: &[Option<u64>],
+    case: usize,
+) -> Result<(), AllocError>
     requires domain { output.now.vector.domain ≡ choice.domain }
     requires size { output.now.vector.size ≡ dims.rows }
     requires assembled { output.now.assembled ≡ true }
@@ -354,21 +449,23 @@ fn column(
     let (rows, inner) = (dims.rows, dims.inner);
     let a = matrix_of(alloc, choice.domain, rows, inner, &tables.first)?;
     let u = vector_of(alloc, choice.domain, inner, &tables.second)?;
-    column_of(rt, alloc, choice, output, mask, &a, &u)
+    expect_made_column(rt, alloc, choice, tables, output, mask, &a, &u, want, case)
 }
 
-fn expect_column(
+/// mxv of the objects of four tables stores what the table `want` does, and changes none of them. Where memory is refused nothing has
+/// changed, and it is made once more.
+pub(crate) fn expect_column(
     rt: &impl Abort,
     alloc: Global,
     choice: Choice,
     dims: Dims,
     tables: &Tables,
-    made: &SparseVector,
+    want: &[Option<u64>],
     case: usize,
 ) -> Result<(), AllocError> {
-    let want = wanted_product(alloc, choice, dims, tables)?;
-    expect_vector(rt, made, &want, case);
-    Ok(())
+    let output = vector_of(alloc, choice.domain, dims.rows, &tables.output)?;
+    let mask = vector_of(alloc, choice.mask_domain, dims.rows, &tables.mask)?;
+    expect_column_into(rt, alloc, choice, dims, tables, &output, &mask, want, case)
 }
 
 /// mxv stores what a plain loop does, where the second input has one column.
@@ -380,10 +477,8 @@ pub(crate) fn expect_mxv(
     tables: &Tables,
     case: usize,
 ) -> Result<(), AllocError> {
-    let output = vector_of(alloc, choice.domain, dims.rows, &tables.output)?;
-    let mask = vector_of(alloc, choice.mask_domain, dims.rows, &tables.mask)?;
-    let made = column(rt, alloc, choice, dims, tables, &output, &mask)?;
-    expect_column(rt, alloc, choice, dims, tables, &made, case)
+    let want = wanted_product(choice, dims, tables);
+    expect_column(rt, alloc, choice, dims, tables, &want, case)
 }
 
 /// The reduction of the rows of this matrix.
@@ -407,37 +502,68 @@ pub(crate) fn folds_of(
     reduce_rows(alloc, output, mask, accum, monoid, a, choice.descriptor)
 }
 
-/// The reduction of the rows of the matrix of the first table.
-fn folds(
-    alloc: Global,
+/// The output, the mask and the matrix are those of the tables.
+fn expect_folded(
+    rt: &impl Abort,
     choice: Choice,
-    dims: Dims,
     tables: &Tables,
     output: &SparseVector,
     mask: &SparseVector,
-) -> Result<SparseVector, AllocError>
-    requires domain { output.now.vector.domain ≡ choice.domain }
-    requires size { output.now.vector.size ≡ dims.rows }
-    requires assembled { output.now.assembled ≡ true }
-    requires mask_size { mask.now.vector.size ≡ dims.rows }
-    requires mask_assembled { mask.now.assembled ≡ true }
-{
-    let a = matrix_of(alloc, choice.domain, dims.rows, dims.inner, &tables.first)?;
-    folds_of(alloc, choice, output, mask, &a)
+    a: &SparseMatrix,
+    case: usize,
+) {
+    let (domain, mask_domain) = (choice.domain, choice.mask_domain);
+    expect_vector(rt, output, domain, &tables.output, case);
+    expect_vector(rt, mask, mask_domain, &tables.mask, case);
+    expect_matrix(rt, a, domain, &tables.first, case);
 }
 
-fn expect_folded(
+fn expect_made_folds(
+    rt: &impl Abort,
+    alloc: Global,
+    choice: Choice,
+    tables: &Tables,
+    output: &SparseVector,
+    mask: &SparseVector,
+    a: &SparseMatrix,
+    want: &[Option<u64>],
+    case: usize,
+) -> Result<(), AllocError>
+    requires domain { output.now.vector.domain ≡ choice.domain }
+    requires assembled { output.now.assembled ≡ true }
+    requires mask_size { mask.now.vector.size ≡ output.now.vector.size }
+    requires mask_assembled { mask.now.assembled ≡ true }
+    requires a_domain { a.now.matrix.domain ≡ choice.domain }
+    requires a_rows { a.now.matrix.nrows ≡ output.now.vector.size }
+    requires a_assembled { a.now.assembled ≡ true }
+{
+    match folds_of(alloc, choice, output, mask, a) {
+        Ok(made) => expect_vector(rt, &made, choice.domain, want, case),
+        Err(_) => {
+            expect_folded(rt, choice, tables, output, mask, a, case);
+            let made = folds_of(alloc, choice, output, mask, a)?;
+            expect_vector(rt, &made, choice.domain, want, case);
+        }
+    }
+    expect_folded(rt, choice, tables, output, mask, a, case);
+    Ok(())
+}
+
+/// The reduction of the rows of the matrix of the first table stores what the table `want` does, and changes neither the matrix nor the
+/// output nor the mask. Where memory is refused nothing has changed, and it is made once more.
+pub(crate) fn expect_folds_of(
     rt: &impl Abort,
     alloc: Global,
     choice: Choice,
     dims: Dims,
     tables: &Tables,
-    made: &SparseVector,
+    want: &[Option<u64>],
     case: usize,
 ) -> Result<(), AllocError> {
-    let want = wanted_folds(alloc, choice, dims, tables)?;
-    expect_vector(rt, made, &want, case);
-    Ok(())
+    let output = vector_of(alloc, choice.domain, dims.rows, &tables.output)?;
+    let mask = vector_of(alloc, choice.mask_domain, dims.rows, &tables.mask)?;
+    let a = matrix_of(alloc, choice.domain, dims.rows, dims.inner, &tables.first)?;
+    expect_made_folds(rt, alloc, choice, tables, &output, &mask, &a, want, case)
 }
 
 /// The reduction of rows stores what a plain loop does.
@@ -449,14 +575,24 @@ pub(crate) fn expect_folds(
     tables: &Tables,
     case: usize,
 ) -> Result<(), AllocError> {
-    let output = vector_of(alloc, choice.domain, dims.rows, &tables.output)?;
-    let mask = vector_of(alloc, choice.mask_domain, dims.rows, &tables.mask)?;
-    let made = folds(alloc, choice, dims, tables, &output, &mask)?;
-    expect_folded(rt, alloc, choice, dims, tables, &made, case)
+    let want = wanted_folds(choice, dims, tables);
+    expect_folds_of(rt, alloc, choice, dims, tables, &want, case)
 }
 
-fn expect_total(rt: &impl Abort, total: Value, want: u64, case: usize) {
-    same(rt, number_of(total), want, ("case", case));
+/// The total of the matrix of a table, by the monoid, is this.
+pub(crate) fn expect_total_of_matrix(
+    rt: &impl Abort,
+    alloc: Global,
+    choice: Choice,
+    dims: Dims,
+    table: &[Option<u64>],
+    want: u64,
+    case: usize,
+) -> Result<(), AllocError> {
+    let a = matrix_of(alloc, choice.domain, dims.rows, dims.inner, table)?;
+    let total = reduce_matrix(&a, choice.monoid);
+    same(rt, total, value_of(choice.domain, want), case);
+    Ok(())
 }
 
 /// The totals of the first matrix and of the second input as a vector are what a plain loop makes.
@@ -468,11 +604,11 @@ pub(crate) fn expect_totals(
     tables: &Tables,
     case: usize,
 ) -> Result<(), AllocError> {
-    let a = matrix_of(alloc, choice.domain, dims.rows, dims.inner, &tables.first)?;
-    let of_matrix = reduce_matrix(&a, choice.monoid);
-    expect_total(rt, of_matrix, fold_of(choice, &tables.first), case);
+    let of_matrix = fold_of(choice, &tables.first);
+    expect_total_of_matrix(rt, alloc, choice, dims, &tables.first, of_matrix, case)?;
     let u = vector_of(alloc, choice.domain, dims.inner, &tables.second)?;
-    let of_vector = reduce_vector(&u, choice.monoid);
-    expect_total(rt, of_vector, fold_of(choice, &tables.second), case);
+    let total = reduce_vector(&u, choice.monoid);
+    let of_vector = fold_of(choice, &tables.second);
+    same(rt, total, value_of(choice.domain, of_vector), case);
     Ok(())
 }

@@ -5,7 +5,7 @@ use grb_core::Domain;
 use std::fmt::Debug;
 use std::process::Abort;
 
-/// Of this, what was found is what was wanted. One function asserts it for all types, since each `assert_eq!` is proved at its own type,
+/// Of this, as a case and a place, what was found is what was wanted. One function asserts it for all types, since each `assert_eq!` is proved at its own type,
 /// and that is dear.
 pub(crate) fn same<R: Abort, T: Copy + PartialEq + Debug, D: Copy + Debug>(
     rt: &R,
@@ -13,12 +13,12 @@ pub(crate) fn same<R: Abort, T: Copy + PartialEq + Debug, D: Copy + Debug>(
     wanted: T,
     of: D,
 ) {
-    assert_eq!(rt; found, wanted, "of {of:?}");
+    assert!(rt; found == wanted, "of {of:?}: {found:?}, and not {wanted:?}");
 }
 
-/// The same of domains, which are then known to be one.
-pub(crate) fn same_domain<R: Abort, D: Copy + Debug>(rt: &R, found: Domain, wanted: Domain, of: D)
+/// Of domains, which are then known to be one.
+pub(crate) fn same_domain(rt: &impl Abort, found: Domain, wanted: Domain)
     ensures { found ≡ wanted }
 {
-    assert_eq!(rt; found, wanted, "of {of:?}");
+    assert!(rt; found == wanted, "a domain is not that which was wanted");
 }

@@ -9,8 +9,49 @@ use grb_sparse::{SparseMatrix, SparseVector};
 use std::alloc::{AllocError, Global};
 use std::process::Abort;
 
-/// What is stored at each place, as a number; a matrix row by row. Of truth values 0 is false and 1 is true.
-pub(crate) type Table = Vec<Option<u64>>;
+/// What is stored at each place, as a number; a matrix row by row. Of truth values 0 is false and 1 is true. An object of fewer places
+/// stores nothing at those behind its own.
+pub(crate) type Table = [Option<u64>; 25];
+
+/// What the output, the mask and both inputs store.
+#[derive(Clone, Copy)]
+pub(crate) struct Tables {
+    pub(crate) output: Table,
+    pub(crate) mask: Table,
+    pub(crate) first: Table,
+    pub(crate) second: Table,
+}
+
+/// Puts a number at a place of the table, if it has the place.
+pub(crate) fn put(table: &mut Table, at: usize, number: Option<u64>) {
+    if at < 25 {
+        table[at] = number;
+    }
+}
+
+/// A table of these numbers.
+pub(crate) fn table_of(numbers: &[Option<u64>]) -> Table {
+    let mut table = [None; 25];
+    'places: for (at, number) in numbers.iter().enumerate() {
+        put(&mut table, at, *number);
+    }
+    table
+}
+
+/// The tables of these numbers.
+pub(crate) fn tables_of(
+    output: &[Option<u64>],
+    mask: &[Option<u64>],
+    first: &[Option<u64>],
+    second: &[Option<u64>],
+) -> Tables {
+    Tables {
+        output: table_of(output),
+        mask: table_of(mask),
+        first: table_of(first),
+        second: table_of(second),
+    }
+}
 
 /// A number as a value of a domain.
 pub(crate) fn value_of(domain: Domain, n: u64) -> Value
@@ -22,11 +63,11 @@ pub(crate) fn value_of(domain: Domain, n: u64) -> Value
     }
 }
 
-/// A value as a number.
-pub(crate) fn number_of(value: Value) -> u64 {
-    match value {
-        Value::Bool(b) => u64::from(b),
-        Value::Uint64(n) => n,
+/// What is stored as a value of a domain.
+fn value_at(domain: Domain, number: Option<u64>) -> Option<Value> {
+    match number {
+        Some(n) => Some(value_of(domain, n)),
+        None => None,
     }
 }
 
@@ -68,8 +109,7 @@ fn store_in_vector(
     Ok(())
 }
 
-/// The vector that a table stands for.
-pub(crate) fn vector_of(
+fn vector_once(
     alloc: Global,
     domain: Domain,
     size: u64,
@@ -88,6 +128,24 @@ pub(crate) fn vector_of(
     }
     v.assemble()?;
     Ok(v)
+}
+
+/// The vector that a table stands for. Where memory is refused it is made once more.
+pub(crate) fn vector_of(
+    alloc: Global,
+    domain: Domain,
+    size: u64,
+    table: &[Option<u64>],
+) -> Result<SparseVector, AllocError>
+    requires { IsDimension size }
+    ensures domain { IfOk result (λ v. v.vector.domain ≡ domain) }
+    ensures size { IfOk result (λ v. v.vector.size ≡ size) }
+    ensures assembled { IfOk result (λ v. v.assembled ≡ true) }
+{
+    match vector_once(alloc, domain, size, table) {
+        Ok(v) => Ok(v),
+        Err(_) => vector_once(alloc, domain, size, table),
+    }
 }
 
 fn store_in_matrix(
@@ -116,8 +174,7 @@ fn store_in_matrix(
     Ok(())
 }
 
-/// The matrix that a table stands for.
-pub(crate) fn matrix_of(
+fn matrix_once(
     alloc: Global,
     domain: Domain,
     nrows: u64,
@@ -141,26 +198,58 @@ pub(crate) fn matrix_of(
     Ok(a)
 }
 
-/// The vector stores what the table does, and nothing else.
-pub(crate) fn expect_vector(rt: &impl Abort, v: &SparseVector, want: &[Option<u64>], case: usize) {
-    same(rt, v.nvals(), count(want), ("case", case));
+/// The matrix that a table stands for. Where memory is refused it is made once more.
+pub(crate) fn matrix_of(
+    alloc: Global,
+    domain: Domain,
+    nrows: u64,
+    ncols: u64,
+    table: &[Option<u64>],
+) -> Result<SparseMatrix, AllocError>
+    requires rows { IsDimension nrows }
+    requires columns { IsDimension ncols }
+    ensures domain { IfOk result (λ a. a.matrix.domain ≡ domain) }
+    ensures rows { IfOk result (λ a. a.matrix.nrows ≡ nrows) }
+    ensures columns { IfOk result (λ a. a.matrix.ncols ≡ ncols) }
+    ensures assembled { IfOk result (λ a. a.assembled ≡ true) }
+{
+    match matrix_once(alloc, domain, nrows, ncols, table) {
+        Ok(a) => Ok(a),
+        Err(_) => matrix_once(alloc, domain, nrows, ncols, table),
+    }
+}
+
+/// The vector stores what the table does, as values of the domain, and nothing else.
+pub(crate) fn expect_vector(
+    rt: &impl Abort,
+    v: &SparseVector,
+    domain: Domain,
+    want: &[Option<u64>],
+    case: usize,
+) {
+    same(rt, v.nvals(), count(want), case);
     let mut at: u64 = 0;
     'places: for number in want {
-        let seen = v.get(at).map(number_of);
-        same(rt, seen, *number, ("case", case, at));
+        same(rt, v.get(at), value_at(domain, *number), (case, at));
         at = at.wrapping_add(1);
     }
 }
 
-/// The matrix stores what the table does, and nothing else.
-pub(crate) fn expect_matrix(rt: &impl Abort, a: &SparseMatrix, want: &[Option<u64>], case: usize) {
-    same(rt, a.nvals(), count(want), ("case", case));
+/// The matrix stores what the table does, as values of the domain, and nothing else.
+pub(crate) fn expect_matrix(
+    rt: &impl Abort,
+    a: &SparseMatrix,
+    domain: Domain,
+    want: &[Option<u64>],
+    case: usize,
+) {
+    same(rt, a.nvals(), count(want), case);
     let (_, ncols) = a.dims();
     let ncols = ncols.max(1);
     let mut at: u64 = 0;
     'places: for number in want {
-        let seen = a.get(at / ncols, at % ncols).map(number_of);
-        same(rt, seen, *number, ("case", case, at));
+        let seen = a.get(at / ncols, at % ncols);
+        same(rt, seen, value_at(domain, *number), (case, at));
         at = at.wrapping_add(1);
     }
 }

@@ -95,10 +95,10 @@ pub(crate) fn expect_matrix_tuples(
     want: &[(u64, u64, u64)],
     case: usize,
 ) {
-    same(rt, a.nvals(), want.len() as u64, ("case", case));
+    same(rt, a.nvals(), want.len() as u64, case);
     'tuples: for (i, j, n) in want {
         let value = Some(value_of(domain, *n));
-        same(rt, a.get(*i, *j), value, ("case", case, *i, *j));
+        same(rt, a.get(*i, *j), value, (case, *i, *j));
     }
 }
 
@@ -110,9 +110,9 @@ pub(crate) fn expect_vector_tuples(
     want: &[(u64, u64)],
     case: usize,
 ) {
-    same(rt, v.nvals(), want.len() as u64, ("case", case));
+    same(rt, v.nvals(), want.len() as u64, case);
     'tuples: for (i, n) in want {
         let value = Some(value_of(domain, *n));
-        same(rt, v.get(*i), value, ("case", case, *i));
+        same(rt, v.get(*i), value, (case, *i));
     }
 }

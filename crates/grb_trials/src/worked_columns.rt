@@ -3,64 +3,33 @@ ghost use Rattle.std.specs.Prelude.{◌≡◌, true};
 ghost use Rattle.grb_core.specs.declared.domain.Domain.TheVariants as domains;
 
 use crate::choices::{PLAIN, plain_product};
-use crate::products::{Choice, column_of};
-use crate::same::same_domain;
-use crate::tables::{matrix_of, vector_of};
+use crate::products::{Choice, Dims, column_of, expect_column};
+use crate::tables::{Tables, put, tables_of};
 use crate::tuples::{expect_vector_tuples, matrix_of_tuples, vector_of_tuples};
 use grb_core::{BinaryOp, Domain, Monoid};
-use grb_sparse::{SparseMatrix, SparseVector};
+use grb_sparse::SparseVector;
 use std::alloc::{AllocError, Global};
 use std::process::Abort;
-use std::test::Fail;
 
-/// A matrix of two rows and three columns, and a vector of its domain of size 3.
-#[derive(Drop)]
-struct Factors {
-    a: SparseMatrix,
-    u: SparseVector,
-    ghost domain: { u.vector.domain ≡ a.matrix.domain },
-    ghost rows: { a.matrix.nrows ≡ 2 },
-    ghost columns: { a.matrix.ncols ≡ 3 },
-    ghost size: { u.vector.size ≡ 3 },
-    ghost a_assembled: { a.assembled ≡ true },
-    ghost u_assembled: { u.assembled ≡ true },
-}
-
-fn factors_of(
-    alloc: Global,
-    domain: Domain,
-    a: &[Option<u64>],
-    u: &[Option<u64>],
-) -> Result<Factors, AllocError> {
-    let a = matrix_of(alloc, domain, 2, 3, a)?;
-    let u = vector_of(alloc, domain, 3, u)?;
-    Ok(Factors { a, u })
-}
-
-fn column(
+/// A product of a matrix of two rows and three columns with a vector of size 3 stores one number alone, at this index.
+fn expect_number(
     rt: &impl Abort,
     alloc: Global,
-    factors: &Factors,
-    choice: Choice,
-) -> Result<SparseVector, AllocError> {
-    let (a, u) = (&factors.a, &factors.u);
-    same_domain(rt, choice.domain, a.domain(), "the product");
-    let w = SparseVector::new(alloc, choice.domain, 2);
-    column_of(rt, alloc, choice, &w, &w, a, u)
-}
-
-fn expect_column(
-    rt: &impl Abort,
-    alloc: Global,
-    factors: &Factors,
+    tables: &Tables,
     monoid: Monoid,
     op: BinaryOp,
-    want: (u64, u64),
+    index: usize,
+    number: u64,
 ) -> Result<(), AllocError> {
     let choice = plain_product(rt, monoid, op);
-    let made = column(rt, alloc, factors, choice)?;
-    expect_vector_tuples(rt, &made, choice.domain, &[want], 0);
-    Ok(())
+    let mut want = [None; 25];
+    put(&mut want, index, Some(number));
+    let dims = Dims {
+        rows: 2,
+        inner: 3,
+        columns: 1,
+    };
+    expect_column(rt, alloc, choice, dims, tables, &want, index)
 }
 
 /// The rows (2, -, 5) and (-, 3, -).
@@ -84,22 +53,24 @@ const PRODUCTS: [(BinaryOp, u64, u64); 7] = [
 fn expect_folds_of_numbers(
     rt: &impl Abort,
     alloc: Global,
-    factors: &Factors,
+    tables: &Tables,
     row: (BinaryOp, u64, u64),
 ) -> Result<(), AllocError> {
     let (op, x, y) = row;
     let (sum, product) = (x.wrapping_add(y), x.wrapping_mul(y));
-    expect_column(rt, alloc, factors, Monoid::Plus, op, (0, sum))?;
-    expect_column(rt, alloc, factors, Monoid::Times, op, (0, product))?;
-    expect_column(rt, alloc, factors, Monoid::Min, op, (0, x.min(y)))?;
-    expect_column(rt, alloc, factors, Monoid::Max, op, (0, x.max(y)))
+    expect_number(rt, alloc, tables, Monoid::Plus, op, 0, sum)?;
+    expect_number(rt, alloc, tables, Monoid::Times, op, 0, product)?;
+    expect_number(rt, alloc, tables, Monoid::Min, op, 0, x.min(y))?;
+    expect_number(rt, alloc, tables, Monoid::Max, op, 0, x.max(y))
 }
 
 #[test]
-fn each_semiring_of_numbers_folds_the_products_that_there_are(rt: HostRuntime) -> Result<(), Fail> {
-    let factors = factors_of(rt.alloc(), Domain::Uint64, &NUMBERS, &NUMBERS_TIMES)?;
+fn each_semiring_of_numbers_folds_the_products_that_there_are(
+    rt: HostRuntime,
+) -> Result<(), AllocError> {
+    let tables = tables_of(&[], &[], &NUMBERS, &NUMBERS_TIMES);
     for row in &PRODUCTS {
-        expect_folds_of_numbers(&rt, rt.alloc(), &factors, *row)?;
+        expect_folds_of_numbers(&rt, rt.alloc(), &tables, *row)?;
     }
     Ok(())
 }
@@ -128,23 +99,23 @@ const FOLDS: [(BinaryOp, u64, u64, u64); 6] = [
 fn expect_folds_of_truths(
     rt: &impl Abort,
     alloc: Global,
-    factors: &Factors,
+    tables: &Tables,
     row: (BinaryOp, u64, u64, u64),
 ) -> Result<(), AllocError> {
     let (op, land, lxor, lxnor) = row;
-    expect_column(rt, alloc, factors, Monoid::Lor, op, (1, 1))?;
-    expect_column(rt, alloc, factors, Monoid::Land, op, (1, land))?;
-    expect_column(rt, alloc, factors, Monoid::Lxor, op, (1, lxor))?;
-    expect_column(rt, alloc, factors, Monoid::Lxnor, op, (1, lxnor))
+    expect_number(rt, alloc, tables, Monoid::Lor, op, 1, 1)?;
+    expect_number(rt, alloc, tables, Monoid::Land, op, 1, land)?;
+    expect_number(rt, alloc, tables, Monoid::Lxor, op, 1, lxor)?;
+    expect_number(rt, alloc, tables, Monoid::Lxnor, op, 1, lxnor)
 }
 
 #[test]
 fn each_semiring_of_truth_values_folds_the_products_that_there_are(
     rt: HostRuntime,
-) -> Result<(), Fail> {
-    let factors = factors_of(rt.alloc(), Domain::Bool, &TRUTHS, &TRUTHS_TIMES)?;
+) -> Result<(), AllocError> {
+    let tables = tables_of(&[], &[], &TRUTHS, &TRUTHS_TIMES);
     for row in &FOLDS {
-        expect_folds_of_truths(&rt, rt.alloc(), &factors, *row)?;
+        expect_folds_of_truths(&rt, rt.alloc(), &tables, *row)?;
     }
     Ok(())
 }
@@ -187,9 +158,8 @@ fn expect_large_column(rt: &impl Abort, alloc: Global, u: &SparseVector) -> Resu
 #[test]
 fn one_vector_of_the_largest_size_may_be_output_mask_and_input(
     rt: HostRuntime,
-) -> Result<(), Fail> {
+) -> Result<(), AllocError> {
     let tuples = [(0, 1), (LAST, 5)];
     let u = vector_of_tuples(rt.alloc(), Domain::Uint64, 4_294_967_295, &tuples)?;
-    expect_large_column(&rt, rt.alloc(), &u)?;
-    Ok(())
+    expect_large_column(&rt, rt.alloc(), &u)
 }

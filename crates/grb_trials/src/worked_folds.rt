@@ -1,5 +1,6 @@
 //! Reductions worked by hand: of rows, and to totals.
 ghost use Rattle.std.specs.Prelude.{◌≡◌, true};
+ghost use Rattle.grb_core.specs.Contents.{IsDimension};
 ghost use Rattle.grb_core.specs.declared.domain.Domain.TheVariants as domains;
 
 use crate::choices::plain_product;
@@ -12,7 +13,6 @@ use grb_products::{reduce_matrix, reduce_vector};
 use grb_sparse::{SparseMatrix, SparseVector};
 use std::alloc::{AllocError, Global};
 use std::process::Abort;
-use std::test::Fail;
 
 /// The largest dimension.
 const SIZE: u64 = 4_294_967_295;
@@ -34,7 +34,7 @@ fn folds(
     requires rows { a.now.matrix.nrows ≡ 4294967295 }
 {
     let choice = plain_product(rt, monoid, monoid.op());
-    same_domain(rt, choice.domain, a.domain(), "the fold");
+    same_domain(rt, choice.domain, a.domain());
     let w = SparseVector::new(alloc, choice.domain, SIZE);
     folds_of(alloc, choice, &w, &w, a)
 }
@@ -54,13 +54,20 @@ fn expect_fold(
     Ok(())
 }
 
+/// A monoid, and its fold of row 0.
+const FOLDS: [(Monoid, u64); 4] = [
+    (Monoid::Plus, 7),
+    (Monoid::Times, 10),
+    (Monoid::Min, 2),
+    (Monoid::Max, 5),
+];
+
 #[test]
-fn each_row_that_stores_something_has_its_fold(rt: HostRuntime) -> Result<(), Fail> {
+fn each_row_that_stores_something_has_its_fold(rt: HostRuntime) -> Result<(), AllocError> {
     let a = matrix_of_tuples(rt.alloc(), Domain::Uint64, SIZE, 3, &ROWS)?;
-    expect_fold(&rt, rt.alloc(), &a, Monoid::Plus, 7)?;
-    expect_fold(&rt, rt.alloc(), &a, Monoid::Times, 10)?;
-    expect_fold(&rt, rt.alloc(), &a, Monoid::Min, 2)?;
-    expect_fold(&rt, rt.alloc(), &a, Monoid::Max, 5)?;
+    for (monoid, fold) in &FOLDS {
+        expect_fold(&rt, rt.alloc(), &a, *monoid, *fold)?;
+    }
     Ok(())
 }
 
@@ -123,30 +130,56 @@ fn expect_folds_by_structure(
 }
 
 #[test]
-fn folds_of_rows_are_written_by_accumulator_and_mask(rt: HostRuntime) -> Result<(), Fail> {
+fn folds_of_rows_are_written_by_accumulator_and_mask(rt: HostRuntime) -> Result<(), AllocError> {
     let a = matrix_of_tuples(rt.alloc(), Domain::Uint64, SIZE, 3, &ROWS)?;
-    expect_folds_by_structure(&rt, rt.alloc(), &a)?;
+    expect_folds_by_structure(&rt, rt.alloc(), &a)
+}
+
+/// A monoid, and a total by it.
+type Row = (Monoid, Value);
+
+/// The totals of a vector.
+fn expect_totals_of_vector(
+    rt: &impl Abort,
+    alloc: Global,
+    domain: Domain,
+    size: u64,
+    tuples: &[(u64, u64)],
+    rows: &[Row],
+) -> Result<(), AllocError>
+    requires { IsDimension size }
+{
+    let u = vector_of_tuples(alloc, domain, size, tuples)?;
+    for (monoid, total) in rows {
+        same_domain(rt, monoid.domain(), domain);
+        same(rt, reduce_vector(&u, *monoid), *total, *monoid);
+    }
     Ok(())
 }
 
-fn expect_total_of_vector(rt: &impl Abort, u: &SparseVector, monoid: Monoid, total: Value)
-    requires { u.now.assembled ≡ true }
+/// The totals of a matrix.
+fn expect_totals_of_matrix(
+    rt: &impl Abort,
+    alloc: Global,
+    domain: Domain,
+    dims: (u64, u64),
+    tuples: &[(u64, u64, u64)],
+    rows: &[Row],
+) -> Result<(), AllocError>
+    requires rows { IsDimension dims.0 }
+    requires columns { IsDimension dims.1 }
 {
-    same_domain(rt, monoid.domain(), u.domain(), monoid);
-    same(rt, reduce_vector(u, monoid), total, monoid);
-}
-
-fn expect_total_of_matrix(rt: &impl Abort, a: &SparseMatrix, monoid: Monoid, total: Value)
-    requires { a.now.assembled ≡ true }
-{
-    same_domain(rt, monoid.domain(), a.domain(), monoid);
-    same(rt, reduce_matrix(a, monoid), total, monoid);
+    let a = matrix_of_tuples(alloc, domain, dims.0, dims.1, tuples)?;
+    for (monoid, total) in rows {
+        same_domain(rt, monoid.domain(), domain);
+        same(rt, reduce_matrix(&a, *monoid), *total, *monoid);
+    }
+    Ok(())
 }
 
 const LARGEST: u64 = 18_446_744_073_709_551_615;
 
-/// A monoid, and a total by it.
-type Row = (Monoid, Value);
+const NUMBERS: [(u64, u64); 3] = [(0, 7), (5, 3), (LAST, LARGEST)];
 
 const TOTALS_OF_NUMBERS: [Row; 4] = [
     (Monoid::Plus, Value::Uint64(9)),
@@ -156,13 +189,9 @@ const TOTALS_OF_NUMBERS: [Row; 4] = [
 ];
 
 #[test]
-fn a_total_of_numbers_combines_what_is_stored_alone(rt: HostRuntime) -> Result<(), Fail> {
-    let tuples = [(0, 7), (5, 3), (LAST, LARGEST)];
-    let u = vector_of_tuples(rt.alloc(), Domain::Uint64, SIZE, &tuples)?;
-    for (monoid, total) in &TOTALS_OF_NUMBERS {
-        expect_total_of_vector(&rt, &u, *monoid, *total);
-    }
-    Ok(())
+fn a_total_of_numbers_combines_what_is_stored_alone(rt: HostRuntime) -> Result<(), AllocError> {
+    let totals = &TOTALS_OF_NUMBERS;
+    expect_totals_of_vector(&rt, rt.alloc(), Domain::Uint64, SIZE, &NUMBERS, totals)
 }
 
 const TOTALS_OF_NO_NUMBERS: [Row; 4] = [
@@ -173,11 +202,9 @@ const TOTALS_OF_NO_NUMBERS: [Row; 4] = [
 ];
 
 #[test]
-fn a_total_of_no_numbers_is_the_identity(rt: HostRuntime) {
-    let a = SparseMatrix::new(rt.alloc(), Domain::Uint64, 1, SIZE);
-    for (monoid, total) in &TOTALS_OF_NO_NUMBERS {
-        expect_total_of_matrix(&rt, &a, *monoid, *total);
-    }
+fn a_total_of_no_numbers_is_the_identity(rt: HostRuntime) -> Result<(), AllocError> {
+    let totals = &TOTALS_OF_NO_NUMBERS;
+    expect_totals_of_matrix(&rt, rt.alloc(), Domain::Uint64, (1, SIZE), &[], totals)
 }
 
 const TOTALS_OF_NO_TRUTHS: [Row; 4] = [
@@ -188,11 +215,9 @@ const TOTALS_OF_NO_TRUTHS: [Row; 4] = [
 ];
 
 #[test]
-fn a_total_of_no_truth_values_is_the_identity(rt: HostRuntime) {
-    let u = SparseVector::new(rt.alloc(), Domain::Bool, 1);
-    for (monoid, total) in &TOTALS_OF_NO_TRUTHS {
-        expect_total_of_vector(&rt, &u, *monoid, *total);
-    }
+fn a_total_of_no_truth_values_is_the_identity(rt: HostRuntime) -> Result<(), AllocError> {
+    let totals = &TOTALS_OF_NO_TRUTHS;
+    expect_totals_of_vector(&rt, rt.alloc(), Domain::Bool, 1, &[], totals)
 }
 
 /// Three that are true, and one that is false.
@@ -206,10 +231,7 @@ const TOTALS_OF_TRUTHS: [Row; 4] = [
 ];
 
 #[test]
-fn a_total_of_truth_values_combines_all_of_them(rt: HostRuntime) -> Result<(), Fail> {
-    let a = matrix_of_tuples(rt.alloc(), Domain::Bool, 3, 3, &TRUTHS)?;
-    for (monoid, total) in &TOTALS_OF_TRUTHS {
-        expect_total_of_matrix(&rt, &a, *monoid, *total);
-    }
-    Ok(())
+fn a_total_of_truth_values_combines_all_of_them(rt: HostRuntime) -> Result<(), AllocError> {
+    let totals = &TOTALS_OF_TRUTHS;
+    expect_totals_of_matrix(&rt, rt.alloc(), Domain::Bool, (3, 3), &TRUTHS, totals)
 }

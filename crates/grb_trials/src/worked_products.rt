@@ -1,5 +1,6 @@
 //! mxm worked by hand, of a matrix with itself.
 ghost use Rattle.std.specs.Prelude.{◌≡◌, true};
+ghost use Rattle.grb_core.specs.Contents.{IsDimension};
 
 use crate::choices::plain_product;
 use crate::products::multiplied;
@@ -9,7 +10,6 @@ use grb_core::{BinaryOp, Domain, Monoid};
 use grb_sparse::SparseMatrix;
 use std::alloc::{AllocError, Global};
 use std::process::Abort;
-use std::test::Fail;
 
 /// The product of a matrix with itself, as another matrix, stores these numbers.
 fn expect_square(
@@ -18,16 +18,31 @@ fn expect_square(
     a: &SparseMatrix,
     parts: (Monoid, BinaryOp),
     want: &[(u64, u64, u64)],
-    case: usize,
 ) -> Result<(), AllocError>
     requires assembled { a.now.assembled ≡ true }
     requires square { a.now.matrix.ncols ≡ a.now.matrix.nrows }
 {
     let choice = plain_product(rt, parts.0, parts.1);
-    same_domain(rt, choice.domain, a.domain(), "the product");
+    same_domain(rt, choice.domain, a.domain());
     let made = multiplied(rt, alloc, choice, a, a, a, a)?;
-    expect_matrix_tuples(rt, &made, choice.domain, want, case);
+    expect_matrix_tuples(rt, &made, choice.domain, want, 0);
     Ok(())
+}
+
+/// The product of the matrix of these tuples with itself.
+fn expect_square_of(
+    rt: &impl Abort,
+    alloc: Global,
+    domain: Domain,
+    size: u64,
+    parts: (Monoid, BinaryOp),
+    tuples: &[(u64, u64, u64)],
+    want: &[(u64, u64, u64)],
+) -> Result<(), AllocError>
+    requires { IsDimension size }
+{
+    let a = matrix_of_tuples(alloc, domain, size, size, tuples)?;
+    expect_square(rt, alloc, &a, parts, want)
 }
 
 /// The matrix (1, 2; -, 3).
@@ -52,50 +67,49 @@ const SQUARES: [Row; 3] = [
 ];
 
 #[test]
-fn numbers_by_three_semirings(rt: HostRuntime) -> Result<(), Fail> {
-    let a = matrix_of_tuples(rt.alloc(), Domain::Uint64, 2, 2, &NUMBERS)?;
-    for (case, (parts, want)) in SQUARES.iter().enumerate() {
-        expect_square(&rt, rt.alloc(), &a, *parts, want, case)?;
+fn numbers_by_three_semirings(rt: HostRuntime) -> Result<(), AllocError> {
+    for (parts, want) in &SQUARES {
+        expect_square_of(&rt, rt.alloc(), Domain::Uint64, 2, *parts, &NUMBERS, want)?;
     }
     Ok(())
 }
 
+const CYCLE: [(u64, u64, u64); 2] = [(0, 1, 1), (1, 0, 1)];
+
+const BOTH: [(u64, u64, u64); 2] = [(0, 0, 1), (1, 1, 1)];
+
 #[test]
-fn a_cycle_of_truth_values_comes_back_after_two_steps(rt: HostRuntime) -> Result<(), Fail> {
-    let a = matrix_of_tuples(rt.alloc(), Domain::Bool, 2, 2, &[(0, 1, 1), (1, 0, 1)])?;
+fn a_cycle_of_truth_values_comes_back_after_two_steps(rt: HostRuntime) -> Result<(), AllocError> {
     let parts = (Monoid::Lor, BinaryOp::Land);
-    expect_square(&rt, rt.alloc(), &a, parts, &[(0, 0, 1), (1, 1, 1)], 0)?;
-    Ok(())
+    expect_square_of(&rt, rt.alloc(), Domain::Bool, 2, parts, &CYCLE, &BOTH)
 }
+
+/// The largest dimension.
+const SIZE: u64 = 4_294_967_295;
 
 /// The last index of the largest dimension.
 const LAST: u64 = 4_294_967_294;
 
-/// A matrix of numbers of the largest dimensions.
-fn expect_large_square(
-    rt: &impl Abort,
-    alloc: Global,
-    parts: (Monoid, BinaryOp),
-    tuples: &[(u64, u64, u64)],
-    want: &[(u64, u64, u64)],
-) -> Result<(), AllocError> {
-    let size = 4_294_967_295;
-    let a = matrix_of_tuples(alloc, Domain::Uint64, size, size, tuples)?;
-    expect_square(rt, alloc, &a, parts, want, 0)
-}
+const CORNERS: [(u64, u64, u64); 2] = [(0, LAST, 2), (LAST, 0, 3)];
+
+const ENDS: [(u64, u64, u64); 2] = [(0, 0, 6), (LAST, LAST, 6)];
 
 #[test]
-fn the_last_row_and_column_are_multiplied(rt: HostRuntime) -> Result<(), Fail> {
+fn the_last_row_and_column_are_multiplied(rt: HostRuntime) -> Result<(), AllocError> {
     let parts = (Monoid::Plus, BinaryOp::Times);
-    let tuples = [(0, LAST, 2), (LAST, 0, 3)];
-    let want = [(0, 0, 6), (LAST, LAST, 6)];
-    expect_large_square(&rt, rt.alloc(), parts, &tuples, &want)?;
-    Ok(())
+    expect_square_of(
+        &rt,
+        rt.alloc(),
+        Domain::Uint64,
+        SIZE,
+        parts,
+        &CORNERS,
+        &ENDS,
+    )
 }
 
 #[test]
-fn a_matrix_without_entries_has_no_product(rt: HostRuntime) -> Result<(), Fail> {
+fn a_matrix_without_entries_has_no_product(rt: HostRuntime) -> Result<(), AllocError> {
     let parts = (Monoid::Min, BinaryOp::Plus);
-    expect_large_square(&rt, rt.alloc(), parts, &[], &[])?;
-    Ok(())
+    expect_square_of(&rt, rt.alloc(), Domain::Uint64, SIZE, parts, &[], &[])
 }

@@ -1,11 +1,15 @@
 use crate::tests::gates::CountingGate;
-use crate::tests::runs::{expect_lines, sink_of, source_with};
+use crate::tests::runs::{ScriptRow, expect_each, sink_of, source_with};
 use crate::tests::same::same;
 use crate::tests::sources::NamedFile;
 use grb_driver::{OpenGate, RunFault, SourceFault, run_script};
 use grb_market::{FaultKind, MarketFault};
+use std::alloc::Global;
+use std::process::Abort;
+use std::sync::Wait;
 use std::sync::atomic::Ordering;
 use std::test::Fail;
+use std::thread::Threads;
 
 /// A file of three rows and columns, with an entry on each side of the diagonal and one on it.
 const SYMMETRIC: &[u8] = b"%%MatrixMarket matrix coordinate pattern symmetric\n3 3 2\n2 1\n3 3\n";
@@ -41,46 +45,44 @@ const FILES: [NamedFile<'static>; 9] = [
     ("memory.mtx", Err(SourceFault::OutOfMemory)),
 ];
 
+static LOADS: [ScriptRow; 6] = [
+    (
+        4096,
+        "load P s.mtx\nnvals P\nget P 0 1\n",
+        "ok\ncount 3\nvalue true\n",
+    ),
+    (
+        4096,
+        "vector v bool 1\nload A ../a/i.mtx\nsize A\nget A 0 2\nget A 1 0\nget A 0 0\nset A 0 0 1\nnvals A\n",
+        "ok\nok\nsize 2 3\nvalue 7\nvalue 0\nnone\nok\ncount 3\n",
+    ),
+    (
+        4096,
+        "load A s.mtx\nload B s.mtx\nset A 0 0 true\nnvals A\nnvals B\ntotal B lor\nbuild B lor\n",
+        "ok\nok\nok\ncount 4\ncount 3\nvalue true\nGrB_OUTPUT_NOT_EMPTY\n",
+    ),
+    // the text of examples/load.grb, and the lines of examples/load.out
+    (
+        4096,
+        "# a square and one of its diagonals, from a file; its path begins in the folder where the program runs, here crates/grbrun\nload A ../../examples/square.mtx\nsize A\nnvals A\nget A 0 2\nget A 1 3\n\n# the neighbours of vertex 1\nvector v bool 4\nset v 1 true\nvector w bool 4\nmxv w A v lor.land\nnvals w\nget w 0\nget w 3\n\n# each edge lies in a triangle, and without the diagonal none does\nmatrix T bool 4 4\nmxm T A A lor.land mask A structure\nnvals T\nremove A 0 2\nremove A 2 0\nmxm T A A lor.land mask A structure replace\nnvals T\n",
+        "ok\nsize 4 4\ncount 10\nvalue true\nnone\nok\nok\nok\nok\ncount 2\nvalue true\nnone\nok\nok\ncount 10\nok\nok\nok\ncount 0\n",
+    ),
+    // the build finds no room, and then not even the matrix does
+    (
+        1,
+        "load A s.mtx\nnvals A\nsize A\n",
+        "OrderFull\ncount 0\nsize 3 3\n",
+    ),
+    (
+        2,
+        "load A s.mtx\nload B s.mtx\nnvals A\nnvals B\nsize B\n",
+        "ok\nOrderFull\ncount 3\nGrB_UNINITIALIZED_OBJECT\nGrB_UNINITIALIZED_OBJECT\n",
+    ),
+];
+
 #[test]
 fn a_script_with_loads_prints_its_lines(rt: HostRuntime) -> Result<(), Fail> {
-    let rows = [
-        (
-            4096,
-            "load P s.mtx\nnvals P\nget P 0 1\n",
-            "ok\ncount 3\nvalue true\n",
-        ),
-        (
-            4096,
-            "vector v bool 1\nload A ../a/i.mtx\nsize A\nget A 0 2\nget A 1 0\nget A 0 0\nset A 0 0 1\nnvals A\n",
-            "ok\nok\nsize 2 3\nvalue 7\nvalue 0\nnone\nok\ncount 3\n",
-        ),
-        (
-            4096,
-            "load A s.mtx\nload B s.mtx\nset A 0 0 true\nnvals A\nnvals B\ntotal B lor\nbuild B lor\n",
-            "ok\nok\nok\ncount 4\ncount 3\nvalue true\nGrB_OUTPUT_NOT_EMPTY\n",
-        ),
-        // the text of examples/load.grb, and the lines of examples/load.out
-        (
-            4096,
-            "# a square and one of its diagonals, from a file; its path begins in the folder where the program runs, here crates/grbrun\nload A ../../examples/square.mtx\nsize A\nnvals A\nget A 0 2\nget A 1 3\n\n# the neighbours of vertex 1\nvector v bool 4\nset v 1 true\nvector w bool 4\nmxv w A v lor.land\nnvals w\nget w 0\nget w 3\n\n# each edge lies in a triangle, and without the diagonal none does\nmatrix T bool 4 4\nmxm T A A lor.land mask A structure\nnvals T\nremove A 0 2\nremove A 2 0\nmxm T A A lor.land mask A structure replace\nnvals T\n",
-            "ok\nsize 4 4\ncount 10\nvalue true\nnone\nok\nok\nok\nok\ncount 2\nvalue true\nnone\nok\nok\ncount 10\nok\nok\nok\ncount 0\n",
-        ),
-        // the build finds no room, and then not even the matrix does
-        (
-            1,
-            "load A s.mtx\nnvals A\nsize A\n",
-            "OrderFull\ncount 0\nsize 3 3\n",
-        ),
-        (
-            2,
-            "load A s.mtx\nload B s.mtx\nnvals A\nnvals B\nsize B\n",
-            "ok\nOrderFull\ncount 3\nGrB_UNINITIALIZED_OBJECT\nGrB_UNINITIALIZED_OBJECT\n",
-        ),
-    ];
-    for (room, script, lines) in rows {
-        expect_lines(&rt, rt.alloc(), room, script, &FILES, lines)?;
-    }
-    Ok(())
+    expect_each(&rt, rt.alloc(), &LOADS, &FILES)
 }
 
 fn load(line: u64, file_line: u64, kind: FaultKind) -> RunFault {
@@ -93,10 +95,25 @@ fn load(line: u64, file_line: u64, kind: FaultKind) -> RunFault {
     }
 }
 
+/// A script ends with this fault, before its first statement.
+fn expect_fault<R: Abort + Threads + Wait + Sync>(
+    rt: &R,
+    alloc: Global,
+    script: &str,
+    fault: &RunFault,
+) {
+    let mut source = source_with(alloc, script, &FILES);
+    let mut sink = sink_of(alloc, 1000, 1000);
+    let gate = CountingGate::new();
+    let result = run_script(rt, alloc, 4096, &mut source, &mut sink, &gate);
+    same(rt, result.as_ref().err(), Some(fault), ("the end", script));
+    same(rt, sink.taken.len(), 0, ("bytes written", script));
+    let statements = gate.before.load(Ordering::SeqCst);
+    same(rt, statements, 0, ("statements", script));
+}
+
 #[test]
-fn the_first_fault_of_the_script_or_else_of_its_loads_is_answered(
-    rt: HostRuntime,
-) -> Result<(), Fail> {
+fn the_first_fault_of_the_script_or_else_of_its_loads_is_answered(rt: HostRuntime) {
     let rows = [
         ("load P upper.mtx\n", load(1, 3, FaultKind::UpperTriangle)),
         ("load A short.mtx\n", load(1, 5, FaultKind::TooFew)),
@@ -143,21 +160,23 @@ fn the_first_fault_of_the_script_or_else_of_its_loads_is_answered(
             },
         ),
     ];
-    for (script, fault) in rows {
-        let mut source = source_with(rt.alloc(), script, &FILES);
-        let mut sink = sink_of(rt.alloc(), 1000, 1000);
-        let gate = CountingGate::new();
-        let result = run_script(&rt, rt.alloc(), 4096, &mut source, &mut sink, &gate);
-        same(&rt, &result, &Err(fault), ("the end", script));
-        same(&rt, sink.taken.len(), 0, ("bytes written", script));
-        same(
-            &rt,
-            gate.before.load(Ordering::SeqCst),
-            0,
-            ("statements", script),
-        );
+    for (script, fault) in &rows {
+        expect_fault(&rt, rt.alloc(), *script, fault);
     }
-    Ok(())
+}
+
+/// A script meets so many faults of its files, of each kind.
+fn expect_counts<R: Abort + Threads + Wait + Sync>(
+    rt: &R,
+    alloc: Global,
+    script: &str,
+    counts: (u64, u64, u64),
+) {
+    let mut source = source_with(alloc, script, &FILES);
+    let mut sink = sink_of(alloc, 1000, 1000);
+    let _ = run_script(rt, alloc, 4096, &mut source, &mut sink, &OpenGate);
+    let met = (source.cannot_read, source.too_long, source.out_of_memory);
+    same(rt, met, counts, script);
 }
 
 #[test]
@@ -168,12 +187,8 @@ fn each_fault_of_a_file_is_counted_once(rt: HostRuntime) {
         ("load A memory.mtx\n", (0, 0, 1)),
         ("load A upper.mtx\nload B huge.mtx\n", (0, 0, 0)),
     ];
-    for (script, counts) in rows {
-        let mut source = source_with(rt.alloc(), script, &FILES);
-        let mut sink = sink_of(rt.alloc(), 1000, 1000);
-        let _ = run_script(&rt, rt.alloc(), 4096, &mut source, &mut sink, &OpenGate);
-        let met = (source.cannot_read, source.too_long, source.out_of_memory);
-        same(&rt, met, counts, script);
+    for (script, counts) in &rows {
+        expect_counts(&rt, rt.alloc(), *script, *counts);
     }
 }
 

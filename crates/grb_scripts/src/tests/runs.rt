@@ -74,3 +74,20 @@ pub(super) fn expect_lines<R: Abort + Threads + Wait + Sync>(
     same(rt, sink.failures, 0, ("failures", room, script));
     Ok(())
 }
+
+/// A room, a script, and the lines that it prints.
+pub(super) type ScriptRow = (u32, &'static str, &'static str);
+
+/// Each of these scripts, which run with these files, writes its lines.
+pub(super) fn expect_each<R: Abort + Threads + Wait + Sync>(
+    rt: &R,
+    alloc: Global,
+    rows: &[ScriptRow],
+    files: &[NamedFile<'_>],
+) -> Result<(), Fail> {
+    for (room, script, lines) in rows {
+        assert!(rt; *room > 0 && *room <= 4096);
+        expect_lines(rt, alloc, *room, *script, files, *lines)?;
+    }
+    Ok(())
+}

@@ -2,6 +2,8 @@ use crate::tests::same::same;
 use grb_command::{Options, options, status_of_run, status_of_words};
 use grb_driver::RunFault;
 use grb_script::FaultKind;
+use std::alloc::{AllocError, Global};
+use std::process::Abort;
 use std::test::Fail;
 
 const HELP: &str = "Runs a script of GraphBLAS calls on one shared store\n\n\
@@ -40,10 +42,22 @@ fn words_give_a_room_and_a_path(rt: HostRuntime) -> Result<(), Fail> {
         (&["--", "--room"], 4096, "--room"),
         (&["-"], 4096, "-"),
     ];
-    for (words, room, path) in rows {
-        let given = options(rt.alloc(), words)?;
-        same(&rt, given, Options { room, path }, words);
+    for (words, room, path) in &rows {
+        let given = options(rt.alloc(), *words)?;
+        let (room, path) = (*room, *path);
+        same(&rt, given, Options { room, path }, *words);
     }
+    Ok(())
+}
+
+/// The words of a line are no options, and end the program with this status.
+fn expect_status(rt: &impl Abort, alloc: Global, line: &str, status: u8) -> Result<(), AllocError> {
+    let words: Vec<&str> = line.split_whitespace().collect(alloc)?;
+    let met = match options(alloc, &words) {
+        Ok(_) => None,
+        Err(error) => Some(status_of_words(&error)),
+    };
+    same(rt, met, Some(status), line);
     Ok(())
 }
 
@@ -65,13 +79,24 @@ fn other_words_are_faulty_or_ask_for_help(rt: HostRuntime) -> Result<(), Fail> {
         ("--help", 0),
         ("-h", 0),
     ];
-    for (line, status) in rows {
-        let words: Vec<&str> = line.split_whitespace().collect(rt.alloc())?;
-        match options(rt.alloc(), &words) {
-            Ok(given) => assert!(rt; false, "{line} gives {given:?}"),
-            Err(error) => same(&rt, status_of_words(&error), status, line),
-        }
+    for (line, status) in &rows {
+        expect_status(&rt, rt.alloc(), *line, *status)?;
     }
+    Ok(())
+}
+
+/// What is told of the words of a line, which are no options.
+fn told_of(alloc: Global, line: &str) -> Result<Option<String>, AllocError> {
+    let words: Vec<&str> = line.split_whitespace().collect(alloc)?;
+    match options(alloc, &words) {
+        Ok(_) => Ok(None),
+        Err(error) => Ok(Some(format!(in alloc; "{error}")?)),
+    }
+}
+
+fn expect_told(rt: &impl Abort, alloc: Global, line: &str, text: &str) -> Result<(), AllocError> {
+    let told = told_of(alloc, line)?;
+    same(rt, told.as_deref(), Some(text), line);
     Ok(())
 }
 
@@ -84,15 +109,8 @@ fn help_and_what_is_wrong_are_told_in_words(rt: HostRuntime) -> Result<(), Fail>
         ("--room x x", ROOM_OF_X),
         ("x y", UNEXPECTED_Y),
     ];
-    for (line, text) in rows {
-        let words: Vec<&str> = line.split_whitespace().collect(rt.alloc())?;
-        match options(rt.alloc(), &words) {
-            Ok(given) => assert!(rt; false, "{line} gives {given:?}"),
-            Err(error) => {
-                let told = format!(in rt.alloc(); "{error}")?;
-                same(&rt, told.as_str(), text, line);
-            }
-        }
+    for (line, text) in &rows {
+        expect_told(&rt, rt.alloc(), *line, *text)?;
     }
     Ok(())
 }

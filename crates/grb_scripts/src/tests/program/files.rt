@@ -1,9 +1,21 @@
+ghost use Rattle.grb_driver.specs.Source.{AreCountable};
+ghost use Rattle.grb_command.specs.Files.{counts_of};
+
 use crate::tests::same::same;
 use grb_command::{FileSource, read_all};
 use grb_driver::{Source, SourceFault};
 use std::io;
 use std::io::{ErrorKind, Read};
-use std::test::Fail;
+use std::process::Abort;
+use std::rt::Files;
+
+/// What was read, or why nothing was.
+fn lent(read: &Result<Vec<u8>, SourceFault>) -> Result<&[u8], SourceFault> {
+    match read {
+        Ok(bytes) => Ok(bytes.as_slice()),
+        Err(fault) => Err(*fault),
+    }
+}
 
 #[test]
 fn a_reader_is_read_to_its_end_or_to_the_limit(rt: HostRuntime) {
@@ -15,16 +27,13 @@ fn a_reader_is_read_to_its_end_or_to_the_limit(rt: HostRuntime) {
         (b"abc", 4, true),
     ];
     for (bytes, limit, is_read) in rows {
-        match read_all(rt.alloc(), bytes, limit) {
-            Ok(read) => assert!(rt;
-                is_read && read.as_slice() == bytes,
-                "{bytes:?} within {limit}"
-            ),
-            Err(fault) => assert!(rt;
-                !is_read && fault == SourceFault::TooLong,
-                "{bytes:?} within {limit}"
-            ),
-        }
+        let wanted = if is_read {
+            Ok(bytes)
+        } else {
+            Err(SourceFault::TooLong)
+        };
+        let read = read_all(rt.alloc(), bytes, limit);
+        same(&rt, lent(&read), wanted, (bytes, limit));
     }
 }
 
@@ -58,36 +67,62 @@ fn a_failing_reader_gives_nothing(rt: HostRuntime) {
             has_given: false,
             kind,
         };
-        match read_all(rt.alloc(), reader, 100) {
-            Ok(_) => assert!(rt; false, "read {kind:?}"),
-            Err(met) => same(&rt, met, fault, kind),
-        }
+        let read = read_all(rt.alloc(), reader, 100);
+        same(&rt, lent(&read), Err(fault), kind);
+    }
+}
+
+/// How many bytes the script has, or why it was not read.
+fn length_of_script<R: Files + AllocGlobal>(
+    rt: &impl Abort,
+    source: &mut FileSource<'_, R>,
+) -> Result<usize, SourceFault> {
+    expect_few_faults(rt, source);
+    length_of(source.script())
+}
+
+/// How many bytes the file of this path has, or why it was not read.
+fn length_of_file<R: Files + AllocGlobal>(
+    rt: &impl Abort,
+    source: &mut FileSource<'_, R>,
+    path: &str,
+) -> Result<usize, SourceFault> {
+    expect_few_faults(rt, source);
+    length_of(source.file(path))
+}
+
+fn expect_few_faults<R: Files + AllocGlobal>(rt: &impl Abort, source: &FileSource<'_, R>)
+    ensures { AreCountable (counts_of source.now) }
+{
+    assert!(rt; source.cannot_read < 10);
+    assert!(rt; source.too_long < 10);
+    assert!(rt; source.out_of_memory < 10);
+}
+
+/// How many bytes were read, or why none were.
+fn length_of(read: Result<Vec<u8>, SourceFault>) -> Result<usize, SourceFault> {
+    match read {
+        Ok(bytes) => Ok(bytes.len()),
+        Err(fault) => Err(fault),
     }
 }
 
 #[test]
-fn faults_are_counted_one_by_one(rt: HostRuntime) -> Result<(), Fail> {
+fn faults_are_counted_one_by_one(rt: HostRuntime) {
     let mut source = FileSource::new(&rt, "/dev/null");
-    assert!(rt; source.script()?.is_empty());
-    assert!(rt;
-        matches!(
-            source.file("no such folder/x"),
-            Err(SourceFault::CannotRead)
-        )
-    );
-    assert!(rt; matches!(source.file("/"), Err(SourceFault::CannotRead)));
-    assert!(rt; source.file("/dev/null")?.is_empty());
+    let script = length_of_script(&rt, &mut source);
+    same(&rt, script, Ok(0), "the script");
+    let missing = length_of_file(&rt, &mut source, "no such folder/x");
+    same(&rt, missing, Err(SourceFault::CannotRead), "no file");
+    let folder = length_of_file(&rt, &mut source, "/");
+    same(&rt, folder, Err(SourceFault::CannotRead), "a folder");
+    let nothing = length_of_file(&rt, &mut source, "/dev/null");
+    same(&rt, nothing, Ok(0), "no bytes");
     let met = (source.cannot_read, source.too_long, source.out_of_memory);
     same(&rt, met, (2, 0, 0), "faults of the folder");
     let mut endless = FileSource::new(&rt, "/dev/zero");
-    match endless.script() {
-        Err(SourceFault::TooLong) => {}
-        other => {
-            other?;
-            assert!(rt; false, "an endless file was read");
-        }
-    }
+    let read = length_of_script(&rt, &mut endless);
+    same(&rt, read, Err(SourceFault::TooLong), "an endless file");
     let met = (endless.cannot_read, endless.too_long, endless.out_of_memory);
     same(&rt, met, (0, 1, 0), "faults of the endless file");
-    Ok(())
 }

@@ -1,5 +1,5 @@
 use Rattle.std.proofs.Common.{◌≡◌}
-use Rattle.grb_trials.proofs.tables.matrix_of.Given as goal
+use Rattle.grb_trials.proofs.tables.matrix_once.Given as goal
 
 abbrev pub invariant-places : goal.invariant-places
 invariant-places l = record {
