@@ -1,4 +1,4 @@
-//! Times the store on made data: the shared order beside the same work under one mutex, builds beside a sort, sets, and the methods of one object. It writes
+//! Times the store on made data: the shared order beside the same work under one mutex, builds beside a sort, sets, sets and reads in turn, and the methods of one object. It writes
 //! to standard output a fixed word for each check of what the timed work made, and to standard error for each line its name, the
 //! least of several runs in nanoseconds a step, and the steps of a run.
 #![tactic(auto)]
@@ -12,6 +12,7 @@ mod open;
 mod opening;
 mod sets;
 mod single;
+mod turns;
 
 use std::test::Fail;
 
@@ -21,6 +22,7 @@ fn main(rt: HostRuntime) -> Result<(), Fail> {
     fill::run(&rt)?;
     build::run(&rt)?;
     sets::run(&rt)?;
+    turns::run(&rt)?;
     objects::run(&rt)?;
     market::run(&rt)?;
     Ok(())

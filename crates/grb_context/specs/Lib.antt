@@ -7,4 +7,5 @@ pub use Rattle.grb_pass.specs.Laws
 pub use Rattle.grb_pass.specs.Learning
 pub use Rattle.grb_pass.specs.Meeting
 pub use Rattle.grb_pass.specs.Point
+pub use Rattle.grb_pass.specs.Settled
 pub use Rattle.grb_pass.specs.Statuses

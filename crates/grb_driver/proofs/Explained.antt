@@ -11,7 +11,7 @@ use Rattle.grb_call.specs.Kinds.{enters}
 use Rattle.grb_call.specs.After.{refused}
 use Rattle.grb_call.specs.History.{History, store_of}
 use Rattle.grb_context.specs.Known.{Shared, Knowing, known, IsAlone}
-use Rattle.grb_context.specs.Explains.{Answer, ground_of, history_after, IsGrounded, IsUnshown, ExplainsCall}
+use Rattle.grb_context.specs.Explains.{Answer, ground_of, history_after, IsGrounded, IsUnshown, ExplainsCall, MayLackMemory}
 use Rattle.grb_context.specs.Answered.{Promise, Answered}
 use Rattle.grb_context.proofs.Alone.{grounds-alone, known-alone, shown-alone}
 use Rattle.grb_context.proofs.Promised.{promise}
@@ -41,6 +41,15 @@ grown : (room : ℕ) (c : Call) (reply : Reply) (h : History) (e : Bool) → len
 grown room c reply h true within entered = grind (arith, common_steps)
 grown room c reply h false within entered = cc
 
+-- memory that may be refused where calls are settled may be refused where none is
+unsettled : (room settled : ℕ) (h : History) (c : Call) → MayLackMemory room settled h c → MayLackMemory room 0 h c
+unsettled room settled h c may = record {
+  by_shapes = may.by_shapes;
+  no_size = may.no_size;
+  room_left = may.room_left;
+  unsettled = λ reads. omega (arith, may.unsettled reads);
+}
+
 -- what is grounded in a history that stays within its room is the answer there
 pub IsAnswer-grounded : (room : ℕ) (old new : Knowing) (h : History) (c : Call) (a : Answer) → length (history_after 0 c a h) ≤ room → (IsUnshown new → ⊥)
     → IsGrounded room old new c a h (ground_of a) → IsAnswer room h c a
@@ -49,7 +58,7 @@ IsAnswer-grounded room old new h c (Ok reply) within shown grounds =
 IsAnswer-grounded room old new h c (Err OrderFull) within shown grounds =
     full (refused (store_of h) c) (enters c) (length h == room) _ grounds.unrefused grounds.enters (eq-eqb _ _ grounds.full)
 IsAnswer-grounded room old new h c (Err OutOfMemory) within shown grounds =
-    grounds.may
+    unsettled room old.settled h c grounds.may
 IsAnswer-grounded room old new h c (Err Panic) within shown (inl unshown) = absurd (shown unshown)
 IsAnswer-grounded room old new h c (Err Panic) within shown (inr untaken) =
     untaken.may
@@ -58,9 +67,9 @@ IsAnswer-grounded room old new h c (Err x) within shown grounds = refused_anyway
 -- a call of the one pass of a context: its answer, and what the pass knows
 pub explained : (context : Shared) (old new : Knowing) (c : Call) (a : Answer) → IsAlone old → Answered context old new c a
     → IsAnswer (room_of context.order) (known old) c a × (known new ≡ history_after 0 c a (known old)) × IsAlone new
-explained context old new c a alone promised =
+explained context old new c a alone given =
     let room : ℕ = room_of context.order in
-    let is : Promise context old new c a = promise context old new c a promised in
+    let is : Promise context old new c a = promise context old new c a given in
     let explains : ExplainsCall room old new c a = is.explains in
     let first : new.view.number ≡ 0 = explains.grown.number ∙ alone.number in
     let one : new.view.passes ≡ 1 = explains.grown.passes ∙ alone.passes in

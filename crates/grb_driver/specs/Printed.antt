@@ -73,9 +73,9 @@ abbrev pub answers_in : ℕ → Standing → List Step → List Answer
 answers_in room at [] = []
 answers_in room at (s ∷ more) = let d = done room at s in d.0 ∷ answers_in room d.1 more
 
--- the answer to a call behind these calls; memory or a record may be refused in place of it
+-- the answer to a call behind these calls; memory or a record may be refused in place of it, memory as where no call is settled
 abbrev pub IsAnswer : ℕ → History → Call → Answer → Type 0
-IsAnswer room h c (Err OutOfMemory) = MayLackMemory room h c
+IsAnswer room h c (Err OutOfMemory) = MayLackMemory room 0 h c
 IsAnswer room h c (Err Panic) = MayLackRecord room h c
 IsAnswer room h c a = a ≡ answer_in room h c
 

@@ -1,5 +1,6 @@
-//! Trials of `grb_sparse`, `grb_market`, `grb_replay` and `grb_values` by what they offer: sparse objects, also beside plain lists and
-//! after a refused allocation, Matrix Market texts, the store that a list of calls leaves, and what one object of it holds.
+//! Trials of `grb_sparse`, `grb_market`, `grb_replay`, `grb_values` and `grb_versions` by what they offer: sparse objects, also beside plain
+//! lists and after a refused allocation, Matrix Market texts, the store that a list of calls leaves, what one object of it holds, and
+//! versions of it.
 //!
 //! Nothing stands on it, and it has nothing but tests, so that the crates that it tries need not be proved a second time for them.
 #![tactic(auto)]
@@ -22,3 +23,5 @@ mod texts_written;
 mod values;
 #[cfg(test)]
 mod vectors;
+#[cfg(test)]
+mod versions;

@@ -22,7 +22,7 @@ fn change(rt: &impl Abort, a: &mut SparseMatrix, change: &Change)
     assert!(rt; j < ncols);
     match value {
         Some(value) => {
-            assert_eq!(rt; value.domain(), a.domain());
+            assert!(rt; value.domain() == a.domain());
             a.set(i, j, value);
         }
         None => a.remove(i, j),
@@ -83,113 +83,144 @@ fn expect_value(rt: &impl Abort, a: &SparseMatrix, i: u64, j: u64, value: Option
 }
 
 fn expect_dims(rt: &impl Abort, a: &SparseMatrix, nrows: u64, ncols: u64) {
-    let (rows, columns) = a.dims();
-    same(rt, rows, nrows, "the rows");
-    same(rt, columns, ncols, "the columns");
+    same(rt, a.dims(), (nrows, ncols), "the dimensions");
 }
 
-fn expect_assembled(rt: &impl Abort, a: &SparseMatrix) {
-    same(rt, a.is_assembled(), true, "assembled");
+/// It is assembled or not, and stores so many entries, of which so many changes wait.
+fn expect_counts(rt: &impl Abort, a: &SparseMatrix, is_assembled: bool, nvals: u64, pending: u64) {
+    let found = (a.is_assembled(), a.nvals(), a.pending());
+    same(rt, found, (is_assembled, nvals, pending), "the counts");
 }
 
-fn expect_counts(rt: &impl Abort, a: &SparseMatrix, nvals: u64, pending: u64) {
-    same(rt, a.nvals(), nvals, "the count");
-    same(rt, a.pending(), pending, "the changes that wait");
+/// What a test does to a matrix, or expects of it.
+#[derive(Clone, Copy)]
+enum Step {
+    Change(&'static [Change]),
+    Resize(u64, u64),
+    Assemble,
+    /// It is assembled or not, and stores so many entries, of which so many changes wait.
+    Counts(bool, u64, u64),
+    Dims(u64, u64),
+    Value(u64, u64, Option<Value>),
+    /// It is assembled, and stores these entries, in this order.
+    Entries(&'static [((u64, u64), Value)]),
 }
 
-const OUT_OF_ORDER: [Change; 5] = [
-    (2, 0, Some(Value::Uint64(20))),
-    (0, 4_294_967_294, Some(Value::Uint64(4))),
-    (0, 1, Some(Value::Uint64(1))),
-    (0, 1, Some(Value::Uint64(2))),
-    (2, 0, None),
+fn resize_to(
+    rt: &impl Abort,
+    a: &mut SparseMatrix,
+    nrows: u64,
+    ncols: u64,
+) -> Result<(), AllocError> {
+    assert!(rt; nrows >= 1 && nrows <= 4_294_967_295);
+    assert!(rt; ncols >= 1 && ncols <= 4_294_967_295);
+    a.resize(nrows, ncols)
+}
+
+fn take(
+    rt: &impl Abort,
+    alloc: Global,
+    a: &mut SparseMatrix,
+    step: Step,
+) -> Result<(), AllocError> {
+    match step {
+        Step::Change(changes) => change_all(rt, a, changes)?,
+        Step::Resize(nrows, ncols) => resize_to(rt, a, nrows, ncols)?,
+        Step::Assemble => a.assemble()?,
+        Step::Counts(is_assembled, nvals, pending) => {
+            expect_counts(rt, a, is_assembled, nvals, pending)
+        }
+        Step::Dims(nrows, ncols) => expect_dims(rt, a, nrows, ncols),
+        Step::Value(i, j, value) => expect_value(rt, a, i, j, value),
+        Step::Entries(entries) => expect_entries(rt, alloc, a, entries)?,
+    }
+    Ok(())
+}
+
+fn take_all(
+    rt: &impl Abort,
+    alloc: Global,
+    a: &mut SparseMatrix,
+    steps: &[Step],
+) -> Result<(), AllocError> {
+    for step in steps {
+        take(rt, alloc, a, *step)?;
+    }
+    Ok(())
+}
+
+static IN_ORDER: [Step; 7] = [
+    Step::Change(&[
+        (2, 0, Some(Value::Uint64(20))),
+        (0, 4_294_967_294, Some(Value::Uint64(4))),
+        (0, 1, Some(Value::Uint64(1))),
+        (0, 1, Some(Value::Uint64(2))),
+        (2, 0, None),
+    ]),
+    Step::Assemble,
+    Step::Dims(3, 4_294_967_295),
+    Step::Counts(true, 2, 0),
+    Step::Value(0, 1, Some(Value::Uint64(2))),
+    Step::Value(1, 0, None),
+    Step::Entries(&[
+        ((0, 1), Value::Uint64(2)),
+        ((0, 4_294_967_294), Value::Uint64(4)),
+    ]),
 ];
-
-const IN_ORDER: [((u64, u64), Value); 2] = [
-    ((0, 1), Value::Uint64(2)),
-    ((0, 4_294_967_294), Value::Uint64(4)),
-];
-
-fn expect_order(rt: &impl Abort, alloc: Global, a: &mut SparseMatrix) -> Result<(), AllocError> {
-    change_all(rt, a, &OUT_OF_ORDER)?;
-    a.assemble()?;
-    expect_dims(rt, a, 3, 4_294_967_295);
-    expect_counts(rt, a, 2, 0);
-    expect_value(rt, a, 0, 1, Some(Value::Uint64(2)));
-    expect_value(rt, a, 1, 0, None);
-    expect_entries(rt, alloc, a, &IN_ORDER)
-}
 
 #[test]
 fn entries_stand_by_row_and_then_by_column(rt: HostRuntime) -> Result<(), Fail> {
     let mut a = SparseMatrix::new(rt.alloc(), Domain::Uint64, 3, 4_294_967_295);
-    expect_order(&rt, rt.alloc(), &mut a)?;
+    take_all(&rt, rt.alloc(), &mut a, &IN_ORDER)?;
     Ok(())
 }
 
-const AT_ONE_PLACE: [Change; 4] = [
-    (2, 2, Some(Value::Uint64(8))),
-    (2, 2, Some(Value::Uint64(9))),
-    (2, 2, None),
-    (2, 2, Some(Value::Uint64(0))),
+static PENDING: [Step; 11] = [
+    Step::Change(&[
+        (2, 2, Some(Value::Uint64(8))),
+        (2, 2, Some(Value::Uint64(9))),
+        (2, 2, None),
+        (2, 2, Some(Value::Uint64(0))),
+    ]),
+    Step::Value(2, 2, Some(Value::Uint64(0))),
+    Step::Counts(false, 1, 4),
+    Step::Assemble,
+    Step::Value(2, 2, Some(Value::Uint64(0))),
+    Step::Counts(true, 1, 0),
+    Step::Change(&[(2, 2, None), (0, 1, Some(Value::Uint64(4)))]),
+    Step::Counts(false, 1, 1),
+    Step::Resize(2, 2),
+    Step::Assemble,
+    Step::Entries(&[((0, 1), Value::Uint64(4))]),
 ];
-
-const AT_TWO_PLACES: [Change; 2] = [(2, 2, None), (0, 1, Some(Value::Uint64(4)))];
-
-fn expect_pending_at_one_place(rt: &impl Abort, a: &mut SparseMatrix) -> Result<(), AllocError> {
-    change_all(rt, a, &AT_ONE_PLACE)?;
-    expect_value(rt, a, 2, 2, Some(Value::Uint64(0)));
-    expect_counts(rt, a, 1, 4);
-    a.assemble()?;
-    expect_value(rt, a, 2, 2, Some(Value::Uint64(0)));
-    expect_counts(rt, a, 1, 0);
-    Ok(())
-}
-
-fn expect_pending_at_two_places(
-    rt: &impl Abort,
-    alloc: Global,
-    a: &mut SparseMatrix,
-) -> Result<(), AllocError> {
-    change_all(rt, a, &AT_TWO_PLACES)?;
-    expect_counts(rt, a, 1, 1);
-    a.resize(2, 2)?;
-    a.assemble()?;
-    expect_entries(rt, alloc, a, &[((0, 1), Value::Uint64(4))])
-}
 
 #[test]
 fn pending_tuples_and_removals_are_counted_until_assembled(rt: HostRuntime) -> Result<(), Fail> {
     let mut a = SparseMatrix::new(rt.alloc(), Domain::Uint64, 3, 3);
-    expect_pending_at_one_place(&rt, &mut a)?;
-    expect_pending_at_two_places(&rt, rt.alloc(), &mut a)?;
+    take_all(&rt, rt.alloc(), &mut a, &PENDING)?;
     Ok(())
 }
 
-const AT_THE_LAST: [Change; 3] = [
-    (4_294_967_294, 4_294_967_294, Some(Value::Bool(false))),
-    (4_294_967_294, 0, Some(Value::Bool(true))),
-    (0, 4_294_967_294, Some(Value::Bool(true))),
+static AT_THE_LAST: [Step; 5] = [
+    Step::Change(&[
+        (4_294_967_294, 4_294_967_294, Some(Value::Bool(false))),
+        (4_294_967_294, 0, Some(Value::Bool(true))),
+        (0, 4_294_967_294, Some(Value::Bool(true))),
+    ]),
+    Step::Assemble,
+    Step::Entries(&[
+        ((0, 4_294_967_294), Value::Bool(true)),
+        ((4_294_967_294, 0), Value::Bool(true)),
+        ((4_294_967_294, 4_294_967_294), Value::Bool(false)),
+    ]),
+    Step::Resize(4_294_967_295, 4_294_967_294),
+    Step::Entries(&[((4_294_967_294, 0), Value::Bool(true))]),
 ];
-
-const LAST_IN_ORDER: [((u64, u64), Value); 3] = [
-    ((0, 4_294_967_294), Value::Bool(true)),
-    ((4_294_967_294, 0), Value::Bool(true)),
-    ((4_294_967_294, 4_294_967_294), Value::Bool(false)),
-];
-
-fn expect_last(rt: &impl Abort, alloc: Global, a: &mut SparseMatrix) -> Result<(), AllocError> {
-    change_all(rt, a, &AT_THE_LAST)?;
-    a.assemble()?;
-    expect_entries(rt, alloc, a, &LAST_IN_ORDER)?;
-    a.resize(4_294_967_295, 4_294_967_294)?;
-    expect_entries(rt, alloc, a, &[((4_294_967_294, 0), Value::Bool(true))])
-}
 
 #[test]
 fn the_last_row_and_column_hold_entries(rt: HostRuntime) -> Result<(), Fail> {
     let mut a = SparseMatrix::new(rt.alloc(), Domain::Bool, 4_294_967_295, 4_294_967_295);
-    expect_last(&rt, rt.alloc(), &mut a)?;
+    take_all(&rt, rt.alloc(), &mut a, &AT_THE_LAST)?;
     Ok(())
 }
 
@@ -225,14 +256,20 @@ fn expect_lists(rt: &impl Abort, lists: &FlatRows)
     same(rt, lists.numbers(), &[10, 20, 30], "the numbers");
 }
 
+fn expect_lent(rt: &impl Abort, a: &SparseMatrix)
+    requires { a.now.matrix.domain ≡ Domain.Uint64 }
+{
+    assert!(rt; a.is_assembled());
+    let lists = a.lists();
+    expect_lists(rt, lists);
+    expect_row(rt, lists, 0, &[0, 8], &[10, 20]);
+    expect_row(rt, lists, 1, &[3], &[30]);
+}
+
 #[test]
 fn kernels_are_lent_whole_lists_and_single_rows(rt: HostRuntime) -> Result<(), Fail> {
     let a = with_two_rows(rt.alloc())?;
-    assert!(rt; a.is_assembled());
-    let lists = a.lists();
-    expect_lists(&rt, lists);
-    expect_row(&rt, lists, 0, &[0, 8], &[10, 20]);
-    expect_row(&rt, lists, 1, &[3], &[30]);
+    expect_lent(&rt, &a);
     Ok(())
 }
 
@@ -255,7 +292,7 @@ fn expect_row_alone(rt: &impl Abort, alloc: Global, a: &SparseMatrix) -> Result<
     let seen = seen_in_row(alloc, a, 1)?;
     let entries = [(0, Value::Uint64(7)), (2, Value::Uint64(5))];
     same(rt, seen.as_slice(), entries.as_slice(), "row 1");
-    expect_counts(rt, a, 4, 0);
+    expect_counts(rt, a, true, 4, 0);
     Ok(())
 }
 
@@ -274,7 +311,7 @@ fn expect_row_of_a_copy(
 fn a_row_has_its_columns_alone(rt: HostRuntime) -> Result<(), Fail> {
     let mut a = with_the_larger(rt.alloc())?;
     expect_row_of_a_copy(&rt, rt.alloc(), &mut a)?;
-    expect_counts(&rt, &a, 0, 0);
+    expect_counts(&rt, &a, true, 0, 0);
     Ok(())
 }
 
@@ -290,20 +327,19 @@ fn with_three_entries(alloc: Global) -> Result<SparseMatrix, AllocError> {
     Ok(a)
 }
 
-fn expect_first_alone(rt: &impl Abort, a: &SparseMatrix) {
-    same(rt, a.domain(), Domain::Bool, "the domain");
-    expect_assembled(rt, a);
-    expect_counts(rt, a, 1, 0);
-    expect_value(rt, a, 0, 0, Some(Value::Bool(true)));
-    expect_value(rt, a, 0, 1, None);
-}
+static FIRST_ALONE: [Step; 5] = [
+    Step::Resize(1, 1),
+    Step::Resize(2, 2),
+    Step::Counts(true, 1, 0),
+    Step::Value(0, 0, Some(Value::Bool(true))),
+    Step::Value(0, 1, None),
+];
 
 #[test]
 fn a_resize_loses_for_good(rt: HostRuntime) -> Result<(), Fail> {
     let mut a = with_three_entries(rt.alloc())?;
-    a.resize(1, 1)?;
-    a.resize(2, 2)?;
-    expect_first_alone(&rt, &a);
+    take_all(&rt, rt.alloc(), &mut a, &FIRST_ALONE)?;
+    same(&rt, a.domain(), Domain::Bool, "the domain");
     Ok(())
 }
 
@@ -333,12 +369,11 @@ fn a_refused_build_changes_nothing(rt: HostRuntime) -> Result<(), Fail> {
     let mut a = SparseMatrix::new(rt.alloc(), Domain::Uint64, 2, 10);
     if a.build(&tuples, Monoid::Plus).is_err() {
         expect_value(&rt, &a, 1, 2, None);
-        expect_counts(&rt, &a, 0, 0);
-        expect_assembled(&rt, &a);
+        expect_counts(&rt, &a, true, 0, 0);
         a.build(&tuples, Monoid::Plus)?;
     }
     expect_value(&rt, &a, 1, 2, Some(Value::Uint64(9)));
-    expect_counts(&rt, &a, 1, 0);
+    expect_counts(&rt, &a, true, 1, 0);
     Ok(())
 }
 
@@ -349,7 +384,7 @@ fn reserve(rt: &impl Abort, a: &mut SparseMatrix, n: u64) -> Result<(), AllocErr
 {
     if a.reserve_pending(n).is_err() {
         expect_one_entry(rt, a);
-        expect_assembled(rt, a);
+        same(rt, a.is_assembled(), true, "assembled");
         a.reserve_pending(n)?;
     }
     Ok(())
@@ -359,7 +394,7 @@ fn expect_refused_reservation(rt: &impl Abort, a: &mut SparseMatrix) -> Result<(
     // more places than any memory holds
     assert!(rt; a.reserve_pending(0xffff_ffff_ffff_ffff).is_err());
     expect_one_entry(rt, a);
-    expect_assembled(rt, a);
+    same(rt, a.is_assembled(), true, "assembled");
     reserve(rt, a, 1_000)?;
     change(rt, a, &(0, 9, Some(Value::Uint64(7))));
     expect_value(rt, a, 0, 9, Some(Value::Uint64(7)));
@@ -414,11 +449,11 @@ fn expect_refused_changes(rt: &impl Abort, a: &mut SparseMatrix) -> Result<(), A
     change(rt, a, &(0, 9, None));
     assemble(rt, a)?;
     expect_one_entry(rt, a);
-    expect_assembled(rt, a);
+    same(rt, a.is_assembled(), true, "assembled");
     resize(rt, a)?;
     expect_dims(rt, a, 2, 2);
     expect_value(rt, a, 1, 2, None);
-    expect_counts(rt, a, 0, 0);
+    expect_counts(rt, a, true, 0, 0);
     Ok(())
 }
 

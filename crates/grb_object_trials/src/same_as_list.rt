@@ -218,16 +218,37 @@ fn change_vector(
     set_vector(v, list, i, x)
 }
 
+/// After a change that is drawn, the vector and the list are the same.
+fn same_after_change_of_vector(
+    rt: &impl Abort,
+    v: &mut SparseVector,
+    list: &mut [Option<u64>],
+    draw: &mut Draw,
+) -> Result<(), AllocError> {
+    change_vector(v, list, draw)?;
+    same_vector(rt, v, list);
+    same_vector_entries(rt, v, list);
+    Ok(())
+}
+
+/// A vector that begins as a list of no entries does, and the list, after each of many changes.
+fn same_as_vector(
+    rt: &impl Abort,
+    alloc: Global,
+    list: &mut [Option<u64>],
+) -> Result<(), AllocError> {
+    let mut draw = Draw { state: 20_261_122 };
+    let mut v = SparseVector::new(alloc, Domain::Uint64, SIDE);
+    for _ in 0..10_000 {
+        same_after_change_of_vector(rt, &mut v, list, &mut draw)?;
+    }
+    Ok(())
+}
+
 #[test]
 fn same_as_list_for_vectors(rt: HostRuntime) -> Result<(), Fail> {
-    let mut draw = Draw { state: 20_261_122 };
     let mut list = no_entries(rt.alloc())?;
-    let mut v = SparseVector::new(rt.alloc(), Domain::Uint64, SIDE);
-    for _ in 0..10_000 {
-        change_vector(&mut v, &mut list, &mut draw)?;
-        same_vector(&rt, &v, &list);
-        same_vector_entries(&rt, &v, &list);
-    }
+    same_as_vector(&rt, rt.alloc(), &mut list)?;
     Ok(())
 }
 
@@ -419,16 +440,37 @@ fn change_matrix(
     set_matrix(a, list, at, x)
 }
 
+/// After a change that is drawn, the matrix and the list are the same.
+fn same_after_change_of_matrix(
+    rt: &impl Abort,
+    a: &mut SparseMatrix,
+    list: &mut [Option<u64>],
+    draw: &mut Draw,
+) -> Result<(), AllocError> {
+    change_matrix(a, list, draw)?;
+    same_matrix(rt, a, list);
+    same_matrix_entries(rt, a, list);
+    same_rows(rt, a, list);
+    Ok(())
+}
+
+/// A matrix that begins as a list of no entries does, and the list, after each of many changes.
+fn same_as_matrix(
+    rt: &impl Abort,
+    alloc: Global,
+    list: &mut [Option<u64>],
+) -> Result<(), AllocError> {
+    let mut draw = Draw { state: 5_150 };
+    let mut a = SparseMatrix::new(alloc, Domain::Uint64, SIDE, SIDE);
+    for _ in 0..10_000 {
+        same_after_change_of_matrix(rt, &mut a, list, &mut draw)?;
+    }
+    Ok(())
+}
+
 #[test]
 fn same_as_list_for_matrices(rt: HostRuntime) -> Result<(), Fail> {
-    let mut draw = Draw { state: 5_150 };
     let mut list = no_entries(rt.alloc())?;
-    let mut a = SparseMatrix::new(rt.alloc(), Domain::Uint64, SIDE, SIDE);
-    for _ in 0..10_000 {
-        change_matrix(&mut a, &mut list, &mut draw)?;
-        same_matrix(&rt, &a, &list);
-        same_matrix_entries(&rt, &a, &list);
-        same_rows(&rt, &a, &list);
-    }
+    same_as_matrix(&rt, rt.alloc(), &mut list)?;
     Ok(())
 }

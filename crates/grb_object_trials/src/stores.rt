@@ -157,11 +157,12 @@ fn expect_product_and_sum(
     state: &mut State,
     semiring: Semiring,
 ) -> Result<(), AllocError>
-    requires { 2 ≤ state.old.room }
+    requires { 9 ≤ state.old.room }
 {
-    state.apply(&call_of(Step::Multiply(semiring)))?;
+    take(state, &FILLED)?;
+    take(state, &[Step::Multiply(semiring)])?;
     expect_in_w(rt, state, 0, number(6))?;
-    state.apply(&call_of(Step::AddRows))?;
+    take(state, &[Step::AddRows])?;
     expect_in_w(rt, state, 0, number(13))?;
     expect_in_w(rt, state, 1, Some(Reply::NoValue))
 }
@@ -170,7 +171,6 @@ fn expect_product_and_sum(
 fn a_row_that_stores_nothing_has_no_product_and_no_sum(rt: HostRuntime) -> Result<(), Fail> {
     let semiring = semiring(&rt, Monoid::Min, BinaryOp::Plus);
     let mut state = State::open(rt.alloc(), 9)?;
-    take(&mut state, &FILLED)?;
     expect_product_and_sum(&rt, &mut state, semiring)?;
     Ok(())
 }
@@ -203,9 +203,11 @@ fn expect_in_c(
 }
 
 fn expect_product(rt: &impl Abort, state: &mut State, semiring: Semiring) -> Result<(), AllocError>
-    requires { 1 ≤ state.old.room }
+    requires { 13 ≤ state.old.room }
 {
-    state.apply(&call_of(Step::MultiplyBoth(semiring)))?;
+    take(state, &FILLED)?;
+    take(state, &SECOND)?;
+    take(state, &[Step::MultiplyBoth(semiring)])?;
     for row in &IN_C {
         expect_in_c(rt, state, *row)?;
     }
@@ -216,8 +218,6 @@ fn expect_product(rt: &impl Abort, state: &mut State, semiring: Semiring) -> Res
 fn a_product_of_matrices_has_the_rows_of_the_first(rt: HostRuntime) -> Result<(), Fail> {
     let semiring = semiring(&rt, Monoid::Plus, BinaryOp::Times);
     let mut state = State::open(rt.alloc(), 13)?;
-    take(&mut state, &FILLED)?;
-    take(&mut state, &SECOND)?;
     expect_product(&rt, &mut state, semiring)?;
     Ok(())
 }
@@ -229,26 +229,41 @@ const TOTALS: [(Monoid, Option<u64>, Option<u64>); 3] = [
     (Monoid::Lor, None, None),
 ];
 
+fn total_of_a(state: &mut State, monoid: Monoid) -> Result<Option<Reply>, AllocError> {
+    reply_to(state, &Call::ReduceMatrix { a: A, monoid })
+}
+
+fn total_of_w(state: &mut State, monoid: Monoid) -> Result<Option<Reply>, AllocError> {
+    reply_to(state, &Call::ReduceVector { v: W, monoid })
+}
+
 fn expect_totals(
     rt: &impl Abort,
     state: &mut State,
     row: (Monoid, Option<u64>, Option<u64>),
 ) -> Result<(), AllocError> {
     let (monoid, of_a, of_w) = row;
-    let total = reply_to(state, &Call::ReduceMatrix { a: A, monoid })?;
+    let total = total_of_a(state, monoid)?;
     same(rt, total, of_a.and_then(number), ("the matrix", monoid));
-    let total = reply_to(state, &Call::ReduceVector { v: W, monoid })?;
+    let total = total_of_w(state, monoid)?;
     same(rt, total, of_w.and_then(number), ("the vector", monoid));
+    Ok(())
+}
+
+fn expect_each_total(rt: &impl Abort, state: &mut State) -> Result<(), AllocError>
+    requires { 7 ≤ state.old.room }
+{
+    take(state, &FILLED)?;
+    for row in &TOTALS {
+        expect_totals(rt, state, *row)?;
+    }
     Ok(())
 }
 
 #[test]
 fn a_total_is_of_what_was_set_and_of_nothing_the_identity(rt: HostRuntime) -> Result<(), Fail> {
     let mut state = State::open(rt.alloc(), 7)?;
-    take(&mut state, &FILLED)?;
-    for row in &TOTALS {
-        expect_totals(&rt, &mut state, *row)?;
-    }
+    expect_each_total(&rt, &mut state)?;
     Ok(())
 }
 
@@ -265,7 +280,10 @@ fn expect_wait(rt: &impl Abort, state: &mut State, mode: WaitMode) -> Result<(),
     Ok(())
 }
 
-fn expect_waits(rt: &impl Abort, state: &mut State) -> Result<(), AllocError> {
+fn expect_waits(rt: &impl Abort, state: &mut State) -> Result<(), AllocError>
+    requires { 7 ≤ state.old.room }
+{
+    take(state, &FILLED)?;
     expect_assembled(rt, state, false, false);
     expect_wait(rt, state, WaitMode::Complete)?;
     expect_assembled(rt, state, true, false);
@@ -277,7 +295,6 @@ fn expect_waits(rt: &impl Abort, state: &mut State) -> Result<(), AllocError> {
 #[test]
 fn a_wait_does_the_changes_of_its_object_or_of_all(rt: HostRuntime) -> Result<(), Fail> {
     let mut state = State::open(rt.alloc(), 7)?;
-    take(&mut state, &FILLED)?;
     expect_waits(&rt, &mut state)?;
     Ok(())
 }

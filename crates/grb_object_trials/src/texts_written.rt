@@ -183,18 +183,31 @@ fn tuples_of(alloc: Global, a: &SparseMatrix) -> Result<Vec<(u64, u64, Value)>, 
     Ok(tuples)
 }
 
+/// Adds the line of this number, if there is one, and a line end.
+fn add_line(text: &mut Vec<u8>, lines: &[&[u8]], number: usize) -> Result<(), AllocError> {
+    if let Some(line) = lines.get(number) {
+        text.extend_from_slice(*line)?;
+        text.extend_from_slice(b"\n")?;
+    }
+    Ok(())
+}
+
+/// Adds the first two lines, and then the others in falling order. Behind the last line end stands no line.
+fn add_turned(text: &mut Vec<u8>, lines: &[&[u8]]) -> Result<(), AllocError> {
+    add_line(text, lines, 0)?;
+    add_line(text, lines, 1)?;
+    let end = lines.len().saturating_sub(1);
+    for number in 2..end {
+        add_line(text, lines, end - number + 1)?;
+    }
+    Ok(())
+}
+
 /// The text with its entry lines in falling order.
 fn turned(alloc: Global, text: &[u8]) -> Result<Vec<u8>, AllocError> {
     let lines: Vec<&[u8]> = text.split(|b| *b == b'\n').collect(alloc)?;
     let mut turned = Vec::new(alloc);
-    for line in lines.iter().take(2) {
-        turned.extend_from_slice(line)?;
-        turned.push(b'\n').map_err(AllocError::from)?;
-    }
-    for line in lines.iter().skip(2).rev().skip(1) {
-        turned.extend_from_slice(line)?;
-        turned.push(b'\n').map_err(AllocError::from)?;
-    }
+    add_turned(&mut turned, lines.as_slice())?;
     Ok(turned)
 }
 

@@ -80,7 +80,14 @@ fn answer_of(stored: Option<u64>) -> Answer {
 }
 
 /// What a vector stores at its indices, and how many entries these are.
-type Stored = ([Option<u64>; 3], u64);
+type Stored = (&'static [Option<u64>], u64);
+
+fn stored_at(values: &[Option<u64>], i: usize) -> Option<u64> {
+    match values.get(i) {
+        Some(value) => *value,
+        None => None,
+    }
+}
 
 /// Steps, a vector, what it is found to hold after them, none where it is not there, and how many calls are made for that.
 #[derive(Clone, Copy)]
@@ -92,7 +99,7 @@ struct Row {
     evaluated: u32,
 }
 
-const ROWS: [Row; 14] = [
+static ROWS: [Row; 14] = [
     Row {
         name: "changes of another vector",
         steps: &[
@@ -103,7 +110,7 @@ const ROWS: [Row; 14] = [
             Step::Set(1, 1, 3),
         ],
         v: 0,
-        stored: Some(([Some(1), None, None], 1)),
+        stored: Some((&[Some(1), None, None], 1)),
         evaluated: 2,
     },
     Row {
@@ -117,7 +124,7 @@ const ROWS: [Row; 14] = [
             Step::Add(0, 0, 1),
         ],
         v: 0,
-        stored: Some(([Some(3), Some(3), None], 2)),
+        stored: Some((&[Some(3), Some(3), None], 2)),
         evaluated: 6,
     },
     Row {
@@ -150,7 +157,7 @@ const ROWS: [Row; 14] = [
             Step::Set(0, 0, 9),
         ],
         v: 1,
-        stored: Some(([Some(7), None, None], 1)),
+        stored: Some((&[Some(7), None, None], 1)),
         evaluated: 3,
     },
     Row {
@@ -163,7 +170,7 @@ const ROWS: [Row; 14] = [
             Step::Set(1, 0, 50),
         ],
         v: 0,
-        stored: Some(([Some(10), None, None], 1)),
+        stored: Some((&[Some(10), None, None], 1)),
         evaluated: 4,
     },
     Row {
@@ -183,7 +190,7 @@ const ROWS: [Row; 14] = [
             Step::AddInside(0, 1, 2),
         ],
         v: 0,
-        stored: Some(([Some(10), Some(24), Some(30)], 3)),
+        stored: Some((&[Some(10), Some(24), Some(30)], 3)),
         evaluated: 12,
     },
     Row {
@@ -203,7 +210,7 @@ const ROWS: [Row; 14] = [
             Step::Replace(0, 1, 2),
         ],
         v: 0,
-        stored: Some(([None, Some(4), None], 1)),
+        stored: Some((&[None, Some(4), None], 1)),
         evaluated: 12,
     },
     Row {
@@ -222,7 +229,7 @@ const ROWS: [Row; 14] = [
             Step::Set(0, 1, 4),
         ],
         v: 0,
-        stored: Some(([None, Some(4), None], 1)),
+        stored: Some((&[None, Some(4), None], 1)),
         evaluated: 2,
     },
     Row {
@@ -235,14 +242,14 @@ const ROWS: [Row; 14] = [
             Step::Set(3, 2, 8),
         ],
         v: 3,
-        stored: Some(([None, None, Some(8)], 1)),
+        stored: Some((&[None, None, Some(8)], 1)),
         evaluated: 2,
     },
     Row {
         name: "a refused copy has none",
         steps: &[Step::New(3), Step::Dup(4), Step::New(3), Step::Set(1, 0, 6)],
         v: 1,
-        stored: Some(([Some(6), None, None], 1)),
+        stored: Some((&[Some(6), None, None], 1)),
         evaluated: 2,
     },
     Row {
@@ -256,7 +263,7 @@ const ROWS: [Row; 14] = [
             Step::Remove(0, 1),
         ],
         v: 0,
-        stored: Some(([None, None, Some(3)], 1)),
+        stored: Some((&[None, None, Some(3)], 1)),
         evaluated: 6,
     },
     Row {
@@ -285,6 +292,32 @@ fn expect_answer(
     Ok(())
 }
 
+fn expect_value(
+    rt: &impl Abort,
+    held: &mut Held,
+    v: VectorId,
+    i: u64,
+    wanted: Answer,
+    of: &'static str,
+) -> Result<(), AllocError>
+    requires { held.old.object ≡ Vector v }
+    ensures { held.new.object ≡ held.old.object }
+{
+    expect_answer(rt, held, &Call::GetVector { v, i }, wanted, of)
+}
+
+fn expect_count(
+    rt: &impl Abort,
+    held: &mut Held,
+    v: VectorId,
+    wanted: Answer,
+    of: &'static str,
+) -> Result<(), AllocError>
+    requires { held.old.object ≡ Vector v }
+{
+    expect_answer(rt, held, &Call::NvalsVector { v }, wanted, of)
+}
+
 fn expect_stored(
     rt: &impl Abort,
     held: &mut Held,
@@ -294,23 +327,11 @@ fn expect_stored(
 ) -> Result<(), AllocError>
     requires { held.old.object ≡ Vector v }
 {
-    let ([first, second, third], count) = stored;
-    expect_answer(rt, held, &Call::GetVector { v, i: 0 }, answer_of(first), of)?;
-    expect_answer(
-        rt,
-        held,
-        &Call::GetVector { v, i: 1 },
-        answer_of(second),
-        of,
-    )?;
-    expect_answer(rt, held, &Call::GetVector { v, i: 2 }, answer_of(third), of)?;
-    expect_answer(
-        rt,
-        held,
-        &Call::NvalsVector { v },
-        Ok(Reply::Count(count)),
-        of,
-    )
+    let (values, count) = stored;
+    expect_value(rt, held, v, 0, answer_of(stored_at(values, 0)), of)?;
+    expect_value(rt, held, v, 1, answer_of(stored_at(values, 1)), of)?;
+    expect_value(rt, held, v, 2, answer_of(stored_at(values, 2)), of)?;
+    expect_count(rt, held, v, Ok(Reply::Count(count)), of)
 }
 
 fn expect_none(
@@ -322,8 +343,8 @@ fn expect_none(
     requires { held.old.object ≡ Vector v }
 {
     let refused = Err(Refusal::UninitializedObject);
-    expect_answer(rt, held, &Call::GetVector { v, i: 0 }, refused, of)?;
-    expect_answer(rt, held, &Call::NvalsVector { v }, refused, of)
+    expect_value(rt, held, v, 0, refused, of)?;
+    expect_count(rt, held, v, refused, of)
 }
 
 fn expect_held(rt: &impl Abort, held: &mut Held, v: VectorId, row: &Row) -> Result<(), AllocError>
@@ -362,10 +383,27 @@ fn expect_of_calls(
     expect_held(rt, &mut held, v, row)
 }
 
-fn expect_row(rt: &impl Abort, alloc: Global, row: &Row) -> Result<(), AllocError> {
-    let calls: Vec<Call> = row.steps.iter().map(|step| call_of(*step)).collect(alloc)?;
-    let lent: Vec<&Call> = calls.iter().collect(alloc)?;
+fn calls_of(alloc: Global, steps: &[Step]) -> Result<Vec<Call>, AllocError> {
+    steps.iter().map(|step| call_of(*step)).collect(alloc)
+}
+
+fn lent(alloc: Global, calls: &[Call]) -> Result<Vec<&Call>, AllocError> {
+    calls.iter().collect(alloc)
+}
+
+fn expect_of_lent(
+    rt: &impl Abort,
+    alloc: Global,
+    calls: &[Call],
+    row: &Row,
+) -> Result<(), AllocError> {
+    let lent = lent(alloc, calls)?;
     expect_of_calls(rt, alloc, lent.as_slice(), row)
+}
+
+fn expect_row(rt: &impl Abort, alloc: Global, row: &Row) -> Result<(), AllocError> {
+    let calls = calls_of(alloc, row.steps)?;
+    expect_of_lent(rt, alloc, calls.as_slice(), row)
 }
 
 #[test]
@@ -455,6 +493,19 @@ fn same_answer(
     expect_answer(rt, held, call, wanted, "a drawn history")
 }
 
+fn same_value(
+    rt: &impl Abort,
+    held: &mut Held,
+    whole: &mut State,
+    v: VectorId,
+    i: u64,
+) -> Result<(), AllocError>
+    requires { held.old.object ≡ Vector v }
+    ensures { held.new.object ≡ held.old.object }
+{
+    same_answer(rt, held, whole, &Call::GetVector { v, i })
+}
+
 fn same_answers(
     rt: &impl Abort,
     held: &mut Held,
@@ -463,9 +514,9 @@ fn same_answers(
 ) -> Result<(), AllocError>
     requires { held.old.object ≡ Vector v }
 {
-    same_answer(rt, held, whole, &Call::GetVector { v, i: 0 })?;
-    same_answer(rt, held, whole, &Call::GetVector { v, i: 1 })?;
-    same_answer(rt, held, whole, &Call::GetVector { v, i: 2 })?;
+    same_value(rt, held, whole, v, 0)?;
+    same_value(rt, held, whole, v, 1)?;
+    same_value(rt, held, whole, v, 2)?;
     same_answer(rt, held, whole, &Call::NvalsVector { v })
 }
 
@@ -481,22 +532,38 @@ fn same_vector(
     same_answers(rt, &mut held, whole, v)
 }
 
+/// Makes the calls in the whole store, and compares each vector.
+fn same_after_all(
+    rt: &impl Abort,
+    alloc: Global,
+    calls: &[&Call],
+    whole: &mut State,
+) -> Result<(), AllocError>
+    requires { length calls.now ≤ whole.old.room }
+{
+    make(whole, calls)?;
+    for v in 0..5 {
+        same_vector(rt, alloc, calls, whole, v)?;
+    }
+    Ok(())
+}
+
 fn same_as_whole(rt: &impl Abort, alloc: Global, calls: &[&Call]) -> Result<(), AllocError> {
     if calls.len() > 1_000 {
         panic!(rt; "{calls} calls", calls = calls.len());
     }
     let mut whole = State::open(alloc, calls.len() as u32)?;
-    make(&mut whole, calls)?;
-    for v in 0..5 {
-        same_vector(rt, alloc, calls, &mut whole, v)?;
-    }
-    Ok(())
+    same_after_all(rt, alloc, calls, &mut whole)
+}
+
+fn same_of_lent(rt: &impl Abort, alloc: Global, calls: &[Call]) -> Result<(), AllocError> {
+    let lent = lent(alloc, calls)?;
+    same_as_whole(rt, alloc, lent.as_slice())
 }
 
 fn same_after_steps(rt: &impl Abort, alloc: Global, steps: &[Step]) -> Result<(), AllocError> {
-    let calls: Vec<Call> = steps.iter().map(|step| call_of(*step)).collect(alloc)?;
-    let lent: Vec<&Call> = calls.iter().collect(alloc)?;
-    same_as_whole(rt, alloc, lent.as_slice())
+    let calls = calls_of(alloc, steps)?;
+    same_of_lent(rt, alloc, calls.as_slice())
 }
 
 #[test]

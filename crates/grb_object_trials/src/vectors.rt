@@ -20,7 +20,7 @@ fn change(rt: &impl Abort, v: &mut SparseVector, change: &Change)
     assert!(rt; index < v.dims());
     match value {
         Some(value) => {
-            assert_eq!(rt; value.domain(), v.domain());
+            assert!(rt; value.domain() == v.domain());
             v.set(index, value);
         }
         None => v.remove(index),
@@ -74,13 +74,64 @@ fn expect_size(rt: &impl Abort, v: &SparseVector, size: u64) {
     same(rt, v.dims(), size, "the size");
 }
 
-fn expect_assembled(rt: &impl Abort, v: &SparseVector) {
-    same(rt, v.is_assembled(), true, "assembled");
+/// It is assembled or not, and stores so many entries, of which so many changes wait.
+fn expect_counts(rt: &impl Abort, v: &SparseVector, is_assembled: bool, nvals: u64, pending: u64) {
+    let found = (v.is_assembled(), v.nvals(), v.pending());
+    same(rt, found, (is_assembled, nvals, pending), "the counts");
 }
 
-fn expect_counts(rt: &impl Abort, v: &SparseVector, nvals: u64, pending: u64) {
-    same(rt, v.nvals(), nvals, "the count");
-    same(rt, v.pending(), pending, "the changes that wait");
+/// What a test does to a vector, or expects of it.
+#[derive(Clone, Copy)]
+enum Step {
+    Change(&'static [Change]),
+    Resize(u64),
+    Assemble,
+    Clear,
+    /// It is assembled or not, and stores so many entries, of which so many changes wait.
+    Counts(bool, u64, u64),
+    Size(u64),
+    Value(u64, Option<Value>),
+    /// It is assembled, and stores these entries, in this order.
+    Entries(&'static [(u64, Value)]),
+}
+
+fn resize_to(rt: &impl Abort, v: &mut SparseVector, size: u64) -> Result<(), AllocError> {
+    assert!(rt; size >= 1);
+    assert!(rt; size <= 4_294_967_295);
+    v.resize(size)
+}
+
+fn take(
+    rt: &impl Abort,
+    alloc: Global,
+    v: &mut SparseVector,
+    step: Step,
+) -> Result<(), AllocError> {
+    match step {
+        Step::Change(changes) => change_all(rt, v, changes)?,
+        Step::Resize(size) => resize_to(rt, v, size)?,
+        Step::Assemble => v.assemble()?,
+        Step::Clear => v.clear(),
+        Step::Counts(is_assembled, nvals, pending) => {
+            expect_counts(rt, v, is_assembled, nvals, pending)
+        }
+        Step::Size(size) => expect_size(rt, v, size),
+        Step::Value(index, value) => expect_value(rt, v, index, value),
+        Step::Entries(entries) => expect_entries(rt, alloc, v, entries)?,
+    }
+    Ok(())
+}
+
+fn take_all(
+    rt: &impl Abort,
+    alloc: Global,
+    v: &mut SparseVector,
+    steps: &[Step],
+) -> Result<(), AllocError> {
+    for step in steps {
+        take(rt, alloc, v, *step)?;
+    }
+    Ok(())
 }
 
 const LAST_TWICE: [Change; 3] = [
@@ -101,71 +152,60 @@ fn expect_second_set(rt: &impl Abort, v: &mut SparseVector) -> Result<(), AllocE
     Ok(())
 }
 
-fn expect_removed(rt: &impl Abort, v: &mut SparseVector) -> Result<(), AllocError> {
-    v.assemble()?;
-    expect_assembled(rt, v);
-    expect_counts(rt, v, 1, 0);
-    v.clear();
-    expect_counts(rt, v, 0, 0);
-    expect_size(rt, v, 4_294_967_295);
-    Ok(())
-}
+static REMOVED: [Step; 5] = [
+    Step::Assemble,
+    Step::Counts(true, 1, 0),
+    Step::Clear,
+    Step::Counts(true, 0, 0),
+    Step::Size(4_294_967_295),
+];
 
 #[test]
 fn a_second_set_replaces_and_a_remove_leaves_nothing(rt: HostRuntime) -> Result<(), Fail> {
     let mut v = SparseVector::new(rt.alloc(), Domain::Uint64, 4_294_967_295);
     expect_second_set(&rt, &mut v)?;
-    expect_removed(&rt, &mut v)?;
+    take_all(&rt, rt.alloc(), &mut v, &REMOVED)?;
     Ok(())
 }
 
-const AT_ONE_INDEX: [Change; 4] = [
-    (8, Some(Value::Uint64(8))),
-    (8, Some(Value::Uint64(9))),
-    (8, None),
-    (8, Some(Value::Uint64(0))),
+static PENDING: [Step; 11] = [
+    Step::Change(&[
+        (8, Some(Value::Uint64(8))),
+        (8, Some(Value::Uint64(9))),
+        (8, None),
+        (8, Some(Value::Uint64(0))),
+    ]),
+    Step::Value(8, Some(Value::Uint64(0))),
+    Step::Counts(false, 1, 4),
+    Step::Assemble,
+    Step::Value(8, Some(Value::Uint64(0))),
+    Step::Counts(true, 1, 0),
+    Step::Change(&[(8, None), (1, Some(Value::Uint64(4)))]),
+    Step::Counts(false, 1, 1),
+    Step::Resize(5),
+    Step::Assemble,
+    Step::Entries(&[(1, Value::Uint64(4))]),
 ];
-
-const AT_TWO_INDICES: [Change; 2] = [(8, None), (1, Some(Value::Uint64(4)))];
-
-fn expect_pending_at_one_index(rt: &impl Abort, v: &mut SparseVector) -> Result<(), AllocError> {
-    change_all(rt, v, &AT_ONE_INDEX)?;
-    expect_value(rt, v, 8, Some(Value::Uint64(0)));
-    expect_counts(rt, v, 1, 4);
-    v.assemble()?;
-    expect_value(rt, v, 8, Some(Value::Uint64(0)));
-    expect_counts(rt, v, 1, 0);
-    Ok(())
-}
-
-fn expect_pending_at_two_indices(
-    rt: &impl Abort,
-    alloc: Global,
-    v: &mut SparseVector,
-) -> Result<(), AllocError> {
-    change_all(rt, v, &AT_TWO_INDICES)?;
-    expect_counts(rt, v, 1, 1);
-    v.resize(5)?;
-    v.assemble()?;
-    expect_entries(rt, alloc, v, &[(1, Value::Uint64(4))])
-}
 
 #[test]
 fn pending_tuples_and_removals_are_counted_until_assembled(rt: HostRuntime) -> Result<(), Fail> {
     let mut v = SparseVector::new(rt.alloc(), Domain::Uint64, 9);
-    expect_pending_at_one_index(&rt, &mut v)?;
-    expect_pending_at_two_indices(&rt, rt.alloc(), &mut v)?;
+    take_all(&rt, rt.alloc(), &mut v, &PENDING)?;
     Ok(())
 }
+
+static AT_ONE_INDEX: [Step; 4] = [
+    Step::Counts(true, 0, 0),
+    Step::Change(&[(0, Some(Value::Bool(false)))]),
+    Step::Value(0, Some(Value::Bool(false))),
+    Step::Value(1, None),
+];
 
 #[test]
 fn a_vector_of_size_1_has_one_index(rt: HostRuntime) -> Result<(), Fail> {
     let mut v = SparseVector::new(rt.alloc(), Domain::Bool, 1);
     same(&rt, v.domain(), Domain::Bool, "the domain");
-    expect_assembled(&rt, &v);
-    change_all(&rt, &mut v, &[(0, Some(Value::Bool(false)))])?;
-    expect_value(&rt, &v, 0, Some(Value::Bool(false)));
-    expect_value(&rt, &v, 1, None);
+    take_all(&rt, rt.alloc(), &mut v, &AT_ONE_INDEX)?;
     Ok(())
 }
 
@@ -182,25 +222,21 @@ fn with_a_sum(alloc: Global) -> Result<SparseVector, AllocError> {
     Ok(v)
 }
 
-const COMBINED: [(u64, Value); 3] = [
+static LOST: [Step; 7] = [
+    Step::Counts(true, 3, 0),
+    Step::Value(9, Some(Value::Uint64(5))),
+    Step::Resize(9),
+    Step::Resize(10),
+    Step::Counts(true, 2, 0),
+    Step::Value(9, None),
+    Step::Value(2, Some(Value::Uint64(5))),
+];
+
+static KEPT: [Step; 1] = [Step::Entries(&[
     (0, Value::Uint64(3)),
     (2, Value::Uint64(5)),
     (9, Value::Uint64(5)),
-];
-
-fn expect_combined(rt: &impl Abort, v: &SparseVector) {
-    expect_counts(rt, v, 3, 0);
-    expect_value(rt, v, 9, Some(Value::Uint64(5)));
-}
-
-fn expect_lost(rt: &impl Abort, v: &mut SparseVector) -> Result<(), AllocError> {
-    v.resize(9)?;
-    v.resize(10)?;
-    expect_counts(rt, v, 2, 0);
-    expect_value(rt, v, 9, None);
-    expect_value(rt, v, 2, Some(Value::Uint64(5)));
-    Ok(())
-}
+])];
 
 /// A copy keeps what the vector loses.
 fn expect_kept_in_a_copy(
@@ -208,15 +244,14 @@ fn expect_kept_in_a_copy(
     alloc: Global,
     v: &mut SparseVector,
 ) -> Result<(), AllocError> {
-    let copy = v.try_clone()?;
-    expect_lost(rt, v)?;
-    expect_entries(rt, alloc, &copy, &COMBINED)
+    let mut copy = v.try_clone()?;
+    take_all(rt, alloc, v, &LOST)?;
+    take_all(rt, alloc, &mut copy, &KEPT)
 }
 
 #[test]
 fn a_build_combines_and_a_resize_loses_for_good(rt: HostRuntime) -> Result<(), Fail> {
     let mut v = with_a_sum(rt.alloc())?;
-    expect_combined(&rt, &v);
     expect_kept_in_a_copy(&rt, rt.alloc(), &mut v)?;
     Ok(())
 }
@@ -226,10 +261,9 @@ fn a_build_of_nothing_stores_nothing(rt: HostRuntime) -> Result<(), Fail> {
     let tuples = [(1, Value::Bool(false)), (1, Value::Bool(true))];
     let mut v = SparseVector::new(rt.alloc(), Domain::Bool, 3);
     v.build(&[], Monoid::Lor)?;
-    expect_counts(&rt, &v, 0, 0);
-    expect_assembled(&rt, &v);
+    expect_counts(&rt, &v, true, 0, 0);
     v.build(&tuples, Monoid::Lor)?;
-    expect_counts(&rt, &v, 1, 0);
+    expect_counts(&rt, &v, true, 1, 0);
     expect_value(&rt, &v, 1, Some(Value::Bool(true)));
     Ok(())
 }
@@ -259,12 +293,11 @@ fn a_refused_build_changes_nothing(rt: HostRuntime) -> Result<(), Fail> {
     let mut v = SparseVector::new(rt.alloc(), Domain::Uint64, 10);
     if v.build(&tuples, Monoid::Plus).is_err() {
         expect_value(&rt, &v, 3, None);
-        expect_counts(&rt, &v, 0, 0);
-        expect_assembled(&rt, &v);
+        expect_counts(&rt, &v, true, 0, 0);
         v.build(&tuples, Monoid::Plus)?;
     }
     expect_value(&rt, &v, 3, Some(Value::Uint64(9)));
-    expect_counts(&rt, &v, 1, 0);
+    expect_counts(&rt, &v, true, 1, 0);
     Ok(())
 }
 
@@ -275,7 +308,7 @@ fn reserve(rt: &impl Abort, v: &mut SparseVector, n: u64) -> Result<(), AllocErr
 {
     if v.reserve_pending(n).is_err() {
         expect_one_entry(rt, v);
-        expect_assembled(rt, v);
+        same(rt, v.is_assembled(), true, "assembled");
         v.reserve_pending(n)?;
     }
     Ok(())
@@ -285,7 +318,7 @@ fn expect_refused_reservation(rt: &impl Abort, v: &mut SparseVector) -> Result<(
     // more places than any memory holds
     assert!(rt; v.reserve_pending(0xffff_ffff_ffff_ffff).is_err());
     expect_one_entry(rt, v);
-    expect_assembled(rt, v);
+    same(rt, v.is_assembled(), true, "assembled");
     reserve(rt, v, 1_000)?;
     change(rt, v, &(9, Some(Value::Uint64(7))));
     expect_value(rt, v, 9, Some(Value::Uint64(7)));
@@ -340,11 +373,11 @@ fn expect_refused_changes(rt: &impl Abort, v: &mut SparseVector) -> Result<(), A
     change(rt, v, &(9, None));
     assemble(rt, v)?;
     expect_one_entry(rt, v);
-    expect_assembled(rt, v);
+    same(rt, v.is_assembled(), true, "assembled");
     resize(rt, v)?;
     expect_size(rt, v, 3);
     expect_value(rt, v, 3, None);
-    expect_counts(rt, v, 0, 0);
+    expect_counts(rt, v, true, 0, 0);
     Ok(())
 }
 

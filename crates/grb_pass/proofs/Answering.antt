@@ -1,6 +1,6 @@
 -- Why an answer is explained.
 use Rattle.std.proofs.Common.{◌≡◌, ◌≢◌, ℕ, ◌+◌, ◌^◌, ◌<◌, ◌≤◌, Bool, true, false, cond, List, [], ◌∷◌, ◌++◌, length, get_or, refl, sym, ap, ◌∙◌, subst, arith, append_assoc, inl, inr}
-use Rattle.std.specs.Prelude.{◌⊎◌, Option, Some, None, Result, Ok, Err, IfOk, OnErr, IsTrue}
+use Rattle.std.specs.Prelude.{◌⊎◌, Option, Some, None, Result, Ok, Err, IfOk, OnErr}
 use Rattle.std.specs.Result.{result_or}
 use Rattle.std.specs.declared.alloc.AllocError.{AllocError}
 use Rattle.std.specs.Option.{option_map_or}
@@ -13,16 +13,15 @@ use Rattle.grb_order.specs.View.{enters_word, learns}
 use Rattle.grb_order.specs.declared.view.View.{View}
 use Rattle.grb_records.specs.Token.{Shown}
 use Rattle.grb_call.specs.declared.call.Call.{Call}
-use Rattle.grb_call.specs.declared.call.Call.TheVariants as call
 use Rattle.grb_call.specs.declared.checking.Kind.{Kind}
 use Rattle.grb_call.specs.declared.reply.Reply.{Reply}
-use Rattle.grb_call.specs.Kinds.{enters, is_entry_read, is_size}
+use Rattle.grb_call.specs.Kinds.{enters, is_size}
 use Rattle.grb_call.specs.Refused.{check_of}
 use Rattle.grb_call.specs.Store.{Store, shapes_of}
 use Rattle.grb_call.specs.After.{refused, answer, reply_of}
 use Rattle.grb_call.specs.History.{History, store_of}
 use Rattle.grb_call.proofs.ByShapes.{by_check}
-use Rattle.grb_call.proofs.Checked.{answer-err, answer-ok, refused-none, by_shapes-ok}
+use Rattle.grb_call.proofs.Checked.{answer-err, answer-ok, by_shapes-ok}
 use Rattle.grb_pass.specs.declared.learn.End.{End}
 use Rattle.grb_pass.specs.declared.learn.End.TheVariants.{Vacant, Full}
 use Rattle.grb_pass.specs.Known.{Knowing, known, spelled, IsOfOthers, IsOfPasses}
@@ -33,6 +32,7 @@ use Rattle.grb_pass.proofs.Spelling.{spelled_push, spelled_more, length_spelled}
 use Rattle.grb_pass.specs.Reading.{IsChecked}
 use Rattle.grb_pass.proofs.Checking.{reads_no_build, build_no_size, build_no_entry_read, enters_no_size, enters_no_entry_read, unrefused_by_shapes}
 use Rattle.grb_pass.proofs.Kept.{number_of-order_word}
+use Rattle.grb_pass.proofs.Alike.{explains_alike}
 use Rattle.grb_pass.proofs.Learnt.{grows_then, grows_enters, learns_then, learns_word}
 
 pub length_known : (p : Knowing) → length p.shown ≡ length p.view.words → length (known p) ≡ length p.view.words
@@ -129,14 +129,14 @@ refused_put room old new c r (inr is) writes ready looked =
     })
 
 -- memory that was refused may lack
-memory_refused : (room : ℕ) (old new : Knowing) (c : Call) (r : Answer) (g : History) → r ≡ Err OutOfMemory → IsGrounded room old new c r g (ground_of r) → MayLackMemory room g c
+memory_refused : (room : ℕ) (old new : Knowing) (c : Call) (r : Answer) (g : History) → r ≡ Err OutOfMemory → IsGrounded room old new c r g (ground_of r) → MayLackMemory room old.settled g c
 memory_refused room old new c r g is grounds = let out : IsOutOfMemory room old new c g = subst (λ (a : Answer). IsGrounded room old new c a g (ground_of a)) is grounds in out.may
 
-pub memory_explained : (room : ℕ) (old new : Knowing) (c : Call) (r : Answer) → ExplainsCall room old new c r → r ≡ Err OutOfMemory → MayLackMemory room (known new) c
+pub memory_explained : (room : ℕ) (old new : Knowing) (c : Call) (r : Answer) → ExplainsCall room old new c r → r ≡ Err OutOfMemory → MayLackMemory room old.settled (known new) c
 memory_explained room old new c r e is =
     let g : History = known old ++ e.learnt in
     let same : g ≡ known new = sym (e.known_is ∙ ap (λ (a : Answer). history_after old.view.number c a g) is) in
-    subst (λ (h : History). MayLackMemory room h c) same (memory_refused room old new c r g is e.grounds)
+    subst (λ (h : History). MayLackMemory room old.settled h c) same (memory_refused room old new c r g is e.grounds)
 
 -- what a later part of a call explains, the whole call explains
 grew_before : (a b c : List ℕ) (n : ℕ) → StartsWith b a → GrewTo b c n → GrewTo a c n
@@ -151,7 +151,7 @@ module _ (room : ℕ) (a b c : Knowing) (call : Call) (first : Learns a b) where
   pub grounded_before : (r : Answer) (g : History) (by : Ground) → IsGrounded room b c call r g by → IsGrounded room a c call r g by
   grounded_before r g ByStore is = record { answered = is.answered; point = moved g is.point }
   grounded_before r g ByRoom is = is
-  grounded_before r g ByMemory is = record { point = moved g is.point; may = is.may }
+  grounded_before r g ByMemory is = record { point = moved g is.point; may = subst (λ (n : ℕ). MayLackMemory room n g call) first.settled is.may }
   grounded_before r g ByRecords (inl is) = inl is
   grounded_before r g ByRecords (inr is) = inr (record { point = moved g is.point; may = is.may })
 
@@ -159,10 +159,10 @@ module _ (room : ℕ) (a b c : Knowing) (call : Call) (first : Learns a b) where
   refused_before r is = record { grounds = grounded_before (Err r) (known c) (ground_of (Err r)) is.grounds; caught_up = is.caught_up }
 
 -- a lost try: the word of another pass is learnt
-pub learns_lost : (room : ℕ) (old mid lost : Knowing) (c : Call) (word : ℕ) → Learns old mid → IsReady room mid c → lost.shown ≡ mid.shown → lost.statuses ≡ mid.statuses → lost.view ≡ learns mid.view word → Learns old lost
-learns_lost room old mid lost c word l ready shown statuses is =
+pub learns_lost : (room : ℕ) (old mid lost : Knowing) (c : Call) (word : ℕ) → Learns old mid → IsReady room mid c → lost.shown ≡ mid.shown → lost.statuses ≡ mid.statuses → lost.settled ≡ mid.settled → lost.view ≡ learns mid.view word → Learns old lost
+learns_lost room old mid lost c word l ready shown statuses settled is =
     let all : length mid.shown ≡ length mid.view.words = ready.all in let few : length mid.shown ≤ length mid.view.words = omega arith in
-    learns_then old mid lost l (learns_word mid lost few shown statuses word is)
+    learns_then old mid lost l (learns_word mid lost few shown statuses settled word is)
 
 -- a call that is refused where the pass learnt what it knows now
 pub explains_refused : (room : ℕ) (old new : Knowing) (c : Call) (r : Refusal) → Learns old new → IsRefused room old new c r → ExplainsCall room old new c (Err r)
@@ -253,25 +253,8 @@ explains_read room old new end c kind reply l f reads e is =
       known_is = behind ∙ ap (history_after old.view.number c (Ok reply)) l.known_is;
     }
 
--- memory is refused to a call that only reads, where something is known: with nothing known such a call is refused
-reads_nothing : (c : Call) → IsTrue (is_entry_read c) → refused (store_of []) c ≡ None → ⊥
-reads_nothing (call.GetMatrix a i j) is none = cc
-reads_nothing (call.GetVector v i) is none = cc
-reads_nothing (call.NvalsMatrix a) is none = cc
-reads_nothing (call.NvalsVector v) is none = cc
-reads_nothing (call.ReduceMatrix a monoid) is none = cc
-reads_nothing (call.ReduceVector v monoid) is none = cc
-reads_nothing (call.WaitMatrix a mode) is none = cc
-reads_nothing (call.WaitVector v mode) is none = cc
-reads_nothing _ is none = cc
-
-some_known : (h : History) (c : Call) → refused (store_of h) c ≡ None → IsTrue (is_entry_read c) → 0 < length h
-some_known [] c none is = absurd (reads_nothing c is none)
-some_known (e ∷ h) c none is = omega arith
-
-refused_by_memory : (room : ℕ) (old new : Knowing) (end : End) (c : Call) (kind : Kind) → Finds room old (Ok end) new → enters c ≡ false → check_of (shapes_of (store_of (known new))) c ≡ Ok kind → is_size c ≡ false → IsRefused room old new c OutOfMemory
-refused_by_memory room old new end c kind f reads e no_size =
-    let none : refused (store_of (known new)) c ≡ None = refused-none (store_of (known new)) c kind e (reads_no_build c reads) in
+refused_by_memory : (room : ℕ) (old new : Knowing) (end : End) (c : Call) (kind : Kind) → Finds room old (Ok end) new → enters c ≡ false → check_of (shapes_of (store_of (known new))) c ≡ Ok kind → is_size c ≡ false → old.settled < length (known new) → IsRefused room old new c OutOfMemory
+refused_by_memory room old new end c kind f reads e no_size unsettled =
     record {
       grounds = record {
         point = point_found room old new end f;
@@ -279,19 +262,22 @@ refused_by_memory room old new end c kind f reads e no_size =
           by_shapes = by_shapes-ok (store_of (known new)) c kind e;
           no_size = no_size;
           room_left = λ writes no_build. let no : false ≡ true = sym reads ∙ writes in cc;
-          unsettled = some_known (known new) c none;
+          unsettled = λ is. unsettled;
         };
       };
       caught_up = known_found room old new end f;
     }
 
 -- what a call that only reads answers, where its evaluation may be refused memory
-module _ (room : ℕ) (old now new : Knowing) (end : End) (c : Call) (kind : Kind) (found : Finds room old (Ok end) now) (same : new ≡ now) where
+module _ (room : ℕ) (old now new : Knowing) (end : End) (c : Call) (kind : Kind) (found : Finds room old (Ok end) now) (same : new ≡ record now { settled = new.settled }) where
   pub explains_evaluated : (r : Result Reply AllocError) → Learns old now → enters c ≡ false → check_of (shapes_of (store_of (known now))) c ≡ Ok kind
-      → IfOk r (λ reply. reply ≡ reply_of (store_of (known now)) c) → OnErr r (is_size c ≡ false) → ExplainsCall room old new c (result_or r (Err OutOfMemory))
-  explains_evaluated (Ok reply) l reads e is no_size = subst (λ (p : Knowing). ExplainsCall room old p c (Ok reply)) (sym same) (explains_read room old now end c kind reply l found reads e is)
-  explains_evaluated (Err error) l reads e is no_size =
-      subst (λ (p : Knowing). ExplainsCall room old p c (Err OutOfMemory)) (sym same) (explains_refused room old now c OutOfMemory l (refused_by_memory room old now end c kind found reads e no_size))
+      → IfOk r (λ reply. reply ≡ reply_of (store_of (known now)) c) → OnErr r (is_size c ≡ false) → OnErr r (now.settled < length (known now)) → ExplainsCall room old new c (result_or r (Err OutOfMemory))
+  explains_evaluated (Ok reply) l reads e is no_size unsettled =
+      subst (λ (p : Knowing). ExplainsCall room old p c (Ok reply)) (sym same) (explains_alike room old now now.statuses new.settled c (Ok reply) (explains_read room old now end c kind reply l found reads e is))
+  explains_evaluated (Err error) l reads e is no_size unsettled =
+      let few : old.settled < length (known now) = omega (arith, l.settled, unsettled) in
+      subst (λ (p : Knowing). ExplainsCall room old p c (Err OutOfMemory)) (sym same)
+      (explains_alike room old now now.statuses new.settled c (Err OutOfMemory) (explains_refused room old now c OutOfMemory l (refused_by_memory room old now end c kind found reads e no_size few)))
 
   pub known_evaluated : (r : Result Reply AllocError) → IsCaughtUp (ground_of (result_or r (Err OutOfMemory))) new
   known_evaluated (Ok reply) = subst (λ (p : Knowing). length (known p) ≡ length p.view.words) (sym same) (known_found room old now end found)

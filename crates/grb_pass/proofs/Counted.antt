@@ -104,6 +104,7 @@ learns_begun p = record {
   others = All-nil _;
   passes = All-nil _;
   statuses = refl;
+  settled = refl;
 }
 
 -- what a call explains once it has begun to count, it explains

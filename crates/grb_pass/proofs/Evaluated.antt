@@ -1,5 +1,5 @@
 -- The store of a pass, as calls are learnt and evaluated.
-use Rattle.std.proofs.Common.{◌≡◌, ℕ, suc, ◌+◌, ◌<◌, ◌≤◌, Bool, true, false, cond, List, [], ◌∷◌, ◌++◌, length, get_or, take, refl, sym, ap, ◌∙◌, subst, arith, length-append, append_assoc}
+use Rattle.std.proofs.Common.{◌≡◌, ℕ, suc, ◌+◌, ◌<◌, ◌≤◌, List, [], ◌∷◌, ◌++◌, length, get_or, take, refl, sym, ap, ◌∙◌, subst, arith, length-append}
 use Rattle.std.specs.Prelude.{Option, Some, None, slice_get}
 use Rattle.std.specs.Option.{option_map}
 use Rattle.std.proofs.lemmas.Option.{slice_get-map, slice_get_read, slice_get_within, get_or_from_slice_get}
@@ -13,7 +13,6 @@ use Rattle.grb_call.specs.After.{after}
 use Rattle.grb_call.specs.History.{Entry, History, calls_of, after_all, store_of}
 use Rattle.grb_call.proofs.Runs.{after_all-append}
 use Rattle.grb_pass.specs.Known.{Knowing, known, spelled}
-use Rattle.grb_pass.specs.Explains.{Answer, ExplainsCall, is_entered, history_after}
 use Rattle.grb_pass.specs.Learning.{Enters, Learns}
 use Rattle.grb_pass.specs.Reading.{IsEvaluated, IsPass}
 use Rattle.grb_replay.specs.State.{RoomyStore}
@@ -26,40 +25,39 @@ evaluated_more calls more evaluated s is = record {
   store_is = is.store_is ∙ ap (after_all empty_store) (sym (take-append-le evaluated calls more is.within));
 }
 
-pass_more : (old new : Knowing) (state : RoomyStore) (evaluated : ℕ) (more : History) → new.order ≡ old.order → known new ≡ known old ++ more → IsPass old state evaluated → IsPass new state evaluated
-pass_more old new state evaluated more order is kept = record {
-  state_is = subst (λ (cs : List Call). IsEvaluated cs evaluated state.store) (sym (ap calls_of is ∙ calls_of-append (known old) more)) (evaluated_more (calls_of (known old)) (calls_of more) evaluated state.store kept.state_is);
-  room = kept.room ∙ sym (ap room_of order);
-}
+length-calls_of : (h : History) → length (calls_of h) ≡ length h
+length-calls_of [] = refl
+length-calls_of (e ∷ h) = ap suc (length-calls_of h)
+
+pass_more : (old new : Knowing) (state : RoomyStore) (evaluated : ℕ) (more : History) → new.order ≡ old.order → new.settled ≡ old.settled → known new ≡ known old ++ more → IsPass old state evaluated → IsPass new state evaluated
+pass_more old new state evaluated more order same is kept =
+    let n : length (known new) ≡ length (known old) + length more = ap length is ∙ length-append (known old) more in
+    record {
+      state_is = subst (λ (cs : List Call). IsEvaluated cs evaluated state.store) (sym (ap calls_of is ∙ calls_of-append (known old) more)) (evaluated_more (calls_of (known old)) (calls_of more) evaluated state.store kept.state_is);
+      room = kept.room ∙ sym (ap room_of order);
+      settled = omega (arith, same, kept.settled);
+      assembled = λ all. kept.assembled (omega (arith, same, n, all));
+    }
 
 pub pass_learns : (old new : Knowing) (state : RoomyStore) (evaluated : ℕ) → new.order ≡ old.order → Learns old new → IsPass old state evaluated → IsPass new state evaluated
-pass_learns old new state evaluated order l kept = pass_more old new state evaluated l.learnt order l.known_is kept
+pass_learns old new state evaluated order l kept = pass_more old new state evaluated l.learnt order l.settled l.known_is kept
 
 -- a try to enter a record: it was entered behind all known ones, or another pass's word was learnt
-pub pass_tried : (room : ℕ) (old new : Knowing) (token : Shown) (state : RoomyStore) (evaluated : ℕ) (back : Option Shown) → new.order ≡ old.order → Enters room token old back new → length old.shown ≡ length old.view.words
+pub pass_tried : (room : ℕ) (old new : Knowing) (token : Shown) (state : RoomyStore) (evaluated : ℕ) (back : Option Shown) → new.order ≡ old.order → new.settled ≡ old.settled → Enters room token old back new → length old.shown ≡ length old.view.words
     → IsPass old state evaluated → IsPass new state evaluated
-pass_tried room old new token state evaluated None order is all kept =
+pass_tried room old new token state evaluated None order same is all kept =
     let word : ℕ = order_word old.view.number token.index in let words : List ℕ = old.view.words ++ word ∷ [] in
     let m : length words ≡ length old.view.words + 1 = length_push old.view.words word in
     let lt : length old.shown < length words = omega arith in let few : length old.shown ≤ length old.view.words = omega arith in
     let entry : Entry = (number_of (get_or words (length old.shown) 0), token.call) in
     let known_is : known new ≡ known old ++ entry ∷ [] =
     (λ i. spelled ((is.0 i).words) (is.1 i)) ∙ spelled_push words old.shown token lt ∙ ap (λ (h : History). h ++ entry ∷ []) (spelled_more old.view.words (word ∷ []) old.shown few) in
-    pass_more old new state evaluated (entry ∷ []) order known_is kept
-pass_tried room old new token state evaluated (Some back) order is all kept =
+    pass_more old new state evaluated (entry ∷ []) order same known_is kept
+pass_tried room old new token state evaluated (Some back) order same is all kept =
     let few : length old.shown ≤ length old.view.words = omega arith in let word : ℕ = is.2 in
     let known_is : known new ≡ known old ++ [] =
     (λ i. spelled ((is.3 i).words) (is.1 i)) ∙ spelled_more old.view.words (word ∷ []) old.shown few ∙ sym (append-nil (known old)) in
-    pass_more old new state evaluated [] order known_is kept
-
-behind : (b : Bool) (e : Entry) (g h : History) → (more : History) × (cond b ((g ++ h) ++ e ∷ []) (g ++ h) ≡ g ++ more)
-behind true e g h = (h ++ e ∷ [], append_assoc g h (e ∷ []))
-behind false e g h = (h, refl)
-
-pub pass_explained : (room : ℕ) (old new : Knowing) (c : Call) (r : Answer) (state : RoomyStore) (evaluated : ℕ) → new.order ≡ old.order → ExplainsCall room old new c r → IsPass old state evaluated → IsPass new state evaluated
-pass_explained room old new c r state evaluated order is kept =
-    let more : (more : History) × (history_after old.view.number c r (known old ++ is.learnt) ≡ known old ++ more) = behind (is_entered c r) (old.view.number, c) (known old) is.learnt in
-    pass_more old new state evaluated more.0 order (is.known_is ∙ more.1) kept
+    pass_more old new state evaluated [] order same known_is kept
 
 after_all-push : (s : Store) (calls : List Call) (c : Call) → after_all s (calls ++ c ∷ []) ≡ after (after_all s calls) c
 after_all-push s calls c = after_all-append s calls (c ∷ [])
@@ -90,11 +88,10 @@ pub pass_next : (p : Knowing) (before state : RoomyStore) (evaluated : ℕ) (c :
 pass_next p before state evaluated c kept at is room = record {
   state_is = subst (λ (s : Store). IsEvaluated (calls_of (known p)) (evaluated + 1) s) (sym is) (evaluated_next (calls_of (known p)) evaluated before.store c kept.state_is at);
   room = omega (arith, kept.room, room);
+  settled = omega (arith, kept.settled);
+  assembled = λ all. let n : length (calls_of (known p)) ≡ length (known p) = length-calls_of (known p) in
+      let near : evaluated < length (calls_of (known p)) = slice_get_within (calls_of (known p)) evaluated c at in absurd (omega (arith, all, kept.settled));
 }
-
-length-calls_of : (h : History) → length (calls_of h) ≡ length h
-length-calls_of [] = refl
-length-calls_of (e ∷ h) = ap suc (length-calls_of h)
 
 -- all calls evaluated
 pub store_evaluated : (p : Knowing) (state : RoomyStore) (evaluated : ℕ) → IsPass p state evaluated → length (known p) ≤ evaluated → state.store ≡ store_of (known p)

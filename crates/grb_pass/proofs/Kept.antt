@@ -167,9 +167,9 @@ pub sound_order : (t t' : TableId) (v : View) → t' ≡ t → IsSound t'.words 
 sound_order t t' v e s = subst (λ (y : TableId). IsSound y.words v) e s
 
 -- what a caller learns of it
-module _ (number size : ℕ) (place : Holding) (shown : List Shown) (capacity : ℕ) (shapes : RoomyShapes) (k : IsKept number size place shown capacity shapes) (steps : ℕ) (statuses : StatusRows) where
+module _ (number size : ℕ) (place : Holding) (shown : List Shown) (capacity : ℕ) (shapes : RoomyShapes) (k : IsKept number size place shown capacity shapes) (steps : ℕ) (statuses : StatusRows) (settled : ℕ) where
   abbrev seen : Knowing
-  seen = record { order = place.table_id; view = place.view; shown = shown; steps = steps; statuses = statuses }
+  seen = record { order = place.table_id; view = place.view; shown = shown; steps = steps; statuses = statuses; settled = settled }
 
   pub steady : IsSteady seen
   steady = record { records = k.records; few = k.few; sound = k.sound; others = k.others; small = k.small }

@@ -47,7 +47,7 @@ pub grows_enters : (v w : View) (word : ℕ) → w ≡ enters_word v word → Gr
 grows_enters v w word is = grows_is v (enters_word v word) w is (record { number = refl; passes = refl; words = (word ∷ [], refl); own = (length v.words ∷ [], refl); looks = starts_refl v.looks })
 
 -- nothing more is known, since no record was shown
-module _ (p q : Knowing) (few : length p.shown ≤ length p.view.words) (shown : q.shown ≡ p.shown) (statuses : q.statuses ≡ p.statuses) where
+module _ (p q : Knowing) (few : length p.shown ≤ length p.view.words) (shown : q.shown ≡ p.shown) (statuses : q.statuses ≡ p.statuses) (settled : q.settled ≡ p.settled) where
   unshown : (v : View) → q.view ≡ v → Grows p.view v → v.own ≡ p.view.own → spelled v.words p.shown ≡ known p → Learns p q
   unshown v is grown own same = record {
     grown = grows_is p.view v q.view is grown;
@@ -57,6 +57,7 @@ module _ (p q : Knowing) (few : length p.shown ≤ length p.view.words) (shown :
     others = All-nil (λ e. e.0 ≢ p.view.number);
     passes = All-nil (λ e. e.0 < p.view.passes);
     statuses = statuses;
+    settled = settled;
   }
 
   -- a word of others was learnt, whose record was not shown yet
@@ -82,6 +83,7 @@ learns_refl p = record {
   others = All-nil (λ e. e.0 ≢ p.view.number);
   passes = All-nil (λ e. e.0 < p.view.passes);
   statuses = refl;
+  settled = refl;
 }
 
 pub learns_then : (a b c : Knowing) → Learns a b → Learns b c → Learns a c
@@ -93,6 +95,7 @@ learns_then a b c first next = record {
   others = All-append (λ e. e.0 ≢ a.view.number) first.learnt next.learnt first.others (subst (λ (n : ℕ). IsOfOthers n next.learnt) first.grown.number next.others);
   passes = All-append (λ e. e.0 < a.view.passes) first.learnt next.learnt first.passes (subst (λ (n : ℕ). IsOfPasses n next.learnt) first.grown.passes next.passes);
   statuses = next.statuses ∙ first.statuses;
+  settled = next.settled ∙ first.settled;
 }
 
 -- the record of the next word was shown
@@ -107,6 +110,7 @@ learns_shown p q token word next is =
       others = All-cons (λ e. e.0 ≢ p.view.number) e [] next.others.1 (All-nil (λ e. e.0 ≢ p.view.number));
       passes = All-cons (λ e. e.0 < p.view.passes) e [] next.others.0.1 (All-nil (λ e. e.0 < p.view.passes));
       statuses = refl;
+      settled = refl;
     }
 
 -- the pass stays one of the context's

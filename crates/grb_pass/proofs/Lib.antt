@@ -1,4 +1,5 @@
 pub mod Agreeing
+mod Alike
 pub mod Alone
 mod Answering
 mod Checking
@@ -10,5 +11,6 @@ mod Meeting
 mod Opening
 mod Owning
 pub mod Promised
+mod Settling
 mod Spelling
 mod StatusRows

@@ -39,10 +39,10 @@ module _ (p q : Knowing) (of_p : IsSteady p) (of_q : IsSteady q) (starts : Start
       (spelled_front q.view.words starts.0 p.shown q.shown (subst (λ (l : List ℕ). AreRecords l p.shown) starts.1 of_p.records) of_q.records fewer_shown share)
 
 -- the words were told, and then records were shown
-pub met : (context : Shared) (old told new other : Knowing) (r : Result (Unit {0}) Refusal) → length old.shown ≤ length old.view.words → told.shown ≡ old.shown → told.statuses ≡ old.statuses → told.view ≡ is_told old.view other.view.words
+pub met : (context : Shared) (old told new other : Knowing) (r : Result (Unit {0}) Refusal) → length old.shown ≤ length old.view.words → told.shown ≡ old.shown → told.statuses ≡ old.statuses → told.settled ≡ old.settled → told.view ≡ is_told old.view other.view.words
     → told.steps + length old.view.words ≡ length told.view.words → Learns told new → new.view ≡ told.view → new.steps ≡ told.steps → IsPassOf context new → IsSteady new → IsMet new other r → Met context old new other r
-met context old told new other r few shown statuses is steps next view same of steady answer =
-    let l : Learns old new = learns_then old told new (learns_told old told few shown statuses other.view.words is) next in
+met context old told new other r few shown statuses settled is steps next view same of steady answer =
+    let l : Learns old new = learns_then old told new (learns_told old told few shown statuses settled other.view.words is) next in
     let n : length new.view.words ≡ length told.view.words = ap (λ (v : View). length v.words) view in record {
       pass = of;
       met = answer;
@@ -58,7 +58,7 @@ met_begun context old now new other r is m =
     let k : Met context (begun old) new other r = subst (λ (p : Knowing). Met context p new other r) is m in let l = k.learns in record {
       pass = k.pass;
       met = k.met;
-      learns = record { grown = l.grown; own = l.own; learnt = l.learnt; known_is = l.known_is; others = l.others; passes = l.passes; statuses = l.statuses };
+      learns = record { grown = l.grown; own = l.own; learnt = l.learnt; known_is = l.known_is; others = l.others; passes = l.passes; statuses = l.statuses; settled = l.settled };
       knows = k.knows;
       own = k.own;
       steps = k.steps;

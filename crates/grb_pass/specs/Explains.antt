@@ -55,17 +55,17 @@ pub record IsFull (room : ℕ) (c : Call) (g : History) : Type 0 where
   pub full : length g ≡ room
 
 -- memory may be refused in place of an answer: not in place of a refusal by shapes, nor to a call for dimensions, nor in place of a full
--- order unless the call is a build, nor where no entry was made
-pub record MayLackMemory (room : ℕ) (g : History) (c : Call) : Type 0 where
+-- order unless the call is a build, nor to a read or a wait where no entry came behind those that are settled
+pub record MayLackMemory (room settled : ℕ) (g : History) (c : Call) : Type 0 where
   pub by_shapes : refused_by_shapes (shapes_of (store_of g)) c ≡ None
   pub no_size : is_size c ≡ false
   pub room_left : IsTrue (enters c) → is_build c ≡ false → length g < room
-  pub unsettled : IsTrue (is_entry_read c) → 0 < length g
+  pub unsettled : IsTrue (is_entry_read c) → settled < length g
 
 -- memory was refused where it may be
 pub record IsOutOfMemory (room : ℕ) (old new : Knowing) (c : Call) (g : History) : Type 0 where
   pub point : IsAtPoint room old.view new.view g
-  pub may : MayLackMemory room g c
+  pub may : MayLackMemory room old.settled g c
 
 -- a record may be refused in place of an answer: only to a call that would be entered
 pub record MayLackRecord (room : ℕ) (g : History) (c : Call) : Type 0 where

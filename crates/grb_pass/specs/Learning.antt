@@ -30,7 +30,7 @@ pub record IsNextUnshown (p : Knowing) (word : ℕ) : Type 0 where
   pub word_is : word ≡ slice_index p.view.words (length p.shown)
   pub others : IsOthers p.view word
 
--- the pass learnt entries of others, and entered none; no status changed
+-- the pass learnt entries of others, and entered none; no status changed, and it settled no call
 pub record Learns (old new : Knowing) : Type 0 where
   pub grown : Grows old.view new.view
   pub own : new.view.own ≡ old.view.own
@@ -39,6 +39,7 @@ pub record Learns (old new : Knowing) : Type 0 where
   pub others : IsOfOthers old.view.number learnt
   pub passes : IsOfPasses old.view.passes learnt
   pub statuses : new.statuses ≡ old.statuses
+  pub settled : new.settled ≡ old.settled
 
 -- all words are known, and the last look found the next one vacant, or there is none; or a record was not shown
 abbrev pub Finds : ℕ → Knowing → Result End Refusal → Knowing → Type 0

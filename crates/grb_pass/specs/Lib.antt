@@ -9,4 +9,5 @@ pub mod Meeting
 pub mod Point
 pub mod Putting
 pub mod Reading
+pub mod Settled
 pub mod Statuses

@@ -15,11 +15,12 @@ use Rattle.grb_call.specs.After.{refused, refused_build}
 use Rattle.grb_call.specs.History.{after_all, calls_of, store_of}
 use Rattle.grb_pass.specs.Explains.{ByStore, ground_of}
 use Rattle.grb_pass.specs.Known.{Knowing, known, spelled, AreRecords}
-use Rattle.grb_replay.specs.State.{RoomyStore}
+use Rattle.grb_replay.specs.State.{RoomyStore, is_assembled}
+use Rattle.grb_replay.specs.Settled.{AreAllAssembled}
 use Rattle.grb_pass.specs.declared.reader.Reader.TheInside.{Inside}
 
 abbrev pub knowing : Inside → Knowing
-knowing r = record { order = r.place.table_id; view = r.place.view; shown = r.tokens.items; steps = r.steps; statuses = r.statuses.rows }
+knowing r = record { order = r.place.table_id; view = r.place.view; shown = r.tokens.items; steps = r.steps; statuses = r.statuses.rows; settled = r.settled }
 
 -- a reader with these tokens and shapes; the words whose records were not shown yet are of others
 pub record IsKept (number size : ℕ) (place : Holding) (shown : List Shown) (capacity : ℕ) (shapes : RoomyShapes) : Type 0 where
@@ -42,10 +43,16 @@ pub record IsEvaluated (calls : List Call) (evaluated : ℕ) (store : Store) : T
   pub within : evaluated ≤ length calls
   pub store_is : store ≡ after_all empty_store (take evaluated calls)
 
--- the store is the one after so many of the calls that are known, and each call to come has its room there
+-- where all calls that are known are settled, no change waits in any object
+abbrev pub IsAssembledWhereSettled : Knowing → RoomyStore → Type 0
+IsAssembledWhereSettled p state = length (known p) ≤ p.settled → AreAllAssembled (is_assembled state.matrices state.vectors)
+
+-- the store is the one after so many of the calls that are known, no fewer than are settled, and each call to come has its room there
 pub record IsPass (p : Knowing) (state : RoomyStore) (evaluated : ℕ) : Type 0 where
   pub state_is : IsEvaluated (calls_of (known p)) evaluated state.store
   pub room : state.room + evaluated ≡ room_of p.order
+  pub settled : p.settled ≤ evaluated
+  pub assembled : IsAssembledWhereSettled p state
 
 -- what a check of a build by what is stored found: no refusal, or memory was refused to the evaluation, or this refusal
 abbrev pub IsBuildChecked : Store → Call → Result (Unit {0}) Refusal → Type 0

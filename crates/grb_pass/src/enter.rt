@@ -55,6 +55,7 @@ impl Shared {
         requires few { pass.old.steps < 2 ^ 28 }
         ensures pass { IsPassOf self.now pass.new }
         ensures statuses { pass.new.statuses ≡ pass.old.statuses }
+        ensures settled { pass.new.settled ≡ pass.old.settled }
         ensures counts { CountsTries pass.old pass.new }
         ensures explains { ExplainsCall (room_of self.now.order) pass.old pass.new token.call result }
         ensures steady { IsSteady pass.new }
@@ -80,6 +81,7 @@ impl Shared {
         requires begun { pass.old.steps ≡ 0 }
         ensures pass { IsPassOf self.now pass.new }
         ensures statuses { pass.new.statuses ≡ pass.old.statuses }
+        ensures settled { pass.new.settled ≡ pass.old.settled }
         ensures counts { CountsCall pass.old pass.new }
         ensures explains { ExplainsCall (room_of self.now.order) pass.old pass.new call result }
         ensures steady { IsSteady pass.new }
@@ -97,6 +99,7 @@ impl Shared {
         requires begun { pass.old.steps ≡ 0 }
         ensures pass { IsPassOf self.now pass.new }
         ensures statuses { pass.new.statuses ≡ pass.old.statuses }
+        ensures settled { pass.new.settled ≡ pass.old.settled }
         ensures counts { CountsCall pass.old pass.new }
         ensures explains { ExplainsCall (room_of self.now.order) pass.old pass.new call.now result }
         ensures steady { IsSteady pass.new }

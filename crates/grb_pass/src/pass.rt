@@ -1,4 +1,4 @@
-ghost use Rattle.std.specs.Prelude.{◌≡◌, ◌<◌, ◌≤◌, ◌+◌, ◌^◌, ◌⊎◌, false, [], length, All, IfOk, IfErr, OnOk, OnErr};
+ghost use Rattle.std.specs.Prelude.{◌≡◌, ◌<◌, ◌≤◌, ◌+◌, ◌^◌, ◌⊎◌, false, [], if◌then◌else◌, length, All, IfOk, IfErr, OnOk, OnErr};
 ghost use Rattle.std.specs.Option.{option_or};
 ghost use Rattle.grb_order.specs.View.{fresh, LookedLast};
 ghost use Rattle.grb_order.specs.Order.{room_of};
@@ -13,12 +13,15 @@ ghost use Rattle.grb_pass.specs.Statuses.{no_rows, status_at};
 ghost use Rattle.grb_pass.specs.Known.{known};
 ghost use Rattle.grb_pass.specs.Counting.{Counts};
 ghost use Rattle.grb_pass.specs.Learning.{Enters, IsSteady};
-ghost use Rattle.grb_pass.specs.Reading.{IsBuildChecked, IsChecked, IsPass};
+ghost use Rattle.grb_pass.specs.Reading.{IsAssembledWhereSettled, IsBuildChecked, IsChecked, IsPass};
+ghost use Rattle.grb_pass.specs.Settled.{is_materialize};
+ghost use Rattle.grb_replay.specs.Settled.{IsSettled};
+ghost use Rattle.grb_replay.specs.State.{is_assembled};
 
 use crate::back_off::BackOff;
 use crate::reader::Reader;
 use crate::row::Row;
-use grb_call::{Call, Kind, Object, Reply};
+use grb_call::{Call, Kind, Object, Reply, WaitMode};
 use grb_core::{Info, Refusal};
 use grb_order::{Order, Place};
 use grb_records::{Records, Token};
@@ -62,10 +65,49 @@ fn evaluate(
     ensures same { reader.new ≡ reader.old }
     ensures kept { IsPass reader.new state.new evaluated.new }
     ensures store { OnOk result (state.new.store ≡ store_of (known reader.new)) }
+    ensures all { OnOk result (length (known reader.new) ≤ evaluated.new) }
+    ensures memory { OnErr result (reader.old.settled < length (known reader.old)) }
 {
     'calls: while *evaluated < reader.known() as usize {
         state.apply(reader.call_at(records, *evaluated))?;
         *evaluated += 1;
+    }
+    Ok(())
+}
+
+/// Whether the call waits for all objects.
+fn is_materialize(call: &Call) -> bool
+    ensures { result ≡ is_materialize call.now }
+{
+    match call {
+        Call::WaitMatrix { mode, .. } | Call::WaitVector { mode, .. } => match mode {
+            WaitMode::Complete => false,
+            WaitMode::Materialize => true,
+        },
+        _ => false,
+    }
+}
+
+/// Has the changes done that a reading call asks for, where all known calls are evaluated; where these are settled none wait. A call that
+/// waits for all objects settles them. `AllocError` where memory is refused.
+fn settle(reader: &mut Reader, state: &mut State, call: &Call) -> Result<(), AllocError>
+    requires within { reader.old.settled ≤ length (known reader.old) }
+    requires assembled { IsAssembledWhereSettled reader.old state.old }
+    ensures store { state.new.store ≡ state.old.store }
+    ensures room { state.new.room ≡ state.old.room }
+    ensures same { reader.new ≡ record reader.old { settled = reader.new.settled } }
+    ensures settled { OnOk result (reader.new.settled ≡ (if is_materialize call.now then length (known reader.old) else reader.old.settled)) }
+    ensures err { OnErr result (reader.new ≡ reader.old) }
+    ensures within { reader.new.settled ≤ length (known reader.old) }
+    ensures assembled { IsAssembledWhereSettled reader.new state.new }
+    ensures ready { OnOk result (IsSettled (is_assembled state.new.matrices state.new.vectors) call.now) }
+    ensures memory { OnErr result (reader.old.settled < length (known reader.old)) }
+{
+    if reader.settled() < reader.known() {
+        state.settle(call)?;
+        if is_materialize(call) {
+            reader.settle();
+        }
     }
     Ok(())
 }
@@ -81,7 +123,7 @@ impl Pass {
         requires number { (number ≡ place.view.number) × (number < place.view.passes) }
         requires room { (room ≡ room_of place.table_id) × (room ≤ 4096) }
         requires fresh { place.view ≡ fresh number place.view.passes }
-        ensures { IfOk result (λ pass. pass ≡ record { order = place.table_id; view = place.view; shown = []; steps = 0; statuses = no_rows (room_of place.table_id) }) }
+        ensures { IfOk result (λ pass. pass ≡ record { order = place.table_id; view = place.view; shown = []; steps = 0; statuses = no_rows (room_of place.table_id); settled = 0 }) }
     {
         Ok(Pass {
             reader: Reader::open(alloc, number, place, room)?,
@@ -118,6 +160,16 @@ impl Pass {
         ensures { result ≡ self.now.steps }
     {
         self.reader.steps()
+    }
+
+    /// How many calls of the history the pass knew at its last wait with `Materialize` that was answered `Done`; 0 before the first. As long
+    /// as it knows no more, none of its reads of entries, totals and waits is refused for want of memory. Takes no memory.
+    ///
+    /// Source: GraphBLAS C API 2.0, `GrB_MATERIALIZE`; the count is own.
+    pub fn settled(&self) -> u32
+        ensures { result ≡ self.now.settled }
+    {
+        self.reader.settled()
     }
 
     /// The status of the object: `Success` where the pass's last call on it was answered, `NoValue` where that call asked for an entry that
@@ -207,15 +259,18 @@ impl Pass {
         }
     }
 
-    /// The reply to a call that reads entries or has changes done, after all known ones, which it evaluates. `AllocError` where memory is
-    /// refused.
+    /// The reply to a call that reads entries or has changes done, after all known ones, which it evaluates. One that waits for all objects
+    /// settles them. `AllocError` where memory is refused; then no more calls are settled than before.
     fn reply_of_entries(&mut self, records: &Records, call: &Call) -> Result<Reply, AllocError>
         requires reads { enters call.now ≡ false }
         requires no_size { is_size call.now ≡ false }
         requires accepted { refused (store_of (known self.old)) call.now ≡ None }
         requires records { All (IsOf records.now) self.old.shown }
         ensures reply { IfOk result (λ reply. reply ≡ reply_of (store_of (known self.old)) call.now) }
-        ensures same { self.new ≡ self.old }
+        ensures unsettled { OnErr result (self.old.settled < length (known self.old)) }
+        ensures same { self.new ≡ record self.old { settled = self.new.settled } }
+        ensures settled { OnOk result (self.new.settled ≡ (if is_materialize call.now then length (known self.old) else self.old.settled)) }
+        ensures err { OnErr result (self.new.settled ≡ self.old.settled) }
     {
         evaluate(
             records,
@@ -223,19 +278,23 @@ impl Pass {
             &mut self.state,
             &mut self.evaluated,
         )?;
-        self.state.settle(call)?;
+        settle(&mut self.reader, &mut self.state, call)?;
         Ok(self.state.reply(call))
     }
 
     /// The reply to a call that only reads and is not refused, after all known ones. One for dimensions takes no memory; any other
-    /// evaluates the known calls, and a total or a wait has the changes that wait done. `AllocError` where memory is refused to that.
+    /// evaluates the known calls, and a total or a wait has the changes that wait done; where the known calls are settled none of this is
+    /// left, and no memory is taken. A wait for all objects settles them. `AllocError` where memory is refused.
     pub(crate) fn reply(&mut self, records: &Records, call: &Call) -> Result<Reply, AllocError>
         requires reads { enters call.now ≡ false }
         requires accepted { refused (store_of (known self.old)) call.now ≡ None }
         requires records { All (IsOf records.now) self.old.shown }
         ensures reply { IfOk result (λ reply. reply ≡ reply_of (store_of (known self.old)) call.now) }
         ensures memory { OnErr result (is_size call.now ≡ false) }
-        ensures same { self.new ≡ self.old }
+        ensures unsettled { OnErr result (self.old.settled < length (known self.old)) }
+        ensures same { self.new ≡ record self.old { settled = self.new.settled } }
+        ensures settled { OnOk result (self.new.settled ≡ (if is_materialize call.now then length (known self.old) else self.old.settled)) }
+        ensures err { OnErr result (self.new.settled ≡ self.old.settled) }
     {
         match call {
             Call::SizeMatrix { .. } | Call::SizeVector { .. } => Ok(self.reader.size(call)),
@@ -255,6 +314,7 @@ impl Pass {
         requires few { self.old.steps < 2 ^ 31 }
         ensures order { self.new.order ≡ self.old.order }
         ensures statuses { self.new.statuses ≡ self.old.statuses }
+        ensures settled { self.new.settled ≡ self.old.settled }
         ensures enters { Enters (room_of order.now) token self.old result self.new }
         ensures steady { IsSteady self.new }
         ensures counts { Counts self.old self.new }

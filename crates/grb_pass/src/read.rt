@@ -1,11 +1,12 @@
-ghost use Rattle.std.specs.Prelude.{◌≡◌, false};
+ghost use Rattle.std.specs.Prelude.{◌≡◌, false, length};
 ghost use Rattle.grb_order.specs.Order.{room_of};
 ghost use Rattle.grb_call.specs.Kinds.{enters};
-ghost use Rattle.grb_pass.specs.Known.{IsPassOf};
+ghost use Rattle.grb_pass.specs.Known.{IsPassOf, known};
 ghost use Rattle.grb_pass.specs.Explains.{ExplainsCall, IsCaughtUp, ground_of};
 ghost use Rattle.grb_pass.specs.Answered.{Answered};
 ghost use Rattle.grb_pass.specs.Counting.{CountsCall};
 ghost use Rattle.grb_pass.specs.Learning.{IsSteady};
+ghost use Rattle.grb_pass.specs.Settled.{settled_after};
 
 use crate::pass::Pass;
 use crate::shared::Shared;
@@ -13,13 +14,14 @@ use grb_call::{Call, Reply};
 use grb_core::Refusal;
 
 impl Shared {
-    /// Learns the order to its end, checks the call there, and evaluates what its answer needs.
+    /// Learns the order to its end, checks the call there, evaluates what its answer needs, and settles all where it waits for all.
     fn read_at_end(&self, pass: &mut Pass, call: &Call) -> Result<Reply, Refusal>
         requires pass { IsPassOf self.now pass.old }
         requires reads { enters call.now ≡ false }
         requires begun { pass.old.steps ≡ 0 }
         ensures pass { IsPassOf self.now pass.new }
         ensures statuses { pass.new.statuses ≡ pass.old.statuses }
+        ensures settled { pass.new.settled ≡ settled_after call.now result (length (known pass.new)) pass.old.settled }
         ensures counts { CountsCall pass.old pass.new }
         ensures explains { ExplainsCall (room_of self.now.order) pass.old pass.new call.now result }
         ensures steady { IsSteady pass.new }
@@ -31,7 +33,8 @@ impl Shared {
             .or(Err(Refusal::OutOfMemory))
     }
 
-    /// Answers a call that only reads. Takes memory for the evaluation of calls alone, and does not wait.
+    /// Answers a call that only reads. Takes memory for the evaluation of calls and for the changes that wait, and none where all known
+    /// calls are settled; does not wait.
     pub fn read(&self, pass: &mut Pass, call: &Call) -> Result<Reply, Refusal>
         requires pass { IsPassOf self.now pass.old }
         requires reads { enters call.now ≡ false }

@@ -26,7 +26,7 @@ use std::alloc::{AllocError, Global};
 use std::marker::Model;
 
 /// What a pass has read of the order: its words, the records behind the first of them, the shapes that their calls leave,
-/// and the status that each object has of the calls of the pass.
+/// the status that each object has of the calls of the pass, and how many calls it settled.
 #[derive(Drop)]
 pub(crate) struct Reader {
     number: u32,
@@ -38,6 +38,8 @@ pub(crate) struct Reader {
     steps: u32,
     // The status of each object, whose number is below that of the words that the order has.
     statuses: Statuses,
+    // How many calls were known when all objects were last materialized.
+    settled: u32,
 }
 
 impl Model for Reader {
@@ -74,7 +76,7 @@ impl Reader {
         requires number { (number ≡ place.view.number) × (number < place.view.passes) }
         requires room { (room ≡ room_of place.table_id) × (room ≤ 4096) }
         requires fresh { place.view ≡ fresh number place.view.passes }
-        ensures { IfOk result (λ reader. reader ≡ record { order = place.table_id; view = place.view; shown = []; steps = 0; statuses = no_rows (room_of place.table_id) }) }
+        ensures { IfOk result (λ reader. reader ≡ record { order = place.table_id; view = place.view; shown = []; steps = 0; statuses = no_rows (room_of place.table_id); settled = 0 }) }
     {
         let tokens = Vec::with_capacity(alloc, room as usize)?;
         let shapes = Shapes::open(alloc, room)?;
@@ -86,6 +88,7 @@ impl Reader {
             shapes,
             steps: 0,
             statuses,
+            settled: 0,
         })
     }
 
@@ -114,6 +117,20 @@ impl Reader {
         ensures { result ≡ status_at self.now.statuses object }
     {
         self.statuses.find(object)
+    }
+
+    /// How many calls are settled.
+    pub(crate) fn settled(&self) -> u32
+        ensures { result ≡ self.now.settled }
+    {
+        self.settled
+    }
+
+    /// All known calls are settled from now on.
+    pub(crate) fn settle(&mut self)
+        ensures { self.new ≡ record self.old { settled = length (known self.old) } }
+    {
+        self.settled = self.known();
     }
 
     /// Keeps the status that this answer leaves on the target of its call, which is about that object.
@@ -190,6 +207,7 @@ impl Reader {
         ensures order { self.new.order ≡ self.old.order }
         ensures shown { self.new.shown ≡ self.old.shown }
         ensures statuses { self.new.statuses ≡ self.old.statuses }
+        ensures settled { self.new.settled ≡ self.old.settled }
         ensures look { Looks (room_of order.now) self.old.view result self.new.view }
         ensures steady { IsSteady self.new }
         ensures counts { Counts self.old self.new }
@@ -207,6 +225,7 @@ impl Reader {
         ensures order { self.new.order ≡ self.old.order }
         ensures shown { self.new.shown ≡ self.old.shown }
         ensures statuses { self.new.statuses ≡ self.old.statuses }
+        ensures settled { self.new.settled ≡ self.old.settled }
         ensures told { self.new.view ≡ is_told self.old.view other.old.view.words }
         ensures words { StartsWith self.new.view.words other.old.view.words }
         ensures other { other.new ≡ other.old }
@@ -285,6 +304,7 @@ impl Reader {
         requires few { self.old.steps < 2 ^ 31 }
         ensures order { self.new.order ≡ self.old.order }
         ensures statuses { self.new.statuses ≡ self.old.statuses }
+        ensures settled { self.new.settled ≡ self.old.settled }
         ensures enters { Enters (room_of order.now) token self.old result self.new }
         ensures steady { IsSteady self.new }
         ensures counts { Counts self.old self.new }

@@ -10,6 +10,7 @@ mod races;
 mod records;
 mod rows;
 mod same;
+mod settled;
 mod statuses;
 mod steps;
 mod threads;

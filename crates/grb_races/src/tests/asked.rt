@@ -1,6 +1,6 @@
 ghost use Rattle.grb_context.specs.Known.{IsPassOf};
 
-use grb_call::{Descriptor, MatrixId, MatrixTuples, Reply, VectorId, VectorTuples};
+use grb_call::{Descriptor, MatrixId, MatrixTuples, Reply, VectorId, VectorTuples, WaitMode};
 use grb_context::{Context, Pass};
 use grb_core::{BinaryOp, Domain, Monoid, Refusal, Semiring, Value};
 use std::alloc::{AllocError, Global};
@@ -38,6 +38,8 @@ pub(super) enum Asked {
     DupVector(VectorId),
     BuildMatrix(MatrixId, &'static [(u64, u64, u64)]),
     BuildVector(VectorId, &'static [(u64, u64)]),
+    WaitMatrix(MatrixId, WaitMode),
+    WaitVector(VectorId, WaitMode),
     Operation(Operation),
 }
 
@@ -86,6 +88,7 @@ pub(super) enum Operation {
     ReduceRows(VectorId, Monoid, MatrixId, Descriptor),
     /// Of all values of a matrix.
     Total(MatrixId, Monoid),
+    TotalOfVector(VectorId, Monoid),
 }
 
 fn numbers(alloc: Global, list: &[(u64, u64)]) -> Result<VectorTuples, AllocError> {
@@ -104,18 +107,29 @@ fn cells(alloc: Global, list: &[(u64, u64, u64)]) -> Result<MatrixTuples, AllocE
     Ok(MatrixTuples::from_vec(tuples))
 }
 
-/// Makes a call on a matrix by its method.
-fn ask_matrix(
+fn build_matrix(
     alloc: Global,
     context: &Context,
     pass: &mut Pass,
-    asked: Asked,
-) -> Result<Answer, AllocError>
+    a: MatrixId,
+    list: &[(u64, u64, u64)],
+) -> Answer
     requires { IsPassOf context.now pass.old }
     ensures { IsPassOf context.now pass.new }
 {
-    Ok(match asked {
-        Asked::NewMatrix(domain, nrows, ncols) => { context.new_matrix(pass, domain, nrows, ncols) }
+    match cells(alloc, list) {
+        Ok(tuples) => context.build_matrix(pass, a, tuples, Monoid::Plus),
+        Err(_) => Err(Refusal::OutOfMemory),
+    }
+}
+
+/// Makes a call on a matrix by its method.
+fn ask_matrix(alloc: Global, context: &Context, pass: &mut Pass, asked: Asked) -> Answer
+    requires { IsPassOf context.now pass.old }
+    ensures { IsPassOf context.now pass.new }
+{
+    match asked {
+        Asked::NewMatrix(domain, nrows, ncols) => context.new_matrix(pass, domain, nrows, ncols),
         Asked::FreeMatrix(a) => context.free_matrix(pass, a),
         Asked::SetMatrix(a, i, j, value) => context.set_matrix(pass, a, i, j, value),
         Asked::RemoveMatrix(a, i, j) => context.remove_matrix(pass, a, i, j),
@@ -125,25 +139,34 @@ fn ask_matrix(
         Asked::ClearMatrix(a) => context.clear_matrix(pass, a),
         Asked::ResizeMatrix(a, nrows, ncols) => context.resize_matrix(pass, a, nrows, ncols),
         Asked::DupMatrix(a) => context.dup_matrix(pass, a),
-        Asked::BuildMatrix(a, list) => {
-            let tuples = cells(alloc, list)?;
-            context.build_matrix(pass, a, tuples, Monoid::Plus)
-        }
+        Asked::BuildMatrix(a, list) => build_matrix(alloc, context, pass, a, list),
+        Asked::WaitMatrix(a, mode) => context.wait_matrix(pass, a, mode),
         _ => Err(Refusal::Panic),
-    })
+    }
 }
 
-/// Makes a call on a vector by its method.
-fn ask_vector(
+fn build_vector(
     alloc: Global,
     context: &Context,
     pass: &mut Pass,
-    asked: Asked,
-) -> Result<Answer, AllocError>
+    v: VectorId,
+    list: &[(u64, u64)],
+) -> Answer
     requires { IsPassOf context.now pass.old }
     ensures { IsPassOf context.now pass.new }
 {
-    Ok(match asked {
+    match numbers(alloc, list) {
+        Ok(tuples) => context.build_vector(pass, v, tuples, Monoid::Plus),
+        Err(_) => Err(Refusal::OutOfMemory),
+    }
+}
+
+/// Makes a call on a vector by its method.
+fn ask_vector(alloc: Global, context: &Context, pass: &mut Pass, asked: Asked) -> Answer
+    requires { IsPassOf context.now pass.old }
+    ensures { IsPassOf context.now pass.new }
+{
+    match asked {
         Asked::NewVector(domain, size) => context.new_vector(pass, domain, size),
         Asked::FreeVector(v) => context.free_vector(pass, v),
         Asked::SetVector(v, i, value) => context.set_vector(pass, v, i, value),
@@ -154,12 +177,10 @@ fn ask_vector(
         Asked::ClearVector(v) => context.clear_vector(pass, v),
         Asked::ResizeVector(v, size) => context.resize_vector(pass, v, size),
         Asked::DupVector(v) => context.dup_vector(pass, v),
-        Asked::BuildVector(v, list) => {
-            let tuples = numbers(alloc, list)?;
-            context.build_vector(pass, v, tuples, Monoid::Plus)
-        }
+        Asked::BuildVector(v, list) => build_vector(alloc, context, pass, v, list),
+        Asked::WaitVector(v, mode) => context.wait_vector(pass, v, mode),
         _ => Err(Refusal::Panic),
-    })
+    }
 }
 
 /// Makes an operation by its method.
@@ -192,6 +213,7 @@ fn operate(context: &Context, pass: &mut Pass, operation: Operation) -> Answer
             context.reduce_rows(pass, w, None, None, monoid, a, d)
         }
         Operation::Total(a, monoid) => context.reduce_matrix(pass, a, monoid),
+        Operation::TotalOfVector(v, monoid) => context.reduce_vector(pass, v, monoid),
     }
 }
 
@@ -209,21 +231,17 @@ fn is_of_a_vector(asked: Asked) -> bool {
             | Asked::ResizeVector(..)
             | Asked::DupVector(_)
             | Asked::BuildVector(..)
+            | Asked::WaitVector(..)
     )
 }
 
-/// Makes a call by its method.
-pub(super) fn ask(
-    alloc: Global,
-    context: &Context,
-    pass: &mut Pass,
-    asked: Asked,
-) -> Result<Answer, AllocError>
+/// Makes a call by its method. `OutOfMemory` also where memory is refused to the list of a build.
+pub(super) fn ask(alloc: Global, context: &Context, pass: &mut Pass, asked: Asked) -> Answer
     requires { IsPassOf context.now pass.old }
     ensures { IsPassOf context.now pass.new }
 {
     if let Asked::Operation(operation) = asked {
-        Ok(operate(context, pass, operation))
+        operate(context, pass, operation)
     } else if is_of_a_vector(asked) {
         ask_vector(alloc, context, pass, asked)
     } else {

@@ -55,6 +55,28 @@ fn calls_of(alloc: Global, rows: &[Row]) -> Result<Vec<Call>, AllocError> {
     Ok(calls)
 }
 
+fn expect_answers(rt: &impl Abort, answers: &[Answer], rows: &[Row]) {
+    same(rt, answers.len(), rows.len(), "the answers");
+    for (at, (answer, row)) in answers.iter().zip(rows.iter()).enumerate() {
+        same(rt, *answer, row.1, ("row from 0", at));
+    }
+}
+
+fn expect_answers_to<R: Abort>(
+    rt: &R,
+    context: &Context,
+    pass: &mut Pass,
+    calls: &[Call],
+    rows: &[Row],
+)
+    requires { IsPassOf context.now pass.old }
+{
+    match context.run(pass, calls) {
+        Ok(answers) => expect_answers(rt, &answers, rows),
+        Err(_) => panic!(rt; "no memory for the answers"),
+    }
+}
+
 /// Makes the calls of the rows by one list.
 fn expect_rows_by_list<R: Abort>(
     rt: &R,
@@ -66,13 +88,7 @@ fn expect_rows_by_list<R: Abort>(
     requires { IsPassOf context.now pass.old }
 {
     let calls = calls_of(alloc, rows)?;
-    let Ok(answers) = context.run(pass, &calls) else {
-        panic!(rt; "no memory for the answers")
-    };
-    same(rt, answers.len(), rows.len(), "the answers");
-    for (at, (answer, row)) in answers.iter().zip(rows.iter()).enumerate() {
-        same(rt, *answer, row.1, ("row from 0", at));
-    }
+    expect_answers_to(rt, context, pass, &calls, rows);
     Ok(())
 }
 
@@ -161,11 +177,7 @@ fn count_of_answers(context: &Context, pass: &mut Pass) -> Option<usize>
 }
 
 /// What the pass counts stays as it was.
-pub(super) fn expect_no_list<R: Abort>(
-    rt: &R,
-    context: &Context,
-    pass: &mut Pass,
-) -> Result<(), AllocError>
+pub(super) fn expect_no_list<R: Abort>(rt: &R, context: &Context, pass: &mut Pass)
     requires { IsPassOf context.now pass.old }
 {
     let (known, words, steps) = (pass.known(), pass.words(), pass.steps());
@@ -173,7 +185,6 @@ pub(super) fn expect_no_list<R: Abort>(
     same(rt, pass.known(), known, "the calls");
     same(rt, pass.words(), words, "the words");
     same(rt, pass.steps(), steps, "the steps");
-    Ok(())
 }
 
 #[test]

@@ -26,12 +26,7 @@ fn expect_point(rt: &impl Abort, pass: &Pass, known: u32, words: u32, steps: u32
     same(rt, pass.steps(), steps, "the steps");
 }
 
-pub(super) fn expect_told(
-    rt: &impl Abort,
-    context: &Context,
-    p: &mut Pass,
-    q: &mut Pass,
-) -> Result<(), AllocError>
+pub(super) fn expect_told(rt: &impl Abort, context: &Context, p: &mut Pass, q: &mut Pass)
     requires first { IsPassOf context.now p.old }
     requires second { IsPassOf context.now q.old }
 {
@@ -44,7 +39,6 @@ pub(super) fn expect_told(
     expect_point(rt, q, 2, 2, 3);
     expect_answer(rt, context.get_vector(p, FIRST, 1), Ok(Reply::Value(NINE)));
     same(rt, p.known(), 2, "behind the meeting");
-    Ok(())
 }
 
 #[test]
@@ -52,12 +46,7 @@ fn a_meeting_tells_what_the_other_pass_knows(rt: HostRuntime) -> Result<(), Allo
     try_in_new(&rt, rt.alloc(), 8, Trial::Told)
 }
 
-pub(super) fn expect_no_change(
-    rt: &impl Abort,
-    context: &Context,
-    p: &mut Pass,
-    q: &mut Pass,
-) -> Result<(), AllocError>
+pub(super) fn expect_no_change(rt: &impl Abort, context: &Context, p: &mut Pass, q: &mut Pass)
     requires first { IsPassOf context.now p.old }
     requires second { IsPassOf context.now q.old }
 {
@@ -68,7 +57,6 @@ pub(super) fn expect_no_change(
     same(rt, context.meet(p, q), Ok(()), "the meeting");
     expect_point(rt, p, 2, 2, 0);
     expect_point(rt, q, 0, 0, 0);
-    Ok(())
 }
 
 #[test]

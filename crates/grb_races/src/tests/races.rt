@@ -6,10 +6,9 @@ use crate::tests::threads::{Pair, Work, repeat};
 use grb_call::Reply;
 use grb_context::{Context, Pass};
 use grb_core::{Refusal, Value};
-use std::alloc::Global;
+use std::alloc::{AllocError, Global};
 use std::process::Abort;
 use std::sync::{Barrier, Wait};
-use std::test::Fail;
 
 /// The answers of both threads, that to the read by the pass that made the vector, and the calls which this pass then knows.
 type Outcome = (Pair, Pair, Answer, u32);
@@ -153,22 +152,12 @@ static RACES: [Race; 7] = [
     },
 ];
 
-fn answer_once(alloc: Global, context: &Context, pass: &mut Pass, asked: Asked) -> Answer
-    requires { IsPassOf context.now pass.old }
-    ensures { IsPassOf context.now pass.new }
-{
-    match ask(alloc, context, pass, asked) {
-        Ok(answer) => answer,
-        Err(_) => Err(Refusal::OutOfMemory),
-    }
-}
-
 /// Makes the call that comes before both.
 pub(super) fn before_race(alloc: Global, context: &Context, pass: &mut Pass, race: &Race)
     requires { IsPassOf context.now pass.old }
     ensures { IsPassOf context.now pass.new }
 {
-    let _before = answer_once(alloc, context, pass, race.before);
+    let _before = ask(alloc, context, pass, race.before);
 }
 
 /// Makes the call of the pass's number, once both threads are there, and then the read.
@@ -177,10 +166,10 @@ pub(super) fn answers_at_once<R: Wait>(
     alloc: Global,
     all: &Barrier,
     context: &Context,
-    mut pass: Pass,
+    pass: &mut Pass,
     race: &Race,
 ) -> Pair
-    requires { IsPassOf context.now pass }
+    requires { IsPassOf context.now pass.old }
 {
     let asked = if pass.number() == 0 {
         race.first
@@ -188,8 +177,8 @@ pub(super) fn answers_at_once<R: Wait>(
         race.second
     };
     all.wait(rt);
-    let answer = answer_once(alloc, context, &mut pass, asked);
-    let read = answer_once(alloc, context, &mut pass, race.read);
+    let answer = ask(alloc, context, pass, asked);
+    let read = ask(alloc, context, pass, race.read);
     (answer, read)
 }
 
@@ -221,14 +210,14 @@ pub(super) fn expect_race<R: Abort>(
 )
     requires { IsPassOf context.now pass.old }
 {
-    let read = answer_once(alloc, context, pass, race.read);
+    let read = ask(alloc, context, pass, race.read);
     expect_lawful(rt, pairs, read, pass.known(), race.lawful);
 }
 
 #[test]
 fn two_calls_at_one_moment_are_answered_as_in_one_of_their_orders(
     rt: HostRuntime,
-) -> Result<(), Fail> {
+) -> Result<(), AllocError> {
     for race in &RACES {
         repeat(&rt, rt.alloc(), 1000, 4, 2, 2, &Work::Race(race))?;
     }

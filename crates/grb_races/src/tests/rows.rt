@@ -3,6 +3,7 @@ ghost use Rattle.grb_context.specs.Known.{IsPassOf};
 
 use crate::tests::asked::{Answer, Asked, ask};
 use crate::tests::same::same;
+use crate::tests::trials::{Trial, refusals_in_new};
 use grb_context::{Context, Pass};
 use grb_core::Refusal;
 use std::alloc::{AllocError, Global};
@@ -15,6 +16,8 @@ pub(super) enum Counted {
     Known,
     /// The steps that the call made on the order.
     Steps,
+    /// Nothing: it is 0.
+    Nothing,
 }
 
 /// Which of two passes makes the call, the call, its answer, and a count.
@@ -32,14 +35,19 @@ pub(super) fn next_pass(rt: &impl Abort, context: &Context, passes: &mut Vec<Pas
     pass
 }
 
-/// A store, and its two passes, 0 and 1. Where memory is refused it is asked for once more.
-pub(super) fn open_two(
-    rt: &impl Abort,
-    alloc: Global,
-    room: u32,
-) -> Result<(Context, Pass, Pass), AllocError>
+/// A store, and its two passes, 0 and 1.
+#[derive(Drop)]
+pub(super) struct Opened {
+    pub(super) context: Context,
+    pub(super) first: Pass,
+    pub(super) second: Pass,
+}
+
+/// Opens a store with two passes. Where memory is refused it is asked for once more.
+pub(super) fn open_two(rt: &impl Abort, alloc: Global, room: u32) -> Result<Opened, AllocError>
     requires { (0 < room) × (room ≤ 4096) }
-    ensures { IfOk result (λ opened. IsPassOf opened.0 opened.1 × IsPassOf opened.0 opened.2) }
+    ensures first { IfOk result (λ opened. IsPassOf opened.context opened.first) }
+    ensures second { IfOk result (λ opened. IsPassOf opened.context opened.second) }
 {
     let (context, mut passes) = match Context::open(alloc, room, 2) {
         Ok(opened) => opened,
@@ -47,7 +55,11 @@ pub(super) fn open_two(
     };
     let second = next_pass(rt, &context, &mut passes);
     let first = next_pass(rt, &context, &mut passes);
-    Ok((context, first, second))
+    Ok(Opened {
+        context,
+        first,
+        second,
+    })
 }
 
 /// Makes the call by its method, and once more where memory was refused, or a record that it asks for. It counts the refusals.
@@ -57,12 +69,12 @@ pub(super) fn answer_of(
     pass: &mut Pass,
     asked: Asked,
     refusals: &mut u32,
-) -> Result<Answer, AllocError>
+) -> Answer
     requires { IsPassOf context.now pass.old }
     ensures { IsPassOf context.now pass.new }
 {
     match ask(alloc, context, pass, asked) {
-        Err(_) | Ok(Err(Refusal::OutOfMemory | Refusal::Panic)) => {
+        Err(Refusal::OutOfMemory | Refusal::Panic) => {
             *refusals = refusals.saturating_add(1);
             ask(alloc, context, pass, asked)
         }
@@ -89,6 +101,7 @@ fn expect_count<R: Abort>(
                 same(rt, pass.steps(), expected, ("row from 0", at));
             }
         }
+        Counted::Nothing => {}
     }
 }
 
@@ -101,15 +114,14 @@ fn expect_row<R: Abort>(
     counted: Counted,
     at: usize,
     refusals: &mut u32,
-) -> Result<(), AllocError>
+)
     requires { IsPassOf context.now pass.old }
     ensures { IsPassOf context.now pass.new }
 {
     let (_, asked, expected, count) = *row;
-    let answer = answer_of(alloc, context, pass, asked, refusals)?;
+    let answer = answer_of(alloc, context, pass, asked, refusals);
     same(rt, answer, expected, ("row from 0", at));
     expect_count(rt, pass, counted, count, at, *refusals);
-    Ok(())
 }
 
 // How many calls were refused memory, or a record, before they were made once more.
@@ -121,19 +133,19 @@ fn expect_rows<R: Abort>(
     q: &mut Pass,
     counted: Counted,
     rows: &[Row],
-) -> Result<u32, AllocError>
+) -> u32
     requires first { IsPassOf context.now p.old }
     requires second { IsPassOf context.now q.old }
 {
     let mut refusals = 0;
     for (at, row) in rows.iter().enumerate() {
         if row.0 == 0 {
-            expect_row(rt, alloc, context, p, row, counted, at, &mut refusals)?;
+            expect_row(rt, alloc, context, p, row, counted, at, &mut refusals);
         } else {
-            expect_row(rt, alloc, context, q, row, counted, at, &mut refusals)?;
+            expect_row(rt, alloc, context, q, row, counted, at, &mut refusals);
         }
     }
-    Ok(refusals)
+    refusals
 }
 
 fn expect_pass(rt: &impl Abort, pass: &Pass, number: u32, room: u32) {
@@ -142,8 +154,8 @@ fn expect_pass(rt: &impl Abort, pass: &Pass, number: u32, room: u32) {
     same(rt, pass.room_left(), left, "the room");
 }
 
-// Makes the rows by the two passes of a new store. How many calls were refused memory, or a record.
-fn refusals_by<R: Abort>(
+/// Makes the rows by the two passes of a new store with this room. How many calls were refused memory, or a record.
+pub(super) fn refusals_by<R: Abort>(
     rt: &R,
     alloc: Global,
     context: &Context,
@@ -152,38 +164,16 @@ fn refusals_by<R: Abort>(
     room: u32,
     counted: Counted,
     rows: &[Row],
-) -> Result<u32, AllocError>
+) -> u32
     requires first { IsPassOf context.now p.old }
     requires second { IsPassOf context.now q.old }
 {
     same(rt, p.steps(), 0, "the first pass");
     same(rt, q.steps(), 0, "the second pass");
-    let refusals = expect_rows(rt, alloc, context, p, q, counted, rows)?;
+    let refusals = expect_rows(rt, alloc, context, p, q, counted, rows);
     expect_pass(rt, p, 0, room);
     expect_pass(rt, q, 1, room);
-    Ok(refusals)
-}
-
-// The same in a new store with this room.
-fn refusals_of<R: Abort + AllocGlobal>(
-    rt: &R,
-    room: u32,
-    counted: Counted,
-    rows: &[Row],
-) -> Result<u32, AllocError>
-    requires { (0 < room) × (room ≤ 4096) }
-{
-    let (context, mut p, mut q) = open_two(rt, rt.alloc(), room)?;
-    refusals_by(
-        rt,
-        rt.alloc(),
-        &context,
-        &mut p,
-        &mut q,
-        room,
-        counted,
-        rows,
-    )
+    refusals
 }
 
 /// Makes the rows twice, each time in a new store with this room. One refused allocation spoils one of the two runs at most: a store
@@ -192,12 +182,13 @@ pub(super) fn run<R: Abort + AllocGlobal>(
     rt: &R,
     room: u32,
     counted: Counted,
-    rows: &[Row],
+    rows: &'static [Row],
 ) -> Result<(), AllocError>
     requires { (0 < room) × (room ≤ 4096) }
 {
-    let first = refusals_of(rt, room, counted, rows)?;
-    let second = refusals_of(rt, room, counted, rows)?;
+    let trial = Trial::Rows(counted, rows);
+    let first = refusals_in_new(rt, rt.alloc(), room, trial)?;
+    let second = refusals_in_new(rt, rt.alloc(), room, trial)?;
     assert!(rt;
         first.saturating_add(second) <= 1,
         "{first} and {second} calls were refused memory or a record"

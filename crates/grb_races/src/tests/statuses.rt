@@ -88,7 +88,7 @@ const MULTIPLIED: Operation = Operation::EwiseMultMatrix(
 );
 
 /// A call, and the statuses of two objects after it.
-type Row = (Asked, Object, Status, Object, Status);
+pub(super) type Row = (Asked, Object, Status, Object, Status);
 
 fn expect_status(rt: &impl Abort, pass: &Pass, object: Object, expected: Status, at: usize) {
     same(rt, pass.last_info(object), expected, ("row from 0", at));
@@ -101,31 +101,30 @@ fn expect_row<R: Abort>(
     pass: &mut Pass,
     row: &Row,
     at: usize,
-) -> Result<(), AllocError>
+)
     requires { IsPassOf context.now pass.old }
     ensures { IsPassOf context.now pass.new }
 {
     let (asked, object, status, other, kept) = *row;
     let mut refusals = 0;
-    let _answer = answer_of(alloc, context, pass, asked, &mut refusals)?;
+    let _answer = answer_of(alloc, context, pass, asked, &mut refusals);
     expect_status(rt, pass, object, status, at);
     expect_status(rt, pass, other, kept, at);
-    Ok(())
 }
 
-fn expect_rows<R: Abort>(
+/// Makes the calls of the rows one after another, and looks at the statuses after each.
+pub(super) fn expect_statuses<R: Abort>(
     rt: &R,
     alloc: Global,
     context: &Context,
     pass: &mut Pass,
     rows: &[Row],
-) -> Result<(), AllocError>
+)
     requires { IsPassOf context.now pass.old }
 {
     for (at, row) in rows.iter().enumerate() {
-        expect_row(rt, alloc, context, pass, row, at)?;
+        expect_row(rt, alloc, context, pass, row, at);
     }
-    Ok(())
 }
 
 /// In a store of 8 calls: the vector that the call changes or reads, and another object.
@@ -210,20 +209,9 @@ static ON_VECTORS: [Row; 22] = [
     ),
 ];
 
-pub(super) fn expect_on_vectors<R: Abort>(
-    rt: &R,
-    alloc: Global,
-    context: &Context,
-    pass: &mut Pass,
-) -> Result<(), AllocError>
-    requires { IsPassOf context.now pass.old }
-{
-    expect_rows(rt, alloc, context, pass, &ON_VECTORS)
-}
-
 #[test]
 fn a_vector_has_the_status_of_the_last_call_on_it(rt: HostRuntime) -> Result<(), AllocError> {
-    try_in_new(&rt, rt.alloc(), 8, Trial::OnVectors)
+    try_in_new(&rt, rt.alloc(), 8, Trial::Statuses(&ON_VECTORS))
 }
 
 /// In a store of 4 calls: the matrix that the call changes or reads, and another object.
@@ -261,20 +249,9 @@ static ON_MATRICES: [Row; 13] = [
     ),
 ];
 
-pub(super) fn expect_on_matrices<R: Abort>(
-    rt: &R,
-    alloc: Global,
-    context: &Context,
-    pass: &mut Pass,
-) -> Result<(), AllocError>
-    requires { IsPassOf context.now pass.old }
-{
-    expect_rows(rt, alloc, context, pass, &ON_MATRICES)
-}
-
 #[test]
 fn a_matrix_has_the_status_of_the_last_call_on_it(rt: HostRuntime) -> Result<(), AllocError> {
-    try_in_new(&rt, rt.alloc(), 4, Trial::OnMatrices)
+    try_in_new(&rt, rt.alloc(), 4, Trial::Statuses(&ON_MATRICES))
 }
 
 /// In a store of 16 calls: operations on matrices, products and totals, each refused by what is not there, and then done.
@@ -314,88 +291,46 @@ static ON_OPERATIONS: [Row; 15] = [
     ),
 ];
 
-pub(super) fn expect_on_operations<R: Abort>(
-    rt: &R,
-    alloc: Global,
-    context: &Context,
-    pass: &mut Pass,
-) -> Result<(), AllocError>
-    requires { IsPassOf context.now pass.old }
-{
-    expect_rows(rt, alloc, context, pass, &ON_OPERATIONS)
-}
-
 #[test]
 fn an_operation_leaves_a_status_of_its_output_alone(rt: HostRuntime) -> Result<(), AllocError> {
-    try_in_new(&rt, rt.alloc(), 16, Trial::OnOperations)
+    try_in_new(&rt, rt.alloc(), 16, Trial::Statuses(&ON_OPERATIONS))
 }
 
-/// A call that is made by `call`, and the statuses of two objects after it.
-fn expect_call<R: Abort>(
-    rt: &R,
-    context: &Context,
-    pass: &mut Pass,
-    call: Call,
-    of_vector: Status,
-    of_matrix: Status,
-)
-    requires { IsPassOf context.now pass.old }
-    ensures { IsPassOf context.now pass.new }
-{
-    let _answer = context.call(pass, call);
-    same(rt, pass.last_info(V), of_vector, V);
-    same(rt, pass.last_info(A), of_matrix, A);
-}
-
-fn new_vector() -> Call {
-    Call::NewVector {
-        domain: Domain::Uint64,
-        size: 2,
-    }
-}
-
-pub(super) fn expect_waited<R: Abort>(
-    rt: &R,
-    context: &Context,
-    pass: &mut Pass,
-) -> Result<(), AllocError>
-    requires { IsPassOf context.now pass.old }
-{
-    let mode = WaitMode::Materialize;
-    let a = MatrixId(0);
-    let v = FIRST;
-    let monoid = Monoid::Land;
-    expect_call(
-        rt,
-        context,
-        pass,
-        Call::WaitMatrix { a, mode },
+/// In a store of 4 calls: waits and a total, and the first vector and the first matrix.
+static WAITS: [Row; 4] = [
+    (
+        Asked::WaitMatrix(MatrixId(0), WaitMode::Materialize),
+        V,
         None,
+        A,
         UNINITIALIZED,
-    );
-    expect_call(rt, context, pass, new_vector(), SUCCESS, UNINITIALIZED);
-    expect_call(
-        rt,
-        context,
-        pass,
-        Call::ReduceVector { v, monoid },
-        BAD_DOMAIN,
-        UNINITIALIZED,
-    );
-    expect_call(
-        rt,
-        context,
-        pass,
-        Call::WaitVector { v, mode },
+    ),
+    (
+        Asked::NewVector(Domain::Uint64, 2),
+        V,
         SUCCESS,
+        A,
         UNINITIALIZED,
-    );
-    Ok(())
-}
+    ),
+    (
+        Asked::Operation(Operation::TotalOfVector(FIRST, Monoid::Land)),
+        V,
+        BAD_DOMAIN,
+        A,
+        UNINITIALIZED,
+    ),
+    (
+        Asked::WaitVector(FIRST, WaitMode::Materialize),
+        V,
+        SUCCESS,
+        A,
+        UNINITIALIZED,
+    ),
+];
 
 #[test]
 fn a_wait_and_a_total_leave_a_status(rt: HostRuntime) -> Result<(), AllocError> {
-    try_in_new(&rt, rt.alloc(), 4, Trial::Waited)
+    try_in_new(&rt, rt.alloc(), 4, Trial::Statuses(&WAITS))
 }
 
 /// The statuses of the first vector by two passes.
@@ -405,12 +340,7 @@ fn expect_both(rt: &impl Abort, p: &Pass, q: &Pass, first: Status, second: Statu
 }
 
 /// The pass makes a vector and gets what is not there; the other then asks for what is not there either.
-pub(super) fn expect_met(
-    rt: &impl Abort,
-    context: &Context,
-    p: &mut Pass,
-    q: &mut Pass,
-) -> Result<(), AllocError>
+pub(super) fn expect_met(rt: &impl Abort, context: &Context, p: &mut Pass, q: &mut Pass)
     requires first { IsPassOf context.now p.old }
     requires second { IsPassOf context.now q.old }
 {
@@ -423,7 +353,6 @@ pub(super) fn expect_met(
     expect_both(rt, p, q, NO_VALUE, BAD_INDEX);
     same(rt, context.meet(q, p), Ok(()), "a meeting");
     expect_both(rt, p, q, NO_VALUE, BAD_INDEX);
-    Ok(())
 }
 
 #[test]
@@ -437,7 +366,10 @@ fn statuses_of_list(context: &Context, pass: &mut Pass) -> (Status, Status)
 {
     let v = FIRST;
     let calls = [
-        new_vector(),
+        Call::NewVector {
+            domain: Domain::Uint64,
+            size: 2,
+        },
         Call::SetVector {
             v,
             i: 0,
@@ -454,17 +386,12 @@ fn statuses_of_list(context: &Context, pass: &mut Pass) -> (Status, Status)
     (pass.last_info(V), pass.last_info(W))
 }
 
-pub(super) fn expect_last_of_list(
-    rt: &impl Abort,
-    context: &Context,
-    pass: &mut Pass,
-) -> Result<(), AllocError>
+pub(super) fn expect_last_of_list(rt: &impl Abort, context: &Context, pass: &mut Pass)
     requires { IsPassOf context.now pass.old }
 {
     let (first, second) = statuses_of_list(context, pass);
     same(rt, first, BAD_INDEX, V);
     same(rt, second, None, W);
-    Ok(())
 }
 
 #[test]

@@ -1,4 +1,4 @@
-ghost use Rattle.std.specs.Prelude.{◌<◌, ◌≤◌};
+ghost use Rattle.std.specs.Prelude.{◌<◌, ◌≤◌, All};
 ghost use Rattle.grb_context.specs.Known.{IsPassOf};
 
 use crate::tests::asked::{Answer, DONE, FIRST};
@@ -11,7 +11,6 @@ use grb_core::{Domain, Monoid, Refusal, Value};
 use std::alloc::{AllocError, Global};
 use std::process::Abort;
 use std::sync::{Barrier, Wait};
-use std::test::Fail;
 use std::thread::{Threads, map_vec};
 
 /// The answers to the calls of a thread: to one that changes the vector, and to the read behind it. `Done` where it makes no such call.
@@ -29,23 +28,23 @@ pub(super) enum Work {
 }
 
 /// Sets a hundred entries of the pass's own.
-fn set_hundred(context: &Context, mut pass: Pass)
-    requires { IsPassOf context.now pass }
+fn set_hundred(context: &Context, pass: &mut Pass)
+    requires { IsPassOf context.now pass.old }
 {
     let from = u64::from(pass.number()) * 100;
     for i in from..from + 100 {
-        let _ = context.set_vector(&mut pass, FIRST, i, Value::Uint64(i));
+        let _ = context.set_vector(pass, FIRST, i, Value::Uint64(i));
     }
 }
 
 /// Sets 64 entries of the pass's own. How many sets were done.
-fn set_sixty_four(context: &Context, mut pass: Pass) -> u64
-    requires { IsPassOf context.now pass }
+fn set_sixty_four(context: &Context, pass: &mut Pass) -> u64
+    requires { IsPassOf context.now pass.old }
 {
     let from = u64::from(pass.number()) * 64;
     let mut done = 0u64;
     for i in from..from + 64 {
-        if context.set_vector(&mut pass, FIRST, i, Value::Uint64(i)) == DONE {
+        if context.set_vector(pass, FIRST, i, Value::Uint64(i)) == DONE {
             done = done.saturating_add(1);
         }
     }
@@ -53,23 +52,23 @@ fn set_sixty_four(context: &Context, mut pass: Pass) -> u64
 }
 
 /// Sets the entry at the pass's number, once both threads are there, and counts the entries once both have set theirs.
-fn set_and_count<R: Wait>(rt: &R, all: &Barrier, context: &Context, mut pass: Pass) -> Answer
-    requires { IsPassOf context.now pass }
+fn set_and_count<R: Wait>(rt: &R, all: &Barrier, context: &Context, pass: &mut Pass) -> Answer
+    requires { IsPassOf context.now pass.old }
 {
     let number = u64::from(pass.number());
     all.wait(rt);
-    let _ = context.set_vector(&mut pass, FIRST, number, Value::Uint64(number));
+    let _ = context.set_vector(pass, FIRST, number, Value::Uint64(number));
     all.wait(rt);
-    context.nvals_vector(&mut pass, FIRST)
+    context.nvals_vector(pass, FIRST)
 }
 
 /// Sets the first entry to the pass's number, once all threads are there.
-fn set_own<R: Wait>(rt: &R, all: &Barrier, context: &Context, mut pass: Pass) -> Answer
-    requires { IsPassOf context.now pass }
+fn set_own<R: Wait>(rt: &R, all: &Barrier, context: &Context, pass: &mut Pass) -> Answer
+    requires { IsPassOf context.now pass.old }
 {
     all.wait(rt);
     let number = u64::from(pass.number());
-    context.set_vector(&mut pass, FIRST, 0, Value::Uint64(number))
+    context.set_vector(pass, FIRST, 0, Value::Uint64(number))
 }
 
 /// Builds the vector of the pass's number at its first index, once all threads are there.
@@ -78,9 +77,9 @@ fn build_own<R: Wait>(
     alloc: Global,
     all: &Barrier,
     context: &Context,
-    mut pass: Pass,
+    pass: &mut Pass,
 ) -> Answer
-    requires { IsPassOf context.now pass }
+    requires { IsPassOf context.now pass.old }
 {
     all.wait(rt);
     let number = u64::from(pass.number());
@@ -88,7 +87,7 @@ fn build_own<R: Wait>(
         return Err(Refusal::OutOfMemory);
     };
     let tuples = VectorTuples::from_vec(list);
-    context.build_vector(&mut pass, FIRST, tuples, Monoid::Plus)
+    context.build_vector(pass, FIRST, tuples, Monoid::Plus)
 }
 
 fn answers_of<R: Wait>(
@@ -96,10 +95,10 @@ fn answers_of<R: Wait>(
     alloc: Global,
     all: &Barrier,
     context: &Context,
-    pass: Pass,
+    pass: &mut Pass,
     work: &Work,
 ) -> Pair
-    requires { IsPassOf context.now pass }
+    requires { IsPassOf context.now pass.old }
 {
     match work {
         Work::SetHundred => {
@@ -112,6 +111,20 @@ fn answers_of<R: Wait>(
         Work::BuildOwn => (build_own(rt, alloc, all, context, pass), DONE),
         Work::Race(race) => answers_at_once(rt, alloc, all, context, pass, race),
     }
+}
+
+/// Does the work with a pass of its own.
+fn answers_by<R: Wait>(
+    rt: &R,
+    alloc: Global,
+    all: &Barrier,
+    context: &Context,
+    mut pass: Pass,
+    work: &Work,
+) -> Pair
+    requires { IsPassOf context.now pass }
+{
+    answers_of(rt, alloc, all, context, &mut pass, work)
 }
 
 /// How many entries the vector has, and how many calls the pass then knows.
@@ -228,6 +241,46 @@ fn make_ready(alloc: Global, context: &Context, pass: &mut Pass, work: &Work)
     }
 }
 
+/// The answers of so many threads, each of which does the work by a pass of its own.
+fn pairs_of<R: Abort + Threads + Wait + Sync>(
+    rt: &R,
+    alloc: Global,
+    context: &Context,
+    passes: Vec<Pass>,
+    threads: u32,
+    work: &Work,
+) -> Result<Vec<Pair>, AllocError>
+    requires { All (IsPassOf context.now) passes.items }
+{
+    let all = Barrier::new(threads as usize);
+    map_vec(
+        rt,
+        passes,
+        &|pass| answers_by(rt, alloc, &all, context, pass, work),
+    )
+}
+
+/// The threads do the work on the first vector, and their answers are what they are to be.
+fn expect_work<R: Abort + Threads + Wait + Sync>(
+    rt: &R,
+    alloc: Global,
+    context: &Context,
+    last: &mut Pass,
+    passes: Vec<Pass>,
+    threads: u32,
+    size: u64,
+    work: &Work,
+) -> Result<(), AllocError>
+    requires last { IsPassOf context.now last.old }
+    requires passes { All (IsPassOf context.now) passes.items }
+{
+    make_first(rt, context, last, size);
+    make_ready(alloc, context, last, work);
+    let pairs = pairs_of(rt, alloc, context, passes, threads, work)?;
+    expect_answers(rt, alloc, context, last, &pairs, work);
+    Ok(())
+}
+
 /// So many threads do the work, each by a pass of its own, on the first vector of a new store with this room.
 fn on_threads<R: Abort + Threads + Wait + Sync>(
     rt: &R,
@@ -242,16 +295,7 @@ fn on_threads<R: Abort + Threads + Wait + Sync>(
 {
     let (context, mut passes) = Context::open(alloc, room, threads + 1)?;
     let mut last = next_pass(rt, &context, &mut passes);
-    make_first(rt, &context, &mut last, size);
-    make_ready(alloc, &context, &mut last, work);
-    let all = Barrier::new(threads as usize);
-    let pairs = map_vec(
-        rt,
-        passes,
-        &|pass| answers_of(rt, alloc, &all, &context, pass, work),
-    )?;
-    expect_answers(rt, alloc, &context, &mut last, &pairs, work);
-    Ok(())
+    expect_work(rt, alloc, &context, &mut last, passes, threads, size, work)
 }
 
 /// The same so many times, each time in a new store.
@@ -274,33 +318,30 @@ pub(super) fn repeat<R: Abort + Threads + Wait + Sync>(
 }
 
 #[test]
-fn two_threads_set_all_their_entries(rt: HostRuntime) -> Result<(), Fail> {
-    repeat(&rt, rt.alloc(), 200, 201, 2, 200, &Work::SetHundred)?;
-    Ok(())
+fn two_threads_set_all_their_entries(rt: HostRuntime) -> Result<(), AllocError> {
+    repeat(&rt, rt.alloc(), 200, 201, 2, 200, &Work::SetHundred)
 }
 
 #[test]
-fn sixty_three_threads_set_all_their_entries(rt: HostRuntime) -> Result<(), Fail> {
-    repeat(&rt, rt.alloc(), 1, 4096, 63, 4032, &Work::SetSixtyFour)?;
-    Ok(())
+fn sixty_three_threads_set_all_their_entries(rt: HostRuntime) -> Result<(), AllocError> {
+    repeat(&rt, rt.alloc(), 1, 4096, 63, 4032, &Work::SetSixtyFour)
 }
 
 #[test]
-fn two_threads_that_put_at_one_moment_are_shown_both_records(rt: HostRuntime) -> Result<(), Fail> {
-    repeat(&rt, rt.alloc(), 1000, 3, 2, 2, &Work::SetAndCount)?;
-    Ok(())
+fn two_threads_that_put_at_one_moment_are_shown_both_records(
+    rt: HostRuntime,
+) -> Result<(), AllocError> {
+    repeat(&rt, rt.alloc(), 1000, 3, 2, 2, &Work::SetAndCount)
 }
 
 /// One word is left.
 #[test]
-fn one_of_four_threads_enters_the_last_word(rt: HostRuntime) -> Result<(), Fail> {
-    repeat(&rt, rt.alloc(), 1000, 2, 4, 1, &Work::SetOwn)?;
-    Ok(())
+fn one_of_four_threads_enters_the_last_word(rt: HostRuntime) -> Result<(), AllocError> {
+    repeat(&rt, rt.alloc(), 1000, 2, 4, 1, &Work::SetOwn)
 }
 
 /// The vector is empty before.
 #[test]
-fn one_of_four_threads_builds_a_vector(rt: HostRuntime) -> Result<(), Fail> {
-    repeat(&rt, rt.alloc(), 1000, 8, 4, 1, &Work::BuildOwn)?;
-    Ok(())
+fn one_of_four_threads_builds_a_vector(rt: HostRuntime) -> Result<(), AllocError> {
+    repeat(&rt, rt.alloc(), 1000, 8, 4, 1, &Work::BuildOwn)
 }

@@ -7,4 +7,4 @@ use Rattle.grb_pass.proofs.pass.Pass.enter.Goals as goal
 pub invariant_of-self : goal.invariant_of-self
 invariant_of-self c =
     let all = subst (λ (p : Knowing). length p.shown ≡ length p.view.words) (sym c.self.view_is) c.requires.shown in
-    pass_tried (room_of c.args.order.now) c.self.inside.reader c.enter-back.new.self c.args.token c.self.inside.state c.self.inside.evaluated c.enter-back.result c.enter-back.ensures.order c.enter-back.ensures.enters all c.self.invariant
+    pass_tried (room_of c.args.order.now) c.self.inside.reader c.enter-back.new.self c.args.token c.self.inside.state c.self.inside.evaluated c.enter-back.result c.enter-back.ensures.order c.enter-back.ensures.settled c.enter-back.ensures.enters all c.self.invariant

@@ -68,7 +68,7 @@ tries-preserved c =
     let room = room_of c.args.self.now.order in let old = c.args.pass.now in let mid = c.tries.pass in let lost = c.enter.new.self in let new = c.ready.new.pass in
     let now = c.tries.invariant in let back = c.in-Some.ensures.enters in
     let is : c.call_of-call.result.now ≡ c.args.token.call = subst (λ (x : Call). c.call_of-call.result.now ≡ x) now.call c.call_of-call.ensures.call in
-    let first : Learns old lost = learns_lost room old mid lost c.args.token.call back.2 now.learns now.ready back.1 c.enter.ensures.statuses back.3 in
+    let first : Learns old lost = learns_lost room old mid lost c.args.token.call back.2 now.learns now.ready back.1 c.enter.ensures.statuses c.enter.ensures.settled back.3 in
     let all : Learns old new = learns_then old lost new first c.ready.ensures.learns in
     let token = back.0 ∙ c.call_of-call.ensures.same in
     record {
@@ -88,7 +88,7 @@ pub returns-in_err-ready-clause-counts : goal.returns-in_err-ready-clause-counts
 returns-in_err-ready-clause-counts c =
     let room = room_of c.args.self.now.order in let old = c.args.pass.now in let mid = c.tries.pass in let lost = c.enter.new.self in let new = c.ready.new.pass in
     let now = c.tries.invariant in let back = c.in-Some.ensures.enters in
-    let first : Learns old lost = learns_lost room old mid lost c.args.token.call back.2 now.learns now.ready back.1 c.enter.ensures.statuses back.3 in
+    let first : Learns old lost = learns_lost room old mid lost c.args.token.call back.2 now.learns now.ready back.1 c.enter.ensures.statuses c.enter.ensures.settled back.3 in
     let all : Learns old new = learns_then old lost new first c.ready.ensures.learns in
     counts_lost old new all (counts_then old lost new (counts_then old mid lost now.counts c.enter.ensures.counts) c.ready.ensures.counts)
     (looks_again old mid lost new back.2 now.looks back.3 c.ready.ensures.learns c.ready.ensures.few)
@@ -98,7 +98,7 @@ returns-in_err-ready-clause-explains c =
     let room = room_of c.args.self.now.order in let old = c.args.pass.now in let mid = c.tries.pass in let lost = c.enter.new.self in let new = c.ready.new.pass in
     let now = c.tries.invariant in let back = c.in-Some.ensures.enters in let call = c.args.token.call in
     let is : c.call_of-call.result.now ≡ call = subst (λ (x : Call). c.call_of-call.result.now ≡ x) now.call c.call_of-call.ensures.call in
-    let first : Learns old lost = learns_lost room old mid lost call back.2 now.learns now.ready back.1 c.enter.ensures.statuses back.3 in
+    let first : Learns old lost = learns_lost room old mid lost call back.2 now.learns now.ready back.1 c.enter.ensures.statuses c.enter.ensures.settled back.3 in
     let p = err_from_is_err_and c.from_residual.result c.from_residual.ensures.1 in
     rw (p.1, p.2) (explains_refused room old new call _ (learns_then old lost new first c.ready.ensures.learns)
     (refused_before room old lost new call first _ (subst (λ (x : Call). IsRefused room lost new x c.in_err-ready.field-0.0) is c.in_err-ready.ensures.refused)))

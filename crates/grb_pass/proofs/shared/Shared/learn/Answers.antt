@@ -23,20 +23,20 @@ words-preserved c =
       pass = pass_same c.args.self.now p q c.look.ensures.order c.look.ensures.shown c.catch_up.ensures.pass;
       looks = ap (λ (v : View). v.looks) look.0 ∙ ap (λ (v : View). v.looks) c.catch_up.ensures.view ∙ c.words.invariant.looks;
       counts = counts_then old p q (counts_then c.args.reader.now c.words.reader c.catch_up.new.reader c.words.invariant.counts (counts_same c.words.reader c.catch_up.new.reader c.catch_up.ensures.steps c.catch_up.ensures.view)) c.look.ensures.counts;
-      learns = learns_then old p q first (learns_word p q c.catch_up.ensures.steady.few c.look.ensures.shown c.look.ensures.statuses c.in-Next.field-0 look.0);
+      learns = learns_then old p q first (learns_word p q c.catch_up.ensures.steady.few c.look.ensures.shown c.look.ensures.statuses c.look.ensures.settled c.in-Next.field-0 look.0);
     }
 
 pub returns-in-Vacant-clause-learns : goal.returns-in-Vacant-clause-learns
 returns-in-Vacant-clause-learns c =
     let old = c.args.reader.now in let p = c.catch_up.new.reader in let q = c.look.new.self in
     let first : Learns old p = learns_then old _ p c.words.invariant.learns c.catch_up.ensures.learns in
-    learns_then old p q first (learns_vacant p q c.catch_up.ensures.steady.few c.look.ensures.shown c.look.ensures.statuses c.in-Vacant.ensures.look.0)
+    learns_then old p q first (learns_vacant p q c.catch_up.ensures.steady.few c.look.ensures.shown c.look.ensures.statuses c.look.ensures.settled c.in-Vacant.ensures.look.0)
 
 pub returns-in-Full-clause-learns : goal.returns-in-Full-clause-learns
 returns-in-Full-clause-learns c =
     let old = c.args.reader.now in let p = c.catch_up.new.reader in let q = c.look.new.self in
     let first : Learns old p = learns_then old _ p c.words.invariant.learns c.catch_up.ensures.learns in
-    learns_then old p q first (learns_same p q c.catch_up.ensures.steady.few c.look.ensures.shown c.look.ensures.statuses c.in-Full.ensures.look.0)
+    learns_then old p q first (learns_same p q c.catch_up.ensures.steady.few c.look.ensures.shown c.look.ensures.statuses c.look.ensures.settled c.in-Full.ensures.look.0)
 
 pub returns-in-Full-clause-finds : goal.returns-in-Full-clause-finds
 returns-in-Full-clause-finds c = search rules

@@ -1,13 +1,18 @@
-use Rattle.std.proofs.Common.{subst, sym, ap, ◌∙◌}
+use Rattle.std.proofs.Common.{◌≡◌, length, subst, sym, ap, ◌∙◌}
 use Rattle.std.specs.Prelude.{Err}
 use Rattle.std.proofs.lemmas.Result.{err_from_is_err_and}
 use Rattle.grb_order.specs.Order.{room_of}
-use Rattle.grb_pass.specs.Known.{Knowing}
+use Rattle.grb_pass.specs.Known.{Knowing, known}
 use Rattle.grb_pass.specs.Counting.{CountsCall}
 use Rattle.grb_pass.specs.Explains.{Answer, ExplainsCall, IsCaughtUp, ground_of}
-use Rattle.grb_pass.specs.Learning.{IsRefused}
+use Rattle.grb_pass.specs.Learning.{IsRefused, IsSteady}
+use Rattle.grb_pass.specs.Settled.{settled_after}
+use Rattle.grb_pass.proofs.Alike.{counts_alike, steady_alike}
 use Rattle.grb_pass.proofs.Answering.{refused_by_check, explains_refused, explains_evaluated, known_evaluated}
 use Rattle.grb_pass.proofs.Counted.{counts_looked}
+use Rattle.grb_pass.proofs.Evaluated.{pass_learns}
+use Rattle.grb_pass.proofs.Learnt.{pass_same}
+use Rattle.grb_pass.proofs.Settling.{settled_read}
 use Rattle.grb_pass.proofs.shared.Shared.read_at_end.Goals as goal
 
 refused_check : (c : goal.After-from_residual-in_err-check) → IsRefused (room_of c.args.self.now.order) c.pass.inside.reader c.learn.new.reader c.args.call.now c.in_err-check.field-0.0
@@ -27,7 +32,7 @@ returns-in_err-check-clause-caught_up c =
 pub returns-clause-explains : goal.returns-clause-explains
 returns-clause-explains c =
     let room = room_of c.args.self.now.order in let new = c.reply.new.self in let call = c.args.call.now in
-    let is = explains_evaluated room _ c.learn.new.reader new c.in_ok-learn.field-0 call _ c.in_ok-learn.ensures.finds c.reply.ensures.same c.reply.result c.learn.ensures.learns c.requires.reads (sym c.check.ensures ∙ c.in_ok-check.was) c.reply.ensures.reply c.reply.ensures.memory in
+    let is = explains_evaluated room _ c.learn.new.reader new c.in_ok-learn.field-0 call _ c.in_ok-learn.ensures.finds c.reply.ensures.same c.reply.result c.learn.ensures.learns c.requires.reads (sym c.check.ensures ∙ c.in_ok-check.was) c.reply.ensures.reply c.reply.ensures.memory c.reply.ensures.unsettled in
     subst (λ (y : Knowing × Answer). ExplainsCall room y.0 new call y.1) (λ i. (c.pass.view_is i, sym c.or.ensures i)) is
 
 pub returns-clause-caught_up : goal.returns-clause-caught_up
@@ -43,4 +48,48 @@ pub returns-in_err-check-clause-counts : goal.returns-in_err-check-clause-counts
 returns-in_err-check-clause-counts c = (subst (λ (old : Knowing). CountsCall old c.learn.new.reader) c.pass.view_is (counts_looked c.pass.inside.reader c.learn.new.reader c.learn.ensures.learns c.learn.ensures.counts (ap (λ (p : Knowing). p.steps) c.pass.view_is ∙ c.requires.begun) c.learn.ensures.few))
 
 pub returns-clause-counts : goal.returns-clause-counts
-returns-clause-counts c = subst (λ (p : Knowing). CountsCall c.args.pass.now p) (sym c.reply.ensures.same) (subst (λ (old : Knowing). CountsCall old c.learn.new.reader) c.pass.view_is (counts_looked c.pass.inside.reader c.learn.new.reader c.learn.ensures.learns c.learn.ensures.counts (ap (λ (p : Knowing). p.steps) c.pass.view_is ∙ c.requires.begun) c.learn.ensures.few))
+returns-clause-counts c = subst (λ (p : Knowing). CountsCall c.args.pass.now p) (sym c.reply.ensures.same) (counts_alike c.args.pass.now c.learn.new.reader c.learn.new.reader.statuses c.reply.new.self.settled (subst (λ (old : Knowing). CountsCall old c.learn.new.reader) c.pass.view_is (counts_looked c.pass.inside.reader c.learn.new.reader c.learn.ensures.learns c.learn.ensures.counts (ap (λ (p : Knowing). p.steps) c.pass.view_is ∙ c.requires.begun) c.learn.ensures.few)))
+
+pub returns-clause-pass : goal.returns-clause-pass
+returns-clause-pass c = pass_same c.args.self.now c.learn.new.reader c.reply.new.self (ap (λ (p : Knowing). p.order) c.reply.ensures.same) (ap (λ (p : Knowing). p.shown) c.reply.ensures.same) c.learn.ensures.pass
+
+pub returns-clause-steady : goal.returns-clause-steady
+returns-clause-steady c = subst IsSteady (sym c.reply.ensures.same) (steady_alike c.learn.new.reader c.learn.new.reader.statuses c.reply.new.self.settled c.learn.ensures.steady)
+
+pub returns-clause-statuses : goal.returns-clause-statuses
+returns-clause-statuses c = ap (λ (p : Knowing). p.statuses) c.reply.ensures.same ∙ c.learn.ensures.learns.statuses ∙ ap (λ (p : Knowing). p.statuses) c.pass.view_is
+
+pub returns-clause-settled : goal.returns-clause-settled
+returns-clause-settled c =
+    let new = c.reply.new.self in
+    subst (λ (r : Answer). new.settled ≡ settled_after c.args.call.now r (length (known new)) c.args.pass.now.settled) (sym c.or.ensures)
+    (settled_read c.learn.new.reader new c.args.call.now c.reply.result c.args.pass.now.settled c.reply.ensures.same (c.learn.ensures.learns.settled ∙ ap (λ (p : Knowing). p.settled) c.pass.view_is) c.reply.ensures.settled c.reply.ensures.err)
+
+pub returns-in_err-learn-clause-settled : goal.returns-in_err-learn-clause-settled
+returns-in_err-learn-clause-settled c =
+    let new = c.learn.new.reader in
+    let p = err_from_is_err_and c.from_residual.result c.from_residual.ensures.1 in
+    subst (λ (r : Answer). new.settled ≡ settled_after c.args.call.now r (length (known new)) c.args.pass.now.settled) (sym p.1)
+    (c.learn.ensures.learns.settled ∙ ap (λ (p : Knowing). p.settled) c.pass.view_is)
+
+pub returns-in_err-check-clause-settled : goal.returns-in_err-check-clause-settled
+returns-in_err-check-clause-settled c =
+    let new = c.learn.new.reader in
+    let p = err_from_is_err_and c.from_residual-in_err-check.result c.from_residual-in_err-check.ensures.1 in
+    subst (λ (r : Answer). new.settled ≡ settled_after c.args.call.now r (length (known new)) c.args.pass.now.settled) (sym p.1)
+    (c.learn.ensures.learns.settled ∙ ap (λ (p : Knowing). p.settled) c.pass.view_is)
+
+pub invariant_of-pass : goal.invariant_of-pass
+invariant_of-pass c =
+    let order = c.learn.ensures.pass.order ∙ sym (ap (λ (p : Knowing). p.order) c.pass.view_is ∙ c.requires.pass.order) in
+    pass_learns c.pass.inside.reader c.learn.new.reader c.pass.inside.state c.pass.inside.evaluated order c.learn.ensures.learns c.pass.invariant
+
+pub invariant_of-pass-in_err-check : goal.invariant_of-pass-in_err-check
+invariant_of-pass-in_err-check c =
+    let order = c.learn.ensures.pass.order ∙ sym (ap (λ (p : Knowing). p.order) c.pass.view_is ∙ c.requires.pass.order) in
+    pass_learns c.pass.inside.reader c.learn.new.reader c.pass.inside.state c.pass.inside.evaluated order c.learn.ensures.learns c.pass.invariant
+
+pub invariant_of-pass-2 : goal.invariant_of-pass-2
+invariant_of-pass-2 c =
+    let order = c.learn.ensures.pass.order ∙ sym (ap (λ (p : Knowing). p.order) c.pass.view_is ∙ c.requires.pass.order) in
+    pass_learns c.pass.inside.reader c.learn.new.reader c.pass.inside.state c.pass.inside.evaluated order c.learn.ensures.learns c.pass.invariant

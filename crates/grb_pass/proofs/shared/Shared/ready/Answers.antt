@@ -1,5 +1,5 @@
 use Prim.{search}
-use Rattle.std.proofs.Common.{rules, sym, subst}
+use Rattle.std.proofs.Common.{rules, sym, ap, subst, ◌∙◌}
 use Rattle.std.specs.Prelude.{Ok}
 use Rattle.std.proofs.lemmas.Result.{err_from_is_err_and}
 use Rattle.grb_core.specs.declared.refusal.Refusal.TheVariants.{OrderFull}
@@ -8,6 +8,7 @@ use Rattle.grb_pass.specs.declared.learn.End.{End}
 use Rattle.grb_pass.specs.Known.{Knowing}
 use Rattle.grb_pass.specs.Learning.{Finds, IsRefused}
 use Rattle.grb_pass.proofs.Answering.{refused_checked, refused_by_room}
+use Rattle.grb_pass.proofs.Evaluated.{pass_learns}
 use Rattle.grb_pass.proofs.shared.Shared.ready.Goals as goal
 
 pub returns-in_err-check-clause-refused : goal.returns-in_err-check-clause-refused
@@ -25,3 +26,13 @@ returns-in-Full-clause-refused c =
 
 pub returns-in-Vacant-clause-refused : goal.returns-in-Vacant-clause-refused
 returns-in-Vacant-clause-refused c = search rules
+
+pub invariant_of-pass : goal.invariant_of-pass
+invariant_of-pass c =
+    let order = c.learn.ensures.pass.order ∙ sym (ap (λ (p : Knowing). p.order) c.pass.view_is ∙ c.requires.pass.order) in
+    pass_learns c.pass.inside.reader c.learn.new.reader c.pass.inside.state c.pass.inside.evaluated order c.learn.ensures.learns c.pass.invariant
+
+pub invariant_of-pass-2 : goal.invariant_of-pass-2
+invariant_of-pass-2 c =
+    let order = c.learn.ensures.pass.order ∙ sym (ap (λ (p : Knowing). p.order) c.pass.view_is ∙ c.requires.pass.order) in
+    pass_learns c.pass.inside.reader c.learn.new.reader c.pass.inside.state c.pass.inside.evaluated order c.learn.ensures.learns c.pass.invariant

@@ -1,0 +1,46 @@
+-- What is settled after a call.
+use Rattle.std.proofs.Common.{◌≡◌, ℕ, Bool, true, false, cond, length, refl, sym, ap, ◌∙◌}
+use Rattle.std.specs.Prelude.{Result, Ok, Err, OnOk, OnErr}
+use Rattle.std.specs.Result.{result_or}
+use Rattle.std.specs.declared.alloc.AllocError.{AllocError}
+use Rattle.grb_core.specs.declared.refusal.Refusal.TheVariants.{OutOfMemory}
+use Rattle.grb_call.specs.declared.call.Call.{Call}
+use Rattle.grb_call.specs.declared.call.Call.TheVariants as call
+use Rattle.grb_call.specs.declared.descriptor.WaitMode.{WaitMode}
+use Rattle.grb_call.specs.declared.descriptor.WaitMode.TheVariants.{Complete, Materialize}
+use Rattle.grb_call.specs.declared.ids.Object.{Object}
+use Rattle.grb_call.specs.declared.ids.Object.TheVariants as object
+use Rattle.grb_call.specs.declared.reply.Reply.{Reply}
+use Rattle.grb_call.specs.Kinds.{enters}
+use Rattle.grb_pass.specs.Known.{Knowing, known}
+use Rattle.grb_pass.specs.Explains.{Answer}
+use Rattle.grb_pass.specs.Settled.{is_materialize, settled_after}
+use Rattle.grb_replay.specs.Settled.{AreAllAssembled, HasWaited, IsSettled}
+
+enters_no_materialize : (c : Call) → enters c ≡ true → is_materialize c ≡ false
+enters_no_materialize (call.WaitMatrix a mode) e = cc
+enters_no_materialize (call.WaitVector v mode) e = cc
+enters_no_materialize _ e = refl
+
+-- a call that would be entered settles none
+pub settled_entered : (c : Call) (r : Answer) (known settled : ℕ) → enters c ≡ true → settled_after c r known settled ≡ settled
+settled_entered c (Ok reply) known settled e = ap (λ (b : Bool). cond b known settled) (enters_no_materialize c e)
+settled_entered c (Err refusal) known settled e = refl
+
+-- what is settled after a call that only reads, where its evaluation may be refused memory
+pub settled_read : (now new : Knowing) (c : Call) (r : Result Reply AllocError) (settled : ℕ) → new ≡ record now { settled = new.settled } → now.settled ≡ settled → OnOk r (new.settled ≡ cond (is_materialize c) (length (known now)) now.settled) → OnErr r (new.settled ≡ now.settled)
+    → new.settled ≡ settled_after c (result_or r (Err OutOfMemory)) (length (known new)) settled
+settled_read now new c (Ok reply) settled same is ok err = ok ∙ (λ i. cond (is_materialize c) (length (known (sym same i))) (is i))
+settled_read now new c (Err error) settled same is ok err = err ∙ is
+
+has_waited : (assembled : Object → Bool) (o : Object) (mode : WaitMode) → AreAllAssembled assembled → HasWaited assembled o mode
+has_waited assembled o Complete all = all o
+has_waited assembled o Materialize all = all
+
+-- where no change waits in any object, a reading call asks for none to be done
+pub all_settled : (assembled : Object → Bool) (c : Call) → AreAllAssembled assembled → IsSettled assembled c
+all_settled assembled (call.ReduceMatrix a monoid) all = all (object.Matrix a)
+all_settled assembled (call.ReduceVector v monoid) all = all (object.Vector v)
+all_settled assembled (call.WaitMatrix a mode) all = has_waited assembled (object.Matrix a) mode all
+all_settled assembled (call.WaitVector v mode) all = has_waited assembled (object.Vector v) mode all
+all_settled assembled _ all = tt

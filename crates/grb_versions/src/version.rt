@@ -1,0 +1,82 @@
+ghost use Rattle.std.specs.Prelude.{◌≡◌, ◌≤◌, IsTrue, IfOk, IfSome, length, map, take};
+ghost use Rattle.grb_versions.specs.Versions.{IsFold, Serves};
+
+use grb_call::Call;
+use grb_replay::State;
+use std::alloc::{AllocError, Global};
+use std::marker::Model;
+
+/// Calls, and the store that they leave.
+#[derive(Drop)]
+pub(crate) struct Version {
+    calls: Vec<Call>,
+    state: State,
+}
+
+impl Model for Version {
+    ghost use Rattle.grb_versions.specs.Versions.{VersionView, IsFold};
+
+    ghost Value = { VersionView };
+
+    ghost view = { λ v. record { calls = v.calls.items; state = v.state } };
+
+    ghost invariant = { λ v. IsFold v.calls.items v.state.store };
+}
+
+/// Whether the calls are the same. Takes no memory.
+fn is_same_call(a: &Call, b: &Call) -> bool
+    ensures { IsTrue result → a.now ≡ b.now }
+{
+    a == b
+}
+
+/// Whether the calls begin with these. Takes no memory.
+fn begin_with(calls: &[&Call], first: &[Call]) -> bool
+    ensures same { IsTrue result → take (length first.now) (map (λ c. c.now) calls.now) ≡ first.now }
+    ensures within { IsTrue result → length first.now ≤ length calls.now }
+{
+    if first.len() > calls.len() {
+        return false;
+    }
+    'calls: for at in 0..first.len() {
+        if !is_same_call(calls[at], &first[at]) {
+            return false;
+        }
+    }
+    true
+}
+
+/// Copies of the calls. `AllocError` where memory is refused.
+fn copies(alloc: Global, calls: &[&Call]) -> Result<Vec<Call>, AllocError>
+    ensures { IfOk result (λ copies. copies.items ≡ map (λ c. c.now) calls.now) }
+{
+    let mut copies = Vec::with_capacity(alloc, calls.len())?;
+    'calls: for at in 0..calls.len() {
+        copies.push_reserved(calls[at].try_clone()?);
+    }
+    Ok(copies)
+}
+
+impl Version {
+    /// The state of these calls, with copies of them. `AllocError` where memory is refused.
+    pub(crate) fn of(alloc: Global, calls: &[&Call], state: State) -> Result<Version, AllocError>
+        requires { IsFold (map (λ c. c.now) calls.now) state.store }
+        ensures { IfOk result (λ version. version.calls ≡ map (λ c. c.now) calls.now) }
+    {
+        Ok(Version {
+            calls: copies(alloc, calls)?,
+            state,
+        })
+    }
+
+    /// How many calls it has, and their state, where they begin these. Takes no memory.
+    pub(crate) fn serving(&self, calls: &[&Call]) -> Option<(usize, &State)>
+        ensures { IfSome result (λ found. Serves (map (λ c. c.now) calls.now) found.0 found.1.now.store) }
+    {
+        if begin_with(calls, &self.calls) {
+            Some((self.calls.len(), &self.state))
+        } else {
+            None
+        }
+    }
+}
