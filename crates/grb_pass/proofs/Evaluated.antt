@@ -25,7 +25,7 @@ evaluated_more calls more evaluated s is = record {
   store_is = is.store_is ∙ ap (after_all empty_store) (sym (take-append-le evaluated calls more is.within));
 }
 
-length-calls_of : (h : History) → length (calls_of h) ≡ length h
+pub length-calls_of : (h : History) → length (calls_of h) ≡ length h
 length-calls_of [] = refl
 length-calls_of (e ∷ h) = ap suc (length-calls_of h)
 
@@ -43,21 +43,22 @@ pub pass_learns : (old new : Knowing) (state : RoomyStore) (evaluated : ℕ) →
 pass_learns old new state evaluated order l kept = pass_more old new state evaluated l.learnt order l.settled l.known_is kept
 
 -- a try to enter a record: it was entered behind all known ones, or another pass's word was learnt
-pub pass_tried : (room : ℕ) (old new : Knowing) (token : Shown) (state : RoomyStore) (evaluated : ℕ) (back : Option Shown) → new.order ≡ old.order → new.settled ≡ old.settled → Enters room token old back new → length old.shown ≡ length old.view.words
-    → IsPass old state evaluated → IsPass new state evaluated
-pass_tried room old new token state evaluated None order same is all kept =
+pub tried : (room : ℕ) (old new : Knowing) (token : Shown) (back : Option Shown) → Enters room token old back new → length old.shown ≡ length old.view.words → (more : History) × (known new ≡ known old ++ more)
+tried room old new token None is all =
     let word : ℕ = order_word old.view.number token.index in let words : List ℕ = old.view.words ++ word ∷ [] in
     let m : length words ≡ length old.view.words + 1 = length_push old.view.words word in
     let lt : length old.shown < length words = omega arith in let few : length old.shown ≤ length old.view.words = omega arith in
     let entry : Entry = (number_of (get_or words (length old.shown) 0), token.call) in
-    let known_is : known new ≡ known old ++ entry ∷ [] =
-    (λ i. spelled ((is.0 i).words) (is.1 i)) ∙ spelled_push words old.shown token lt ∙ ap (λ (h : History). h ++ entry ∷ []) (spelled_more old.view.words (word ∷ []) old.shown few) in
-    pass_more old new state evaluated (entry ∷ []) order same known_is kept
-pass_tried room old new token state evaluated (Some back) order same is all kept =
+    (entry ∷ [], (λ i. spelled ((is.0 i).words) (is.1 i)) ∙ spelled_push words old.shown token lt ∙ ap (λ (h : History). h ++ entry ∷ []) (spelled_more old.view.words (word ∷ []) old.shown few))
+tried room old new token (Some back) is all =
     let few : length old.shown ≤ length old.view.words = omega arith in let word : ℕ = is.2 in
-    let known_is : known new ≡ known old ++ [] =
-    (λ i. spelled ((is.3 i).words) (is.1 i)) ∙ spelled_more old.view.words (word ∷ []) old.shown few ∙ sym (append-nil (known old)) in
-    pass_more old new state evaluated [] order same known_is kept
+    ([], (λ i. spelled ((is.3 i).words) (is.1 i)) ∙ spelled_more old.view.words (word ∷ []) old.shown few ∙ sym (append-nil (known old)))
+
+pub pass_tried : (room : ℕ) (old new : Knowing) (token : Shown) (state : RoomyStore) (evaluated : ℕ) (back : Option Shown) → new.order ≡ old.order → new.settled ≡ old.settled → Enters room token old back new → length old.shown ≡ length old.view.words
+    → IsPass old state evaluated → IsPass new state evaluated
+pass_tried room old new token state evaluated back order same is all kept =
+    let more : (h : History) × (known new ≡ known old ++ h) = tried room old new token back is all in
+    pass_more old new state evaluated more.0 order same more.1 kept
 
 after_all-push : (s : Store) (calls : List Call) (c : Call) → after_all s (calls ++ c ∷ []) ≡ after (after_all s calls) c
 after_all-push s calls c = after_all-append s calls (c ∷ [])

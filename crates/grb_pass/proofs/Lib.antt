@@ -6,6 +6,7 @@ mod Checking
 mod Counted
 mod Evaluated
 mod Kept
+mod Lately
 mod Learnt
 mod Meeting
 mod Opening

@@ -9,5 +9,6 @@ pub mod Meeting
 pub mod Point
 pub mod Putting
 pub mod Reading
+pub mod Recent
 pub mod Settled
 pub mod Statuses

@@ -13,6 +13,7 @@ mod meet;
 mod pass;
 mod read;
 mod reader;
+mod recent;
 mod row;
 mod shared;
 mod statuses;

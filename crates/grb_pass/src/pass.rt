@@ -1,4 +1,4 @@
-ghost use Rattle.std.specs.Prelude.{◌≡◌, ◌<◌, ◌≤◌, ◌+◌, ◌^◌, ◌⊎◌, false, [], if◌then◌else◌, length, All, IfOk, IfErr, OnOk, OnErr};
+ghost use Rattle.std.specs.Prelude.{◌≡◌, ◌<◌, ◌≤◌, ◌+◌, ◌^◌, ◌⊎◌, false, Some, [], if◌then◌else◌, length, All, IfOk, IfErr, IsTrue, OnOk, OnErr};
 ghost use Rattle.std.specs.Option.{option_or};
 ghost use Rattle.grb_order.specs.View.{fresh, LookedLast};
 ghost use Rattle.grb_order.specs.Order.{room_of};
@@ -8,7 +8,7 @@ ghost use Rattle.grb_call.specs.Refused.{is_in_bounds};
 ghost use Rattle.grb_call.specs.Store.{shapes_of};
 ghost use Rattle.grb_call.specs.After.{refused, reply_of};
 ghost use Rattle.grb_call.specs.History.{store_of};
-ghost use Rattle.grb_call.specs.Status.{info_of, made_by, with_status};
+ghost use Rattle.grb_call.specs.Status.{info_of, made_by, object_of, with_status};
 ghost use Rattle.grb_pass.specs.Statuses.{no_rows, status_at};
 ghost use Rattle.grb_pass.specs.Known.{known};
 ghost use Rattle.grb_pass.specs.Counting.{Counts};
@@ -20,6 +20,7 @@ ghost use Rattle.grb_replay.specs.State.{is_assembled};
 
 use crate::back_off::BackOff;
 use crate::reader::Reader;
+use crate::recent::{Recent, object_read};
 use crate::row::Row;
 use grb_call::{Call, Kind, Object, Reply, WaitMode};
 use grb_core::{Info, Refusal};
@@ -36,6 +37,8 @@ pub struct Pass {
     // The store after the first calls known, as many as were evaluated.
     state: State,
     evaluated: usize,
+    // The object read last, where no call was evaluated yet but those that such an object depends on.
+    recent: Recent,
     // Where its own records go.
     row: Row,
     // How long it holds back after a lost try.
@@ -44,13 +47,16 @@ pub struct Pass {
 
 impl Model for Pass {
     ghost use Rattle.grb_pass.specs.Known.{Knowing};
+    ghost use Rattle.grb_call.specs.History.{calls_of};
+    ghost use Rattle.grb_pass.specs.Known.{known};
     ghost use Rattle.grb_pass.specs.Reading.{IsPass};
+    ghost use Rattle.grb_pass.specs.Recent.{IsRecent};
 
     ghost Value = { Knowing };
 
     ghost view = { λ p. p.reader };
 
-    ghost invariant = { λ p. IsPass p.reader p.state p.evaluated };
+    ghost invariant = { λ p. IsPass p.reader p.state p.evaluated × IsRecent (calls_of (known p.reader)) p.recent };
 }
 
 /// Applies the calls of the records that were not yet evaluated. Where memory is refused, those before stay evaluated.
@@ -129,6 +135,7 @@ impl Pass {
             reader: Reader::open(alloc, number, place, room)?,
             state: State::open(alloc, room)?,
             evaluated: 0,
+            recent: Recent::new(alloc),
             row: Row::open(room),
             back_off: BackOff::new(),
         })
@@ -259,8 +266,36 @@ impl Pass {
         }
     }
 
-    /// The reply to a call that reads entries or has changes done, after all known ones, which it evaluates. One that waits for all objects
-    /// settles them. `AllocError` where memory is refused; then no more calls are settled than before.
+    /// Whether an object that is read is to be evaluated by itself: no call was evaluated for all objects, and what was spent for one
+    /// object after another is less than that would take.
+    fn is_lazy(&self) -> bool
+        ensures { IsTrue result → self.now.settled < length (known self.now) }
+    {
+        self.evaluated == 0 && self.recent.is_worth(self.known())
+    }
+
+    /// The reply to a call that reads the object alone, after all known ones, of which only those are evaluated that it depends on.
+    /// `AllocError` where memory is refused.
+    fn reply_of_object(
+        &mut self,
+        records: &Records,
+        object: Object,
+        call: &Call,
+    ) -> Result<Reply, AllocError>
+        requires reads { enters call.now ≡ false }
+        requires no_size { is_size call.now ≡ false }
+        requires about { object_of call.now ≡ Some object }
+        requires accepted { refused (store_of (known self.old)) call.now ≡ None }
+        requires records { All (IsOf records.now) self.old.shown }
+        ensures reply { IfOk result (λ reply. reply ≡ reply_of (store_of (known self.old)) call.now) }
+        ensures same { self.new ≡ self.old }
+    {
+        self.recent.reply(records, &mut self.reader, object, call)
+    }
+
+    /// The reply to a call that reads entries or has changes done, after all known ones, which it evaluates: all of them, or only those
+    /// that the object depends on which it reads. One that waits for all objects settles them. `AllocError` where memory is refused; then
+    /// no more calls are settled than before.
     fn reply_of_entries(&mut self, records: &Records, call: &Call) -> Result<Reply, AllocError>
         requires reads { enters call.now ≡ false }
         requires no_size { is_size call.now ≡ false }
@@ -272,12 +307,18 @@ impl Pass {
         ensures settled { OnOk result (self.new.settled ≡ (if is_materialize call.now then length (known self.old) else self.old.settled)) }
         ensures err { OnErr result (self.new.settled ≡ self.old.settled) }
     {
+        if self.is_lazy() {
+            if let Some(object) = object_read(call) {
+                return self.reply_of_object(records, object, call);
+            }
+        }
         evaluate(
             records,
             &mut self.reader,
             &mut self.state,
             &mut self.evaluated,
         )?;
+        self.recent.release();
         settle(&mut self.reader, &mut self.state, call)?;
         Ok(self.state.reply(call))
     }

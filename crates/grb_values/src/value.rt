@@ -97,6 +97,22 @@ pub fn value_of(alloc: Global, calls: &[&Call], object: Object) -> Result<Held, 
 }
 
 impl Held {
+    /// Whether it is of this object. Takes no memory.
+    pub fn is_of(&self, object: Object) -> bool
+        ensures { result ≡ is_same_object self.now.object object }
+    {
+        match self.object {
+            Object::Matrix(a) => match object {
+                Object::Matrix(b) => a.0 == b.0,
+                Object::Vector(_) => false,
+            },
+            Object::Vector(v) => match object {
+                Object::Matrix(_) => false,
+                Object::Vector(w) => v.0 == w.0,
+            },
+        }
+    }
+
     /// How many calls were made for it. Takes no memory.
     pub fn evaluated(&self) -> u32
         ensures { result ≡ self.now.evaluated }

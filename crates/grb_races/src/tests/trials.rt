@@ -2,6 +2,7 @@ ghost use Rattle.std.specs.Prelude.{◌<◌, ◌≤◌};
 ghost use Rattle.grb_context.specs.Known.{IsPassOf};
 
 use crate::tests::answers::expect_called;
+use crate::tests::lazy::expect_read;
 use crate::tests::lists::{expect_each, expect_list, expect_no_list};
 use crate::tests::meeting::{expect_no_change, expect_told};
 use crate::tests::memory::expect_filled;
@@ -24,6 +25,7 @@ pub(super) enum Trial {
     NoChange,
     Filled,
     Kept,
+    Lazy,
     Statuses(&'static [statuses::Row]),
     Met,
     LastOfList,
@@ -54,6 +56,7 @@ fn expect_of<R: Abort>(
         Trial::NoChange => expect_no_change(rt, context, p, q),
         Trial::Filled => expect_filled(rt, alloc, context, p),
         Trial::Kept => expect_kept(rt, context, p, q),
+        Trial::Lazy => expect_read(rt, context, p, q),
         Trial::Statuses(rows) => expect_statuses(rt, alloc, context, p, rows),
         Trial::Met => expect_met(rt, context, p, q),
         Trial::LastOfList => expect_last_of_list(rt, context, p),

@@ -12,6 +12,7 @@ use Rattle.grb_pass.proofs.Answering.{refused_by_check, explains_refused, explai
 use Rattle.grb_pass.proofs.Counted.{counts_looked}
 use Rattle.grb_pass.proofs.Evaluated.{pass_learns}
 use Rattle.grb_pass.proofs.Learnt.{pass_same}
+use Rattle.grb_pass.proofs.Lately.{recent_learns}
 use Rattle.grb_pass.proofs.Settling.{settled_read}
 use Rattle.grb_pass.proofs.shared.Shared.read_at_end.Goals as goal
 
@@ -81,15 +82,21 @@ returns-in_err-check-clause-settled c =
 
 pub invariant_of-pass : goal.invariant_of-pass
 invariant_of-pass c =
-    let order = c.learn.ensures.pass.order ∙ sym (ap (λ (p : Knowing). p.order) c.pass.view_is ∙ c.requires.pass.order) in
-    pass_learns c.pass.inside.reader c.learn.new.reader c.pass.inside.state c.pass.inside.evaluated order c.learn.ensures.learns c.pass.invariant
+    let order = c.learn.ensures.pass.order ∙ sym (ap (λ (p : Knowing). p.order) c.pass.view_is ∙ c.requires.pass.order) in (
+      pass_learns c.pass.inside.reader c.learn.new.reader c.pass.inside.state c.pass.inside.evaluated order c.learn.ensures.learns c.pass.invariant.0,
+      recent_learns c.pass.inside.reader c.learn.new.reader c.pass.inside.recent c.learn.ensures.learns c.pass.invariant.1,
+    )
 
 pub invariant_of-pass-in_err-check : goal.invariant_of-pass-in_err-check
 invariant_of-pass-in_err-check c =
-    let order = c.learn.ensures.pass.order ∙ sym (ap (λ (p : Knowing). p.order) c.pass.view_is ∙ c.requires.pass.order) in
-    pass_learns c.pass.inside.reader c.learn.new.reader c.pass.inside.state c.pass.inside.evaluated order c.learn.ensures.learns c.pass.invariant
+    let order = c.learn.ensures.pass.order ∙ sym (ap (λ (p : Knowing). p.order) c.pass.view_is ∙ c.requires.pass.order) in (
+      pass_learns c.pass.inside.reader c.learn.new.reader c.pass.inside.state c.pass.inside.evaluated order c.learn.ensures.learns c.pass.invariant.0,
+      recent_learns c.pass.inside.reader c.learn.new.reader c.pass.inside.recent c.learn.ensures.learns c.pass.invariant.1,
+    )
 
 pub invariant_of-pass-2 : goal.invariant_of-pass-2
 invariant_of-pass-2 c =
-    let order = c.learn.ensures.pass.order ∙ sym (ap (λ (p : Knowing). p.order) c.pass.view_is ∙ c.requires.pass.order) in
-    pass_learns c.pass.inside.reader c.learn.new.reader c.pass.inside.state c.pass.inside.evaluated order c.learn.ensures.learns c.pass.invariant
+    let order = c.learn.ensures.pass.order ∙ sym (ap (λ (p : Knowing). p.order) c.pass.view_is ∙ c.requires.pass.order) in (
+      pass_learns c.pass.inside.reader c.learn.new.reader c.pass.inside.state c.pass.inside.evaluated order c.learn.ensures.learns c.pass.invariant.0,
+      recent_learns c.pass.inside.reader c.learn.new.reader c.pass.inside.recent c.learn.ensures.learns c.pass.invariant.1,
+    )
