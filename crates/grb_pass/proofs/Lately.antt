@@ -1,19 +1,25 @@
 -- What a pass holds of one object, as calls are learnt.
-use Rattle.std.proofs.Common.{◌≡◌, ℕ, ◌+◌, ◌<◌, List, [], ◌∷◌, ◌++◌, length, take, sym, ap, subst, ◌∙◌, arith, length-append, Option, Some, None, Result, Ok, Err}
+use Rattle.std.proofs.Common.{◌-◌, zero, suc, true, refl, map, drop, ◌≡◌, ℕ, ◌+◌, ◌<◌, List, [], ◌∷◌, ◌++◌, length, take, sym, ap, subst, ◌∙◌, arith, length-append, Option, Some, None, Result, Ok, Err}
 use Rattle.std.specs.Prelude.{IfSome, slice_get}
 use Rattle.std.specs.Option.{option_map_or}
-use Rattle.std.proofs.lemmas.List.{take-append-le, take_all, take_more}
+use Rattle.std.proofs.lemmas.List.{length-drop, take-append-drop, take-append-le, take_all, take_more}
 use Rattle.std.proofs.lemmas.Option.{slice_get_within, get_or_from_slice_get}
 use Rattle.grb_core.specs.declared.refusal.Refusal.{Refusal}
+use Rattle.grb_order.specs.Order.{room_of}
 use Rattle.grb_records.specs.Token.{Shown}
 use Rattle.grb_call.specs.declared.call.Call.{Call}
 use Rattle.grb_call.specs.declared.ids.Object.{Object}
 use Rattle.grb_call.specs.declared.reply.Reply.{Reply}
-use Rattle.grb_call.specs.Store.{Store, empty_store}
+use Rattle.grb_call.specs.Shapes.{ObjectShapes, is_live}
+use Rattle.grb_call.specs.Store.{Store, empty_store, shapes_of}
 use Rattle.grb_call.specs.After.{answer, refused, reply_of}
 use Rattle.grb_call.specs.History.{History, calls_of, after_all}
+use Rattle.grb_call.proofs.Runs.{after_all-append}
 use Rattle.grb_slices.specs.Content.{content_at}
+use Rattle.grb_slices.specs.Followed.{targets_of}
 use Rattle.grb_values.specs.Held.{HeldObject}
+use Rattle.grb_values.specs.Targets.{AreTargetsOf}
+use Rattle.grb_values.proofs.NextTarget.{targets_behind, walked_more}
 use Rattle.grb_pass.specs.Known.{Knowing, known}
 use Rattle.grb_pass.specs.Learning.{Enters, Learns}
 use Rattle.grb_pass.specs.Recent.{RecentObject, IsRecent, IsValueAt}
@@ -30,17 +36,22 @@ held_more : (calls more : List Call) (upto : ℕ) (held : Option HeldObject) →
 held_more calls more upto (Some h) is = value_more calls more upto h is
 held_more calls more upto None is = is
 
-recent_more : (old new : Knowing) (r : RecentObject) (more : History) → known new ≡ known old ++ more → IsRecent (calls_of (known old)) r → IsRecent (calls_of (known new)) r
-recent_more old new r more is kept =
-    subst (λ (cs : List Call). IsRecent cs r) (sym (ap calls_of is ∙ calls_of-append (known old) more)) (held_more (calls_of (known old)) (calls_of more) r.upto r.held kept)
+recent_more : (old new : Knowing) (r : RecentObject) (more : History) → new.order ≡ old.order → known new ≡ known old ++ more → IsRecent (room_of old.order) (calls_of (known old)) r → IsRecent (room_of new.order) (calls_of (known new)) r
+recent_more old new r more order is kept =
+    let same : calls_of (known old) ++ calls_of more ≡ calls_of (known new) = sym (ap calls_of is ∙ calls_of-append (known old) more) in
+    record {
+      value = subst (λ (cs : List Call). IfSome r.held (IsValueAt cs r.upto)) same (held_more (calls_of (known old)) (calls_of more) r.upto r.held kept.value);
+      walk = subst (λ (cs : List Call). AreTargetsOf r.walk cs) same (walked_more r.walk (calls_of (known old)) (calls_of more) kept.walk);
+      room_is = kept.room_is ∙ sym (ap room_of order);
+    }
 
-pub recent_learns : (old new : Knowing) (r : RecentObject) → Learns old new → IsRecent (calls_of (known old)) r → IsRecent (calls_of (known new)) r
-recent_learns old new r l kept = recent_more old new r l.learnt l.known_is kept
+pub recent_learns : (old new : Knowing) (r : RecentObject) → new.order ≡ old.order → Learns old new → IsRecent (room_of old.order) (calls_of (known old)) r → IsRecent (room_of new.order) (calls_of (known new)) r
+recent_learns old new r order l kept = recent_more old new r l.learnt order l.known_is kept
 
-pub recent_tried : (room : ℕ) (old new : Knowing) (token : Shown) (r : RecentObject) (back : Option Shown) → Enters room token old back new → length old.shown ≡ length old.view.words → IsRecent (calls_of (known old)) r → IsRecent (calls_of (known new)) r
-recent_tried room old new token r back is all kept =
+pub recent_tried : (room : ℕ) (old new : Knowing) (token : Shown) (r : RecentObject) (back : Option Shown) → new.order ≡ old.order → Enters room token old back new → length old.shown ≡ length old.view.words → IsRecent (room_of old.order) (calls_of (known old)) r → IsRecent (room_of new.order) (calls_of (known new)) r
+recent_tried room old new token r back order is all kept =
     let more : (h : History) × (known new ≡ known old ++ h) = tried room old new token back is all in
-    recent_more old new r more.0 more.1 kept
+    recent_more old new r more.0 order more.1 kept
 
 -- held after all calls
 pub value_now : (calls : List Call) (upto n : ℕ) (h : HeldObject) (o : Object) → IsValueAt calls upto h → h.object ≡ o → upto ≡ n → n ≡ length calls → content_at (after_all empty_store calls) o ≡ content_at h.part.store o
@@ -72,3 +83,32 @@ pub lent_next : (calls : List Call) (at : ℕ) (c : Call) (lent : List Call) →
 lent_next calls at c lent is so =
     let near : at < length calls = slice_get_within calls at c is in
     ap (λ (cs : List Call). cs ++ c ∷ []) so ∙ ap (λ (d : Call). take at calls ++ d ∷ []) (sym (get_or_from_slice_get calls at c c is)) ∙ sym (take_more calls at c near)
+
+map_drop : {X Y : Type 0} (f : X → Y) (xs : List X) (n : ℕ) → map f (drop n xs) ≡ drop n (map f xs)
+map_drop f xs zero = refl
+map_drop f [] (suc n) = refl
+map_drop f (x ∷ xs) (suc n) = map_drop f xs n
+
+-- the calls behind those that are evaluated
+module _ (cs bs : List Call) (e : ℕ) (s : Store) (is : s ≡ after_all empty_store (take e cs)) (behind : bs ≡ drop e cs) where
+  pub after_behind : after_all s bs ≡ after_all empty_store cs
+  after_behind =
+      ap (λ (ds : List Call). after_all s ds) behind ∙ (ap (λ (t : Store). after_all t (drop e cs)) is
+      ∙ (sym (after_all-append empty_store (take e cs) (drop e cs)) ∙ ap (after_all empty_store) (take-append-drop e cs)))
+
+  pub targets_here : (ws ts : List (Option Object)) → ws ≡ targets_of (shapes_of empty_store) cs → ts ≡ drop e ws → ts ≡ targets_of (shapes_of s) bs
+  targets_here ws ts walked here =
+      here ∙ (ap (drop e) walked ∙ (targets_behind empty_store cs e
+      ∙ (ap (λ (t : Store). targets_of (shapes_of t) (drop e cs)) (sym is) ∙ ap (targets_of (shapes_of s)) (sym behind))))
+
+  pub there_behind : (u : ObjectShapes) (o : Object) → u ≡ shapes_of (after_all empty_store cs) → is_live u o ≡ true → is_live (shapes_of (after_all s bs)) o ≡ true
+  there_behind u o shaped live = ap (λ (t : Store). is_live (shapes_of t) o) after_behind ∙ (ap (λ (v : ObjectShapes). is_live v o) (sym shaped) ∙ live)
+
+  pub content_behind : (o : Object) (part : Store) → content_at (after_all s bs) o ≡ content_at part o → content_at (after_all empty_store cs) o ≡ content_at part o
+  content_behind o part same = ap (λ (t : Store). content_at t o) (sym after_behind) ∙ same
+
+take_rest : {X : Type 0} (xs : List X) (e : ℕ) → take (length xs - e) (drop e xs) ≡ drop e xs
+take_rest xs e = take_all (length xs - e) (drop e xs) (omega (arith, length-drop e xs))
+
+pub calls_behind : {X : Type 0} (f : X → Call) (xs : List X) (e : ℕ) → map f (take (length xs - e) (drop e xs)) ≡ drop e (map f xs)
+calls_behind f xs e = ap (map f) (take_rest xs e) ∙ map_drop f xs e

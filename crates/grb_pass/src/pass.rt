@@ -1,11 +1,11 @@
-ghost use Rattle.std.specs.Prelude.{◌≡◌, ◌<◌, ◌≤◌, ◌+◌, ◌^◌, ◌⊎◌, false, Some, [], if◌then◌else◌, length, All, IfOk, IfErr, IsTrue, OnOk, OnErr};
+ghost use Rattle.std.specs.Prelude.{◌≡◌, ◌<◌, ◌≤◌, ◌+◌, ◌^◌, ◌⊎◌, false, Some, [], if◌then◌else◌, length, All, IfOk, IfErr, IfSome, OnOk, OnErr};
 ghost use Rattle.std.specs.Option.{option_or};
 ghost use Rattle.grb_order.specs.View.{fresh, LookedLast};
 ghost use Rattle.grb_order.specs.Order.{room_of};
 ghost use Rattle.grb_records.specs.Token.{IsOf};
 ghost use Rattle.grb_call.specs.Kinds.{enters, is_size};
 ghost use Rattle.grb_call.specs.Refused.{is_in_bounds};
-ghost use Rattle.grb_call.specs.Store.{shapes_of};
+ghost use Rattle.grb_call.specs.Store.{empty_store, shapes_of};
 ghost use Rattle.grb_call.specs.After.{refused, reply_of};
 ghost use Rattle.grb_call.specs.History.{store_of};
 ghost use Rattle.grb_call.specs.Status.{info_of, made_by, object_of, with_status};
@@ -14,6 +14,7 @@ ghost use Rattle.grb_pass.specs.Known.{known};
 ghost use Rattle.grb_pass.specs.Counting.{Counts};
 ghost use Rattle.grb_pass.specs.Learning.{Enters, IsSteady};
 ghost use Rattle.grb_pass.specs.Reading.{IsAssembledWhereSettled, IsBuildChecked, IsChecked, IsPass};
+ghost use Rattle.grb_pass.specs.Recent.{IsRecent};
 ghost use Rattle.grb_pass.specs.Settled.{is_materialize};
 ghost use Rattle.grb_replay.specs.Settled.{IsSettled};
 ghost use Rattle.grb_replay.specs.State.{is_assembled};
@@ -37,7 +38,7 @@ pub struct Pass {
     // The store after the first calls known, as many as were evaluated.
     state: State,
     evaluated: usize,
-    // The object read last, where no call was evaluated yet but those that such an object depends on.
+    // The object read last, where not all known calls were evaluated.
     recent: Recent,
     // Where its own records go.
     row: Row,
@@ -47,6 +48,7 @@ pub struct Pass {
 
 impl Model for Pass {
     ghost use Rattle.grb_pass.specs.Known.{Knowing};
+    ghost use Rattle.grb_order.specs.Order.{room_of};
     ghost use Rattle.grb_call.specs.History.{calls_of};
     ghost use Rattle.grb_pass.specs.Known.{known};
     ghost use Rattle.grb_pass.specs.Reading.{IsPass};
@@ -56,7 +58,17 @@ impl Model for Pass {
 
     ghost view = { λ p. p.reader };
 
-    ghost invariant = { λ p. IsPass p.reader p.state p.evaluated × IsRecent (calls_of (known p.reader)) p.recent };
+    ghost invariant = { λ p. IsPass p.reader p.state p.evaluated × IsRecent (room_of p.reader.order) (calls_of (known p.reader)) p.recent };
+}
+
+/// The store before the first call, and no object read, with room for so many calls. `AllocError` where memory is refused.
+fn open_store(alloc: Global, room: u32) -> Result<(State, Recent), AllocError>
+    ensures store { IfOk result (λ opened. opened.0.store ≡ empty_store) }
+    ensures room { IfOk result (λ opened. opened.0.room ≡ room) }
+    ensures recent { IfOk result (λ opened. IsRecent room [] opened.1) }
+{
+    let state = State::open(alloc, room)?;
+    Ok((state, Recent::open(alloc, room)?))
 }
 
 /// Applies the calls of the records that were not yet evaluated. Where memory is refused, those before stay evaluated.
@@ -131,11 +143,13 @@ impl Pass {
         requires fresh { place.view ≡ fresh number place.view.passes }
         ensures { IfOk result (λ pass. pass ≡ record { order = place.table_id; view = place.view; shown = []; steps = 0; statuses = no_rows (room_of place.table_id); settled = 0 }) }
     {
+        let reader = Reader::open(alloc, number, place, room)?;
+        let (state, recent) = open_store(alloc, room)?;
         Ok(Pass {
-            reader: Reader::open(alloc, number, place, room)?,
-            state: State::open(alloc, room)?,
+            reader,
+            state,
             evaluated: 0,
-            recent: Recent::new(alloc),
+            recent,
             row: Row::open(room),
             back_off: BackOff::new(),
         })
@@ -266,31 +280,58 @@ impl Pass {
         }
     }
 
-    /// Whether an object that is read is to be evaluated by itself: no call was evaluated for all objects, and what was spent for one
-    /// object after another is less than that would take.
-    fn is_lazy(&self) -> bool
-        ensures { IsTrue result → self.now.settled < length (known self.now) }
-    {
-        self.evaluated == 0 && self.recent.is_worth(self.known())
-    }
-
-    /// The reply to a call that reads the object alone, after all known ones, of which only those are evaluated that it depends on.
-    /// `AllocError` where memory is refused.
+    /// The reply to a call that reads the object alone, after all known ones, of which only those are evaluated that it depends on. None
+    /// where all are evaluated, or are to be. `AllocError` where memory is refused.
     fn reply_of_object(
         &mut self,
         records: &Records,
         object: Object,
         call: &Call,
-    ) -> Result<Reply, AllocError>
+    ) -> Result<Option<Reply>, AllocError>
         requires reads { enters call.now ≡ false }
         requires no_size { is_size call.now ≡ false }
         requires about { object_of call.now ≡ Some object }
         requires accepted { refused (store_of (known self.old)) call.now ≡ None }
         requires records { All (IsOf records.now) self.old.shown }
-        ensures reply { IfOk result (λ reply. reply ≡ reply_of (store_of (known self.old)) call.now) }
+        ensures reply { IfOk result (λ given. IfSome given (λ reply. reply ≡ reply_of (store_of (known self.old)) call.now)) }
+        ensures unsettled { OnErr result (self.old.settled < length (known self.old)) }
         ensures same { self.new ≡ self.old }
     {
-        self.recent.reply(records, &mut self.reader, object, call)
+        if self.evaluated >= self.known() as usize {
+            return Ok(None);
+        }
+        self.recent.reply(
+            records,
+            &mut self.reader,
+            &self.state,
+            self.evaluated,
+            object,
+            call,
+        )
+    }
+
+    /// The reply to a call that reads entries or has changes done, after all known ones, which it evaluates. One that waits for all objects
+    /// settles them. `AllocError` where memory is refused; then no more calls are settled than before.
+    fn reply_of_all(&mut self, records: &Records, call: &Call) -> Result<Reply, AllocError>
+        requires reads { enters call.now ≡ false }
+        requires no_size { is_size call.now ≡ false }
+        requires accepted { refused (store_of (known self.old)) call.now ≡ None }
+        requires records { All (IsOf records.now) self.old.shown }
+        ensures reply { IfOk result (λ reply. reply ≡ reply_of (store_of (known self.old)) call.now) }
+        ensures unsettled { OnErr result (self.old.settled < length (known self.old)) }
+        ensures same { self.new ≡ record self.old { settled = self.new.settled } }
+        ensures settled { OnOk result (self.new.settled ≡ (if is_materialize call.now then length (known self.old) else self.old.settled)) }
+        ensures err { OnErr result (self.new.settled ≡ self.old.settled) }
+    {
+        evaluate(
+            records,
+            &mut self.reader,
+            &mut self.state,
+            &mut self.evaluated,
+        )?;
+        self.recent.release();
+        settle(&mut self.reader, &mut self.state, call)?;
+        Ok(self.state.reply(call))
     }
 
     /// The reply to a call that reads entries or has changes done, after all known ones, which it evaluates: all of them, or only those
@@ -307,20 +348,12 @@ impl Pass {
         ensures settled { OnOk result (self.new.settled ≡ (if is_materialize call.now then length (known self.old) else self.old.settled)) }
         ensures err { OnErr result (self.new.settled ≡ self.old.settled) }
     {
-        if self.is_lazy() {
-            if let Some(object) = object_read(call) {
-                return self.reply_of_object(records, object, call);
+        if let Some(object) = object_read(call) {
+            if let Some(reply) = self.reply_of_object(records, object, call)? {
+                return Ok(reply);
             }
         }
-        evaluate(
-            records,
-            &mut self.reader,
-            &mut self.state,
-            &mut self.evaluated,
-        )?;
-        self.recent.release();
-        settle(&mut self.reader, &mut self.state, call)?;
-        Ok(self.state.reply(call))
+        self.reply_of_all(records, call)
     }
 
     /// The reply to a call that only reads and is not refused, after all known ones. One for dimensions takes no memory; any other

@@ -1,32 +1,43 @@
-ghost use Rattle.std.specs.Prelude.{◌≡◌, ◌<◌, false, true, None, Some, length, map, All, IfOk, IfSome, IsTrue, MatchOption};
+ghost use Rattle.std.specs.Prelude.{◌≡◌, ◌<◌, ◌≤◌, ◌^◌, false, true, None, Some, [], length, map, All, IfOk, IfSome, IsTrue};
+ghost use Rattle.grb_order.specs.Order.{room_of};
 ghost use Rattle.grb_records.specs.Token.{IsOf};
 ghost use Rattle.grb_call.specs.Kinds.{enters, is_size};
 ghost use Rattle.grb_call.specs.Status.{object_of};
+ghost use Rattle.grb_call.specs.Store.{empty_store, shapes_of};
 ghost use Rattle.grb_call.specs.After.{refused, reply_of};
-ghost use Rattle.grb_call.specs.History.{calls_of, store_of};
+ghost use Rattle.grb_call.specs.History.{after_all, calls_of, store_of};
 ghost use Rattle.grb_slices.specs.Content.{content_at};
+ghost use Rattle.grb_slices.specs.Followed.{targets_of};
 ghost use Rattle.grb_pass.specs.Known.{known};
+ghost use Rattle.grb_pass.specs.Reading.{IsEvaluated};
 ghost use Rattle.grb_pass.specs.Recent.{IsRecent};
 ghost use Rattle.grb_pass.specs.Settled.{is_materialize};
 
 use crate::reader::Reader;
 use grb_call::{Call, Object, Reply};
 use grb_records::Records;
-use grb_values::{Held, value_of};
+use grb_replay::State;
+use grb_slices::slice_of;
+use grb_values::{Held, Targets, entries_wanted, value_after};
 use std::alloc::{AllocError, Global};
 use std::marker::Model;
 
 /// How many calls are passed over in the time that one takes that is made, about (own).
 const PASSED_OVER: usize = 16;
 
+/// How many entries are copied in that time, about (own).
+const COPIED: usize = 64;
+
 /// The object that a pass read last, evaluated by itself: only the calls that it depends on were made.
 #[derive(Drop)]
 pub(crate) struct Recent {
     alloc: Global,
+    // Over the known calls, as far as they were walked over.
+    walk: Targets,
     held: Option<Held>,
     // After how many of the known calls the object holds that.
     upto: usize,
-    // What was spent so far, as a number of calls that are made.
+    // What was spent since all calls were made, as a number of calls that are made.
     spent: usize,
 }
 
@@ -35,7 +46,7 @@ impl Model for Recent {
 
     ghost Value = { RecentObject };
 
-    ghost view = { λ r. record { held = r.held; upto = r.upto } };
+    ghost view = { λ r. record { held = r.held; upto = r.upto; walk = r.walk } };
 }
 
 /// The object that a call reads entries of, where it reads those of one, and has no change done that others wait for.
@@ -62,6 +73,8 @@ fn lent_calls<'a>(
 ) -> Result<Vec<&'a Call>, AllocError>
     requires { All (IsOf records.now) reader.old.shown }
     ensures calls { IfOk result (λ calls. map (λ c. c.now) calls.items ≡ calls_of (known reader.old)) }
+    ensures few { IfOk result (λ calls. length calls.items < 2 ^ 32) }
+    ensures within { IfOk result (λ calls. length calls.items ≤ room_of reader.old.order) }
     ensures same { reader.new ≡ reader.old }
 {
     let known = reader.known() as usize;
@@ -72,36 +85,69 @@ fn lent_calls<'a>(
     Ok(calls)
 }
 
+/// What the object holds after these calls, of which so many are evaluated in the state, from only those behind that it depends on, and
+/// what that took, as a number of calls that are made. None where the object is not there, or where it would take more than the limit.
+/// `AllocError` where memory is refused.
+fn value_behind(
+    alloc: Global,
+    walk: &Targets,
+    calls: &[&Call],
+    state: &State,
+    evaluated: usize,
+    object: Object,
+    limit: usize,
+) -> Result<Option<(Held, usize)>, AllocError>
+    requires few { length calls.now < 2 ^ 32 }
+    requires targets { walk.now.targets ≡ targets_of (shapes_of empty_store) (map (λ c. c.now) calls.now) }
+    requires shapes { walk.now.shapes.objects ≡ shapes_of (after_all empty_store (map (λ c. c.now) calls.now)) }
+    requires count { length walk.now.targets ≡ length calls.now }
+    requires state { IsEvaluated (map (λ c. c.now) calls.now) evaluated state.now.store }
+    ensures object { IfOk result (λ made. IfSome made (λ value. value.0.object ≡ object)) }
+    ensures content { IfOk result (λ made. IfSome made (λ value. content_at (after_all empty_store (map (λ c. c.now) calls.now)) object ≡ content_at value.0.part.store object)) }
+{
+    if !walk.contains(object) {
+        return Ok(None);
+    }
+    let targets = walk.behind(evaluated);
+    let behind = &calls[evaluated..];
+    let slice = slice_of(alloc, targets, behind, object)?;
+    let copied = entries_wanted(state, &slice.wanted) as usize / COPIED;
+    let cost = slice
+        .count
+        .saturating_add(copied)
+        .saturating_add(calls.len() / PASSED_OVER);
+    if cost > limit {
+        return Ok(None);
+    }
+    let held = value_after(alloc, state, targets, behind, &slice, object)?;
+    Ok(Some((held, cost)))
+}
+
 impl Recent {
-    /// No object was read.
-    pub(crate) fn new(alloc: Global) -> Recent
-        ensures { result.held ≡ None }
+    /// No object was read, and there is memory to walk over so many calls. `AllocError` where memory is refused.
+    pub(crate) fn open(alloc: Global, room: u32) -> Result<Recent, AllocError>
+        ensures { IfOk result (IsRecent room []) }
     {
-        Recent {
+        Ok(Recent {
             alloc,
+            walk: Targets::open(alloc, room)?,
             held: None,
             upto: 0,
             spent: 0,
-        }
+        })
     }
 
-    /// Whether less was spent for objects by themselves than it takes to make so many calls, all that are known.
-    pub(crate) fn is_worth(&self, known: u32) -> bool
-        ensures { IsTrue result → 0 < known }
-    {
-        self.spent < known as usize
-    }
-
-    /// Holds no object any more.
+    /// Holds no object any more, now that all calls were made.
     pub(crate) fn release(&mut self)
-        ensures { self.new.held ≡ None }
+        ensures { self.new ≡ record self.old { held = None } }
     {
         self.held = None;
+        self.spent = 0;
     }
 
     /// The object after so many calls, all that are known, where it is held there. None is held then.
     fn take(&mut self, known: usize, object: Object) -> Option<Held>
-        ensures none { self.new.held ≡ None }
+        ensures none { self.new ≡ record self.old { held = None } }
         ensures held { IfSome result (λ held. self.old.held ≡ Some held) }
         ensures at { IfSome result (λ held. self.old.upto ≡ known) }
         ensures object { IfSome result (λ held. held.object ≡ object) }
@@ -113,57 +159,102 @@ impl Recent {
         None
     }
 
-    /// The object after all known calls: as it is held, or from the calls that it depends on. `AllocError` where memory is refused; then
-    /// none is held.
+    /// The object after all known calls, from those that it depends on behind the evaluated ones. None where it is not there, or where that
+    /// would take more than the limit. `AllocError` where memory is refused.
+    fn evaluate(
+        &mut self,
+        records: &Records,
+        reader: &mut Reader,
+        state: &State,
+        evaluated: usize,
+        object: Object,
+        limit: usize,
+    ) -> Result<Option<Held>, AllocError>
+        requires recent { IsRecent (room_of reader.old.order) (calls_of (known reader.old)) self.old }
+        requires records { All (IsOf records.now) reader.old.shown }
+        requires state { IsEvaluated (calls_of (known reader.old)) evaluated state.now.store }
+        ensures same { reader.new ≡ reader.old }
+        ensures recent { IsRecent (room_of reader.old.order) (calls_of (known reader.old)) self.new }
+        ensures object { IfOk result (λ value. IfSome value (λ held. held.object ≡ object)) }
+        ensures content { IfOk result (λ value. IfSome value (λ held. content_at (store_of (known reader.old)) object ≡ content_at held.part.store object)) }
+    {
+        let calls = lent_calls(self.alloc, records, reader)?;
+        self.walk.go_on(calls.as_slice());
+        let made = value_behind(
+            self.alloc,
+            &self.walk,
+            calls.as_slice(),
+            state,
+            evaluated,
+            object,
+            limit,
+        )?;
+        let Some((held, cost)) = made else {
+            return Ok(None);
+        };
+        self.spent = self.spent.saturating_add(cost);
+        Ok(Some(held))
+    }
+
+    /// The object after all known calls: as it is held, or from the calls that it depends on behind the evaluated ones, where that takes
+    /// less than half of what it takes to make them all. `AllocError` where memory is refused.
     fn value(
         &mut self,
         records: &Records,
         reader: &mut Reader,
+        state: &State,
+        evaluated: usize,
         object: Object,
-    ) -> Result<Held, AllocError>
-        requires recent { IsRecent (calls_of (known reader.old)) self.old }
+    ) -> Result<Option<Held>, AllocError>
+        requires recent { IsRecent (room_of reader.old.order) (calls_of (known reader.old)) self.old }
         requires records { All (IsOf records.now) reader.old.shown }
+        requires state { IsEvaluated (calls_of (known reader.old)) evaluated state.now.store }
         ensures same { reader.new ≡ reader.old }
-        ensures none { self.new.held ≡ None }
-        ensures object { IfOk result (λ held. held.object ≡ object) }
-        ensures content { IfOk result (λ held. content_at (store_of (known reader.old)) object ≡ content_at held.part.store object) }
+        ensures recent { IsRecent (room_of reader.old.order) (calls_of (known reader.old)) self.new }
+        ensures object { IfOk result (λ value. IfSome value (λ held. held.object ≡ object)) }
+        ensures content { IfOk result (λ value. IfSome value (λ held. content_at (store_of (known reader.old)) object ≡ content_at held.part.store object)) }
     {
         let known = reader.known() as usize;
         if let Some(held) = self.take(known, object) {
-            return Ok(held);
+            return Ok(Some(held));
         }
-        let calls = lent_calls(self.alloc, records, reader)?;
-        let held = value_of(self.alloc, calls.as_slice(), object)?;
-        let spent = held.evaluated() as usize + known / PASSED_OVER;
-        self.spent = self.spent.saturating_add(spent);
-        Ok(held)
+        let limit = (known.saturating_sub(evaluated) / 2).saturating_sub(self.spent);
+        if limit <= known / PASSED_OVER {
+            return Ok(None);
+        }
+        self.evaluate(records, reader, state, evaluated, object, limit)
     }
 
-    /// The reply to a call that only reads the object and is not refused, after all known calls. The object is held then. `AllocError`
-    /// where memory is refused.
+    /// The reply to a call that only reads the object and is not refused, after all known calls, of which so many are evaluated in the
+    /// state. The object is held then. None where all calls are to be made. `AllocError` where memory is refused.
     pub(crate) fn reply(
         &mut self,
         records: &Records,
         reader: &mut Reader,
+        state: &State,
+        evaluated: usize,
         object: Object,
         call: &Call,
-    ) -> Result<Reply, AllocError>
-        requires recent { IsRecent (calls_of (known reader.old)) self.old }
+    ) -> Result<Option<Reply>, AllocError>
+        requires recent { IsRecent (room_of reader.old.order) (calls_of (known reader.old)) self.old }
         requires records { All (IsOf records.now) reader.old.shown }
+        requires state { IsEvaluated (calls_of (known reader.old)) evaluated state.now.store }
         requires reads { enters call.now ≡ false }
         requires no_size { is_size call.now ≡ false }
         requires about { object_of call.now ≡ Some object }
         requires accepted { refused (store_of (known reader.old)) call.now ≡ None }
         ensures same { reader.new ≡ reader.old }
-        ensures recent { IsRecent (calls_of (known reader.old)) self.new }
-        ensures reply { IfOk result (λ reply. reply ≡ reply_of (store_of (known reader.old)) call.now) }
+        ensures recent { IsRecent (room_of reader.old.order) (calls_of (known reader.old)) self.new }
+        ensures reply { IfOk result (λ given. IfSome given (λ reply. reply ≡ reply_of (store_of (known reader.old)) call.now)) }
     {
-        let mut held = self.value(records, reader, object)?;
+        let Some(mut held) = self.value(records, reader, state, evaluated, object)? else {
+            return Ok(None);
+        };
         let answer = held.answer(call);
         self.held = Some(held);
         self.upto = reader.known() as usize;
         match answer? {
-            Ok(reply) => Ok(reply),
+            Ok(reply) => Ok(Some(reply)),
             Err(_refusal) => unreachable!(),
         }
     }

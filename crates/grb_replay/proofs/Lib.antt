@@ -1,5 +1,6 @@
 mod Accepted
 mod Applied
+mod Copied
 mod Dispatched
 mod Lent
 mod LentProducts

@@ -6,6 +6,7 @@
 //! knows of passes, of an order, or of which calls there are: the caller brings them, one after another.
 #![tactic(auto)]
 
+mod copies;
 mod matrices;
 mod matrix_operations;
 mod operations;

@@ -31,9 +31,9 @@ use std::marker::Model;
 /// The store that a list of calls leaves, with room reserved for the calls to come.
 #[derive(Drop)]
 pub struct State {
-    shapes: Shapes,
-    matrices: Vec<Option<SparseMatrix>>,
-    vectors: Vec<Option<SparseVector>>,
+    pub(crate) shapes: Shapes,
+    pub(crate) matrices: Vec<Option<SparseMatrix>>,
+    pub(crate) vectors: Vec<Option<SparseVector>>,
 }
 
 impl Model for State {
@@ -145,14 +145,14 @@ impl State {
     }
 
     /// How many entries the matrix stores.
-    fn nvals_matrix(&self, a: MatrixId) -> u64
+    pub(crate) fn nvals_matrix(&self, a: MatrixId) -> u64
         ensures { result ≡ nvals_of (matrix_entries self.now.store a) }
     {
         matrix_of(&self.matrices, a).map_or(0, |matrix| matrix.nvals())
     }
 
     /// How many entries the vector stores.
-    fn nvals_vector(&self, v: VectorId) -> u64
+    pub(crate) fn nvals_vector(&self, v: VectorId) -> u64
         ensures { result ≡ nvals_of (vector_entries self.now.store v) }
     {
         vector_of(&self.vectors, v).map_or(0, |vector| vector.nvals())

@@ -3,6 +3,7 @@ pub mod Effects
 pub mod Followed
 pub mod Going
 pub mod Kept
+pub mod Live
 pub mod Refusals
 pub mod Sliced
 pub mod Targets

@@ -1,2 +1,3 @@
-mod NextTarget
+pub mod NextTarget
+mod Parted
 mod Valued

@@ -1,45 +1,83 @@
 -- One more target, by one walk over shapes.
-use Rattle.std.proofs.Common.{◌≡◌, ℕ, suc, ◌<◌, List, [], ◌∷◌, ◌++◌, refl, sym, ap, subst, ◌∙◌, length, drop, take, get_or, Option}
+use Rattle.std.proofs.Common.{◌≡◌, ℕ, zero, suc, ◌+◌, ◌<◌, ◌≤◌, List, [], ◌∷◌, ◌++◌, refl, sym, ap, ◌∙◌, length, drop, take, get_or, Option, arith}
+use Rattle.std.proofs.lemmas.List.{length_push, take-append-le, take_more}
 use Rattle.grb_call.specs.declared.call.Call.{Call}
 use Rattle.grb_call.specs.declared.ids.Object.{Object}
 use Rattle.grb_call.specs.Shapes.{ObjectShapes}
 use Rattle.grb_call.specs.Refused.{shapes_after}
-use Rattle.grb_call.specs.Store.{Store, shapes_of}
+use Rattle.grb_call.specs.Store.{Store, empty_store, shapes_of}
 use Rattle.grb_call.specs.After.{after}
 use Rattle.grb_call.specs.History.{after_all}
 use Rattle.grb_call.proofs.ShapesAfter.{shapes_of-after}
 use Rattle.grb_slices.specs.Content.{effective_target}
 use Rattle.grb_slices.specs.Followed.{targets_of}
-use Rattle.grb_slices.proofs.Going.{drop_at, after_at}
+use Rattle.grb_slices.proofs.Going.{take_all}
+use Rattle.grb_values.specs.Targets.{AreTargetsOf, WalkedCalls}
 
-push_append : {X : Type 0} (xs : List X) (x : X) (ys : List X) → (xs ++ x ∷ []) ++ ys ≡ xs ++ x ∷ ys
-push_append [] x ys = refl
-push_append (z ∷ xs) x ys = ap (λ zs. z ∷ zs) (push_append xs x ys)
+targets_push : (s : Store) (cs : List Call) (c : Call) → targets_of (shapes_of s) (cs ++ c ∷ []) ≡ targets_of (shapes_of s) cs ++ effective_target (shapes_of (after_all s cs)) c ∷ []
+targets_push s [] c = refl
+targets_push s (d ∷ cs) c = ap (λ (ts : List (Option Object)). effective_target (shapes_of s) d ∷ ts)
+    (ap (λ (u : ObjectShapes). targets_of u (cs ++ c ∷ [])) (sym (shapes_of-after s d)) ∙ (targets_push (after s d) cs c
+    ∙ ap (λ (u : ObjectShapes). targets_of u cs ++ effective_target (shapes_of (after_all (after s d) cs)) c ∷ []) (shapes_of-after s d)))
 
-module _ (cs : List Call) (at : ℕ) (c : Call) (within : at < length cs) (is : get_or cs at c ≡ c) where
-  here : drop at cs ≡ c ∷ drop (suc at) cs
-  here = drop_at cs at c within ∙ ap (λ d. d ∷ drop (suc at) cs) is
+-- the targets behind a place are those of the calls behind it
+pub targets_behind : (s : Store) (cs : List Call) (k : ℕ) → drop k (targets_of (shapes_of s) cs) ≡ targets_of (shapes_of (after_all s (take k cs))) (drop k cs)
+targets_behind s cs zero = refl
+targets_behind s [] (suc k) = refl
+targets_behind s (c ∷ cs) (suc k) = ap (λ (u : ObjectShapes). drop k (targets_of u cs)) (sym (shapes_of-after s c)) ∙ targets_behind (after s c) cs k
 
-  next-targets : (found more whole : List (Option Object)) (s u : ObjectShapes) (t : Option Object) → more ≡ found ++ t ∷ [] → t ≡ effective_target s c → u ≡ shapes_after s c →
-      found ++ targets_of s (drop at cs) ≡ whole → more ++ targets_of u (drop (suc at) cs) ≡ whole
-  next-targets found more whole s u t pushed target shaped was =
-      ap (λ ts. ts ++ targets_of u (drop (suc at) cs)) pushed ∙ (push_append found t (targets_of u (drop (suc at) cs))
-      ∙ (ap (λ x. found ++ x ∷ targets_of u (drop (suc at) cs)) target ∙ (ap (λ (v : ObjectShapes). found ++ effective_target s c ∷ targets_of v (drop (suc at) cs)) shaped
-      ∙ (ap (λ ds. found ++ targets_of s ds) (sym here) ∙ was))))
+module _ (old new : WalkedCalls) (cs : List Call) (at : ℕ) (c : Call) (was : AreTargetsOf old cs) (here : length old.targets ≡ at) (less : at < length cs) (is : get_or cs at c ≡ c)
+    (pushed : new.targets ≡ old.targets ++ effective_target old.shapes.objects c ∷ []) (shaped : new.shapes.objects ≡ shapes_after old.shapes.objects c) where
+  first : List Call
+  first = take at cs
 
-  next-shapes : (whole : Store) (s u : ObjectShapes) → u ≡ shapes_after s c → s ≡ shapes_of (after_all whole (take at cs)) → u ≡ shapes_of (after_all whole (take (suc at) cs))
-  next-shapes whole s u shaped was =
-      shaped ∙ (ap (λ (v : ObjectShapes). shapes_after v c) was ∙ (sym (shapes_of-after (after_all whole (take at cs)) c)
-      ∙ ap shapes_of (sym (after_at whole cs at c within ∙ ap (after (after_all whole (take at cs))) is))))
+  one-more : take (at + 1) cs ≡ take at cs ++ c ∷ []
+  one-more = take_more cs at c less ∙ ap (λ (d : Call). take at cs ++ d ∷ []) is
 
--- the same, with the place counted on
-pub targets_next : (cs : List Call) (at n : ℕ) (c : Call) → n ≡ suc at → at < length cs → get_or cs at c ≡ c →
-    (found more whole : List (Option Object)) (s u : ObjectShapes) (t : Option Object) → more ≡ found ++ t ∷ [] → t ≡ effective_target s c → u ≡ shapes_after s c →
-    found ++ targets_of s (drop at cs) ≡ whole → more ++ targets_of u (drop n cs) ≡ whole
-targets_next cs at n c e within is found more whole s u t pushed target shaped was =
-    subst (λ (m : ℕ). more ++ targets_of u (drop m cs) ≡ whole) (sym e) (next-targets cs at c within is found more whole s u t pushed target shaped was)
+  count : length new.targets ≡ at + 1
+  count = ap length pushed ∙ (length_push old.targets _ ∙ ap (λ n. n + 1) here)
 
-pub shapes_next : (cs : List Call) (at n : ℕ) (c : Call) → n ≡ suc at → at < length cs → get_or cs at c ≡ c →
-    (whole : Store) (s u : ObjectShapes) → u ≡ shapes_after s c → s ≡ shapes_of (after_all whole (take at cs)) → u ≡ shapes_of (after_all whole (take n cs))
-shapes_next cs at n c e within is whole s u shaped was =
-    subst (λ (m : ℕ). u ≡ shapes_of (after_all whole (take m cs))) (sym e) (next-shapes cs at c within is whole s u shaped was)
+  shapes-were : old.shapes.objects ≡ shapes_of (after_all empty_store (take at cs))
+  shapes-were = was.shapes_are ∙ ap (λ n. shapes_of (after_all empty_store (take n cs))) here
+
+  targets-were : old.targets ≡ targets_of (shapes_of empty_store) (take at cs)
+  targets-were = was.targets_are ∙ ap (λ n. targets_of (shapes_of empty_store) (take n cs)) here
+
+  next-targets : new.targets ≡ targets_of (shapes_of empty_store) (take (at + 1) cs)
+  next-targets = pushed ∙ (ap (λ (ts : List (Option Object)). ts ++ effective_target old.shapes.objects c ∷ []) targets-were
+      ∙ (ap (λ (u : ObjectShapes). targets_of (shapes_of empty_store) (take at cs) ++ effective_target u c ∷ []) shapes-were
+      ∙ (sym (targets_push empty_store (take at cs) c) ∙ ap (targets_of (shapes_of empty_store)) (sym one-more))))
+
+  pushed-after : (s : Store) (ds : List Call) → after_all s (ds ++ c ∷ []) ≡ after (after_all s ds) c
+  pushed-after s [] = refl
+  pushed-after s (d ∷ ds) = pushed-after (after s d) ds
+
+  next-shapes : new.shapes.objects ≡ shapes_of (after_all empty_store (take (at + 1) cs))
+  next-shapes = shaped ∙ (ap (λ (u : ObjectShapes). shapes_after u c) shapes-were ∙ (sym (shapes_of-after (after_all empty_store (take at cs)) c)
+      ∙ ap shapes_of (sym (ap (after_all empty_store) one-more ∙ pushed-after empty_store (take at cs)))))
+
+  -- one more call walked over
+  pub walked_next : AreTargetsOf new cs
+  walked_next = record {
+    within = omega (arith, count, less);
+    targets_are = next-targets ∙ ap (λ n. targets_of (shapes_of empty_store) (take n cs)) (sym count);
+    shapes_are = next-shapes ∙ ap (λ n. shapes_of (after_all empty_store (take n cs))) (sym count);
+  }
+
+-- the walk stands where more calls come
+pub walked_more : (t : WalkedCalls) (cs ds : List Call) → AreTargetsOf t cs → AreTargetsOf t (cs ++ ds)
+walked_more t cs ds was = record {
+  within = more cs ds (length t.targets) was.within;
+  targets_are = was.targets_are ∙ ap (targets_of (shapes_of empty_store)) (sym (take-append-le (length t.targets) cs ds was.within));
+  shapes_are = was.shapes_are ∙ ap (λ (xs : List Call). shapes_of (after_all empty_store xs)) (sym (take-append-le (length t.targets) cs ds was.within));
+} where
+  more : (xs ys : List Call) (n : ℕ) → n ≤ length xs → n ≤ length (xs ++ ys)
+  more [] ys n le = omega (arith, le)
+  more (x ∷ xs) ys zero le = omega arith
+  more (x ∷ xs) ys (suc n) le = let rest : n ≤ length (xs ++ ys) = more xs ys n (omega (arith, le)) in omega (arith, rest)
+
+-- the walk over all calls
+pub walk_ends : (t : WalkedCalls) (cs : List Call) → AreTargetsOf t cs → length t.targets ≡ length cs → (t.targets ≡ targets_of (shapes_of empty_store) cs) × (t.shapes.objects ≡ shapes_of (after_all empty_store cs))
+walk_ends t cs was all =
+    let same : take (length t.targets) cs ≡ cs = take_all cs (length t.targets) all in
+    (was.targets_are ∙ ap (targets_of (shapes_of empty_store)) same, was.shapes_are ∙ ap (λ (xs : List Call). shapes_of (after_all empty_store xs)) same)

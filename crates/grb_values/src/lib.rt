@@ -4,8 +4,12 @@
 //! knows of passes or of an order: the caller brings the calls.
 #![tactic(auto)]
 
+mod beginning;
 mod part;
 mod targets;
 mod value;
+mod wanted;
 
-pub use value::{Held, value_of};
+pub use targets::Targets;
+pub use value::{Held, value_after, value_of};
+pub use wanted::entries_wanted;

@@ -1,30 +1,90 @@
-ghost use Rattle.std.specs.Prelude.{◌≡◌, ◌+◌, ◌≤◌, length, map, IfOk, OnOk};
-ghost use Rattle.grb_call.specs.Store.{Store, shapes_of};
+ghost use Rattle.std.specs.Prelude.{◌≡◌, ◌+◌, ◌<◌, ◌≤◌, ◌++◌, ◌∷◌, [], length, drop, map, IfOk};
+ghost use Rattle.grb_call.specs.Refused.{shapes_after};
+ghost use Rattle.grb_slices.specs.Content.{effective_target};
+ghost use Rattle.grb_call.specs.Shapes.{is_live};
+ghost use Rattle.grb_call.specs.Store.{empty_store, shapes_of};
 ghost use Rattle.grb_call.specs.History.{after_all};
 ghost use Rattle.grb_slices.specs.Followed.{targets_of};
+ghost use Rattle.grb_values.specs.Targets.{AreTargetsOf};
 
 use grb_call::{Call, Object, Shapes};
 use grb_slices::target_at;
 use std::alloc::{AllocError, Global};
+use std::marker::Model;
 
-/// The targets of calls that come one after another on objects of these shapes, each at its place, none for one that is refused there. The
-/// shapes then are those after the calls. `AllocError` where memory is refused.
-pub(crate) fn targets_of(
-    alloc: Global,
-    shapes: &mut Shapes,
-    calls: &[&Call],
-) -> Result<Vec<Option<Object>>, AllocError>
-    requires { length calls.now ≤ shapes.old.room }
-    ensures targets { IfOk result (λ targets. targets.items ≡ targets_of shapes.old.objects (map (λ c. c.now) calls.now)) }
-    ensures count { IfOk result (λ targets. length targets.items ≡ length calls.now) }
-    ensures shapes { OnOk result ((whole : Store) → shapes.old.objects ≡ shapes_of whole → shapes.new.objects ≡ shapes_of (after_all whole (map (λ c. c.now) calls.now))) }
-    ensures room { OnOk result (shapes.old.room ≤ shapes.new.room + length calls.now) }
-{
-    let mut targets = Vec::with_capacity(alloc, calls.len())?;
-    'calls: for at in 0..calls.len() {
-        let call = calls[at];
-        targets.push_reserved(target_at(&*shapes, call));
-        shapes.absorb(call);
+/// The targets of the first calls of a history, each at its place, none for one that is refused there or only reads, and the shapes behind
+/// these calls: of one walk over the calls, which goes on where it stopped.
+#[derive(Drop)]
+pub struct Targets {
+    shapes: Shapes,
+    targets: Vec<Option<Object>>,
+}
+
+impl Model for Targets {
+    ghost use Rattle.std.specs.Prelude.{◌+◌, ◌≤◌, length, vec_capacity};
+    ghost use Rattle.grb_values.specs.Targets.{WalkedCalls};
+
+    ghost Value = { WalkedCalls };
+
+    ghost view = { λ t. record { targets = t.targets.items; shapes = t.shapes } };
+
+    ghost invariant = { λ t. length t.targets.items + t.shapes.room ≤ vec_capacity t.targets };
+}
+
+impl Targets {
+    /// Of no calls, with memory for so many. `AllocError` where memory is refused.
+    pub fn open(alloc: Global, room: u32) -> Result<Targets, AllocError>
+        ensures targets { IfOk result (λ t. t.targets ≡ []) }
+        ensures shapes { IfOk result (λ t. t.shapes.objects ≡ shapes_of empty_store) }
+        ensures room { IfOk result (λ t. t.shapes.room ≡ room) }
+    {
+        Ok(Targets {
+            targets: Vec::with_capacity(alloc, room as usize)?,
+            shapes: Shapes::open(alloc, room)?,
+        })
     }
-    Ok(targets)
+
+    /// Takes in the call behind those walked over.
+    fn go_over(&mut self, call: &Call)
+        requires { 0 < self.old.shapes.room }
+        ensures targets { self.new.targets ≡ self.old.targets ++ effective_target self.old.shapes.objects call.now ∷ [] }
+        ensures shapes { self.new.shapes.objects ≡ shapes_after self.old.shapes.objects call.now }
+        ensures room { self.new.shapes.room + 1 ≡ self.old.shapes.room }
+    {
+        self.targets.push_reserved(target_at(&self.shapes, call));
+        self.shapes.absorb(call);
+    }
+
+    /// Goes on over these calls, of which those walked over are the first. Takes no memory.
+    pub fn go_on(&mut self, calls: &[&Call])
+        requires walked { AreTargetsOf self.old (map (λ c. c.now) calls.now) }
+        requires room { length calls.now ≤ length self.old.targets + self.old.shapes.room }
+        ensures walked { AreTargetsOf self.new (map (λ c. c.now) calls.now) }
+        ensures targets { self.new.targets ≡ targets_of (shapes_of empty_store) (map (λ c. c.now) calls.now) }
+        ensures shapes { self.new.shapes.objects ≡ shapes_of (after_all empty_store (map (λ c. c.now) calls.now)) }
+        ensures all { length self.new.targets ≡ length calls.now }
+        ensures room { length self.new.targets + self.new.shapes.room ≡ length self.old.targets + self.old.shapes.room }
+    {
+        'calls: for at in self.targets.len()..calls.len() {
+            self.go_over(calls[at]);
+        }
+    }
+
+    /// The targets from this place on. Takes no memory.
+    pub fn behind(&self, at: usize) -> &[Option<Object>]
+        requires { at ≤ length self.now.targets }
+        ensures { result.now ≡ drop at self.now.targets }
+    {
+        &self.targets[at..]
+    }
+
+    /// Whether the object is there behind the calls. Takes no memory.
+    pub fn contains(&self, object: Object) -> bool
+        ensures { result ≡ is_live self.now.shapes.objects object }
+    {
+        match object {
+            Object::Matrix(a) => self.shapes.matrix(a).is_some(),
+            Object::Vector(v) => self.shapes.vector(v).is_some(),
+        }
+    }
 }

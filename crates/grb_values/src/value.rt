@@ -1,4 +1,4 @@
-ghost use Rattle.std.specs.Prelude.{◌≡◌, ◌<◌, ◌^◌, false, length, map, IfOk, Some};
+ghost use Rattle.std.specs.Prelude.{◌≡◌, ◌<◌, ◌^◌, false, true, length, map, IfOk, Some};
 ghost use Rattle.grb_call.specs.Kinds.{enters, is_size};
 ghost use Rattle.grb_call.specs.Status.{is_same_object, object_of};
 ghost use Rattle.grb_call.specs.Shapes.{is_live};
@@ -9,14 +9,15 @@ ghost use Rattle.grb_slices.specs.Content.{content_at};
 ghost use Rattle.grb_slices.specs.Slice.{sliced};
 ghost use Rattle.grb_slices.specs.Steps.{steps_of};
 ghost use Rattle.grb_slices.specs.Followed.{targets_of};
-ghost use Rattle.grb_values.specs.Held.{tasks_of};
+ghost use Rattle.grb_values.specs.Held.{IsSliceOf, tasks_of};
 
+use crate::beginning::part_of;
 use crate::part::make_chosen;
-use crate::targets::targets_of;
-use grb_call::{Call, Object, Reply, Shapes};
+use crate::targets::Targets;
+use grb_call::{Call, Object, Reply};
 use grb_core::Refusal;
 use grb_replay::State;
-use grb_slices::slice_of;
+use grb_slices::{Slice, slice_of};
 use std::alloc::{AllocError, Global};
 use std::marker::Model;
 
@@ -37,34 +38,32 @@ impl Model for Held {
     ghost view = { λ h. record { object = h.object; part = h.state; evaluated = h.evaluated } };
 }
 
-/// Whether the object was made and not freed.
-fn is_live(shapes: &Shapes, object: Object) -> bool
-    ensures { result ≡ is_live shapes.now.objects object }
-{
-    match object {
-        Object::Matrix(a) => shapes.matrix(a).is_some(),
-        Object::Vector(v) => shapes.vector(v).is_some(),
-    }
-}
-
-/// What the object holds after these calls on the empty store, which have these targets at their places, where it is there then.
-fn evaluate(
+/// What the object holds after these calls on the whole store, where it is there then, from only the calls of its slice, made on a part of
+/// the store that holds what is wanted before them. The targets of the calls at their places are given, and the slice. It takes memory for
+/// copies of what is wanted, a place for each object of the store, and what the calls make. `AllocError` where memory is refused, or where
+/// objects and calls are together 2^32 or more; the store is as it was.
+///
+/// Source: GraphBLAS C API 2.0, "Execution modes"; the form is own.
+pub fn value_after(
     alloc: Global,
+    whole: &State,
     targets: &[Option<Object>],
     calls: &[&Call],
+    slice: &Slice,
     object: Object,
 ) -> Result<Held, AllocError>
     requires few { length calls.now < 2 ^ 32 }
-    requires targets { targets.now ≡ targets_of (shapes_of empty_store) (map (λ c. c.now) calls.now) }
+    requires targets { targets.now ≡ targets_of (shapes_of whole.now.store) (map (λ c. c.now) calls.now) }
     requires count { length targets.now ≡ length calls.now }
+    requires chosen { length slice.now.chosen.items ≡ length calls.now }
+    requires slice { IsSliceOf slice.now object targets.now (map (λ c. c.now) calls.now) }
+    requires there { is_live (shapes_of (after_all whole.now.store (map (λ c. c.now) calls.now))) object ≡ true }
     ensures object { IfOk result (λ held. held.object ≡ object) }
-    ensures content { IfOk result (λ held. content_at (after_all empty_store (map (λ c. c.now) calls.now)) object ≡ content_at held.part.store object) }
-    ensures evaluated { IfOk result (λ held. held.evaluated ≡ length (sliced (is_same_object object) (steps_of (shapes_of empty_store) (map (λ c. c.now) calls.now))).tasks) }
+    ensures content { IfOk result (λ held. content_at (after_all whole.now.store (map (λ c. c.now) calls.now)) object ≡ content_at held.part.store object) }
+    ensures evaluated { IfOk result (λ held. held.evaluated ≡ length (sliced (is_same_object object) (steps_of (shapes_of whole.now.store) (map (λ c. c.now) calls.now))).tasks) }
 {
-    let slice = slice_of(alloc, targets, calls, object)?;
-    let chosen = slice.chosen.as_slice();
-    let mut state = State::open(alloc, calls.len() as u32)?;
-    make_chosen(&mut state, targets, calls, chosen)?;
+    let mut state = part_of(alloc, whole, &slice.wanted, calls.len())?;
+    make_chosen(&mut state, targets, calls, slice.chosen.as_slice())?;
     Ok(Held {
         object,
         state,
@@ -83,16 +82,19 @@ pub fn value_of(alloc: Global, calls: &[&Call], object: Object) -> Result<Held, 
     ensures content { IfOk result (λ held. content_at (after_all empty_store (map (λ c. c.now) calls.now)) object ≡ content_at held.part.store object) }
     ensures evaluated { IfOk result (λ held. held.evaluated ≡ tasks_of object (map (λ c. c.now) calls.now)) }
 {
-    let mut shapes = Shapes::open(alloc, calls.len() as u32)?;
-    let targets = targets_of(alloc, &mut shapes, calls)?;
-    if !is_live(&shapes, object) {
+    let mut walk = Targets::open(alloc, calls.len() as u32)?;
+    walk.go_on(calls);
+    let empty = State::open(alloc, 0)?;
+    if !walk.contains(object) {
         return Ok(Held {
             object,
-            state: State::open(alloc, 0)?,
+            state: empty,
             evaluated: 0,
         });
     }
-    let held = evaluate(alloc, targets.as_slice(), calls, object)?;
+    let targets = walk.behind(0);
+    let slice = slice_of(alloc, targets, calls, object)?;
+    let held = value_after(alloc, &empty, targets, calls, &slice, object)?;
     Ok(held)
 }
 

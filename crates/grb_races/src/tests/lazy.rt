@@ -92,9 +92,15 @@ pub(super) fn expect_read(rt: &impl Abort, context: &Context, p: &mut Pass, q: &
     expect_value(rt, context, q, SECOND, 0, Value::Uint64(TIMES + 1));
     expect_value(rt, context, q, FIRST, 1, SIX);
     expect_value(rt, context, p, FIRST, 0, ONE);
+    same(rt, add(context, p), true, "the additions");
+    set(rt, context, p, FIRST, 0, FIVE);
+    expect_value(rt, context, q, FIRST, 0, FIVE);
+    expect_value(rt, context, q, FIRST, 1, SIX);
+    expect_value(rt, context, q, SECOND, 0, Value::Uint64(2 * TIMES + 1));
+    expect_value(rt, context, q, FIRST, 1, SIX);
 }
 
 #[test]
 fn a_read_makes_the_calls_of_its_object(rt: HostRuntime) -> Result<(), AllocError> {
-    try_in_new(&rt, rt.alloc(), 512, Trial::Lazy)
+    try_in_new(&rt, rt.alloc(), 1024, Trial::Lazy)
 }

@@ -10,5 +10,5 @@ invariant_of-self c =
     let all = subst (λ (p : Knowing). length p.shown ≡ length p.view.words) (sym c.self.view_is) c.requires.shown in
     let room = room_of c.args.order.now in let p = c.self.inside in (
       pass_tried room p.reader c.enter-back.new.self c.args.token p.state p.evaluated c.enter-back.result c.enter-back.ensures.order c.enter-back.ensures.settled c.enter-back.ensures.enters all c.self.invariant.0,
-      recent_tried room p.reader c.enter-back.new.self c.args.token p.recent c.enter-back.result c.enter-back.ensures.enters all c.self.invariant.1,
+      recent_tried room p.reader c.enter-back.new.self c.args.token p.recent c.enter-back.result c.enter-back.ensures.order c.enter-back.ensures.enters all c.self.invariant.1,
     )

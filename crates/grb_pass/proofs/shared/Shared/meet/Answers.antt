@@ -14,4 +14,4 @@ pub invariant_of-pass : goal.invariant_of-pass
 invariant_of-pass c =
     let p = c.pass.inside in let new = c.meet_reader.new.reader in let met = c.meet_reader.ensures.met in
     let order : new.order ≡ p.reader.order = search rules in
-    (pass_learns p.reader new p.state p.evaluated order met.learns c.pass.invariant.0, recent_learns p.reader new p.recent met.learns c.pass.invariant.1)
+    (pass_learns p.reader new p.state p.evaluated order met.learns c.pass.invariant.0, recent_learns p.reader new p.recent order met.learns c.pass.invariant.1)

@@ -32,12 +32,12 @@ pub invariant_of-pass : goal.invariant_of-pass
 invariant_of-pass c =
     let order = c.learn.ensures.pass.order ∙ sym (ap (λ (p : Knowing). p.order) c.pass.view_is ∙ c.requires.pass.order) in (
       pass_learns c.pass.inside.reader c.learn.new.reader c.pass.inside.state c.pass.inside.evaluated order c.learn.ensures.learns c.pass.invariant.0,
-      recent_learns c.pass.inside.reader c.learn.new.reader c.pass.inside.recent c.learn.ensures.learns c.pass.invariant.1,
+      recent_learns c.pass.inside.reader c.learn.new.reader c.pass.inside.recent order c.learn.ensures.learns c.pass.invariant.1,
     )
 
 pub invariant_of-pass-2 : goal.invariant_of-pass-2
 invariant_of-pass-2 c =
     let order = c.learn.ensures.pass.order ∙ sym (ap (λ (p : Knowing). p.order) c.pass.view_is ∙ c.requires.pass.order) in (
       pass_learns c.pass.inside.reader c.learn.new.reader c.pass.inside.state c.pass.inside.evaluated order c.learn.ensures.learns c.pass.invariant.0,
-      recent_learns c.pass.inside.reader c.learn.new.reader c.pass.inside.recent c.learn.ensures.learns c.pass.invariant.1,
+      recent_learns c.pass.inside.reader c.learn.new.reader c.pass.inside.recent order c.learn.ensures.learns c.pass.invariant.1,
     )

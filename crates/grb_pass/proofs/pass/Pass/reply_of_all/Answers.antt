@@ -3,7 +3,7 @@ use Rattle.grb_call.specs.Store.{Store}
 use Rattle.grb_call.specs.After.{reply_of}
 use Rattle.grb_call.specs.History.{store_of}
 use Rattle.grb_pass.specs.Known.{Knowing, known}
-use Rattle.grb_pass.proofs.pass.Pass.reply_of_entries.Goals as goal
+use Rattle.grb_pass.proofs.pass.Pass.reply_of_all.Goals as goal
 
 pub returns-clause-reply : goal.returns-clause-reply
 returns-clause-reply c =
