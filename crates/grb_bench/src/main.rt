@@ -1,4 +1,4 @@
-//! Times the store on made data: the shared order beside the same work under one mutex, builds beside a sort, sets, sets and reads in turn, and the methods of one object. It writes
+//! Times the store on made data: the shared order beside the same work under one mutex, builds beside a sort, sets, sets and reads in turn, reads of one object of many, and the methods of one object. It writes
 //! to standard output a fixed word for each check of what the timed work made, and to standard error for each line its name, the
 //! least of several runs in nanoseconds a step, and the steps of a run.
 #![tactic(auto)]
@@ -10,6 +10,7 @@ mod market;
 mod objects;
 mod open;
 mod opening;
+mod reads;
 mod sets;
 mod single;
 mod turns;
@@ -23,6 +24,7 @@ fn main(rt: HostRuntime) -> Result<(), Fail> {
     build::run(&rt)?;
     sets::run(&rt)?;
     turns::run(&rt)?;
+    reads::run(&rt)?;
     objects::run(&rt)?;
     market::run(&rt)?;
     Ok(())

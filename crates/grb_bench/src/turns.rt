@@ -61,7 +61,7 @@ fn filled(context: &Context, pass: &mut Pass, tuples: VectorTuples) -> Option<Ve
 }
 
 /// Whether the entry at an index was read as it is set: it is the index itself.
-fn is_read(read: Result<Reply, Refusal>, i: u64) -> bool {
+pub fn is_read(read: Result<Reply, Refusal>, i: u64) -> bool {
     match read {
         Ok(Reply::Value(Value::Uint64(value))) => value == i,
         _ => false,

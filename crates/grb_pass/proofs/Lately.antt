@@ -1,8 +1,8 @@
 -- What a pass holds of one object, as calls are learnt.
-use Rattle.std.proofs.Common.{◌-◌, zero, suc, true, refl, map, drop, ◌≡◌, ℕ, ◌+◌, ◌<◌, List, [], ◌∷◌, ◌++◌, length, take, sym, ap, subst, ◌∙◌, arith, length-append, Option, Some, None, Result, Ok, Err}
+use Rattle.std.proofs.Common.{zero, suc, true, refl, map, drop, ◌≡◌, ℕ, ◌+◌, ◌<◌, List, [], ◌∷◌, ◌++◌, length, take, sym, ap, subst, ◌∙◌, arith, length-append, Option, Some, None, Result, Ok, Err}
 use Rattle.std.specs.Prelude.{IfSome, slice_get}
 use Rattle.std.specs.Option.{option_map_or}
-use Rattle.std.proofs.lemmas.List.{length-drop, take-append-drop, take-append-le, take_all, take_more}
+use Rattle.std.proofs.lemmas.List.{take-append-drop, take-append-le, take_all, take_more}
 use Rattle.std.proofs.lemmas.Option.{slice_get_within, get_or_from_slice_get}
 use Rattle.grb_core.specs.declared.refusal.Refusal.{Refusal}
 use Rattle.grb_order.specs.Order.{room_of}
@@ -104,11 +104,5 @@ module _ (cs bs : List Call) (e : ℕ) (s : Store) (is : s ≡ after_all empty_s
   pub there_behind : (u : ObjectShapes) (o : Object) → u ≡ shapes_of (after_all empty_store cs) → is_live u o ≡ true → is_live (shapes_of (after_all s bs)) o ≡ true
   there_behind u o shaped live = ap (λ (t : Store). is_live (shapes_of t) o) after_behind ∙ (ap (λ (v : ObjectShapes). is_live v o) (sym shaped) ∙ live)
 
-  pub content_behind : (o : Object) (part : Store) → content_at (after_all s bs) o ≡ content_at part o → content_at (after_all empty_store cs) o ≡ content_at part o
-  content_behind o part same = ap (λ (t : Store). content_at t o) (sym after_behind) ∙ same
-
-take_rest : {X : Type 0} (xs : List X) (e : ℕ) → take (length xs - e) (drop e xs) ≡ drop e xs
-take_rest xs e = take_all (length xs - e) (drop e xs) (omega (arith, length-drop e xs))
-
-pub calls_behind : {X : Type 0} (f : X → Call) (xs : List X) (e : ℕ) → map f (take (length xs - e) (drop e xs)) ≡ drop e (map f xs)
-calls_behind f xs e = ap (map f) (take_rest xs e) ∙ map_drop f xs e
+pub calls_behind : {X : Type 0} (f : X → Call) (xs ys : List X) (e : ℕ) → ys ≡ drop e xs → map f ys ≡ drop e (map f xs)
+calls_behind f xs ys e is = ap (map f) is ∙ map_drop f xs e

@@ -1,0 +1,110 @@
+ghost use Rattle.grb_context.specs.Known.{IsPassOf};
+
+use crate::open::open_one;
+use crate::turns::is_read;
+use grb_call::{Reply, VectorId};
+use grb_context::{Context, Pass};
+use grb_core::{Domain, Value};
+use grb_timing::{Least, RUNS, nanos_since, write_check};
+use std::alloc::AllocError;
+use std::rt::Clock;
+use std::test::Fail;
+use std::time::Instant;
+
+/// The calls that a run has room for.
+const ROOM: u32 = 4096;
+
+/// The sets of the vector that is read.
+const OWN: u64 = 16;
+
+/// The sets of another vector.
+const OTHERS: u64 = 4000;
+
+/// A vector with an entry at each index below the count; none where a call was refused.
+fn filled(context: &Context, pass: &mut Pass, count: u64) -> Option<VectorId>
+    requires { IsPassOf context.now pass.old }
+    ensures { IsPassOf context.now pass.new }
+{
+    let Ok(Reply::MadeVector(v)) = context.new_vector(pass, Domain::Uint64, ROOM as u64) else {
+        return None;
+    };
+    let mut holds = true;
+    for i in 0..count {
+        holds &= context.set_vector(pass, v, i, Value::Uint64(i)).is_ok();
+    }
+    if holds { Some(v) } else { None }
+}
+
+/// How many nanoseconds a read took; none where it did not read what was set.
+fn timed<R: Clock>(rt: &R, context: &Context, pass: &mut Pass, v: VectorId) -> Option<u64>
+    requires { IsPassOf context.now pass.old }
+    ensures { IsPassOf context.now pass.new }
+{
+    let start = Instant::now(rt);
+    let read = context.get_vector(pass, v, 1);
+    let nanos = nanos_since(rt, start);
+    if is_read(read, 1) { Some(nanos) } else { None }
+}
+
+/// The times of a read of one object behind calls on another, and then of a read of the other.
+fn timed_both<R: Clock>(
+    rt: &R,
+    context: &Context,
+    pass: &mut Pass,
+    others: u64,
+) -> Option<(u64, u64)>
+    requires { IsPassOf context.now pass.old }
+{
+    let own = filled(context, pass, OWN)?;
+    let other = filled(context, pass, others)?;
+    let one = timed(rt, context, pass, own)?;
+    let all = timed(rt, context, pass, other)?;
+    Some((one, all))
+}
+
+/// The same in a store of its own.
+fn run_once<R: Clock + AllocGlobal>(rt: &R, others: u64) -> Result<Option<(u64, u64)>, AllocError> {
+    match open_one(rt.alloc(), ROOM)? {
+        Some((context, mut pass)) => Ok(timed_both(rt, &context, &mut pass, others)),
+        None => Ok(None),
+    }
+}
+
+/// Takes in both times of a run; whether it held.
+fn take(one: &mut Least, all: &mut Least, run: Option<(u64, u64)>) -> bool {
+    let Some((nanos, nanos_of_all)) = run else {
+        return false;
+    };
+    one.take(nanos);
+    all.take(nanos_of_all);
+    true
+}
+
+/// Takes in one run after another, with many calls on another object and with two; whether each held.
+fn take_runs<R: Clock + AllocGlobal>(
+    rt: &R,
+    one: &mut Least,
+    all: &mut Least,
+    alone: &mut Least,
+) -> Result<bool, AllocError> {
+    let mut holds = true;
+    let mut other = Least::none();
+    for _ in 0..RUNS {
+        holds &= take(one, all, run_once(rt, OTHERS)?);
+        holds &= take(alone, &mut other, run_once(rt, 2)?);
+    }
+    Ok(holds)
+}
+
+/// Times a read of one object behind many calls on another, a read of that, and a read of the object where there are no such calls.
+pub fn run<R: Clock + Print + Eprint + AllocGlobal>(rt: &R) -> Result<(), Fail> {
+    let mut one = Least::none();
+    let mut all = Least::none();
+    let mut alone = Least::none();
+    let holds = take_runs(rt, &mut one, &mut all, &mut alone)?;
+    one.write(rt, "reads: one object", 1)?;
+    all.write(rt, "reads: all objects", 1)?;
+    alone.write(rt, "reads: one object alone", 1)?;
+    write_check(rt, "reads", holds)?;
+    Ok(())
+}
