@@ -25,7 +25,7 @@ use std::alloc::{AllocError, Global};
 use std::marker::Model;
 
 /// How many calls are passed over in the time that one takes that is made, about (own).
-const PASSED_OVER: usize = 16;
+const PASSED_OVER: usize = 8;
 
 /// How many entries are copied in that time, about (own).
 const COPIED: usize = 64;
