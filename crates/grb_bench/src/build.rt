@@ -18,7 +18,7 @@ use std::time::Instant;
 const TUPLES: u32 = 100_000;
 
 /// The rows of the matrix, and its columns.
-const SIDE: u64 = 65_536;
+pub(crate) const SIDE: u64 = 65_536;
 
 /// From one place of a rising build to the next, in cells counted row by row.
 const STEP: u64 = 42_949;
@@ -40,18 +40,23 @@ fn made(alloc: Global) -> Result<Vec<(u64, u64, Value)>, AllocError>
     Ok(tuples)
 }
 
-/// The tuples of a build that stand in rising order of their places already.
-fn made_rising(alloc: Global) -> Result<Vec<(u64, u64, Value)>, AllocError>
+/// So many tuples of a build that stand in rising order of their places already, each a step behind the one before.
+pub(crate) fn made_rising(
+    alloc: Global,
+    count: u32,
+    step: u64,
+) -> Result<Vec<(u64, u64, Value)>, AllocError>
     ensures rows { IfOk result (λ tuples. All (λ e. e.0 < 65536) tuples.items) }
     ensures columns { IfOk result (λ tuples. All (λ e. e.1 < 65536) tuples.items) }
     ensures domain { IfOk result (λ tuples. All (λ e. value_domain e.2 ≡ Domain.Uint64) tuples.items) }
 {
     let mut numbers = Numbers::new();
-    let mut tuples = Vec::with_capacity(alloc, TUPLES as usize)?;
-    for k in 0..TUPLES {
-        let cell = u64::from(k) * STEP;
+    let mut tuples = Vec::with_capacity(alloc, count as usize)?;
+    let mut cell: u64 = 0;
+    for _ in 0..count {
         let value = numbers.next();
-        tuples.push((cell / SIDE, cell % SIDE, Value::Uint64(value)))?;
+        tuples.push((cell / SIDE % SIDE, cell % SIDE, Value::Uint64(value)))?;
+        cell = cell.wrapping_add(step);
     }
     Ok(tuples)
 }
@@ -256,7 +261,7 @@ impl Times {
 /// Times builds of one matrix by the store, beside a sort of the same tuples.
 pub fn run<R: Clock + Print + Eprint + AllocGlobal>(rt: &R) -> Result<(), Fail> {
     let tuples = made(rt.alloc())?;
-    let rising = made_rising(rt.alloc())?;
+    let rising = made_rising(rt.alloc(), TUPLES, STEP)?;
     let mut times = Times::none();
     let holds = times.take_runs(rt, &tuples, &rising)?;
     times.write(rt)?;

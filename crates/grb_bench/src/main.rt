@@ -1,9 +1,10 @@
-//! Times the store on made data: the shared order beside the same work under one mutex, builds beside a sort, sets, sets and reads in turn, reads of one object of many, and the methods of one object. It writes
+//! Times the store on made data: the shared order beside the same work under one mutex, builds beside a sort, sets, sets and reads in turn, reads of one object of many, first reads with and without a version, dups, and the methods of one object. It writes
 //! to standard output a fixed word for each check of what the timed work made, and to standard error for each line its name, the
 //! least of several runs in nanoseconds a step, and the steps of a run.
 #![tactic(auto)]
 
 mod build;
+mod dups;
 mod fill;
 mod look;
 mod market;
@@ -14,6 +15,7 @@ mod reads;
 mod sets;
 mod single;
 mod turns;
+mod versions;
 
 use std::test::Fail;
 
@@ -25,6 +27,8 @@ fn main(rt: HostRuntime) -> Result<(), Fail> {
     sets::run(&rt)?;
     turns::run(&rt)?;
     reads::run(&rt)?;
+    versions::run(&rt)?;
+    dups::run(&rt)?;
     objects::run(&rt)?;
     market::run(&rt)?;
     Ok(())

@@ -35,15 +35,21 @@ fn filled(context: &Context, pass: &mut Pass, count: u64) -> Option<VectorId>
     if holds { Some(v) } else { None }
 }
 
-/// How many nanoseconds a read took; none where it did not read what was set.
-fn timed<R: Clock>(rt: &R, context: &Context, pass: &mut Pass, v: VectorId) -> Option<u64>
+/// How many nanoseconds a read of the entry at an index took; none where it did not read what was set, the index itself.
+pub(crate) fn timed<R: Clock>(
+    rt: &R,
+    context: &Context,
+    pass: &mut Pass,
+    v: VectorId,
+    i: u64,
+) -> Option<u64>
     requires { IsPassOf context.now pass.old }
     ensures { IsPassOf context.now pass.new }
 {
     let start = Instant::now(rt);
-    let read = context.get_vector(pass, v, 1);
+    let read = context.get_vector(pass, v, i);
     let nanos = nanos_since(rt, start);
-    if is_read(read, 1) { Some(nanos) } else { None }
+    if is_read(read, i) { Some(nanos) } else { None }
 }
 
 /// The times of a read of one object behind calls on another, and then of a read of the other.
@@ -57,8 +63,8 @@ fn timed_both<R: Clock>(
 {
     let own = filled(context, pass, OWN)?;
     let other = filled(context, pass, others)?;
-    let one = timed(rt, context, pass, own)?;
-    let all = timed(rt, context, pass, other)?;
+    let one = timed(rt, context, pass, own, 1)?;
+    let all = timed(rt, context, pass, other, 1)?;
     Some((one, all))
 }
 

@@ -1,3 +1,4 @@
+ghost use Rattle.std.specs.Prelude.{◌<◌};
 ghost use Rattle.grb_context.specs.Known.{IsPassOf};
 
 use crate::open::open_one;
@@ -19,12 +20,14 @@ const SETS: u32 = 4000;
 /// The size of the vector, and the rows and the columns of the matrix.
 const SIZE: u64 = 4_294_967_295;
 
-/// The indices of a vector's sets.
-fn indices(alloc: Global) -> Result<Vec<u64>, AllocError> {
+/// The indices of the sets of a vector of this size.
+pub(crate) fn indices(alloc: Global, size: u64) -> Result<Vec<u64>, AllocError>
+    requires { 0 < size }
+{
     let mut numbers = Numbers::new();
     let mut indices = Vec::with_capacity(alloc, SETS as usize)?;
     for _ in 0..SETS {
-        indices.push(numbers.below(SIZE))?;
+        indices.push(numbers.below(size))?;
     }
     Ok(indices)
 }
@@ -50,7 +53,7 @@ fn distinct<K: Ord + Copy>(alloc: Global, keys: &[K]) -> Result<u64, AllocError>
 }
 
 /// Sets an entry at each index, to the index itself, until a set is refused; then the refusal.
-fn set_indices(
+pub(crate) fn set_indices(
     context: &Context,
     pass: &mut Pass,
     v: VectorId,
@@ -230,7 +233,7 @@ fn time_sets<R: Clock + Print + Eprint + AllocGlobal>(
 
 /// Times sets at random places of one vector and of one matrix, and their evaluation.
 pub fn run<R: Clock + Print + Eprint + AllocGlobal>(rt: &R) -> Result<(), Fail> {
-    let indices = indices(rt.alloc())?;
+    let indices = indices(rt.alloc(), SIZE)?;
     let places = places(rt.alloc())?;
     time_sets(rt, &indices, &places)
 }

@@ -6,7 +6,7 @@ ghost use Rattle.grb_call.specs.History.{after_all};
 use crate::same::same;
 use grb_call::{Call, Reply, VectorId};
 use grb_core::{Domain, Value};
-use grb_replay::State;
+use grb_replay::{State, replay};
 use grb_versions::Versions;
 use std::alloc::{AllocError, Global};
 use std::process::Abort;
@@ -44,11 +44,8 @@ fn state_of(alloc: Global, calls: &[&Call]) -> Result<State, AllocError>
     requires { length calls.now ≤ 4096 }
     ensures { IfOk result (λ state. state.store ≡ after_all empty_store (map (λ c. c.now) calls.now)) }
 {
-    let mut state = State::open(alloc, calls.len() as u32)?;
-    'calls: for at in 0..calls.len() {
-        state.apply(calls[at])?;
-    }
-    Ok(state)
+    let empty = State::open(alloc, 0)?;
+    replay(&empty, calls)
 }
 
 /// Offers the store that the calls leave, and the calls.
@@ -100,22 +97,41 @@ fn found(versions: &Versions, calls: &[&Call]) -> Option<(usize, Reply)> {
     Some((length, stored(state)))
 }
 
+/// Of how many calls a state is that goes on from a version, and what the vector stores in it; none where it stays the empty one.
+fn advanced(
+    alloc: Global,
+    versions: &Versions,
+    calls: &[&Call],
+) -> Result<Option<(usize, Reply)>, AllocError> {
+    let mut state = State::open(alloc, 128)?;
+    let length = versions.advance(calls, &mut state, 0, 128);
+    if length == 0 {
+        return Ok(None);
+    }
+    Ok(Some((length, stored(&state))))
+}
+
 fn found_for_calls(
+    rt: &impl Abort,
     alloc: Global,
     versions: &Versions,
     calls: &[Call],
 ) -> Result<Option<(usize, Reply)>, AllocError> {
     let lent = lent(alloc, calls)?;
-    Ok(found(versions, lent.as_slice()))
+    let found = found(versions, lent.as_slice());
+    let advanced = advanced(alloc, versions, lent.as_slice())?;
+    same(rt, advanced, found, "a state that goes on from it");
+    Ok(found)
 }
 
 fn found_for(
+    rt: &impl Abort,
     alloc: Global,
     versions: &Versions,
     numbers: Numbers,
 ) -> Result<Option<(usize, Reply)>, AllocError> {
     let calls = calls_of(alloc, numbers)?;
-    found_for_calls(alloc, versions, calls.as_slice())
+    found_for_calls(rt, alloc, versions, calls.as_slice())
 }
 
 /// Versions of a room: those offered in turn, the calls that are asked for, and what is found for them.
@@ -141,7 +157,7 @@ const SHORTER: [u64; 65] = [
     50, 51, 52, 53, 54, 55, 56, 57, 58, 59, 60, 61, 62, 63, 64,
 ];
 
-static ROWS: [Row; 11] = [
+static ROWS: [Row; 12] = [
     Row {
         name: "nothing was offered",
         room: 128,
@@ -168,6 +184,13 @@ static ROWS: [Row; 11] = [
         room: 128,
         offered: &[&[0, 5]],
         asked: &[0, 6],
+        found: None,
+    },
+    Row {
+        name: "the same calls, and another between them",
+        room: 128,
+        offered: &[&[0, 5]],
+        asked: &[0, 6, 5],
         found: None,
     },
     Row {
@@ -230,7 +253,7 @@ fn expect_found(
     for numbers in row.offered {
         offer(rt, alloc, versions, *numbers)?;
     }
-    let found = found_for(alloc, versions, row.asked)?;
+    let found = found_for(rt, alloc, versions, row.asked)?;
     same(rt, found, row.found, row.name);
     Ok(())
 }
@@ -242,5 +265,41 @@ fn a_version_serves_the_calls_that_begin_with_its_own(rt: HostRuntime) -> Result
         let versions = Versions::open(alloc, row.room)?;
         expect_found(&rt, alloc, &versions, row)?;
     }
+    Ok(())
+}
+
+/// A state, and what one more call leaves of it.
+fn expect_apart(rt: &impl Abort, state: &State) -> Result<(), AllocError> {
+    let call = call_of(6);
+    let replayed = replay(state, &[&call])?;
+    same(
+        rt,
+        stored(&replayed),
+        Reply::Value(Value::Uint64(6)),
+        "the replayed store",
+    );
+    same(
+        rt,
+        stored(state),
+        Reply::Value(Value::Uint64(5)),
+        "the store that it began with",
+    );
+    Ok(())
+}
+
+fn expect_apart_behind(rt: &impl Abort, alloc: Global, calls: &[&Call]) -> Result<(), AllocError> {
+    if calls.len() > 4096 {
+        panic!(rt; "{calls} calls", calls = calls.len());
+    }
+    let state = state_of(alloc, calls)?;
+    expect_apart(rt, &state)
+}
+
+#[test]
+fn a_replay_leaves_the_store_that_it_begins_with(rt: HostRuntime) -> Result<(), Fail> {
+    let alloc = rt.alloc();
+    let calls = calls_of(alloc, &[0, 5])?;
+    let lent = lent(alloc, calls.as_slice())?;
+    expect_apart_behind(&rt, alloc, lent.as_slice())?;
     Ok(())
 }

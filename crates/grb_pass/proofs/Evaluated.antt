@@ -14,7 +14,8 @@ use Rattle.grb_call.specs.History.{Entry, History, calls_of, after_all, store_of
 use Rattle.grb_call.proofs.Runs.{after_all-append}
 use Rattle.grb_pass.specs.Known.{Knowing, known, spelled}
 use Rattle.grb_pass.specs.Learning.{Enters, Learns}
-use Rattle.grb_pass.specs.Reading.{IsEvaluated, IsPass}
+use Rattle.grb_pass.specs.Reading.{IsPass}
+use Rattle.grb_replay.specs.Evaluated.{IsEvaluated}
 use Rattle.grb_replay.specs.State.{RoomyStore}
 use Rattle.grb_pass.proofs.Spelling.{length_spelled, calls_of-append, calls_of-spelled, spelled_push, spelled_more}
 
@@ -34,7 +35,7 @@ pass_more old new state evaluated more order same is kept =
     let n : length (known new) ≡ length (known old) + length more = ap length is ∙ length-append (known old) more in
     record {
       state_is = subst (λ (cs : List Call). IsEvaluated cs evaluated state.store) (sym (ap calls_of is ∙ calls_of-append (known old) more)) (evaluated_more (calls_of (known old)) (calls_of more) evaluated state.store kept.state_is);
-      room = kept.room ∙ sym (ap room_of order);
+      room = omega (arith, kept.room, ap room_of order);
       settled = omega (arith, same, kept.settled);
       assembled = λ all. kept.assembled (omega (arith, same, n, all));
     }

@@ -17,7 +17,7 @@ use Rattle.grb_call.specs.Shapes.{ObjectShapes, RoomyShapes}
 use Rattle.grb_call.specs.Refused.{shapes_after}
 use Rattle.grb_call.specs.Store.{shapes_of}
 use Rattle.grb_call.specs.History.{History, store_of}
-use Rattle.grb_pass.specs.Statuses.{StatusRows}
+use Rattle.grb_statuses.specs.Statuses.{StatusRows}
 use Rattle.grb_pass.specs.Known.{Knowing, spelled}
 use Rattle.grb_pass.specs.Learning.{IsNextUnshown, IsSteady}
 use Rattle.grb_pass.specs.Reading.{IsKept}

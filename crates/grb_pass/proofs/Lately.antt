@@ -1,8 +1,8 @@
 -- What a pass holds of one object, as calls are learnt.
-use Rattle.std.proofs.Common.{zero, suc, true, refl, map, drop, ◌≡◌, ℕ, ◌+◌, ◌<◌, List, [], ◌∷◌, ◌++◌, length, take, sym, ap, subst, ◌∙◌, arith, length-append, Option, Some, None, Result, Ok, Err}
+use Rattle.std.proofs.Common.{◌≡◌, ℕ, ◌+◌, ◌<◌, List, [], ◌∷◌, ◌++◌, length, take, sym, ap, subst, ◌∙◌, arith, length-append, Option, Some, None, Result, Ok, Err}
 use Rattle.std.specs.Prelude.{IfSome, slice_get}
 use Rattle.std.specs.Option.{option_map_or}
-use Rattle.std.proofs.lemmas.List.{take-append-drop, take-append-le, take_all, take_more}
+use Rattle.std.proofs.lemmas.List.{take-append-le, take_all, take_more}
 use Rattle.std.proofs.lemmas.Option.{slice_get_within, get_or_from_slice_get}
 use Rattle.grb_core.specs.declared.refusal.Refusal.{Refusal}
 use Rattle.grb_order.specs.Order.{room_of}
@@ -10,16 +10,13 @@ use Rattle.grb_records.specs.Token.{Shown}
 use Rattle.grb_call.specs.declared.call.Call.{Call}
 use Rattle.grb_call.specs.declared.ids.Object.{Object}
 use Rattle.grb_call.specs.declared.reply.Reply.{Reply}
-use Rattle.grb_call.specs.Shapes.{ObjectShapes, is_live}
-use Rattle.grb_call.specs.Store.{Store, empty_store, shapes_of}
+use Rattle.grb_call.specs.Store.{Store, empty_store}
 use Rattle.grb_call.specs.After.{answer, refused, reply_of}
 use Rattle.grb_call.specs.History.{History, calls_of, after_all}
-use Rattle.grb_call.proofs.Runs.{after_all-append}
 use Rattle.grb_slices.specs.Content.{content_at}
-use Rattle.grb_slices.specs.Followed.{targets_of}
 use Rattle.grb_values.specs.Held.{HeldObject}
 use Rattle.grb_values.specs.Targets.{AreTargetsOf}
-use Rattle.grb_values.proofs.NextTarget.{targets_behind, walked_more}
+use Rattle.grb_values.proofs.NextTarget.{walked_more}
 use Rattle.grb_pass.specs.Known.{Knowing, known}
 use Rattle.grb_pass.specs.Learning.{Enters, Learns}
 use Rattle.grb_pass.specs.Recent.{RecentObject, IsRecent, IsValueAt}
@@ -83,26 +80,3 @@ pub lent_next : (calls : List Call) (at : ℕ) (c : Call) (lent : List Call) →
 lent_next calls at c lent is so =
     let near : at < length calls = slice_get_within calls at c is in
     ap (λ (cs : List Call). cs ++ c ∷ []) so ∙ ap (λ (d : Call). take at calls ++ d ∷ []) (sym (get_or_from_slice_get calls at c c is)) ∙ sym (take_more calls at c near)
-
-map_drop : {X Y : Type 0} (f : X → Y) (xs : List X) (n : ℕ) → map f (drop n xs) ≡ drop n (map f xs)
-map_drop f xs zero = refl
-map_drop f [] (suc n) = refl
-map_drop f (x ∷ xs) (suc n) = map_drop f xs n
-
--- the calls behind those that are evaluated
-module _ (cs bs : List Call) (e : ℕ) (s : Store) (is : s ≡ after_all empty_store (take e cs)) (behind : bs ≡ drop e cs) where
-  pub after_behind : after_all s bs ≡ after_all empty_store cs
-  after_behind =
-      ap (λ (ds : List Call). after_all s ds) behind ∙ (ap (λ (t : Store). after_all t (drop e cs)) is
-      ∙ (sym (after_all-append empty_store (take e cs) (drop e cs)) ∙ ap (after_all empty_store) (take-append-drop e cs)))
-
-  pub targets_here : (ws ts : List (Option Object)) → ws ≡ targets_of (shapes_of empty_store) cs → ts ≡ drop e ws → ts ≡ targets_of (shapes_of s) bs
-  targets_here ws ts walked here =
-      here ∙ (ap (drop e) walked ∙ (targets_behind empty_store cs e
-      ∙ (ap (λ (t : Store). targets_of (shapes_of t) (drop e cs)) (sym is) ∙ ap (targets_of (shapes_of s)) (sym behind))))
-
-  pub there_behind : (u : ObjectShapes) (o : Object) → u ≡ shapes_of (after_all empty_store cs) → is_live u o ≡ true → is_live (shapes_of (after_all s bs)) o ≡ true
-  there_behind u o shaped live = ap (λ (t : Store). is_live (shapes_of t) o) after_behind ∙ (ap (λ (v : ObjectShapes). is_live v o) (sym shaped) ∙ live)
-
-pub calls_behind : {X : Type 0} (f : X → Call) (xs ys : List X) (e : ℕ) → ys ≡ drop e xs → map f ys ≡ drop e (map f xs)
-calls_behind f xs ys e is = ap (map f) is ∙ map_drop f xs e

@@ -14,4 +14,3 @@ mod Owning
 pub mod Promised
 mod Settling
 mod Spelling
-mod StatusRows

@@ -11,4 +11,4 @@ pub mod Putting
 pub mod Reading
 pub mod Recent
 pub mod Settled
-pub mod Statuses
+pub use Rattle.grb_statuses.specs.Statuses

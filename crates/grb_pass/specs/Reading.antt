@@ -8,13 +8,14 @@ use Rattle.grb_order.specs.Holding.{Holding}
 use Rattle.grb_records.specs.Token.{Shown}
 use Rattle.grb_call.specs.declared.call.Call.{Call}
 use Rattle.grb_call.specs.Shapes.{RoomyShapes}
-use Rattle.grb_call.specs.Store.{Store, empty_store, shapes_of}
+use Rattle.grb_call.specs.Store.{Store, shapes_of}
 use Rattle.grb_call.specs.Kinds.{is_build}
 use Rattle.grb_call.specs.Refused.{refused_by_shapes}
 use Rattle.grb_call.specs.After.{refused, refused_build}
-use Rattle.grb_call.specs.History.{after_all, calls_of, store_of}
+use Rattle.grb_call.specs.History.{calls_of, store_of}
 use Rattle.grb_pass.specs.Explains.{ByStore, ground_of}
 use Rattle.grb_pass.specs.Known.{Knowing, known, spelled, AreRecords}
+use Rattle.grb_replay.specs.Evaluated.{IsEvaluated}
 use Rattle.grb_replay.specs.State.{RoomyStore, is_assembled}
 use Rattle.grb_replay.specs.Settled.{AreAllAssembled}
 use Rattle.grb_pass.specs.declared.reader.Reader.TheInside.{Inside}
@@ -38,11 +39,6 @@ pub record IsKept (number size : ℕ) (place : Holding) (shown : List Shown) (ca
 abbrev pub IsReader : Inside → Type 0
 IsReader r = IsKept r.number r.statuses.room r.place r.tokens.items (vec_capacity r.tokens) r.shapes
 
--- the store is the one after so many of the calls
-pub record IsEvaluated (calls : List Call) (evaluated : ℕ) (store : Store) : Type 0 where
-  pub within : evaluated ≤ length calls
-  pub store_is : store ≡ after_all empty_store (take evaluated calls)
-
 -- where all calls that are known are settled, no change waits in any object
 abbrev pub IsAssembledWhereSettled : Knowing → RoomyStore → Type 0
 IsAssembledWhereSettled p state = length (known p) ≤ p.settled → AreAllAssembled (is_assembled state.matrices state.vectors)
@@ -50,7 +46,7 @@ IsAssembledWhereSettled p state = length (known p) ≤ p.settled → AreAllAssem
 -- the store is the one after so many of the calls that are known, no fewer than are settled, and each call to come has its room there
 pub record IsPass (p : Knowing) (state : RoomyStore) (evaluated : ℕ) : Type 0 where
   pub state_is : IsEvaluated (calls_of (known p)) evaluated state.store
-  pub room : state.room + evaluated ≡ room_of p.order
+  pub room : room_of p.order ≤ state.room + evaluated
   pub settled : p.settled ≤ evaluated
   pub assembled : IsAssembledWhereSettled p state
 

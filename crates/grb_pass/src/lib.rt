@@ -16,7 +16,7 @@ mod reader;
 mod recent;
 mod row;
 mod shared;
-mod statuses;
+mod sharing;
 
 pub use pass::Pass;
 pub use shared::Shared;

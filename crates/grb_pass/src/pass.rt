@@ -9,7 +9,7 @@ ghost use Rattle.grb_call.specs.Store.{empty_store, shapes_of};
 ghost use Rattle.grb_call.specs.After.{refused, reply_of};
 ghost use Rattle.grb_call.specs.History.{store_of};
 ghost use Rattle.grb_call.specs.Status.{info_of, made_by, object_of, with_status};
-ghost use Rattle.grb_pass.specs.Statuses.{no_rows, status_at};
+ghost use Rattle.grb_statuses.specs.Statuses.{no_rows, status_at};
 ghost use Rattle.grb_pass.specs.Known.{known};
 ghost use Rattle.grb_pass.specs.Counting.{Counts};
 ghost use Rattle.grb_pass.specs.Learning.{Enters, IsSteady};
@@ -23,13 +23,16 @@ use crate::back_off::BackOff;
 use crate::reader::Reader;
 use crate::recent::{Recent, object_read};
 use crate::row::Row;
+use crate::sharing::Sharing;
 use grb_call::{Call, Kind, Object, Reply, WaitMode};
 use grb_core::{Info, Refusal};
 use grb_order::{Order, Place};
 use grb_records::{Records, Token};
 use grb_replay::State;
+use grb_versions::Versions;
 use std::alloc::{AllocError, Global};
 use std::marker::Model;
+use std::sync::Arc;
 
 /// One thread's view of a context: its number, and what it knows of the history.
 #[derive(Drop)]
@@ -40,6 +43,8 @@ pub struct Pass {
     evaluated: usize,
     // The object read last, where not all known calls were evaluated.
     recent: Recent,
+    // What it takes of the stores that other passes evaluated, and gives them.
+    sharing: Sharing,
     // Where its own records go.
     row: Row,
     // How long it holds back after a lost try.
@@ -94,7 +99,7 @@ fn evaluate(
 }
 
 /// Whether the call waits for all objects.
-fn is_materialize(call: &Call) -> bool
+pub(crate) fn is_materialize(call: &Call) -> bool
     ensures { result ≡ is_materialize call.now }
 {
     match call {
@@ -137,6 +142,7 @@ impl Pass {
         number: u32,
         place: Place,
         room: u32,
+        versions: Arc<Versions>,
     ) -> Result<Pass, AllocError>
         requires number { (number ≡ place.view.number) × (number < place.view.passes) }
         requires room { (room ≡ room_of place.table_id) × (room ≤ 4096) }
@@ -150,6 +156,7 @@ impl Pass {
             state,
             evaluated: 0,
             recent,
+            sharing: Sharing::new(alloc, versions),
             row: Row::open(room),
             back_off: BackOff::new(),
         })
@@ -240,6 +247,19 @@ impl Pass {
         self.row.put(records, number, call)
     }
 
+    /// Goes on from what another pass evaluated, where this one is far behind and the other offered it. No memory is missed by that.
+    fn go_on(&mut self, records: &Records)
+        requires records { All (IsOf records.now) self.old.shown }
+        ensures same { self.new ≡ self.old }
+    {
+        self.sharing.go_on(
+            records,
+            &mut self.reader,
+            &mut self.state,
+            &mut self.evaluated,
+        );
+    }
+
     /// Why what is stored after all known calls refuses the build, if it does; it evaluates them. `OutOfMemory` where memory is refused.
     fn check_build(
         &mut self,
@@ -275,7 +295,10 @@ impl Pass {
         ensures same { self.new ≡ self.old }
     {
         match self.reader.check(call)? {
-            Kind::Build { in_bounds } => self.check_build(records, call, in_bounds),
+            Kind::Build { in_bounds } => {
+                self.go_on(records);
+                self.check_build(records, call, in_bounds)
+            }
             Kind::Enters | Kind::Reads => Ok(()),
         }
     }
@@ -331,6 +354,8 @@ impl Pass {
         )?;
         self.recent.release();
         settle(&mut self.reader, &mut self.state, call)?;
+        self.sharing
+            .offer(records, &mut self.reader, &self.state, call);
         Ok(self.state.reply(call))
     }
 
@@ -348,6 +373,7 @@ impl Pass {
         ensures settled { OnOk result (self.new.settled ≡ (if is_materialize call.now then length (known self.old) else self.old.settled)) }
         ensures err { OnErr result (self.new.settled ≡ self.old.settled) }
     {
+        self.go_on(records);
         if let Some(object) = object_read(call) {
             if let Some(reply) = self.reply_of_object(records, object, call)? {
                 return Ok(reply);

@@ -11,17 +11,17 @@ ghost use Rattle.grb_call.specs.Store.{shapes_of};
 ghost use Rattle.grb_call.specs.After.{reply_of};
 ghost use Rattle.grb_call.specs.History.{calls_of, store_of};
 ghost use Rattle.grb_call.specs.Status.{info_of, made_by, with_status};
-ghost use Rattle.grb_pass.specs.Statuses.{no_rows, status_at};
+ghost use Rattle.grb_statuses.specs.Statuses.{no_rows, status_at};
 ghost use Rattle.grb_pass.specs.Known.{known};
 ghost use Rattle.grb_pass.specs.Learning.{Enters, IsNextUnshown, IsSteady};
 ghost use Rattle.grb_pass.specs.Counting.{Counts, look_steps};
 ghost use Rattle.grb_pass.specs.Meeting.{SharesCallAt};
 
-use crate::statuses::Statuses;
 use grb_call::{Call, Kind, MatrixId, Object, Reply, Shapes, VectorId, check, info_of, target_of};
 use grb_core::{Info, Refusal};
 use grb_order::{Entered, Look, Order, Place};
 use grb_records::{Records, Token};
+use grb_statuses::Statuses;
 use std::alloc::{AllocError, Global};
 use std::marker::Model;
 
@@ -154,6 +154,13 @@ impl Reader {
         ensures { result + length self.now.view.words ≡ room_of self.now.order }
     {
         self.statuses.room() - self.words()
+    }
+
+    /// How many words the order has.
+    pub(crate) fn room(&self) -> u32
+        ensures { result ≡ room_of self.now.order }
+    {
+        self.statuses.room()
     }
 
     /// How many records were shown.

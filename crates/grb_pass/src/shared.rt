@@ -5,8 +5,10 @@ ghost use Rattle.grb_pass.specs.Known.{AreNew, HasNoStatus, IsPassOf};
 use crate::pass::Pass;
 use grb_order::{Order, Place};
 use grb_records::Records;
+use grb_versions::Versions;
 use std::alloc::{AllocError, Global};
 use std::marker::Model;
+use std::sync::Arc;
 
 /// What the passes of a context share: the order of all calls, and their records.
 #[derive(Drop)]
@@ -23,6 +25,15 @@ impl Model for Shared {
     ghost view = { λ s. record { order = s.order; records = s.records } };
 }
 
+/// Places for the stores that so many passes may share; none for one pass alone. `AllocError` where memory is refused.
+fn versions_for(alloc: Global, room: u32, passes: u32) -> Result<Arc<Versions>, AllocError> {
+    let versions = Versions::open(alloc, if passes > 1 { room } else { 0 })?;
+    match Arc::new(alloc, versions) {
+        Ok(versions) => Ok(versions),
+        Err(_refused) => Err(AllocError),
+    }
+}
+
 // A pass for each of the places.
 fn passes_of(
     alloc: Global,
@@ -30,6 +41,7 @@ fn passes_of(
     places: Vec<Place>,
     room: u32,
     passes: u32,
+    versions: &Arc<Versions>,
 ) -> Result<Vec<Pass>, AllocError>
     requires room { (room_of order.now ≡ room) × (room ≤ 4096) }
     requires passes { passes ≤ 64 }
@@ -39,7 +51,8 @@ fn passes_of(
     let mut opened = Vec::with_capacity(alloc, passes as usize)?;
     for place in places {
         let number = opened.len() as u32;
-        opened.push_reserved(Pass::open(alloc, number, place, room)?);
+        let versions = Arc::try_clone(versions)?;
+        opened.push_reserved(Pass::open(alloc, number, place, room, versions)?);
     }
     Ok(opened)
 }
@@ -57,7 +70,8 @@ impl Shared {
     {
         let (order, places) = Order::open(alloc, room, passes)?;
         let records = Records::open(alloc, passes, room)?;
-        let opened = passes_of(alloc, &order, places, room, passes)?;
+        let versions = versions_for(alloc, room, passes)?;
+        let opened = passes_of(alloc, &order, places, room, passes, &versions)?;
         Ok((Shared { order, records }, opened))
     }
 }

@@ -1,5 +1,6 @@
 mod answers;
 mod asked;
+mod drawn;
 mod lazy;
 mod lists;
 mod meeting;

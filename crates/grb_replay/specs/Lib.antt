@@ -1,3 +1,4 @@
+pub mod Evaluated
 pub mod Fits
 pub mod Operation
 pub mod Settled

@@ -7,12 +7,15 @@
 #![tactic(auto)]
 
 mod copies;
+mod fold;
 mod matrices;
 mod matrix_operations;
 mod operations;
 mod product_operations;
+mod shared;
 mod state;
 mod vector_operations;
 mod vectors;
 
+pub use fold::replay;
 pub use state::State;

@@ -7,9 +7,11 @@ ghost use Rattle.grb_replay.specs.Fits.{FitsMatrix};
 ghost use Rattle.grb_replay.specs.Operation.{IsAssembledMatrix};
 ghost use Rattle.grb_replay.specs.State.{stored_matrix, stored_matrices};
 
+use crate::shared::Shared;
 use grb_call::{Call, MatrixId};
 use grb_sparse::SparseMatrix;
-use std::alloc::AllocError;
+use std::alloc::{AllocError, Global};
+use std::sync::Arc;
 
 /// Changes the matrix as the call says. `AllocError` where memory is refused; then its entries are as before.
 fn change_matrix(matrix: &mut SparseMatrix, call: &Call) -> Result<(), AllocError>
@@ -38,8 +40,50 @@ fn change_matrix(matrix: &mut SparseMatrix, call: &Call) -> Result<(), AllocErro
     }
 }
 
+/// A matrix to change as the call says in place of this one, which others hold: a copy, or one without entries where the call clears it.
+/// `AllocError` where memory is refused.
+fn copy_to_change(
+    alloc: Global,
+    matrix: &SparseMatrix,
+    call: &Call,
+) -> Result<SparseMatrix, AllocError>
+    requires { FitsMatrix call.now matrix.now.matrix }
+    ensures fits { IfOk result (λ copy. FitsMatrix call.now copy.matrix) }
+    ensures after { IfOk result (λ copy. matrix_after empty_store call.now copy.matrix ≡ matrix_after empty_store call.now matrix.now.matrix) }
+{
+    if let Call::ClearMatrix { .. } = call {
+        let (nrows, ncols) = matrix.dims();
+        return Ok(SparseMatrix::new(alloc, matrix.domain(), nrows, ncols));
+    }
+    matrix.try_clone()
+}
+
+/// Changes the matrix as the call says, or a copy of it where another store holds it. `AllocError` where memory is refused; then its
+/// entries are as before.
+fn change_shared(
+    alloc: Global,
+    shared: &mut Shared<SparseMatrix>,
+    call: &Call,
+) -> Result<(), AllocError>
+    requires fits { FitsMatrix call.now shared.old.matrix }
+    ensures ok { OnOk result (shared.new.matrix ≡ matrix_after empty_store call.now shared.old.matrix) }
+    ensures err { OnErr result (shared.new.matrix ≡ shared.old.matrix) }
+{
+    if let Some(matrix) = Arc::get_mut(&mut shared.object) {
+        return change_matrix(matrix, call);
+    }
+    let mut copy = copy_to_change(alloc, shared.lent(), call)?;
+    change_matrix(&mut copy, call)?;
+    *shared = Shared::new(alloc, copy)?;
+    Ok(())
+}
+
 /// Changes or ends the matrix of this place, if there is one, as the call says. `AllocError` where memory is refused.
-fn change_place(place: &mut Option<SparseMatrix>, call: &Call) -> Result<(), AllocError>
+fn change_place(
+    alloc: Global,
+    place: &mut Option<Shared<SparseMatrix>>,
+    call: &Call,
+) -> Result<(), AllocError>
     requires fits { IfSome (option_map stored_matrix place.old) (FitsMatrix call.now) }
     ensures ok { OnOk result (option_map stored_matrix place.new ≡ matrix_left empty_store call.now (option_map stored_matrix place.old)) }
     ensures err { OnErr result (option_map stored_matrix place.new ≡ option_map stored_matrix place.old) }
@@ -49,7 +93,7 @@ fn change_place(place: &mut Option<SparseMatrix>, call: &Call) -> Result<(), All
         return Ok(());
     }
     match place {
-        Some(matrix) => change_matrix(matrix, call),
+        Some(shared) => change_shared(alloc, shared, call),
         None => Ok(()),
     }
 }
@@ -57,7 +101,7 @@ fn change_place(place: &mut Option<SparseMatrix>, call: &Call) -> Result<(), All
 /// Changes or ends the matrix with this number, if it is there, as the call says. `AllocError` where memory is refused; then its
 /// entries are as before.
 pub(crate) fn edit_matrix(
-    matrices: &mut Vec<Option<SparseMatrix>>,
+    matrices: &mut Vec<Option<Shared<SparseMatrix>>>,
     a: MatrixId,
     call: &Call,
 ) -> Result<(), AllocError>
@@ -66,28 +110,30 @@ pub(crate) fn edit_matrix(
     ensures err { OnErr result (stored_matrices matrices.new.items ≡ stored_matrices matrices.old.items) }
     ensures capacity { vec_capacity matrices.new ≡ vec_capacity matrices.old }
 {
+    let alloc = *matrices.allocator();
     match matrices.get_mut(a.0 as usize) {
-        Some(place) => change_place(place, call),
+        Some(place) => change_place(alloc, place, call),
         None => Ok(()),
     }
 }
 
-/// A clone of the matrix with this number, if it is there. `AllocError` where memory is refused.
-fn clone_matrix(
-    matrices: &[Option<SparseMatrix>],
+/// The matrix with this number for one more place, if it is there; no entry is copied. `AllocError` where 2^63 - 1 places hold it.
+pub(crate) fn share_matrix(
+    matrices: &[Option<Shared<SparseMatrix>>],
     a: MatrixId,
-) -> Result<Option<SparseMatrix>, AllocError>
-    ensures { IfOk result (λ copy. option_map stored_matrix copy ≡ object_at (stored_matrices matrices.now) a.0) }
+) -> Result<Option<Shared<SparseMatrix>>, AllocError>
+    ensures { IfOk result (λ shared. option_map stored_matrix shared ≡ object_at (stored_matrices matrices.now) a.0) }
 {
-    match matrix_of(matrices, a) {
-        Some(matrix) => Ok(Some(matrix.try_clone()?)),
-        None => Ok(None),
+    match matrices.get(a.0 as usize) {
+        Some(Some(shared)) => Ok(Some(shared.share()?)),
+        _ => Ok(None),
     }
 }
 
-/// Makes one more matrix, equal to the one with this number. `AllocError` where memory is refused.
+/// Makes one more matrix, equal to the one with this number: the same object, until one of the two is changed. `AllocError` where
+/// 2^63 - 1 places hold it. Takes no memory.
 pub(crate) fn dup_matrix(
-    matrices: &mut Vec<Option<SparseMatrix>>,
+    matrices: &mut Vec<Option<Shared<SparseMatrix>>>,
     a: MatrixId,
 ) -> Result<(), AllocError>
     requires { vec_len matrices.old < vec_capacity matrices.old }
@@ -95,50 +141,79 @@ pub(crate) fn dup_matrix(
     ensures err { OnErr result (matrices.new.items ≡ matrices.old.items) }
     ensures capacity { vec_capacity matrices.new ≡ vec_capacity matrices.old }
 {
-    let copy = clone_matrix(matrices, a)?;
-    matrices.push_reserved(copy);
+    let shared = share_matrix(matrices, a)?;
+    matrices.push_reserved(shared);
     Ok(())
 }
 
 /// The matrix with this number, if it was made and not freed. Takes no memory.
-pub(crate) fn matrix_of(matrices: &[Option<SparseMatrix>], a: MatrixId) -> Option<&SparseMatrix>
+pub(crate) fn matrix_of(
+    matrices: &[Option<Shared<SparseMatrix>>],
+    a: MatrixId,
+) -> Option<&SparseMatrix>
     ensures { option_map (λ x. x.now.matrix) result ≡ object_at (stored_matrices matrices.now) a.0 }
 {
-    matrices.get(a.0 as usize)?.as_ref()
+    match matrices.get(a.0 as usize) {
+        Some(Some(shared)) => Some(shared.lent()),
+        _ => None,
+    }
 }
 
 /// Whether no change waits in the matrix with this number; true where it is not there. Takes no memory.
-pub(crate) fn is_assembled_matrix(matrices: &[Option<SparseMatrix>], a: MatrixId) -> bool
+pub(crate) fn is_assembled_matrix(matrices: &[Option<Shared<SparseMatrix>>], a: MatrixId) -> bool
     ensures { result ≡ option_map_or (λ m. m.assembled) (object_at matrices.now a.0) true }
 {
     match matrices.get(a.0 as usize) {
-        Some(Some(matrix)) => matrix.is_assembled(),
+        Some(Some(shared)) => shared.lent().is_assembled(),
         _ => true,
     }
 }
 
+/// Assembles the matrix, or a copy of it where another store holds it; one that is assembled stays as it is. `AllocError` where memory is
+/// refused; its entries are as before in any case.
+fn assemble_shared(alloc: Global, shared: &mut Shared<SparseMatrix>) -> Result<(), AllocError>
+    ensures same { shared.new.matrix ≡ shared.old.matrix }
+    ensures assembled { OnOk result (shared.new.assembled ≡ true) }
+    ensures kept { shared.old.assembled ≡ true → shared.new.assembled ≡ true }
+{
+    if shared.lent().is_assembled() {
+        return Ok(());
+    }
+    if let Some(matrix) = Arc::get_mut(&mut shared.object) {
+        return matrix.assemble();
+    }
+    let mut copy = shared.lent().try_clone()?;
+    copy.assemble()?;
+    *shared = Shared::new(alloc, copy)?;
+    Ok(())
+}
+
 /// Assembles the matrix of this place, if there is one. `AllocError` where memory is refused; its entries are as before in any case.
-fn assemble_place(place: &mut Option<SparseMatrix>) -> Result<(), AllocError>
+fn assemble_place(alloc: Global, place: &mut Option<Shared<SparseMatrix>>) -> Result<(), AllocError>
     ensures same { option_map stored_matrix place.new ≡ option_map stored_matrix place.old }
     ensures assembled { OnOk result (IfSome place.new (λ m. m.assembled ≡ true)) }
     ensures kept { IfSome place.old (λ m. m.assembled ≡ true) → IfSome place.new (λ m. m.assembled ≡ true) }
 {
     match place {
-        Some(matrix) => matrix.assemble(),
+        Some(shared) => assemble_shared(alloc, shared),
         None => Ok(()),
     }
 }
 
 /// Assembles the matrix of the place with this number, if there is one. `AllocError` where memory is refused; its entries are as before
 /// in any case, and what was assembled stays so.
-fn assemble_at(matrices: &mut Vec<Option<SparseMatrix>>, place: usize) -> Result<(), AllocError>
+fn assemble_at(
+    matrices: &mut Vec<Option<Shared<SparseMatrix>>>,
+    place: usize,
+) -> Result<(), AllocError>
     ensures same { stored_matrices matrices.new.items ≡ stored_matrices matrices.old.items }
     ensures assembled { OnOk result (IsAssembledMatrix matrices.new.items place) }
     ensures kept { (n : ℕ) → IsAssembledMatrix matrices.old.items n → IsAssembledMatrix matrices.new.items n }
     ensures capacity { vec_capacity matrices.new ≡ vec_capacity matrices.old }
 {
+    let alloc = *matrices.allocator();
     match matrices.get_mut(place) {
-        Some(place) => assemble_place(place),
+        Some(place) => assemble_place(alloc, place),
         None => Ok(()),
     }
 }
@@ -146,7 +221,7 @@ fn assemble_at(matrices: &mut Vec<Option<SparseMatrix>>, place: usize) -> Result
 /// Assembles the matrix with this number, if it is there. `AllocError` where memory is refused; its entries are as before in any
 /// case, and what was assembled stays so.
 pub(crate) fn assemble_matrix(
-    matrices: &mut Vec<Option<SparseMatrix>>,
+    matrices: &mut Vec<Option<Shared<SparseMatrix>>>,
     a: MatrixId,
 ) -> Result<(), AllocError>
     ensures same { stored_matrices matrices.new.items ≡ stored_matrices matrices.old.items }
@@ -159,7 +234,7 @@ pub(crate) fn assemble_matrix(
 
 /// Assembles each matrix. `AllocError` where memory is refused; the entries are as before in any case.
 pub(crate) fn assemble_all_matrices(
-    matrices: &mut Vec<Option<SparseMatrix>>,
+    matrices: &mut Vec<Option<Shared<SparseMatrix>>>,
 ) -> Result<(), AllocError>
     ensures same { stored_matrices matrices.new.items ≡ stored_matrices matrices.old.items }
     ensures assembled { OnOk result ((n : ℕ) → IsAssembledMatrix matrices.new.items n) }
@@ -171,30 +246,51 @@ pub(crate) fn assemble_all_matrices(
     Ok(())
 }
 
-/// Puts the matrix in the place of the one with this number. Takes no memory.
-pub(crate) fn put_matrix(matrices: &mut Vec<Option<SparseMatrix>>, a: MatrixId, made: SparseMatrix)
-    ensures matrices { stored_matrices matrices.new.items ≡ slice_set (stored_matrices matrices.old.items) a.0 (Some made.matrix) }
+/// Puts the matrix in the place of the one with this number. `AllocError` where memory is refused; then each is as before.
+pub(crate) fn put_matrix(
+    matrices: &mut Vec<Option<Shared<SparseMatrix>>>,
+    a: MatrixId,
+    made: SparseMatrix,
+) -> Result<(), AllocError>
+    ensures ok { OnOk result (stored_matrices matrices.new.items ≡ slice_set (stored_matrices matrices.old.items) a.0 (Some made.matrix)) }
+    ensures err { OnErr result (matrices.new.items ≡ matrices.old.items) }
     ensures capacity { vec_capacity matrices.new ≡ vec_capacity matrices.old }
 {
+    let shared = Shared::new(*matrices.allocator(), made)?;
     if let Some(place) = matrices.get_mut(a.0 as usize) {
-        *place = Some(made);
+        *place = Some(shared);
     }
+    Ok(())
 }
 
-/// The matrix with this number, which is there. Takes no memory.
-pub(crate) fn lent_matrix(matrices: &[Option<SparseMatrix>], a: MatrixId) -> &SparseMatrix
+/// The matrix with this number, which is there, as stores share it. Takes no memory.
+pub(crate) fn shared_matrix(
+    matrices: &[Option<Shared<SparseMatrix>>],
+    a: MatrixId,
+) -> &Shared<SparseMatrix>
     requires { is_some (object_at matrices.now a.0) ≡ true }
     ensures { object_at matrices.now a.0 ≡ Some result.now }
 {
     match matrices.get(a.0 as usize) {
-        Some(Some(matrix)) => matrix,
+        Some(Some(shared)) => shared,
+        _ => unreachable!(),
+    }
+}
+
+/// The matrix with this number, which is there. Takes no memory.
+pub(crate) fn lent_matrix(matrices: &[Option<Shared<SparseMatrix>>], a: MatrixId) -> &SparseMatrix
+    requires { is_some (object_at matrices.now a.0) ≡ true }
+    ensures { object_at matrices.now a.0 ≡ Some result.now }
+{
+    match matrices.get(a.0 as usize) {
+        Some(Some(shared)) => shared.lent(),
         _ => unreachable!(),
     }
 }
 
 /// The mask with this number, which is there, or none. Takes no memory.
 pub(crate) fn lent_matrix_mask(
-    matrices: &[Option<SparseMatrix>],
+    matrices: &[Option<Shared<SparseMatrix>>],
     mask: Option<MatrixId>,
 ) -> Option<&SparseMatrix>
     requires { IfSome mask (λ a. is_some (object_at matrices.now a.0) ≡ true) }

@@ -6,6 +6,7 @@ ghost use Rattle.grb_replay.specs.State.{stored, stored_matrices, stored_vectors
 
 use crate::matrices::{assemble_matrix, put_matrix};
 use crate::matrix_operations::operated_matrix;
+use crate::shared::Shared;
 use crate::vector_operations::operated_vector;
 use crate::vectors::{assemble_vector, put_vector};
 use grb_call::{Call, MatrixId, Object, VectorId};
@@ -30,7 +31,7 @@ pub(crate) fn is_operation(call: &Call) -> bool
 
 /// Assembles an output, two inputs and a mask. `AllocError` where memory is refused; the entries are as before in any case.
 fn assemble_matrices(
-    matrices: &mut Vec<Option<SparseMatrix>>,
+    matrices: &mut Vec<Option<Shared<SparseMatrix>>>,
     c: MatrixId,
     mask: Option<MatrixId>,
     a: MatrixId,
@@ -54,7 +55,7 @@ fn assemble_matrices(
 
 /// Assembles an output, two inputs and a mask. `AllocError` where memory is refused; the entries are as before in any case.
 fn assemble_vectors(
-    vectors: &mut Vec<Option<SparseVector>>,
+    vectors: &mut Vec<Option<Shared<SparseVector>>>,
     w: VectorId,
     mask: Option<VectorId>,
     u: VectorId,
@@ -79,8 +80,8 @@ fn assemble_vectors(
 /// Assembles a matrix, an output and an input that are vectors, and a mask. `AllocError` where memory is refused; the entries are as
 /// before in any case.
 fn assemble_rows(
-    matrices: &mut Vec<Option<SparseMatrix>>,
-    vectors: &mut Vec<Option<SparseVector>>,
+    matrices: &mut Vec<Option<Shared<SparseMatrix>>>,
+    vectors: &mut Vec<Option<Shared<SparseVector>>>,
     a: MatrixId,
     w: VectorId,
     mask: Option<VectorId>,
@@ -102,8 +103,8 @@ fn assemble_rows(
 /// Assembles all that the operation reads, its old output and its mask among it. `AllocError` where memory is refused; the entries
 /// of each object are as before in any case.
 fn assemble_operands(
-    matrices: &mut Vec<Option<SparseMatrix>>,
-    vectors: &mut Vec<Option<SparseVector>>,
+    matrices: &mut Vec<Option<Shared<SparseMatrix>>>,
+    vectors: &mut Vec<Option<Shared<SparseVector>>>,
     call: &Call,
 ) -> Result<(), AllocError>
     requires operation { is_operation call.now ≡ true }
@@ -129,8 +130,8 @@ fn assemble_operands(
 /// The objects that an operation which is not refused leaves: its output is made from what stood before, and put last. `AllocError`
 /// where memory is refused; then each has the entries that it had.
 pub(crate) fn operate(
-    matrices: &mut Vec<Option<SparseMatrix>>,
-    vectors: &mut Vec<Option<SparseVector>>,
+    matrices: &mut Vec<Option<Shared<SparseMatrix>>>,
+    vectors: &mut Vec<Option<Shared<SparseVector>>>,
     call: &Call,
 ) -> Result<(), AllocError>
     requires operation { is_operation call.now ≡ true }
@@ -144,13 +145,11 @@ pub(crate) fn operate(
     match call.output() {
         Some(Object::Matrix(c)) => {
             let made = operated_matrix(*matrices.allocator(), matrices, vectors, c, call)?;
-            put_matrix(matrices, c, made);
-            Ok(())
+            put_matrix(matrices, c, made)
         }
         Some(Object::Vector(w)) => {
             let made = operated_vector(*vectors.allocator(), matrices, vectors, w, call)?;
-            put_vector(vectors, w, made);
-            Ok(())
+            put_vector(vectors, w, made)
         }
         None => Ok(()),
     }

@@ -7,6 +7,7 @@ ghost use Rattle.grb_replay.specs.Operation.{AreAssembled};
 ghost use Rattle.grb_replay.specs.State.{stored};
 
 use crate::matrices::{lent_matrix, lent_matrix_mask};
+use crate::shared::Shared;
 use crate::vectors::{lent_vector, lent_vector_mask};
 use grb_call::{Call, Descriptor, MatrixId, VectorId};
 use grb_core::{BinaryOp, Monoid, Semiring};
@@ -18,8 +19,8 @@ use std::alloc::{AllocError, Global};
 /// The vector that mxv leaves of its output `w`. `AllocError` where memory is refused.
 pub(crate) fn multiplied_vector(
     alloc: Global,
-    matrices: &[Option<SparseMatrix>],
-    vectors: &[Option<SparseVector>],
+    matrices: &[Option<Shared<SparseMatrix>>],
+    vectors: &[Option<Shared<SparseVector>>],
     w: VectorId,
     mask: Option<VectorId>,
     accum: Option<BinaryOp>,
@@ -42,8 +43,8 @@ pub(crate) fn multiplied_vector(
 /// The matrix that mxm leaves of its output `c`. `AllocError` where memory is refused.
 pub(crate) fn multiplied_matrix(
     alloc: Global,
-    matrices: &[Option<SparseMatrix>],
-    vectors: &[Option<SparseVector>],
+    matrices: &[Option<Shared<SparseMatrix>>],
+    vectors: &[Option<Shared<SparseVector>>],
     c: MatrixId,
     mask: Option<MatrixId>,
     accum: Option<BinaryOp>,
@@ -66,8 +67,8 @@ pub(crate) fn multiplied_matrix(
 /// The vector that a reduction of rows leaves of its output `w`. `AllocError` where memory is refused.
 pub(crate) fn reduced_rows(
     alloc: Global,
-    matrices: &[Option<SparseMatrix>],
-    vectors: &[Option<SparseVector>],
+    matrices: &[Option<Shared<SparseMatrix>>],
+    vectors: &[Option<Shared<SparseVector>>],
     w: VectorId,
     mask: Option<VectorId>,
     accum: Option<BinaryOp>,

@@ -17,6 +17,7 @@ use crate::matrices::{
     lent_matrix, matrix_of,
 };
 use crate::operations::{is_operation, operate};
+use crate::shared::Shared;
 use crate::vectors::{
     assemble_all_vectors, assemble_vector, dup_vector, edit_vector, is_assembled_vector,
     lent_vector, vector_of,
@@ -32,8 +33,8 @@ use std::marker::Model;
 #[derive(Drop)]
 pub struct State {
     pub(crate) shapes: Shapes,
-    pub(crate) matrices: Vec<Option<SparseMatrix>>,
-    pub(crate) vectors: Vec<Option<SparseVector>>,
+    pub(crate) matrices: Vec<Option<Shared<SparseMatrix>>>,
+    pub(crate) vectors: Vec<Option<Shared<SparseVector>>>,
 }
 
 impl Model for State {
@@ -49,8 +50,8 @@ impl Model for State {
 
 /// Makes the object that the call makes, if it makes one. `AllocError` where memory is refused.
 fn make(
-    matrices: &mut Vec<Option<SparseMatrix>>,
-    vectors: &mut Vec<Option<SparseVector>>,
+    matrices: &mut Vec<Option<Shared<SparseMatrix>>>,
+    vectors: &mut Vec<Option<Shared<SparseVector>>>,
     call: &Call,
 ) -> Result<(), AllocError>
     requires accepted { refused (stored matrices.old.items vectors.old.items) call.now ≡ None }
@@ -68,13 +69,15 @@ fn make(
             nrows,
             ncols,
         } => {
-            let matrix = SparseMatrix::new(*matrices.allocator(), *domain, *nrows, *ncols);
-            matrices.push_reserved(Some(matrix));
+            let alloc = *matrices.allocator();
+            let matrix = SparseMatrix::new(alloc, *domain, *nrows, *ncols);
+            matrices.push_reserved(Some(Shared::new(alloc, matrix)?));
             Ok(())
         }
         Call::NewVector { domain, size } => {
-            let vector = SparseVector::new(*vectors.allocator(), *domain, *size);
-            vectors.push_reserved(Some(vector));
+            let alloc = *vectors.allocator();
+            let vector = SparseVector::new(alloc, *domain, *size);
+            vectors.push_reserved(Some(Shared::new(alloc, vector)?));
             Ok(())
         }
         Call::DupMatrix { a } => dup_matrix(matrices, *a),
@@ -85,8 +88,8 @@ fn make(
 
 /// The objects that a call which is not refused leaves. `AllocError` where memory is refused; then each has the entries that it had.
 fn change(
-    matrices: &mut Vec<Option<SparseMatrix>>,
-    vectors: &mut Vec<Option<SparseVector>>,
+    matrices: &mut Vec<Option<Shared<SparseMatrix>>>,
+    vectors: &mut Vec<Option<Shared<SparseVector>>>,
     call: &Call,
 ) -> Result<(), AllocError>
     requires accepted { refused (stored matrices.old.items vectors.old.items) call.now ≡ None }

@@ -8,6 +8,7 @@ ghost use Rattle.grb_replay.specs.Operation.{is_operation, is_elementwise, AreAs
 ghost use Rattle.grb_replay.specs.State.{stored};
 
 use crate::product_operations::{multiplied_vector, reduced_rows};
+use crate::shared::Shared;
 use crate::vectors::{lent_vector, lent_vector_mask};
 use grb_call::{Call, VectorId};
 use grb_ops::{ewise_add_vector, ewise_mult_vector};
@@ -17,8 +18,8 @@ use std::alloc::{AllocError, Global};
 /// The vector that an element-wise operation leaves of its output `w`. `AllocError` where memory is refused.
 fn elementwise_vector(
     alloc: Global,
-    matrices: &[Option<SparseMatrix>],
-    vectors: &[Option<SparseVector>],
+    matrices: &[Option<Shared<SparseMatrix>>],
+    vectors: &[Option<Shared<SparseVector>>],
     w: VectorId,
     call: &Call,
 ) -> Result<SparseVector, AllocError>
@@ -66,8 +67,8 @@ fn elementwise_vector(
 /// `AllocError` where memory is refused.
 pub(crate) fn operated_vector(
     alloc: Global,
-    matrices: &[Option<SparseMatrix>],
-    vectors: &[Option<SparseVector>],
+    matrices: &[Option<Shared<SparseMatrix>>],
+    vectors: &[Option<Shared<SparseVector>>],
     w: VectorId,
     call: &Call,
 ) -> Result<SparseVector, AllocError>

@@ -7,9 +7,11 @@ ghost use Rattle.grb_replay.specs.Fits.{FitsVector};
 ghost use Rattle.grb_replay.specs.Operation.{IsAssembledVector};
 ghost use Rattle.grb_replay.specs.State.{stored_vector, stored_vectors};
 
+use crate::shared::Shared;
 use grb_call::{Call, VectorId};
 use grb_sparse::SparseVector;
-use std::alloc::AllocError;
+use std::alloc::{AllocError, Global};
+use std::sync::Arc;
 
 /// Changes the vector as the call says. `AllocError` where memory is refused; then its entries are as before.
 fn change_vector(vector: &mut SparseVector, call: &Call) -> Result<(), AllocError>
@@ -38,8 +40,49 @@ fn change_vector(vector: &mut SparseVector, call: &Call) -> Result<(), AllocErro
     }
 }
 
+/// A vector to change as the call says in place of this one, which others hold: a copy, or one without entries where the call clears it.
+/// `AllocError` where memory is refused.
+fn copy_to_change(
+    alloc: Global,
+    vector: &SparseVector,
+    call: &Call,
+) -> Result<SparseVector, AllocError>
+    requires { FitsVector call.now vector.now.vector }
+    ensures fits { IfOk result (λ copy. FitsVector call.now copy.vector) }
+    ensures after { IfOk result (λ copy. vector_after empty_store call.now copy.vector ≡ vector_after empty_store call.now vector.now.vector) }
+{
+    if let Call::ClearVector { .. } = call {
+        return Ok(SparseVector::new(alloc, vector.domain(), vector.dims()));
+    }
+    vector.try_clone()
+}
+
+/// Changes the vector as the call says, or a copy of it where another store holds it. `AllocError` where memory is refused; then its
+/// entries are as before.
+fn change_shared(
+    alloc: Global,
+    shared: &mut Shared<SparseVector>,
+    call: &Call,
+) -> Result<(), AllocError>
+    requires fits { FitsVector call.now shared.old.vector }
+    ensures ok { OnOk result (shared.new.vector ≡ vector_after empty_store call.now shared.old.vector) }
+    ensures err { OnErr result (shared.new.vector ≡ shared.old.vector) }
+{
+    if let Some(vector) = Arc::get_mut(&mut shared.object) {
+        return change_vector(vector, call);
+    }
+    let mut copy = copy_to_change(alloc, shared.lent(), call)?;
+    change_vector(&mut copy, call)?;
+    *shared = Shared::new(alloc, copy)?;
+    Ok(())
+}
+
 /// Changes or ends the vector of this place, if there is one, as the call says. `AllocError` where memory is refused.
-fn change_place(place: &mut Option<SparseVector>, call: &Call) -> Result<(), AllocError>
+fn change_place(
+    alloc: Global,
+    place: &mut Option<Shared<SparseVector>>,
+    call: &Call,
+) -> Result<(), AllocError>
     requires fits { IfSome (option_map stored_vector place.old) (FitsVector call.now) }
     ensures ok { OnOk result (option_map stored_vector place.new ≡ vector_left empty_store call.now (option_map stored_vector place.old)) }
     ensures err { OnErr result (option_map stored_vector place.new ≡ option_map stored_vector place.old) }
@@ -49,7 +92,7 @@ fn change_place(place: &mut Option<SparseVector>, call: &Call) -> Result<(), All
         return Ok(());
     }
     match place {
-        Some(vector) => change_vector(vector, call),
+        Some(shared) => change_shared(alloc, shared, call),
         None => Ok(()),
     }
 }
@@ -57,7 +100,7 @@ fn change_place(place: &mut Option<SparseVector>, call: &Call) -> Result<(), All
 /// Changes or ends the vector with this number, if it is there, as the call says. `AllocError` where memory is refused; then its
 /// entries are as before.
 pub(crate) fn edit_vector(
-    vectors: &mut Vec<Option<SparseVector>>,
+    vectors: &mut Vec<Option<Shared<SparseVector>>>,
     v: VectorId,
     call: &Call,
 ) -> Result<(), AllocError>
@@ -66,28 +109,30 @@ pub(crate) fn edit_vector(
     ensures err { OnErr result (stored_vectors vectors.new.items ≡ stored_vectors vectors.old.items) }
     ensures capacity { vec_capacity vectors.new ≡ vec_capacity vectors.old }
 {
+    let alloc = *vectors.allocator();
     match vectors.get_mut(v.0 as usize) {
-        Some(place) => change_place(place, call),
+        Some(place) => change_place(alloc, place, call),
         None => Ok(()),
     }
 }
 
-/// A clone of the vector with this number, if it is there. `AllocError` where memory is refused.
-fn clone_vector(
-    vectors: &[Option<SparseVector>],
+/// The vector with this number for one more place, if it is there; no entry is copied. `AllocError` where 2^63 - 1 places hold it.
+pub(crate) fn share_vector(
+    vectors: &[Option<Shared<SparseVector>>],
     v: VectorId,
-) -> Result<Option<SparseVector>, AllocError>
-    ensures { IfOk result (λ copy. option_map stored_vector copy ≡ object_at (stored_vectors vectors.now) v.0) }
+) -> Result<Option<Shared<SparseVector>>, AllocError>
+    ensures { IfOk result (λ shared. option_map stored_vector shared ≡ object_at (stored_vectors vectors.now) v.0) }
 {
-    match vector_of(vectors, v) {
-        Some(vector) => Ok(Some(vector.try_clone()?)),
-        None => Ok(None),
+    match vectors.get(v.0 as usize) {
+        Some(Some(shared)) => Ok(Some(shared.share()?)),
+        _ => Ok(None),
     }
 }
 
-/// Makes one more vector, equal to the one with this number. `AllocError` where memory is refused.
+/// Makes one more vector, equal to the one with this number: the same object, until one of the two is changed. `AllocError` where
+/// 2^63 - 1 places hold it. Takes no memory.
 pub(crate) fn dup_vector(
-    vectors: &mut Vec<Option<SparseVector>>,
+    vectors: &mut Vec<Option<Shared<SparseVector>>>,
     v: VectorId,
 ) -> Result<(), AllocError>
     requires { vec_len vectors.old < vec_capacity vectors.old }
@@ -95,50 +140,79 @@ pub(crate) fn dup_vector(
     ensures err { OnErr result (vectors.new.items ≡ vectors.old.items) }
     ensures capacity { vec_capacity vectors.new ≡ vec_capacity vectors.old }
 {
-    let copy = clone_vector(vectors, v)?;
-    vectors.push_reserved(copy);
+    let shared = share_vector(vectors, v)?;
+    vectors.push_reserved(shared);
     Ok(())
 }
 
 /// The vector with this number, if it was made and not freed. Takes no memory.
-pub(crate) fn vector_of(vectors: &[Option<SparseVector>], v: VectorId) -> Option<&SparseVector>
+pub(crate) fn vector_of(
+    vectors: &[Option<Shared<SparseVector>>],
+    v: VectorId,
+) -> Option<&SparseVector>
     ensures { option_map (λ x. x.now.vector) result ≡ object_at (stored_vectors vectors.now) v.0 }
 {
-    vectors.get(v.0 as usize)?.as_ref()
+    match vectors.get(v.0 as usize) {
+        Some(Some(shared)) => Some(shared.lent()),
+        _ => None,
+    }
 }
 
 /// Whether no change waits in the vector with this number; true where it is not there. Takes no memory.
-pub(crate) fn is_assembled_vector(vectors: &[Option<SparseVector>], v: VectorId) -> bool
+pub(crate) fn is_assembled_vector(vectors: &[Option<Shared<SparseVector>>], v: VectorId) -> bool
     ensures { result ≡ option_map_or (λ x. x.assembled) (object_at vectors.now v.0) true }
 {
     match vectors.get(v.0 as usize) {
-        Some(Some(vector)) => vector.is_assembled(),
+        Some(Some(shared)) => shared.lent().is_assembled(),
         _ => true,
     }
 }
 
+/// Assembles the vector, or a copy of it where another store holds it; one that is assembled stays as it is. `AllocError` where memory is
+/// refused; its entries are as before in any case.
+fn assemble_shared(alloc: Global, shared: &mut Shared<SparseVector>) -> Result<(), AllocError>
+    ensures same { shared.new.vector ≡ shared.old.vector }
+    ensures assembled { OnOk result (shared.new.assembled ≡ true) }
+    ensures kept { shared.old.assembled ≡ true → shared.new.assembled ≡ true }
+{
+    if shared.lent().is_assembled() {
+        return Ok(());
+    }
+    if let Some(vector) = Arc::get_mut(&mut shared.object) {
+        return vector.assemble();
+    }
+    let mut copy = shared.lent().try_clone()?;
+    copy.assemble()?;
+    *shared = Shared::new(alloc, copy)?;
+    Ok(())
+}
+
 /// Assembles the vector of this place, if there is one. `AllocError` where memory is refused; its entries are as before in any case.
-fn assemble_place(place: &mut Option<SparseVector>) -> Result<(), AllocError>
+fn assemble_place(alloc: Global, place: &mut Option<Shared<SparseVector>>) -> Result<(), AllocError>
     ensures same { option_map stored_vector place.new ≡ option_map stored_vector place.old }
     ensures assembled { OnOk result (IfSome place.new (λ x. x.assembled ≡ true)) }
     ensures kept { IfSome place.old (λ x. x.assembled ≡ true) → IfSome place.new (λ x. x.assembled ≡ true) }
 {
     match place {
-        Some(vector) => vector.assemble(),
+        Some(shared) => assemble_shared(alloc, shared),
         None => Ok(()),
     }
 }
 
 /// Assembles the vector of the place with this number, if there is one. `AllocError` where memory is refused; its entries are as before
 /// in any case, and what was assembled stays so.
-fn assemble_at(vectors: &mut Vec<Option<SparseVector>>, place: usize) -> Result<(), AllocError>
+fn assemble_at(
+    vectors: &mut Vec<Option<Shared<SparseVector>>>,
+    place: usize,
+) -> Result<(), AllocError>
     ensures same { stored_vectors vectors.new.items ≡ stored_vectors vectors.old.items }
     ensures assembled { OnOk result (IsAssembledVector vectors.new.items place) }
     ensures kept { (n : ℕ) → IsAssembledVector vectors.old.items n → IsAssembledVector vectors.new.items n }
     ensures capacity { vec_capacity vectors.new ≡ vec_capacity vectors.old }
 {
+    let alloc = *vectors.allocator();
     match vectors.get_mut(place) {
-        Some(place) => assemble_place(place),
+        Some(place) => assemble_place(alloc, place),
         None => Ok(()),
     }
 }
@@ -146,7 +220,7 @@ fn assemble_at(vectors: &mut Vec<Option<SparseVector>>, place: usize) -> Result<
 /// Assembles the vector with this number, if it is there. `AllocError` where memory is refused; its entries are as before in any
 /// case, and what was assembled stays so.
 pub(crate) fn assemble_vector(
-    vectors: &mut Vec<Option<SparseVector>>,
+    vectors: &mut Vec<Option<Shared<SparseVector>>>,
     v: VectorId,
 ) -> Result<(), AllocError>
     ensures same { stored_vectors vectors.new.items ≡ stored_vectors vectors.old.items }
@@ -159,7 +233,7 @@ pub(crate) fn assemble_vector(
 
 /// Assembles each vector. `AllocError` where memory is refused; the entries are as before in any case.
 pub(crate) fn assemble_all_vectors(
-    vectors: &mut Vec<Option<SparseVector>>,
+    vectors: &mut Vec<Option<Shared<SparseVector>>>,
 ) -> Result<(), AllocError>
     ensures same { stored_vectors vectors.new.items ≡ stored_vectors vectors.old.items }
     ensures assembled { OnOk result ((n : ℕ) → IsAssembledVector vectors.new.items n) }
@@ -171,30 +245,51 @@ pub(crate) fn assemble_all_vectors(
     Ok(())
 }
 
-/// Puts the vector in the place of the one with this number. Takes no memory.
-pub(crate) fn put_vector(vectors: &mut Vec<Option<SparseVector>>, v: VectorId, made: SparseVector)
-    ensures vectors { stored_vectors vectors.new.items ≡ slice_set (stored_vectors vectors.old.items) v.0 (Some made.vector) }
+/// Puts the vector in the place of the one with this number. `AllocError` where memory is refused; then each is as before.
+pub(crate) fn put_vector(
+    vectors: &mut Vec<Option<Shared<SparseVector>>>,
+    v: VectorId,
+    made: SparseVector,
+) -> Result<(), AllocError>
+    ensures ok { OnOk result (stored_vectors vectors.new.items ≡ slice_set (stored_vectors vectors.old.items) v.0 (Some made.vector)) }
+    ensures err { OnErr result (vectors.new.items ≡ vectors.old.items) }
     ensures capacity { vec_capacity vectors.new ≡ vec_capacity vectors.old }
 {
+    let shared = Shared::new(*vectors.allocator(), made)?;
     if let Some(place) = vectors.get_mut(v.0 as usize) {
-        *place = Some(made);
+        *place = Some(shared);
     }
+    Ok(())
 }
 
-/// The vector with this number, which is there. Takes no memory.
-pub(crate) fn lent_vector(vectors: &[Option<SparseVector>], v: VectorId) -> &SparseVector
+/// The vector with this number, which is there, as stores share it. Takes no memory.
+pub(crate) fn shared_vector(
+    vectors: &[Option<Shared<SparseVector>>],
+    v: VectorId,
+) -> &Shared<SparseVector>
     requires { is_some (object_at vectors.now v.0) ≡ true }
     ensures { object_at vectors.now v.0 ≡ Some result.now }
 {
     match vectors.get(v.0 as usize) {
-        Some(Some(vector)) => vector,
+        Some(Some(shared)) => shared,
+        _ => unreachable!(),
+    }
+}
+
+/// The vector with this number, which is there. Takes no memory.
+pub(crate) fn lent_vector(vectors: &[Option<Shared<SparseVector>>], v: VectorId) -> &SparseVector
+    requires { is_some (object_at vectors.now v.0) ≡ true }
+    ensures { object_at vectors.now v.0 ≡ Some result.now }
+{
+    match vectors.get(v.0 as usize) {
+        Some(Some(shared)) => shared.lent(),
         _ => unreachable!(),
     }
 }
 
 /// The mask with this number, which is there, or none. Takes no memory.
 pub(crate) fn lent_vector_mask(
-    vectors: &[Option<SparseVector>],
+    vectors: &[Option<Shared<SparseVector>>],
     mask: Option<VectorId>,
 ) -> Option<&SparseVector>
     requires { IfSome mask (λ v. is_some (object_at vectors.now v.0) ≡ true) }

@@ -1,3 +1,4 @@
 pub mod NextTarget
+mod Onward
 mod Parted
 mod Valued

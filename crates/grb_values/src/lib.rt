@@ -5,11 +5,12 @@
 #![tactic(auto)]
 
 mod beginning;
+mod behind;
 mod part;
 mod targets;
 mod value;
 mod wanted;
 
+pub use behind::{PASSED_OVER, value_behind};
 pub use targets::Targets;
 pub use value::{Held, value_after, value_of};
-pub use wanted::entries_wanted;

@@ -12,7 +12,7 @@ fn entries_of(whole: &State, wanted: &Wanted, object: Object) -> u64 {
 }
 
 /// How many entries the wanted objects of a store have together, at most 2^64 - 1. Takes no memory.
-pub fn entries_wanted(whole: &State, wanted: &Wanted) -> u64 {
+pub(crate) fn entries_wanted(whole: &State, wanted: &Wanted) -> u64 {
     let mut entries: u64 = 0;
     for number in 0..whole.matrices() {
         entries = entries.saturating_add(entries_of(

@@ -69,6 +69,13 @@ impl Version {
         })
     }
 
+    /// How many calls it has. Takes no memory.
+    pub(crate) fn count(&self) -> usize
+        ensures { result ≡ length self.now.calls }
+    {
+        self.calls.len()
+    }
+
     /// How many calls it has, and their state, where they begin these. Takes no memory.
     pub(crate) fn serving(&self, calls: &[&Call]) -> Option<(usize, &State)>
         ensures { IfSome result (λ found. Serves (map (λ c. c.now) calls.now) found.0 found.1.now.store) }

@@ -1,4 +1,5 @@
-ghost use Rattle.std.specs.Prelude.{◌≡◌, ◌≤◌, IfSome, length, map, take};
+ghost use Rattle.std.specs.Prelude.{◌≡◌, ◌+◌, ◌≤◌, IfSome, length, map, take};
+ghost use Rattle.grb_replay.specs.Evaluated.{IsEvaluated};
 ghost use Rattle.grb_versions.specs.Versions.{IsFold, Serves};
 
 use crate::version::Version;
@@ -64,5 +65,40 @@ impl Versions {
             }
         }
         None
+    }
+
+    /// How many calls the longest version has that is kept; 0 where none is. Takes no memory.
+    pub fn longest(&self) -> usize {
+        for cell in self.cells.iter().rev() {
+            if let Some(version) = cell.get() {
+                let version: &Version = version;
+                return version.count();
+            }
+        }
+        0
+    }
+
+    /// Puts the longest version found whose calls begin these in place of a state that is evaluated less far: of so many of these calls,
+    /// in a history that takes `room` calls. It answers how many the state is of then. Where no such version is found, or memory for its
+    /// places is refused, the state stays as it is. No entry is copied.
+    pub fn advance(&self, calls: &[&Call], state: &mut State, evaluated: usize, room: u32) -> usize
+        requires evaluated { IsEvaluated (map (λ c. c.now) calls.now) evaluated state.old.store }
+        requires room { room ≤ state.old.room + evaluated }
+        ensures evaluated { IsEvaluated (map (λ c. c.now) calls.now) result state.new.store }
+        ensures further { evaluated ≤ result }
+        ensures room { room ≤ state.new.room + result }
+    {
+        let Some((count, found)) = self.newest(calls) else {
+            return evaluated;
+        };
+        if count <= evaluated {
+            return evaluated;
+        }
+        let behind = (room as usize).saturating_sub(count) as u32;
+        let Ok(copy) = found.try_clone(behind) else {
+            return evaluated;
+        };
+        *state = copy;
+        count
     }
 }

@@ -2,7 +2,8 @@ ghost use Rattle.std.specs.Prelude.{◌<◌, ◌≤◌};
 ghost use Rattle.grb_context.specs.Known.{IsPassOf};
 
 use crate::tests::answers::expect_called;
-use crate::tests::lazy::expect_read;
+use crate::tests::drawn::expect_drawn;
+use crate::tests::lazy::{expect_offered, expect_read};
 use crate::tests::lists::{expect_each, expect_list, expect_no_list};
 use crate::tests::meeting::{expect_no_change, expect_told};
 use crate::tests::memory::expect_filled;
@@ -26,6 +27,8 @@ pub(super) enum Trial {
     Filled,
     Kept,
     Lazy,
+    Offered,
+    Drawn(u64),
     Statuses(&'static [statuses::Row]),
     Met,
     LastOfList,
@@ -57,6 +60,8 @@ fn expect_of<R: Abort>(
         Trial::Filled => expect_filled(rt, alloc, context, p),
         Trial::Kept => expect_kept(rt, context, p, q),
         Trial::Lazy => expect_read(rt, context, p, q),
+        Trial::Offered => expect_offered(rt, context, p, q),
+        Trial::Drawn(seed) => expect_drawn(rt, alloc, context, p, q, seed)?,
         Trial::Statuses(rows) => expect_statuses(rt, alloc, context, p, rows),
         Trial::Met => expect_met(rt, context, p, q),
         Trial::LastOfList => expect_last_of_list(rt, context, p),

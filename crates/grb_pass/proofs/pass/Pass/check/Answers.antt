@@ -1,14 +1,14 @@
-use Rattle.std.proofs.Common.{sym, ap, subst, ◌∙◌}
+use Rattle.std.proofs.Common.{◌≡◌, sym, ap, subst, ◌∙◌}
 use Rattle.std.specs.Prelude.{Ok, Err}
 use Rattle.std.proofs.lemmas.Result.{err_from_is_err_and}
 use Rattle.grb_call.specs.declared.checking.Kind.{Kind}
 use Rattle.grb_call.specs.declared.checking.Kind.TheVariants.{Build}
-use Rattle.grb_call.specs.Refused.{check_of}
+use Rattle.grb_call.specs.Refused.{check_of, is_in_bounds}
 use Rattle.grb_call.specs.Store.{shapes_of}
 use Rattle.grb_call.specs.History.{store_of}
 use Rattle.grb_call.proofs.KindsChecked.{kind-checked}
 use Rattle.grb_pass.specs.Known.{Knowing, known}
-use Rattle.grb_pass.specs.Reading.{IsChecked}
+use Rattle.grb_pass.specs.Reading.{IsBuildChecked, IsChecked}
 use Rattle.grb_pass.proofs.Checking.{checked_err, checked_plain, checked_build}
 use Rattle.grb_pass.proofs.pass.Pass.check.Goals as goal
 
@@ -22,13 +22,15 @@ pub check_build-requires-clause-in_bounds : goal.check_build-requires-clause-in_
 check_build-requires-clause-in_bounds c =
     let call = c.args.call.now in
     let e = ap (λ (k : Knowing). check_of (shapes_of (store_of (known k))) call) (sym c.self.view_is) ∙ sym c.check.ensures ∙ c.in_ok-in_bounds.was ∙ ap (λ (k : Kind). Ok k) c.in-Build.is in
+    subst (λ (k : Knowing). c.in-Build.in_bounds ≡ is_in_bounds (shapes_of (store_of (known k))) call) (sym c.go_on.ensures.same)
     (kind-checked (shapes_of (store_of (known c.args.self.now))) call (Build c.in-Build.in_bounds) e).2
 
 pub returns-in-Build-clause-checked : goal.returns-in-Build-clause-checked
 returns-in-Build-clause-checked c =
     let call = c.args.call.now in
     let e = ap (λ (k : Knowing). check_of (shapes_of (store_of (known k))) call) (sym c.self.view_is) ∙ sym c.check.ensures ∙ c.in_ok-in_bounds.was ∙ ap (λ (k : Kind). Ok k) c.in-Build.is in
-    checked_build (store_of (known c.args.self.now)) call c.in-Build.in_bounds c.check_build.result e c.check_build.ensures.checked
+    let checked = subst (λ (k : Knowing). IsBuildChecked (store_of (known k)) call c.check_build.result) c.go_on.ensures.same c.check_build.ensures.checked in
+    checked_build (store_of (known c.args.self.now)) call c.in-Build.in_bounds c.check_build.result e checked
 
 pub returns-in-Enters : goal.returns-in-Enters
 returns-in-Enters c =

@@ -12,7 +12,7 @@ use Rattle.grb_call.specs.declared.ids.Object.TheVariants as object
 use Rattle.grb_call.specs.Shapes.{object_at}
 use Rattle.grb_call.specs.Status.{with_status}
 use Rattle.grb_call.proofs.ObjectLists.{object_at-set_other}
-use Rattle.grb_pass.specs.Statuses.{StatusRows, AreRows, no_rows, status_at}
+use Rattle.grb_statuses.specs.Statuses.{StatusRows, AreRows, no_rows, status_at}
 
 abbrev blank : Option Info
 blank = None

@@ -1,6 +1,6 @@
 ghost use Rattle.std.specs.Prelude.{◌≡◌, Some, slice_set, IfOk};
 ghost use Rattle.grb_call.specs.Status.{with_status};
-ghost use Rattle.grb_pass.specs.Statuses.{no_rows, status_at};
+ghost use Rattle.grb_statuses.specs.Statuses.{no_rows, status_at};
 
 use grb_call::Object;
 use grb_core::Info;
@@ -9,7 +9,7 @@ use std::marker::Model;
 
 /// The status of each object, for the numbers below the room. Its memory is taken when it is opened.
 #[derive(Drop)]
-pub(crate) struct Statuses {
+pub struct Statuses {
     matrices: Vec<Option<Info>>,
     vectors: Vec<Option<Info>>,
     room: u32,
@@ -17,7 +17,7 @@ pub(crate) struct Statuses {
 
 impl Model for Statuses {
     ghost use Rattle.std.specs.Prelude.{length};
-    ghost use Rattle.grb_pass.specs.Statuses.{RoomyStatuses, AreRows};
+    ghost use Rattle.grb_statuses.specs.Statuses.{RoomyStatuses, AreRows};
 
     ghost Value = { RoomyStatuses };
 
@@ -37,7 +37,7 @@ fn put(row: &mut Vec<Option<Info>>, at: u32, status: Info)
 
 impl Statuses {
     /// No object has a status. `AllocError` where memory is refused.
-    pub(crate) fn open(alloc: Global, room: u32) -> Result<Statuses, AllocError>
+    pub fn open(alloc: Global, room: u32) -> Result<Statuses, AllocError>
         ensures { IfOk result (λ statuses. statuses ≡ record { rows = no_rows room; room = room }) }
     {
         Ok(Statuses {
@@ -48,14 +48,14 @@ impl Statuses {
     }
 
     /// Below which number an object has a place.
-    pub(crate) fn room(&self) -> u32
+    pub fn room(&self) -> u32
         ensures { result ≡ self.now.room }
     {
         self.room
     }
 
     /// The status of the object. Takes no memory.
-    pub(crate) fn find(&self, object: Object) -> Option<Info>
+    pub fn find(&self, object: Object) -> Option<Info>
         ensures { result ≡ status_at self.now.rows object }
     {
         match object {
@@ -65,7 +65,7 @@ impl Statuses {
     }
 
     /// Keeps the status of the target, if there is one and it has a place. Takes no memory.
-    pub(crate) fn keep(&mut self, target: Option<Object>, status: Info)
+    pub fn keep(&mut self, target: Option<Object>, status: Info)
         ensures kept { status_at self.new.rows ≡ with_status self.old.room target status (status_at self.old.rows) }
         ensures room { self.new.room ≡ self.old.room }
     {

@@ -5,8 +5,8 @@ use Rattle.grb_call.specs.Store.{Store}
 use Rattle.grb_slices.specs.Content.{content_at}
 use Rattle.grb_call.specs.declared.call.Call.{Call}
 use Rattle.grb_call.specs.Shapes.{is_live}
-use Rattle.grb_pass.proofs.Lately.{after_behind, calls_behind, targets_here, there_behind}
-use Rattle.grb_pass.proofs.recent.value_behind.Goals as goal
+use Rattle.grb_values.proofs.Onward.{after_behind, calls_behind, targets_here, there_behind}
+use Rattle.grb_values.proofs.behind.value_behind.Goals as goal
 
 pub value_of_slice-requires-clause-targets : goal.value_of_slice-requires-clause-targets
 value_of_slice-requires-clause-targets c =

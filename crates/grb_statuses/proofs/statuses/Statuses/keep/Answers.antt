@@ -3,9 +3,9 @@ use Rattle.std.specs.Prelude.{List, Option, Some}
 use Rattle.grb_core.specs.declared.refusal.Info.{Info}
 use Rattle.grb_call.specs.declared.ids.Object.{Object}
 use Rattle.grb_call.specs.Status.{with_status}
-use Rattle.grb_pass.specs.Statuses.{StatusRows, status_at}
-use Rattle.grb_pass.proofs.StatusRows.{matrix_kept, vector_kept}
-use Rattle.grb_pass.proofs.statuses.Statuses.keep.Goals as goal
+use Rattle.grb_statuses.specs.Statuses.{StatusRows, status_at}
+use Rattle.grb_statuses.proofs.StatusRows.{matrix_kept, vector_kept}
+use Rattle.grb_statuses.proofs.statuses.Statuses.keep.Goals as goal
 
 pub returns-in-Matrix-clause-kept : goal.returns-in-Matrix-clause-kept
 returns-in-Matrix-clause-kept c =
