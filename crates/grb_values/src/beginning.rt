@@ -15,8 +15,8 @@ use grb_replay::State;
 use grb_slices::{Wanted, place_for};
 use std::alloc::{AllocError, Global};
 
-/// Makes, on a part of a store, the next object of a sort: a copy of the one with this number in the whole store where it is wanted, and
-/// else a place for it. `AllocError` where memory is refused.
+/// Makes, on a part of a store, the next object of a sort: the one with this number in the whole store where it is wanted, which both hold
+/// then, and else a place for it. `AllocError` where memory is refused.
 fn add(part: &mut State, whole: &State, wanted: &Wanted, object: Object) -> Result<(), AllocError>
     requires room { 0 < part.old.room }
     requires there { is_wanted wanted.now object ≡ true → is_live (shapes_of whole.now.store) object ≡ true }
@@ -63,7 +63,8 @@ fn add_vectors(part: &mut State, whole: &State, wanted: &Wanted) -> Result<(), A
 }
 
 /// A store that holds of the whole one what is wanted, which is there, has a place for each other object, and has room for so many calls.
-/// It copies what is wanted. `AllocError` where memory is refused, or where objects and calls are together 2^32 or more.
+/// What is wanted is not copied: both stores hold it, until one changes it. `AllocError` where memory is refused, or where objects and calls
+/// are together 2^32 or more.
 pub(crate) fn part_of(
     alloc: Global,
     whole: &State,

@@ -40,8 +40,8 @@ impl Model for Held {
 
 /// What the object holds after these calls on the whole store, where it is there then, from only the calls of its slice, made on a part of
 /// the store that holds what is wanted before them. The targets of the calls at their places are given, and the slice. It takes memory for
-/// copies of what is wanted, a place for each object of the store, and what the calls make. `AllocError` where memory is refused, or where
-/// objects and calls are together 2^32 or more; the store is as it was.
+/// a place for each object of the store, for copies of the wanted objects that the calls change, and for what these make. `AllocError` where
+/// memory is refused, or where objects and calls are together 2^32 or more; the store is as it was.
 ///
 /// Source: GraphBLAS C API 2.0, "Execution modes"; the form is own.
 pub fn value_after(
