@@ -52,65 +52,103 @@ pub(crate) fn timed<R: Clock>(
     if is_read(read, i) { Some(nanos) } else { None }
 }
 
-/// The times of a read of one object behind calls on another, and then of a read of the other.
-fn timed_both<R: Clock>(
+/// Sets an entry of one vector again, and those of another at the first 15 indices; whether no set was refused.
+fn change(context: &Context, pass: &mut Pass, own: VectorId, other: VectorId) -> bool
+    requires { IsPassOf context.now pass.old }
+    ensures { IsPassOf context.now pass.new }
+{
+    let mut holds = context.set_vector(pass, own, 1, Value::Uint64(1)).is_ok();
+    for i in 0..15 {
+        holds &= context.set_vector(pass, other, i, Value::Uint64(i)).is_ok();
+    }
+    holds
+}
+
+/// The times of a read of one object behind calls on another, of a read of it again behind some more calls, and then of a read of the other.
+fn timed_all<R: Clock>(
     rt: &R,
     context: &Context,
     pass: &mut Pass,
     others: u64,
-) -> Option<(u64, u64)>
+) -> Option<(u64, u64, u64)>
     requires { IsPassOf context.now pass.old }
 {
     let own = filled(context, pass, OWN)?;
     let other = filled(context, pass, others)?;
     let one = timed(rt, context, pass, own, 1)?;
+    if !change(context, pass, own, other) {
+        return None;
+    }
+    let again = timed(rt, context, pass, own, 1)?;
     let all = timed(rt, context, pass, other, 1)?;
-    Some((one, all))
+    Some((one, again, all))
 }
 
 /// The same in a store of its own.
-fn run_once<R: Clock + AllocGlobal>(rt: &R, others: u64) -> Result<Option<(u64, u64)>, AllocError> {
+fn run_once<R: Clock + AllocGlobal>(
+    rt: &R,
+    others: u64,
+) -> Result<Option<(u64, u64, u64)>, AllocError> {
     match open_one(rt.alloc(), ROOM)? {
-        Some((context, mut pass)) => Ok(timed_both(rt, &context, &mut pass, others)),
+        Some((context, mut pass)) => Ok(timed_all(rt, &context, &mut pass, others)),
         None => Ok(None),
     }
 }
 
-/// Takes in both times of a run; whether it held.
-fn take(one: &mut Least, all: &mut Least, run: Option<(u64, u64)>) -> bool {
-    let Some((nanos, nanos_of_all)) = run else {
+/// The least times of the runs.
+#[derive(Drop)]
+struct Times {
+    one: Least,
+    again: Least,
+    all: Least,
+}
+
+/// Takes in the times of a run; whether it held.
+fn take(times: &mut Times, run: Option<(u64, u64, u64)>) -> bool {
+    let Some((one, again, all)) = run else {
         return false;
     };
-    one.take(nanos);
-    all.take(nanos_of_all);
+    times.one.take(one);
+    times.again.take(again);
+    times.all.take(all);
     true
+}
+
+/// No run yet.
+fn no_times() -> Times {
+    Times {
+        one: Least::none(),
+        again: Least::none(),
+        all: Least::none(),
+    }
 }
 
 /// Takes in one run after another, with many calls on another object and with two; whether each held.
 fn take_runs<R: Clock + AllocGlobal>(
     rt: &R,
-    one: &mut Least,
-    all: &mut Least,
-    alone: &mut Least,
+    beside: &mut Times,
+    alone: &mut Times,
 ) -> Result<bool, AllocError> {
     let mut holds = true;
-    let mut other = Least::none();
     for _ in 0..RUNS {
-        holds &= take(one, all, run_once(rt, OTHERS)?);
-        holds &= take(alone, &mut other, run_once(rt, 2)?);
+        holds &= take(beside, run_once(rt, OTHERS)?);
+        holds &= take(alone, run_once(rt, 2)?);
     }
     Ok(holds)
 }
 
-/// Times a read of one object behind many calls on another, a read of that, and a read of the object where there are no such calls.
+/// Times a read of one object behind many calls on another, the same again behind 16 more calls, a read of the other object, and a read of
+/// the object where there are no such calls.
 pub fn run<R: Clock + Print + Eprint + AllocGlobal>(rt: &R) -> Result<(), Fail> {
-    let mut one = Least::none();
-    let mut all = Least::none();
-    let mut alone = Least::none();
-    let holds = take_runs(rt, &mut one, &mut all, &mut alone)?;
-    one.write(rt, "reads: one object", 1)?;
-    all.write(rt, "reads: all objects", 1)?;
-    alone.write(rt, "reads: one object alone", 1)?;
+    let mut beside = no_times();
+    let mut alone = no_times();
+    let holds = take_runs(rt, &mut beside, &mut alone)?;
+    beside.one.write(rt, "reads: one object", 1)?;
+    beside
+        .again
+        .write(rt, "reads: one object again, behind 16 more calls", 1)?;
+    beside.all.write(rt, "reads: all objects", 1)?;
+    alone.one.write(rt, "reads: one object alone", 1)?;
     write_check(rt, "reads", holds)?;
     Ok(())
 }

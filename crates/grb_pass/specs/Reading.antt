@@ -1,5 +1,5 @@
 -- What ties the parts of a pass (own).
-use Rattle.std.specs.Prelude.{◌≡◌, ℕ, ◌+◌, ◌≤◌, true, List, length, take, drop, All, vec_capacity, Some, None, Result, Ok, Err}
+use Rattle.std.specs.Prelude.{◌≡◌, ℕ, ◌+◌, ◌≤◌, true, List, length, drop, All, vec_capacity, Some, None, Result, Ok, Err}
 use Rattle.grb_core.specs.declared.refusal.Refusal.{Refusal}
 use Rattle.grb_core.specs.declared.refusal.Refusal.TheVariants.{OutOfMemory}
 use Rattle.grb_order.specs.View.{IsOthers, IsSound}

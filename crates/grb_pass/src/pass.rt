@@ -21,7 +21,7 @@ ghost use Rattle.grb_replay.specs.State.{is_assembled};
 
 use crate::back_off::BackOff;
 use crate::reader::Reader;
-use crate::recent::{Recent, object_read};
+use crate::recent::{object_read, reply_apart};
 use crate::row::Row;
 use crate::sharing::Sharing;
 use grb_call::{Call, Kind, Object, Reply, WaitMode};
@@ -29,6 +29,7 @@ use grb_core::{Info, Refusal};
 use grb_order::{Order, Place};
 use grb_records::{Records, Token};
 use grb_replay::State;
+use grb_values::Kept;
 use grb_versions::Versions;
 use std::alloc::{AllocError, Global};
 use std::marker::Model;
@@ -41,8 +42,8 @@ pub struct Pass {
     // The store after the first calls known, as many as were evaluated.
     state: State,
     evaluated: usize,
-    // The object read last, where not all known calls were evaluated.
-    recent: Recent,
+    // The objects that it read, each evaluated apart, where not all known calls were evaluated.
+    recent: Kept,
     // What it takes of the stores that other passes evaluated, and gives them.
     sharing: Sharing,
     // Where its own records go.
@@ -67,13 +68,13 @@ impl Model for Pass {
 }
 
 /// The store before the first call, and no object read, with room for so many calls. `AllocError` where memory is refused.
-fn open_store(alloc: Global, room: u32) -> Result<(State, Recent), AllocError>
+fn open_store(alloc: Global, room: u32) -> Result<(State, Kept), AllocError>
     ensures store { IfOk result (λ opened. opened.0.store ≡ empty_store) }
     ensures room { IfOk result (λ opened. opened.0.room ≡ room) }
     ensures recent { IfOk result (λ opened. IsRecent room [] opened.1) }
 {
     let state = State::open(alloc, room)?;
-    Ok((state, Recent::open(alloc, room)?))
+    Ok((state, Kept::open(alloc, room)?))
 }
 
 /// Applies the calls of the records that were not yet evaluated. Where memory is refused, those before stay evaluated.
@@ -156,7 +157,7 @@ impl Pass {
             state,
             evaluated: 0,
             recent,
-            sharing: Sharing::new(alloc, versions),
+            sharing: Sharing::new(versions),
             row: Row::open(room),
             back_off: BackOff::new(),
         })
@@ -272,6 +273,7 @@ impl Pass {
         ensures checked { IsBuildChecked (store_of (known self.old)) call.now result }
         ensures same { self.new ≡ self.old }
     {
+        self.recent.release();
         let evaluated = evaluate(
             records,
             &mut self.reader,
@@ -303,8 +305,8 @@ impl Pass {
         }
     }
 
-    /// The reply to a call that reads the object alone, after all known ones, of which only those are evaluated that it depends on. None
-    /// where all are evaluated, or are to be. `AllocError` where memory is refused.
+    /// The reply to a call that reads the object alone, after all known ones, of which only those are evaluated that it depends on: from what
+    /// is kept of the object, or else from the store. None where all are evaluated, or are to be. `AllocError` where memory is refused.
     fn reply_of_object(
         &mut self,
         records: &Records,
@@ -323,7 +325,21 @@ impl Pass {
         if self.evaluated >= self.known() as usize {
             return Ok(None);
         }
-        self.recent.reply(
+        let was_kept = self.recent.contains(object);
+        let reply = reply_apart(
+            &mut self.recent,
+            records,
+            &mut self.reader,
+            &self.state,
+            self.evaluated,
+            object,
+            call,
+        )?;
+        if reply.is_some() || !was_kept {
+            return Ok(reply);
+        }
+        reply_apart(
+            &mut self.recent,
             records,
             &mut self.reader,
             &self.state,
@@ -346,13 +362,13 @@ impl Pass {
         ensures settled { OnOk result (self.new.settled ≡ (if is_materialize call.now then length (known self.old) else self.old.settled)) }
         ensures err { OnErr result (self.new.settled ≡ self.old.settled) }
     {
+        self.recent.release();
         evaluate(
             records,
             &mut self.reader,
             &mut self.state,
             &mut self.evaluated,
         )?;
-        self.recent.release();
         settle(&mut self.reader, &mut self.state, call)?;
         self.sharing
             .offer(records, &mut self.reader, &self.state, call);

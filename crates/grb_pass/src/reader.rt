@@ -92,6 +92,10 @@ impl Reader {
         })
     }
 
+    pub(crate) fn allocator(&self) -> Global {
+        *self.tokens.allocator()
+    }
+
     pub(crate) fn number(&self) -> u32
         ensures { result ≡ self.now.view.number }
     {

@@ -11,7 +11,6 @@ use grb_call::Call;
 use grb_records::Records;
 use grb_replay::State;
 use grb_versions::Versions;
-use std::alloc::Global;
 use std::sync::Arc;
 
 /// How many known calls are to be evaluated yet where a pass asks for a version (own).
@@ -21,7 +20,6 @@ const BEHIND: usize = 64;
 /// it has evaluated all calls and settled them.
 #[derive(Drop)]
 pub(crate) struct Sharing {
-    alloc: Global,
     versions: Arc<Versions>,
     // How many calls were known when it last asked for a version.
     asked: usize,
@@ -31,9 +29,8 @@ pub(crate) struct Sharing {
 
 impl Sharing {
     /// Nothing asked for yet, and nothing offered.
-    pub(crate) fn new(alloc: Global, versions: Arc<Versions>) -> Sharing {
+    pub(crate) fn new(versions: Arc<Versions>) -> Sharing {
         Sharing {
-            alloc,
             versions,
             asked: 0,
             offered: 0,
@@ -63,7 +60,7 @@ impl Sharing {
         if self.versions.longest() <= *evaluated {
             return;
         }
-        let Ok(calls) = lent_calls(self.alloc, records, reader) else {
+        let Ok(calls) = lent_calls(records, reader, 0) else {
             return;
         };
         let room = reader.room();
@@ -90,7 +87,7 @@ impl Sharing {
             return;
         }
         self.offered = known;
-        let Ok(calls) = lent_calls(self.alloc, records, reader) else {
+        let Ok(calls) = lent_calls(records, reader, 0) else {
             return;
         };
         let Ok(copy) = state.try_clone(0) else {

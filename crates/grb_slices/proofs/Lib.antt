@@ -4,6 +4,7 @@ pub mod Followed
 pub mod Going
 pub mod Kept
 pub mod Live
+pub mod Marks
 pub mod Refusals
 pub mod Sliced
 pub mod Targets

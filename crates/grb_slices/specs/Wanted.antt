@@ -1,6 +1,6 @@
 -- What a contract sees of the objects that are wanted: for each sort a mark by number, and none of a number of which there is no place
 -- (own).
-use Rattle.std.specs.Prelude.{ℕ, ◌<◌, ◌≤◌, Bool, false, if◌then◌else◌, List, [], ◌∷◌, length, Option, Some, None, slice_get}
+use Rattle.std.specs.Prelude.{ℕ, ◌≡◌, ◌<◌, ◌≤◌, Bool, true, false, if◌then◌else◌, List, [], ◌∷◌, length, Option, Some, None, slice_get}
 use Rattle.std.specs.Option.{option_map_or}
 use Rattle.grb_call.specs.declared.call.Call.{Call}
 use Rattle.grb_call.specs.declared.ids.Object.{Object}
@@ -19,6 +19,18 @@ marked marks n = option_map_or (λ mark. mark) (slice_get marks n) false
 abbrev pub is_wanted : Marks → Wants
 is_wanted m (object.Matrix a) = marked m.matrices a.0
 is_wanted m (object.Vector v) = marked m.vectors v.0
+
+-- a mark stands here, and not there
+pub record LacksMark (here there : List Bool) : Type 0 where
+  pub number : ℕ
+  pub stands : marked here number ≡ true
+  pub lacks : marked there number ≡ false
+
+-- an object is wanted here, and not there
+pub record LacksOne (here there : Marks) : Type 0 where
+  pub object : Object
+  pub wanted : is_wanted here object ≡ true
+  pub lacks : is_wanted there object ≡ false
 
 -- there is a place for the mark of the object, where it is one
 abbrev pub HasPlace : Marks → Option Object → Type 0

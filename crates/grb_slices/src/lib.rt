@@ -10,6 +10,6 @@ mod target;
 mod wanted;
 
 pub use laws::{a_call_changes_its_target, a_slice_is_enough, entries_stay_evaluated};
-pub use slice::{Slice, slice_of};
+pub use slice::{Slice, slice_for, slice_of};
 pub use target::{place_for, target_at};
 pub use wanted::Wanted;

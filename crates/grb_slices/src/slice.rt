@@ -1,7 +1,7 @@
 ghost use Rattle.std.specs.Prelude.{◌≡◌, ◌+◌, ◌<◌, ◌≤◌, ◌^◌, ℕ, if◌then◌else◌, length, map, IfOk};
 ghost use Rattle.grb_call.specs.declared.ids.Object.{Object};
 ghost use Rattle.grb_call.specs.Status.{is_same_object};
-ghost use Rattle.grb_slices.specs.Slice.{choices, entries, sliced};
+ghost use Rattle.grb_slices.specs.Found.{IsSliceFor};
 ghost use Rattle.grb_slices.specs.Wanted.{is_wanted};
 
 use crate::wanted::Wanted;
@@ -27,25 +27,20 @@ fn counted(count: usize, is_chosen: bool) -> usize
     if is_chosen { count + 1 } else { count }
 }
 
-/// The calls that an object depends on, of a list of calls whose targets at their places these are, none for one that is refused there.
+/// The calls that what is wanted depends on, of a list of calls whose targets at their places these are, none for one that is refused there.
 /// `AllocError` where memory is refused.
 ///
 /// Source: Weiser, "Program slicing", 1981; over calls own.
-pub fn slice_of(
+pub fn slice_for(
     alloc: Global,
     targets: &[Option<Object>],
     calls: &[&Call],
-    object: Object,
+    wanted: Wanted,
 ) -> Result<Slice, AllocError>
     requires { length targets.now ≡ length calls.now }
-    ensures length { IfOk result (λ slice. length slice.chosen.items ≡ length calls.now) }
-    ensures chosen { IfOk result (λ slice. slice.chosen.items ≡ choices (is_same_object object) (entries targets.now (map (λ c. c.now) calls.now))) }
-    ensures count { IfOk result (λ slice. slice.count ≡ length (sliced (is_same_object object) (entries targets.now (map (λ c. c.now) calls.now))).tasks) }
-    ensures few { IfOk result (λ slice. slice.count ≤ length calls.now) }
-    ensures wanted { IfOk result (λ slice. (o : Object) → is_wanted slice.wanted o ≡ (sliced (is_same_object object) (entries targets.now (map (λ c. c.now) calls.now))).wanted o) }
+    ensures { IfOk result (λ slice. IsSliceFor slice (is_wanted wanted) targets.now (map (λ c. c.now) calls.now)) }
 {
-    let mut wanted = Wanted::new(alloc);
-    wanted.want(object)?;
+    let mut wanted = wanted;
     let mut chosen = vec![in alloc; false; calls.len()]?;
     let mut count = 0;
     let mut at = calls.len();
@@ -60,4 +55,22 @@ pub fn slice_of(
         count,
         wanted,
     })
+}
+
+/// The calls that an object depends on, of a list of calls whose targets at their places these are, none for one that is refused there.
+/// `AllocError` where memory is refused.
+///
+/// Source: Weiser, "Program slicing", 1981; over calls own.
+pub fn slice_of(
+    alloc: Global,
+    targets: &[Option<Object>],
+    calls: &[&Call],
+    object: Object,
+) -> Result<Slice, AllocError>
+    requires { length targets.now ≡ length calls.now }
+    ensures { IfOk result (λ slice. IsSliceFor slice (is_same_object object) targets.now (map (λ c. c.now) calls.now)) }
+{
+    let mut wanted = Wanted::new(alloc);
+    wanted.want(object)?;
+    slice_for(alloc, targets, calls, wanted)
 }

@@ -1,8 +1,8 @@
-ghost use Rattle.std.specs.Prelude.{true, [], Some, ◌≡◌, ◌<◌, ◌≤◌, ◌||◌, ◌==◌, ℕ, false, if◌then◌else◌, length, IfOk, OnOk, OnErr};
+ghost use Rattle.std.specs.Prelude.{true, [], Some, ◌≡◌, ◌<◌, ◌≤◌, ◌||◌, ◌==◌, ℕ, false, if◌then◌else◌, length, replicate, IfOk, OnOk, OnErr};
 ghost use Rattle.grb_call.specs.Status.{is_same_object};
 ghost use Rattle.grb_call.specs.declared.ids.Object.{Object};
 ghost use Rattle.grb_slices.specs.Slice.{is_among};
-ghost use Rattle.grb_slices.specs.Wanted.{HasPlace, HavePlaces, KeepsPlaces, is_chosen, is_wanted, marked, objects_of, wants_behind, with_object};
+ghost use Rattle.grb_slices.specs.Wanted.{HasPlace, HavePlaces, KeepsPlaces, LacksMark, LacksOne, is_chosen, is_wanted, marked, objects_of, wants_behind, with_object};
 
 use crate::reads::{Reads, reads_of};
 use grb_call::{Call, Object};
@@ -53,6 +53,19 @@ fn put_mark(marks: &mut [bool], number: u32, mark: bool)
     marks[number as usize] = mark;
 }
 
+/// Whether each mark that stands here stands there too.
+fn are_within(marks: &[bool], others: &[bool]) -> bool
+    ensures within { result ≡ true → (n : ℕ) → marked marks.now n ≡ true → marked others.now n ≡ true }
+    ensures beyond { result ≡ false → LacksMark marks.now others.now }
+{
+    'marks: for number in 0..marks.len() {
+        if marks[number] && !others.get(number).copied().unwrap_or(false) {
+            return false;
+        }
+    }
+    true
+}
+
 impl Wanted {
     /// No object is wanted. Takes no memory.
     pub fn new(alloc: Global) -> Wanted
@@ -64,6 +77,17 @@ impl Wanted {
         }
     }
 
+    /// The matrices and the vectors with numbers below these are wanted. `AllocError` where memory is refused.
+    pub fn all(alloc: Global, matrices: u32, vectors: u32) -> Result<Wanted, AllocError>
+        ensures matrices { IfOk result (λ wanted. wanted.matrices ≡ replicate matrices true) }
+        ensures vectors { IfOk result (λ wanted. wanted.vectors ≡ replicate vectors true) }
+    {
+        Ok(Wanted {
+            matrices: vec![in alloc; true; matrices as usize]?,
+            vectors: vec![in alloc; true; vectors as usize]?,
+        })
+    }
+
     /// Whether the object is wanted. Takes no memory.
     pub fn contains(&self, object: Object) -> bool
         ensures { result ≡ is_wanted self.now object }
@@ -72,6 +96,25 @@ impl Wanted {
             Object::Matrix(a) => mark_at(&self.matrices, a.0),
             Object::Vector(v) => mark_at(&self.vectors, v.0),
         }
+    }
+
+    /// The same objects are wanted. `AllocError` where memory is refused.
+    pub fn try_clone(&self) -> Result<Wanted, AllocError>
+        ensures { IfOk result (λ copy. copy ≡ self.now) }
+    {
+        let alloc = *self.matrices.allocator();
+        Ok(Wanted {
+            matrices: self.matrices.as_slice().to_vec(alloc)?,
+            vectors: self.vectors.as_slice().to_vec(alloc)?,
+        })
+    }
+
+    /// Whether each of the objects is wanted there too. Takes no memory.
+    pub fn is_within(&self, other: &Wanted) -> bool
+        ensures within { result ≡ true → (o : Object) → is_wanted self.now o ≡ true → is_wanted other.now o ≡ true }
+        ensures beyond { result ≡ false → LacksOne self.now other.now }
+    {
+        are_within(&self.matrices, &other.matrices) && are_within(&self.vectors, &other.vectors)
     }
 
     /// Makes a place for the mark of the object, if there is one and it has none. `AllocError` where memory is refused.
@@ -118,6 +161,15 @@ impl Wanted {
         self.make_place(Some(object))?;
         self.put(object, true);
         Ok(())
+    }
+
+    /// The object is not wanted from now on. Takes no memory.
+    pub fn forget(&mut self, object: Object)
+        ensures { (o : Object) → is_wanted self.new o ≡ (if is_same_object object o then false else is_wanted self.old o) }
+    {
+        if self.contains(object) {
+            self.put(object, false);
+        }
     }
 
     /// Makes a place for each object that is read. `AllocError` where memory is refused.

@@ -1,4 +1,4 @@
+pub mod Keeping
 pub mod NextTarget
-mod Onward
-mod Parted
-mod Valued
+pub mod Onward
+pub mod Valued

@@ -1,6 +1,7 @@
 -- One more target, by one walk over shapes.
-use Rattle.std.proofs.Common.{◌≡◌, ℕ, zero, suc, ◌+◌, ◌<◌, ◌≤◌, List, [], ◌∷◌, ◌++◌, refl, sym, ap, ◌∙◌, length, drop, take, get_or, Option, arith}
-use Rattle.std.proofs.lemmas.List.{length_push, take-append-le, take_more}
+use Rattle.std.proofs.Common.{◌≡◌, ℕ, zero, suc, ◌+◌, ◌-◌, ◌<◌, ◌≤◌, List, [], ◌∷◌, ◌++◌, refl, sym, ap, ◌∙◌, length, drop, take, get_or, Option, arith}
+use Rattle.std.proofs.lemmas.List.{get_or-drop, length_push, take-append-le, take_more}
+use lib.ListN.{length-drop}
 use Rattle.grb_call.specs.declared.call.Call.{Call}
 use Rattle.grb_call.specs.declared.ids.Object.{Object}
 use Rattle.grb_call.specs.Shapes.{ObjectShapes}
@@ -64,6 +65,16 @@ module _ (old new : WalkedCalls) (cs : List Call) (at : ℕ) (c : Call) (was : A
     shapes_are = next-shapes ∙ ap (λ n. shapes_of (after_all empty_store (take n cs))) (sym count);
   }
 
+-- one more call walked over, of calls that come behind those walked over at first
+pub walked_further : (first old new : WalkedCalls) (known bs : List Call) (at : ℕ) (c : Call) → AreTargetsOf first known → bs ≡ drop (length first.targets) known → AreTargetsOf old known →
+    length old.targets ≡ length first.targets + at → at < length bs → get_or bs at c ≡ c →
+    new.targets ≡ old.targets ++ effective_target old.shapes.objects c ∷ [] → new.shapes.objects ≡ shapes_after old.shapes.objects c → AreTargetsOf new known
+walked_further first old new known bs at c begun lent was here less is pushed shaped =
+    let n = length first.targets in
+    let count : length bs ≡ length known - n = ap length lent ∙ length-drop n known in
+    let same : get_or known (n + at) c ≡ c = sym (get_or-drop n known at c) ∙ (ap (λ (cs : List Call). get_or cs at c) (sym lent) ∙ is) in
+    walked_next old new known (n + at) c was here (omega (arith, less, count)) same pushed shaped
+
 -- the walk stands where more calls come
 pub walked_more : (t : WalkedCalls) (cs ds : List Call) → AreTargetsOf t cs → AreTargetsOf t (cs ++ ds)
 walked_more t cs ds was = record {
@@ -81,3 +92,17 @@ pub walk_ends : (t : WalkedCalls) (cs : List Call) → AreTargetsOf t cs → len
 walk_ends t cs was all =
     let same : take (length t.targets) cs ≡ cs = take_all cs (length t.targets) all in
     (was.targets_are ∙ ap (targets_of (shapes_of empty_store)) same, was.shapes_are ∙ ap (λ (xs : List Call). shapes_of (after_all empty_store xs)) same)
+
+-- the walk over all calls, from the first
+pub walked_all : (old new : WalkedCalls) (cs : List Call) → old.targets ≡ [] → old.shapes.objects ≡ shapes_of empty_store →
+    ((known : List Call) → AreTargetsOf old known → cs ≡ drop (length old.targets) known → AreTargetsOf new known × (length new.targets ≡ length known)) →
+    (new.targets ≡ targets_of (shapes_of empty_store) cs) × (new.shapes.objects ≡ shapes_of (after_all empty_store cs))
+walked_all old new cs none shapes goes =
+    let count : length old.targets ≡ 0 = ap length none in
+    let begun : AreTargetsOf old cs = record {
+      within = omega (arith, count);
+      targets_are = none ∙ ap (λ n. targets_of (shapes_of empty_store) (take n cs)) (sym count);
+      shapes_are = shapes ∙ ap (λ n. shapes_of (after_all empty_store (take n cs))) (sym count);
+    } in
+    let end = goes cs begun (ap (λ n. drop n cs) (sym count)) in
+    walk_ends new cs end.0 end.1

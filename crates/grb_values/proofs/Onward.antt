@@ -1,9 +1,8 @@
 -- The calls behind those that are evaluated.
-use Rattle.std.proofs.Common.{zero, suc, true, refl, map, drop, ◌≡◌, ℕ, List, [], ◌∷◌, take, sym, ap, ◌∙◌, Option}
+use Rattle.std.proofs.Common.{zero, suc, refl, map, drop, ◌≡◌, ℕ, List, [], ◌∷◌, take, sym, ap, ◌∙◌, Option}
 use Rattle.std.proofs.lemmas.List.{take-append-drop}
 use Rattle.grb_call.specs.declared.call.Call.{Call}
 use Rattle.grb_call.specs.declared.ids.Object.{Object}
-use Rattle.grb_call.specs.Shapes.{ObjectShapes, is_live}
 use Rattle.grb_call.specs.Store.{Store, empty_store, shapes_of}
 use Rattle.grb_call.specs.History.{after_all}
 use Rattle.grb_call.proofs.Runs.{after_all-append}
@@ -26,9 +25,6 @@ module _ (cs bs : List Call) (e : ℕ) (s : Store) (is : s ≡ after_all empty_s
   targets_here ws ts walked here =
       here ∙ (ap (drop e) walked ∙ (targets_behind empty_store cs e
       ∙ (ap (λ (t : Store). targets_of (shapes_of t) (drop e cs)) (sym is) ∙ ap (targets_of (shapes_of s)) (sym behind))))
-
-  pub there_behind : (u : ObjectShapes) (o : Object) → u ≡ shapes_of (after_all empty_store cs) → is_live u o ≡ true → is_live (shapes_of (after_all s bs)) o ≡ true
-  there_behind u o shaped live = ap (λ (t : Store). is_live (shapes_of t) o) after_behind ∙ (ap (λ (v : ObjectShapes). is_live v o) (sym shaped) ∙ live)
 
 pub calls_behind : {X : Type 0} (f : X → Call) (xs ys : List X) (e : ℕ) → ys ≡ drop e xs → map f ys ≡ drop e (map f xs)
 calls_behind f xs ys e is = ap (map f) is ∙ map_drop f xs e

@@ -1,5 +1,5 @@
 -- The object after all calls, and how many of them were made for it.
-use Rattle.std.proofs.Common.{◌≡◌, is_some, option_map, refl, Bool, false, true, List, length, sym, ap, subst, ◌∙◌, Option, Some, None, Result, Ok, Err, ℕ}
+use Rattle.std.proofs.Common.{◌≡◌, is_some, option_map, refl, if◌then◌else◌, Bool, false, true, List, length, sym, ap, ◌∙◌, Option, Some, None, Result, Ok, Err, ℕ}
 use Rattle.std.specs.Option.{option_map_or}
 use Rattle.grb_core.specs.declared.refusal.Refusal.{Refusal}
 use Rattle.grb_call.specs.declared.reply.Reply.{Reply}
@@ -8,20 +8,23 @@ use Rattle.grb_call.specs.After.{answer, refused, reply_of}
 use Rattle.grb_call.specs.declared.call.Call.{Call}
 use Rattle.grb_call.specs.declared.ids.Object.{Object}
 use Rattle.grb_call.specs.declared.ids.Object.TheVariants as object
-use Rattle.grb_call.specs.Shapes.{is_live}
+use Rattle.grb_call.specs.Shapes.{ObjectShapes, is_live}
 use Rattle.grb_call.specs.Status.{is_same_object, object_of}
 use Rattle.grb_call.specs.Store.{Store, empty_store, matrix_at, matrix_shape, shapes_of, vector_at, vector_shape}
 use Rattle.grb_call.proofs.ShapesAfter.{object_at-map}
 use Rattle.grb_call.specs.History.{after_all}
 use Rattle.grb_slices.specs.Content.{MatrixContent, VectorContent, content_at}
+use Rattle.grb_slices.specs.declared.slice.Slice.{Slice}
+use Rattle.grb_slices.specs.Found.{IsSliceFor}
 use Rattle.grb_slices.specs.Slice.{Step, Wants, choices, entries, sliced}
+use Rattle.grb_slices.specs.Wanted.{is_wanted}
+use Rattle.grb_values.specs.Held.{tasks_of}
 use Rattle.grb_slices.specs.Steps.{steps_of}
 use Rattle.grb_slices.specs.Followed.{Follows, GoesOn, targets_of}
 use Rattle.grb_slices.proofs.Going.{entries_are}
 use Rattle.grb_slices.proofs.Answered.{same_answer}
 use Rattle.grb_slices.proofs.Followed.{same_wants}
-use Rattle.grb_slices.proofs.Live.{wanted_live}
-use Rattle.grb_slices.proofs.Wants.{is_same_object-self, is_same_object-true}
+use Rattle.grb_slices.proofs.Wants.{is_same_object-self}
 
 pub valued : (o : Object) (whole part made : Store) (cs : List Call) (ts : List (Option Object)) (bs : List Bool) (w : Wants) →
     ts ≡ targets_of (shapes_of whole) cs → bs ≡ choices (is_same_object o) (entries ts cs) → ((p : Object) → w p ≡ (sliced (is_same_object o) (entries ts cs)).wanted p) → Follows w whole part →
@@ -36,14 +39,6 @@ pub counted : (o : Object) (s : Store) (cs : List Call) (ts : List (Option Objec
     n ≡ length (sliced (is_same_object o) (entries ts cs)).tasks → n ≡ length (sliced (is_same_object o) (steps_of (shapes_of s) cs)).tasks
 counted o s cs ts n targets count =
     count ∙ ap (λ (xs : List Step). length (sliced (is_same_object o) xs).tasks) (ap (λ (us : List (Option Object)). entries us cs) targets ∙ entries_are (shapes_of s) cs)
-
--- what is wanted before the calls is there, where the object is behind them
-pub wanted_there : (o : Object) (s : Store) (cs : List Call) (ts : List (Option Object)) (w : Wants) → ts ≡ targets_of (shapes_of s) cs → ((p : Object) → w p ≡ (sliced (is_same_object o) (entries ts cs)).wanted p) →
-    is_live (shapes_of (after_all s cs)) o ≡ true → (p : Object) → w p ≡ true → is_live (shapes_of s) p ≡ true
-wanted_there o s cs ts w targets same there p wanted =
-    let steps : entries ts cs ≡ steps_of (shapes_of s) cs = ap (λ (us : List (Option Object)). entries us cs) targets ∙ entries_are (shapes_of s) cs in
-    wanted_live (is_same_object o) cs s (λ q is. subst (λ (x : Object). is_live (shapes_of (after_all s cs)) x ≡ true) (is_same_object-true o q is) there) p
-    (ap (λ (xs : List Step). (sliced (is_same_object o) xs).wanted p) (sym steps) ∙ (sym (same p) ∙ wanted))
 
 -- the answer by the part, where the object holds the same as in the whole
 pub refused-by : (whole part : Store) (c : Call) (o : Object) (r : Refusal) → enters c ≡ false → object_of c ≡ Some o → content_at whole o ≡ content_at part o → refused part c ≡ Some r →
@@ -63,3 +58,47 @@ none_of f g None e = refl
 pub not_there : (s : Store) (o : Object) → is_live (shapes_of s) o ≡ false → content_at s o ≡ content_at empty_store o
 not_there s (object.Matrix a) e = none_of matrix_shape MatrixContent (matrix_at s a) (sym (ap is_some (object_at-map matrix_shape s.matrices a.0)) ∙ e)
 not_there s (object.Vector v) e = none_of vector_shape VectorContent (vector_at s v) (sym (ap is_some (object_at-map vector_shape s.vectors v.0)) ∙ e)
+
+-- the answer to a call that is not refused is its reply
+pub replied : (s : Store) (c : Call) (r : Reply) → refused s c ≡ None → ◌≡◌ {A = Result Reply Refusal} (Ok r) (answer s c) → r ≡ reply_of s c
+replied s c r accepted is = same_ok r (reply_of s c) (is ∙ ap (λ (p : Option Refusal). option_map_or Err p (Ok (reply_of s c))) accepted) where
+  same_ok : (a b : Reply) → ◌≡◌ {A = Result Reply Refusal} (Ok a) (Ok b) → a ≡ b
+  same_ok a b e = cc
+
+pub not_refused : (s : Store) (c : Call) (r : Refusal) → refused s c ≡ None → ◌≡◌ {A = Result Reply Refusal} (Err r) (answer s c) → ⊥
+not_refused s c r accepted is = apart r (reply_of s c) (is ∙ ap (λ (p : Option Refusal). option_map_or Err p (Ok (reply_of s c))) accepted) where
+  apart : (a : Refusal) (b : Reply) → ◌≡◌ {A = Result Reply Refusal} (Err a) (Ok b) → ⊥
+  apart a b e = cc
+
+-- a part that holds more
+pub narrowed : (v w : Wants) (whole part : Store) → ((p : Object) → w p ≡ true → v p ≡ true) → Follows v whole part → Follows w whole part
+narrowed v w whole part sub f = record { matrices = f.matrices; vectors = f.vectors; agree = λ o is. f.agree o (sub o is) }
+
+-- an equal store
+pub follows_same : (w : Wants) (whole part : Store) → part ≡ whole → Follows w whole part
+follows_same w whole part e = record { matrices = ap (λ (s : Store). length s.matrices) e; vectors = ap (λ (s : Store). length s.vectors) e; agree = λ o is. ap (λ (s : Store). content_at s o) (sym e) }
+
+-- what is wanted behind the calls, where the part holds what their slice wants before them
+module _ (v w : Wants) (cs : List Call) (ts : List (Option Object)) (bs : List Bool) (slice : Slice) (found : IsSliceFor slice w ts cs) (whole part made : Store)
+    (targets : ts ≡ targets_of (shapes_of whole) cs) (chosen : bs ≡ slice.chosen.items) (goes : (u : Wants) (s : Store) → GoesOn u s cs ts bs part → Follows u (after_all s cs) made) where
+  pub goes_onward : ((p : Object) → is_wanted slice.wanted p ≡ true → v p ≡ true) → Follows v whole part → Follows w (after_all whole cs) made
+  goes_onward sub follows = goes w whole (record {
+    targets_are = targets;
+    chosen_are = chosen ∙ found.chosen;
+    follows = narrowed v (sliced w (entries ts cs)).wanted whole part (λ p is. sub p (found.wanted p ∙ is)) follows;
+  })
+
+-- how many calls were made
+pub tasks_none : (o : Object) (cs : List Call) (u : ObjectShapes) → u ≡ shapes_of (after_all empty_store cs) → is_live u o ≡ false → 0 ≡ tasks_of o cs
+tasks_none o cs u is gone = by (is_live (shapes_of (after_all empty_store cs)) o) (ap (λ (t : ObjectShapes). is_live t o) (sym is) ∙ gone)
+  where
+    by : (b : Bool) → b ≡ false → 0 ≡ (if b then length (sliced (is_same_object o) (steps_of (shapes_of empty_store) cs)).tasks else 0)
+    by true e = cc
+    by false e = refl
+
+pub tasks_all : (o : Object) (cs : List Call) (u : ObjectShapes) (n : ℕ) → u ≡ shapes_of (after_all empty_store cs) → is_live u o ≡ true → n ≡ length (sliced (is_same_object o) (steps_of (shapes_of empty_store) cs)).tasks → n ≡ tasks_of o cs
+tasks_all o cs u n is live count = by (is_live (shapes_of (after_all empty_store cs)) o) (ap (λ (t : ObjectShapes). is_live t o) (sym is) ∙ live)
+  where
+    by : (b : Bool) → b ≡ true → n ≡ (if b then length (sliced (is_same_object o) (steps_of (shapes_of empty_store) cs)).tasks else 0)
+    by true e = count
+    by false e = cc

@@ -1,6 +1,6 @@
 -- What a contract sees of an object that was evaluated (own): which it is, the part of the store that it was had from, and how many calls
 -- were made for it.
-use Rattle.std.specs.Prelude.{◌≡◌, ℕ, ◌≤◌, if◌then◌else◌, List, length, Option}
+use Rattle.std.specs.Prelude.{ℕ, if◌then◌else◌, List, length}
 use Rattle.grb_call.specs.declared.call.Call.{Call}
 use Rattle.grb_call.specs.declared.ids.Object.{Object}
 use Rattle.grb_call.specs.Shapes.{is_live}
@@ -8,10 +8,8 @@ use Rattle.grb_call.specs.Status.{is_same_object}
 use Rattle.grb_call.specs.Store.{empty_store, shapes_of}
 use Rattle.grb_call.specs.History.{after_all}
 use Rattle.grb_replay.specs.State.{RoomyStore}
-use Rattle.grb_slices.specs.declared.slice.Slice.{Slice}
-use Rattle.grb_slices.specs.Slice.{choices, entries, sliced}
+use Rattle.grb_slices.specs.Slice.{sliced}
 use Rattle.grb_slices.specs.Steps.{steps_of}
-use Rattle.grb_slices.specs.Wanted.{is_wanted}
 
 pub record HeldObject : Type 0 where
   pub object : Object
@@ -22,10 +20,3 @@ pub record HeldObject : Type 0 where
 abbrev pub tasks_of : Object → List Call → ℕ
 tasks_of o cs =
     if is_live (shapes_of (after_all empty_store cs)) o then length (sliced (is_same_object o) (steps_of (shapes_of empty_store) cs)).tasks else 0
-
--- the slice is that of the object, of calls with these targets
-pub record IsSliceOf (slice : Slice) (o : Object) (targets : List (Option Object)) (cs : List Call) : Type 0 where
-  pub chosen : slice.chosen.items ≡ choices (is_same_object o) (entries targets cs)
-  pub count : slice.count ≡ length (sliced (is_same_object o) (entries targets cs)).tasks
-  pub few : slice.count ≤ length cs
-  pub wanted : (p : Object) → is_wanted slice.wanted p ≡ (sliced (is_same_object o) (entries targets cs)).wanted p

@@ -1,16 +1,16 @@
 //! What an object holds after a list of calls, from only the calls that it depends on.
 //!
-//! `value_of` finds the slice of the object by shapes alone, makes the calls of the slice on a state, and holds what came out. Nothing here
-//! knows of passes or of an order: the caller brings the calls.
+//! `value_of` finds the slice of one object by shapes alone, makes the calls of the slice on a state, and holds what came out. `Kept` holds
+//! objects that were read, each evaluated apart, and goes on with each from where it was evaluated. Nothing here knows of passes or of an
+//! order: the caller brings the calls.
 #![tactic(auto)]
 
-mod beginning;
-mod behind;
+mod apart;
+mod found;
+mod kept;
 mod part;
 mod targets;
 mod value;
-mod wanted;
 
-pub use behind::{PASSED_OVER, value_behind};
-pub use targets::Targets;
-pub use value::{Held, value_after, value_of};
+pub use kept::Kept;
+pub use value::{Held, value_of};

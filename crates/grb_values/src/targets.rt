@@ -1,10 +1,9 @@
-ghost use Rattle.std.specs.Prelude.{◌≡◌, ◌+◌, ◌<◌, ◌≤◌, ◌++◌, ◌∷◌, [], length, drop, map, IfOk};
+ghost use Rattle.std.specs.Prelude.{◌≡◌, ◌+◌, ◌<◌, ◌≤◌, ◌++◌, ◌∷◌, [], List, length, drop, map, IfOk};
+ghost use Rattle.grb_call.specs.declared.call.Call.{Call};
 ghost use Rattle.grb_call.specs.Refused.{shapes_after};
 ghost use Rattle.grb_slices.specs.Content.{effective_target};
 ghost use Rattle.grb_call.specs.Shapes.{is_live};
 ghost use Rattle.grb_call.specs.Store.{empty_store, shapes_of};
-ghost use Rattle.grb_call.specs.History.{after_all};
-ghost use Rattle.grb_slices.specs.Followed.{targets_of};
 ghost use Rattle.grb_values.specs.Targets.{AreTargetsOf};
 
 use grb_call::{Call, Object, Shapes};
@@ -55,19 +54,23 @@ impl Targets {
         self.shapes.absorb(call);
     }
 
-    /// Goes on over these calls, of which those walked over are the first. Takes no memory.
+    /// Goes on over these calls, which come behind those walked over. Takes no memory.
     pub fn go_on(&mut self, calls: &[&Call])
-        requires walked { AreTargetsOf self.old (map (λ c. c.now) calls.now) }
-        requires room { length calls.now ≤ length self.old.targets + self.old.shapes.room }
-        ensures walked { AreTargetsOf self.new (map (λ c. c.now) calls.now) }
-        ensures targets { self.new.targets ≡ targets_of (shapes_of empty_store) (map (λ c. c.now) calls.now) }
-        ensures shapes { self.new.shapes.objects ≡ shapes_of (after_all empty_store (map (λ c. c.now) calls.now)) }
-        ensures all { length self.new.targets ≡ length calls.now }
+        requires room { length calls.now ≤ self.old.shapes.room }
+        ensures walked { (known : List Call) → AreTargetsOf self.old known → map (λ c. c.now) calls.now ≡ drop (length self.old.targets) known → AreTargetsOf self.new known × (length self.new.targets ≡ length known) }
+        ensures all { length self.new.targets ≡ length self.old.targets + length calls.now }
         ensures room { length self.new.targets + self.new.shapes.room ≡ length self.old.targets + self.old.shapes.room }
     {
-        'calls: for at in self.targets.len()..calls.len() {
+        'calls: for at in 0..calls.len() {
             self.go_over(calls[at]);
         }
+    }
+
+    /// How many calls were walked over. Takes no memory.
+    pub fn len(&self) -> usize
+        ensures { result ≡ length self.now.targets }
+    {
+        self.targets.len()
     }
 
     /// The targets from this place on. Takes no memory.

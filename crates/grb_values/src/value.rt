@@ -1,23 +1,19 @@
 ghost use Rattle.std.specs.Prelude.{◌≡◌, ◌<◌, ◌^◌, false, true, length, map, IfOk, Some};
 ghost use Rattle.grb_call.specs.Kinds.{enters, is_size};
 ghost use Rattle.grb_call.specs.Status.{is_same_object, object_of};
-ghost use Rattle.grb_call.specs.Shapes.{is_live};
-ghost use Rattle.grb_call.specs.Store.{Store, empty_store, shapes_of};
+ghost use Rattle.grb_call.specs.Store.{Store, empty_store};
 ghost use Rattle.grb_call.specs.After.{answer};
 ghost use Rattle.grb_call.specs.History.{after_all};
 ghost use Rattle.grb_slices.specs.Content.{content_at};
-ghost use Rattle.grb_slices.specs.Slice.{sliced};
-ghost use Rattle.grb_slices.specs.Steps.{steps_of};
-ghost use Rattle.grb_slices.specs.Followed.{targets_of};
-ghost use Rattle.grb_values.specs.Held.{IsSliceOf, tasks_of};
+ghost use Rattle.grb_values.specs.Held.{tasks_of};
 
-use crate::beginning::part_of;
+use crate::apart::answer_of;
 use crate::part::make_chosen;
 use crate::targets::Targets;
 use grb_call::{Call, Object, Reply};
 use grb_core::Refusal;
 use grb_replay::State;
-use grb_slices::{Slice, slice_of};
+use grb_slices::slice_of;
 use std::alloc::{AllocError, Global};
 use std::marker::Model;
 
@@ -25,7 +21,7 @@ use std::marker::Model;
 #[derive(Drop)]
 pub struct Held {
     object: Object,
-    // The part of the store that the object depends on.
+    // A part of the store after all calls.
     state: State,
     evaluated: u32,
 }
@@ -36,39 +32,6 @@ impl Model for Held {
     ghost Value = { HeldObject };
 
     ghost view = { λ h. record { object = h.object; part = h.state; evaluated = h.evaluated } };
-}
-
-/// What the object holds after these calls on the whole store, where it is there then, from only the calls of its slice, made on a part of
-/// the store that holds what is wanted before them. The targets of the calls at their places are given, and the slice. It takes memory for
-/// a place for each object of the store, for copies of the wanted objects that the calls change, and for what these make. `AllocError` where
-/// memory is refused, or where objects and calls are together 2^32 or more; the store is as it was.
-///
-/// Source: GraphBLAS C API 2.0, "Execution modes"; the form is own.
-pub fn value_after(
-    alloc: Global,
-    whole: &State,
-    targets: &[Option<Object>],
-    calls: &[&Call],
-    slice: &Slice,
-    object: Object,
-) -> Result<Held, AllocError>
-    requires few { length calls.now < 2 ^ 32 }
-    requires targets { targets.now ≡ targets_of (shapes_of whole.now.store) (map (λ c. c.now) calls.now) }
-    requires count { length targets.now ≡ length calls.now }
-    requires chosen { length slice.now.chosen.items ≡ length calls.now }
-    requires slice { IsSliceOf slice.now object targets.now (map (λ c. c.now) calls.now) }
-    requires there { is_live (shapes_of (after_all whole.now.store (map (λ c. c.now) calls.now))) object ≡ true }
-    ensures object { IfOk result (λ held. held.object ≡ object) }
-    ensures content { IfOk result (λ held. content_at (after_all whole.now.store (map (λ c. c.now) calls.now)) object ≡ content_at held.part.store object) }
-    ensures evaluated { IfOk result (λ held. held.evaluated ≡ length (sliced (is_same_object object) (steps_of (shapes_of whole.now.store) (map (λ c. c.now) calls.now))).tasks) }
-{
-    let mut state = part_of(alloc, whole, &slice.wanted, calls.len())?;
-    make_chosen(&mut state, targets, calls, slice.chosen.as_slice())?;
-    Ok(Held {
-        object,
-        state,
-        evaluated: slice.count as u32,
-    })
 }
 
 /// What the object holds after these calls on the empty store, from only the calls that it depends on: the others are passed over by
@@ -82,20 +45,25 @@ pub fn value_of(alloc: Global, calls: &[&Call], object: Object) -> Result<Held, 
     ensures content { IfOk result (λ held. content_at (after_all empty_store (map (λ c. c.now) calls.now)) object ≡ content_at held.part.store object) }
     ensures evaluated { IfOk result (λ held. held.evaluated ≡ tasks_of object (map (λ c. c.now) calls.now)) }
 {
-    let mut walk = Targets::open(alloc, calls.len() as u32)?;
+    let room = calls.len() as u32;
+    let mut walk = Targets::open(alloc, room)?;
     walk.go_on(calls);
-    let empty = State::open(alloc, 0)?;
+    let mut state = State::open(alloc, room)?;
     if !walk.contains(object) {
         return Ok(Held {
             object,
-            state: empty,
+            state,
             evaluated: 0,
         });
     }
     let targets = walk.behind(0);
     let slice = slice_of(alloc, targets, calls, object)?;
-    let held = value_after(alloc, &empty, targets, calls, &slice, object)?;
-    Ok(held)
+    make_chosen(&mut state, targets, calls, slice.chosen.as_slice())?;
+    Ok(Held {
+        object,
+        state,
+        evaluated: slice.count as u32,
+    })
 }
 
 impl Held {
@@ -133,12 +101,6 @@ impl Held {
         ensures store { self.new.part.store ≡ self.old.part.store }
         ensures evaluated { self.new.evaluated ≡ self.old.evaluated }
     {
-        match self.state.refused(call) {
-            Some(refusal) => Ok(Err(refusal)),
-            None => {
-                self.state.settle(call)?;
-                Ok(Ok(self.state.reply(call)))
-            }
-        }
+        answer_of(&mut self.state, self.object, call)
     }
 }

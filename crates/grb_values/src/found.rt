@@ -1,0 +1,136 @@
+ghost use Rattle.std.specs.Prelude.{◌≡◌, true, length, map, IfOk, IfSome};
+ghost use Rattle.grb_call.specs.declared.ids.Object.{Object};
+ghost use Rattle.grb_slices.specs.Found.{IsSliceFor};
+ghost use Rattle.grb_slices.specs.Wanted.{is_wanted};
+
+use crate::apart::Part;
+use grb_call::{Call, MatrixId, Object, VectorId};
+use grb_replay::State;
+use grb_slices::{Slice, Wanted, slice_for};
+use std::alloc::{AllocError, Global};
+
+/// How many calls are passed over in the time that one takes that is made, about (own).
+const PASSED_OVER: usize = 8;
+
+/// How many entries are copied in the time that a call takes that is made, about (own).
+const COPIED: u64 = 64;
+
+/// What is wanted, without the objects that these calls change.
+fn untouched(wanted: Wanted, targets: &[Option<Object>]) -> Wanted {
+    let mut wanted = wanted;
+    for target in targets {
+        if let Some(object) = target {
+            wanted.forget(*object);
+        }
+    }
+    wanted
+}
+
+/// How many entries the object stores where a call of the slice changes it: where it is wanted, and not among the ones that stay the same.
+fn entries_of(whole: &State, slice: &Slice, same: &Wanted, object: Object) -> u64 {
+    if slice.wanted.contains(object) && !same.contains(object) {
+        whole.nvals(object)
+    } else {
+        0
+    }
+}
+
+/// What copies of the objects take that the calls of the slice change, as a number of calls that are made. Takes no memory.
+fn cost_of_copies(whole: &State, slice: &Slice, same: &Wanted) -> usize {
+    let mut entries: u64 = 0;
+    for number in 0..whole.matrices() {
+        let matrix = Object::Matrix(MatrixId(number));
+        entries = entries.saturating_add(entries_of(whole, slice, same, matrix));
+    }
+    for number in 0..whole.vectors() {
+        let vector = Object::Vector(VectorId(number));
+        entries = entries.saturating_add(entries_of(whole, slice, same, vector));
+    }
+    (entries / COPIED) as usize
+}
+
+/// The slice of some calls for an object, with what is wanted behind them, and what it takes to make it, as a number of calls that are made.
+#[derive(Drop)]
+pub(crate) struct Found {
+    pub(crate) slice: Slice,
+    pub(crate) wanted: Wanted,
+    pub(crate) cost: usize,
+}
+
+/// The slice of these calls, with these targets, for the object and for what they leave the same. `AllocError` where memory is refused.
+fn found_for(
+    alloc: Global,
+    targets: &[Option<Object>],
+    calls: &[&Call],
+    same: &Wanted,
+    object: Object,
+) -> Result<Found, AllocError>
+    requires { length targets.now ≡ length calls.now }
+    ensures slice { IfOk result (λ found. IsSliceFor found.slice (is_wanted found.wanted) targets.now (map (λ c. c.now) calls.now)) }
+    ensures object { IfOk result (λ found. is_wanted found.wanted object ≡ true) }
+{
+    let mut wanted = same.try_clone()?;
+    wanted.want(object)?;
+    let slice = slice_for(alloc, targets, calls, wanted.try_clone()?)?;
+    let cost = slice.count.saturating_add(calls.len() / PASSED_OVER);
+    Ok(Found {
+        slice,
+        wanted,
+        cost,
+    })
+}
+
+/// The slice for the object of calls that come behind what a part holds. None where the part lacks what is wanted before them, or where the
+/// slice takes more than the limit. `AllocError` where memory is refused.
+pub(crate) fn found_onward(
+    alloc: Global,
+    part: &Part,
+    targets: &[Option<Object>],
+    calls: &[&Call],
+    object: Object,
+    limit: usize,
+) -> Result<Option<Found>, AllocError>
+    requires { length targets.now ≡ length calls.now }
+    ensures slice { IfOk result (λ made. IfSome made (λ found. IsSliceFor found.slice (is_wanted found.wanted) targets.now (map (λ c. c.now) calls.now))) }
+    ensures object { IfOk result (λ made. IfSome made (λ found. is_wanted found.wanted object ≡ true)) }
+    ensures within { IfOk result (λ made. IfSome made (λ found. (o : Object) → is_wanted found.slice.wanted o ≡ true → is_wanted part.now.held o ≡ true)) }
+{
+    let same = untouched(part.held().try_clone()?, targets);
+    let found = found_for(alloc, targets, calls, &same, object)?;
+    if found.cost > limit {
+        return Ok(None);
+    }
+    if found.slice.wanted.is_within(part.held()) {
+        return Ok(Some(found));
+    }
+    Ok(None)
+}
+
+/// The slice for the object of calls that come behind those that are evaluated in the store. None where it takes more than the limit, with
+/// the copies of what it changes. `AllocError` where memory is refused.
+pub(crate) fn found_anew(
+    alloc: Global,
+    whole: &State,
+    targets: &[Option<Object>],
+    calls: &[&Call],
+    object: Object,
+    limit: usize,
+) -> Result<Option<Found>, AllocError>
+    requires { length targets.now ≡ length calls.now }
+    ensures slice { IfOk result (λ made. IfSome made (λ found. IsSliceFor found.slice (is_wanted found.wanted) targets.now (map (λ c. c.now) calls.now))) }
+    ensures object { IfOk result (λ made. IfSome made (λ found. is_wanted found.wanted object ≡ true)) }
+{
+    if calls.len() / PASSED_OVER > limit {
+        return Ok(None);
+    }
+    let same = untouched(
+        Wanted::all(alloc, whole.matrices(), whole.vectors())?,
+        targets,
+    );
+    let found = found_for(alloc, targets, calls, &same, object)?;
+    let copies = cost_of_copies(whole, &found.slice, &same);
+    if found.cost.saturating_add(copies) > limit {
+        return Ok(None);
+    }
+    Ok(Some(found))
+}
