@@ -87,7 +87,10 @@ fn reply_after(
     ensures recent { IsRecent (room_of reader.old.order) calls recent.new }
     ensures reply { IfOk result (λ given. IfSome given (λ reply. reply ≡ reply_of (store_of (known reader.old)) call.now)) }
 {
-    let start = recent.start(object, evaluated);
+    let known = reader.known() as usize;
+    let Some(start) = recent.start(object, known, evaluated) else {
+        return Ok(None);
+    };
     let lent = lent_calls(records, reader, start)?;
     recent.reply(lent.as_slice(), start, state, evaluated, object, call)
 }

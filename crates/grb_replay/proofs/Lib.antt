@@ -1,7 +1,6 @@
 mod Accepted
 mod Applied
 mod Cloned
-mod Copied
 mod Dispatched
 mod Lent
 mod LentProducts

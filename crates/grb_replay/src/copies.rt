@@ -1,12 +1,11 @@
-ghost use Rattle.std.specs.Prelude.{◌≡◌, ◌+◌, ◌*◌, ◌<◌, ◌≤◌, [], true, None, Some, length, IfOk, OnOk, OnErr};
-ghost use Rattle.grb_call.specs.Shapes.{is_live};
-ghost use Rattle.grb_call.specs.Store.{shapes_of, with_matrix, with_vector};
+ghost use Rattle.std.specs.Prelude.{◌≡◌, ◌+◌, ◌*◌, ◌<◌, ◌≤◌, [], None, Some, length, IfOk, OnOk};
+ghost use Rattle.grb_call.specs.Store.{with_matrix, with_vector};
 ghost use Rattle.grb_replay.specs.State.{count_in, with_copy};
 
-use crate::matrices::{share_matrix, shared_matrix};
+use crate::matrices::share_matrix;
 use crate::shared::Shared;
 use crate::state::State;
-use crate::vectors::{share_vector, shared_vector};
+use crate::vectors::share_vector;
 use grb_call::{Call, MatrixId, Object, VectorId};
 use grb_core::Domain;
 use grb_sparse::{SparseMatrix, SparseVector};
@@ -65,28 +64,6 @@ impl State {
         };
         self.shapes.absorb(&call);
         self.vectors.push_reserved(Some(shared));
-    }
-
-    /// Makes one more object, with the next number of its sort: the one of the other store, which both stores hold then, until one of
-    /// them changes it. No entry is copied. `AllocError` where 2^63 - 1 places hold it; then none is made. Takes no memory.
-    pub fn copy(&mut self, other: &State, object: Object) -> Result<(), AllocError>
-        requires room { 0 < self.old.room }
-        requires there { is_live (shapes_of other.now.store) object ≡ true }
-        ensures store { OnOk result (self.new.store ≡ with_copy self.old.store other.now.store object) }
-        ensures room { OnOk result (self.new.room + 1 ≡ self.old.room) }
-        ensures err { OnErr result (self.new ≡ self.old) }
-    {
-        match object {
-            Object::Matrix(a) => {
-                let copy = shared_matrix(&other.matrices, a).share()?;
-                self.add_matrix(copy);
-            }
-            Object::Vector(v) => {
-                let copy = shared_vector(&other.vectors, v).share()?;
-                self.add_vector(copy);
-            }
-        }
-        Ok(())
     }
 
     /// Takes in a matrix that was freed, with the next number.

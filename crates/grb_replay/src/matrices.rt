@@ -263,20 +263,6 @@ pub(crate) fn put_matrix(
     Ok(())
 }
 
-/// The matrix with this number, which is there, as stores share it. Takes no memory.
-pub(crate) fn shared_matrix(
-    matrices: &[Option<Shared<SparseMatrix>>],
-    a: MatrixId,
-) -> &Shared<SparseMatrix>
-    requires { is_some (object_at matrices.now a.0) ≡ true }
-    ensures { object_at matrices.now a.0 ≡ Some result.now }
-{
-    match matrices.get(a.0 as usize) {
-        Some(Some(shared)) => shared,
-        _ => unreachable!(),
-    }
-}
-
 /// The matrix with this number, which is there. Takes no memory.
 pub(crate) fn lent_matrix(matrices: &[Option<Shared<SparseMatrix>>], a: MatrixId) -> &SparseMatrix
     requires { is_some (object_at matrices.now a.0) ≡ true }

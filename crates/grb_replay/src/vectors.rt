@@ -262,20 +262,6 @@ pub(crate) fn put_vector(
     Ok(())
 }
 
-/// The vector with this number, which is there, as stores share it. Takes no memory.
-pub(crate) fn shared_vector(
-    vectors: &[Option<Shared<SparseVector>>],
-    v: VectorId,
-) -> &Shared<SparseVector>
-    requires { is_some (object_at vectors.now v.0) ≡ true }
-    ensures { object_at vectors.now v.0 ≡ Some result.now }
-{
-    match vectors.get(v.0 as usize) {
-        Some(Some(shared)) => shared,
-        _ => unreachable!(),
-    }
-}
-
 /// The vector with this number, which is there. Takes no memory.
 pub(crate) fn lent_vector(vectors: &[Option<Shared<SparseVector>>], v: VectorId) -> &SparseVector
     requires { is_some (object_at vectors.now v.0) ≡ true }

@@ -3,7 +3,7 @@ ghost use Rattle.std.specs.Prelude.{◌≡◌};
 ghost use Rattle.grb_core.specs.Operator.{op_domain};
 ghost use Rattle.grb_core.specs.Monoid.{monoid_domain};
 
-use crate::products::Choice;
+use crate::plain::Choice;
 use crate::same::same_domain;
 use grb_call::Descriptor;
 use grb_core::{BinaryOp, Domain, Monoid};

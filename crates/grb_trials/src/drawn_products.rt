@@ -1,7 +1,10 @@
 //! mxv, mxm and the reductions of drawn objects beside plain loops over tables.
 use crate::choices::monoid_of;
+use crate::columns::expect_mxv;
 use crate::drawn::Draw;
-use crate::products::{Choice, Dims, expect_folds, expect_mxm, expect_mxv, expect_totals};
+use crate::folds::{expect_folds, expect_totals};
+use crate::plain::{Choice, Dims};
+use crate::products::expect_mxm;
 use crate::tables::Tables;
 use grb_call::Descriptor;
 use std::alloc::{AllocError, Global};

@@ -7,17 +7,23 @@
 #[cfg(test)]
 mod choices;
 #[cfg(test)]
+mod columns;
+#[cfg(test)]
 mod drawn;
 #[cfg(test)]
 mod drawn_products;
 #[cfg(test)]
 mod edges;
 #[cfg(test)]
+mod folds;
+#[cfg(test)]
 mod multiplied;
 #[cfg(test)]
 mod options;
 #[cfg(test)]
 mod pictures;
+#[cfg(test)]
+mod plain;
 #[cfg(test)]
 mod products;
 #[cfg(test)]

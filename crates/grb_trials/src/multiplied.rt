@@ -2,7 +2,9 @@
 ghost use Rattle.std.specs.Prelude.{◌≡◌, true, IfOk};
 
 use crate::choices::plain_product;
-use crate::products::{Choice, Dims, expect_product, expect_total_of_matrix, multiplied};
+use crate::folds::expect_total_of_matrix;
+use crate::plain::{Choice, Dims};
+use crate::products::{expect_product, multiplied};
 use crate::same::same;
 use crate::tables::{expect_matrix, matrix_of, tables_of};
 use crate::tuples::{expect_matrix_tuples, matrix_of_tuples};

@@ -1,7 +1,9 @@
 //! What a refused allocation leaves of a product with a vector and of a reduction of rows: where memory was refused nothing has changed,
 //! and made once more the operation is whole. Each test goes on after a refusal, of which there is one at most.
+use crate::columns::expect_column;
+use crate::folds::expect_folds_of;
 use crate::multiplied::added_up;
-use crate::products::{Dims, expect_column, expect_folds_of};
+use crate::plain::Dims;
 use crate::tables::tables_of;
 use std::alloc::AllocError;
 

@@ -1,7 +1,9 @@
 //! Every semiring once, on an example of mxm and of mxv.
 use crate::choices::{monoid_of, op_of, plain_product};
+use crate::columns::expect_column;
 use crate::drawn::applied;
-use crate::products::{Choice, Dims, expect_column, expect_product, operator_of};
+use crate::plain::{Choice, Dims, operator_of};
+use crate::products::expect_product;
 use crate::same::same;
 use crate::tables::{Tables, tables_of};
 use grb_core::Domain;

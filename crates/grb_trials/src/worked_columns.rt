@@ -3,7 +3,8 @@ ghost use Rattle.std.specs.Prelude.{◌≡◌, true};
 ghost use Rattle.grb_core.specs.declared.domain.Domain.TheVariants as domains;
 
 use crate::choices::{PLAIN, plain_product};
-use crate::products::{Choice, Dims, column_of, expect_column};
+use crate::columns::{column_of, expect_column};
+use crate::plain::{Choice, Dims};
 use crate::tables::{Tables, put, tables_of};
 use crate::tuples::{expect_vector_tuples, matrix_of_tuples, vector_of_tuples};
 use grb_core::{BinaryOp, Domain, Monoid};

@@ -4,7 +4,8 @@ ghost use Rattle.grb_core.specs.Contents.{IsDimension};
 ghost use Rattle.grb_core.specs.declared.domain.Domain.TheVariants as domains;
 
 use crate::choices::plain_product;
-use crate::products::{Choice, folds_of};
+use crate::folds::folds_of;
+use crate::plain::Choice;
 use crate::same::{same, same_domain};
 use crate::tuples::{expect_vector_tuples, matrix_of_tuples, vector_of_tuples};
 use grb_call::Descriptor;

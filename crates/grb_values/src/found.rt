@@ -9,7 +9,7 @@ use grb_replay::State;
 use grb_slices::{Slice, Wanted, slice_for};
 use std::alloc::{AllocError, Global};
 
-/// How many calls are passed over in the time that one takes that is made, about (own).
+/// How many calls are passed over, or objects shared, in the time that a call takes that is made, about (own).
 const PASSED_OVER: usize = 8;
 
 /// How many entries are copied in the time that a call takes that is made, about (own).
@@ -107,7 +107,7 @@ pub(crate) fn found_onward(
 }
 
 /// The slice for the object of calls that come behind those that are evaluated in the store. None where it takes more than the limit, with
-/// the copies of what it changes. `AllocError` where memory is refused.
+/// the places of all objects, which a part shares, and the copies of what it changes. `AllocError` where memory is refused.
 pub(crate) fn found_anew(
     alloc: Global,
     whole: &State,
@@ -120,16 +120,19 @@ pub(crate) fn found_anew(
     ensures slice { IfOk result (λ made. IfSome made (λ found. IsSliceFor found.slice (is_wanted found.wanted) targets.now (map (λ c. c.now) calls.now))) }
     ensures object { IfOk result (λ made. IfSome made (λ found. is_wanted found.wanted object ≡ true)) }
 {
-    if calls.len() / PASSED_OVER > limit {
+    let objects = (whole.matrices() as usize).saturating_add(whole.vectors() as usize)
+        / PASSED_OVER;
+    if objects.saturating_add(calls.len() / PASSED_OVER) > limit {
         return Ok(None);
     }
     let same = untouched(
         Wanted::all(alloc, whole.matrices(), whole.vectors())?,
         targets,
     );
-    let found = found_for(alloc, targets, calls, &same, object)?;
+    let mut found = found_for(alloc, targets, calls, &same, object)?;
     let copies = cost_of_copies(whole, &found.slice, &same);
-    if found.cost.saturating_add(copies) > limit {
+    found.cost = found.cost.saturating_add(objects).saturating_add(copies);
+    if found.cost > limit {
         return Ok(None);
     }
     Ok(Some(found))

@@ -6,6 +6,7 @@ ghost use Rattle.grb_call.specs.Store.{empty_store};
 ghost use Rattle.grb_call.specs.After.{refused, reply_of};
 ghost use Rattle.grb_call.specs.History.{after_all};
 ghost use Rattle.grb_replay.specs.Evaluated.{IsEvaluated};
+ghost use Rattle.grb_slices.specs.Wanted.{is_wanted};
 ghost use Rattle.grb_values.specs.Keeping.{AreKept, IsKeptAt, IsKeptNow};
 
 use crate::apart::Part;
@@ -57,6 +58,16 @@ impl Model for KeptPart {
     ghost Value = { KeptObject };
 
     ghost view = { λ k. record { object = k.object; part = k.part; upto = k.upto } };
+}
+
+impl KeptPart {
+    /// Whether it holds the object after just the calls before `start` and so many more.
+    fn is_at(&self, start: usize, more: usize, object: Object) -> bool
+        ensures upto { result ≡ true → self.now.upto ≡ start + more }
+        ensures held { result ≡ true → is_wanted self.now.part.held object ≡ true }
+    {
+        self.upto >= start && self.upto - start == more && self.part.held().contains(object)
+    }
 }
 
 /// The calls from this place on.
@@ -120,15 +131,23 @@ impl Kept {
         self.place_of(object).is_some()
     }
 
-    /// From which call on the calls are to be lent for a read of this object, where so many are evaluated in the store. Takes no memory.
-    pub fn start(&self, object: Object, evaluated: usize) -> usize
-        ensures { result ≤ length self.now.walk.targets }
+    /// How much may be spent yet on single objects, while so many known calls are not evaluated in the store: half of what these take,
+    /// since all calls were made.
+    fn limit(&self, left: usize) -> usize {
+        (left / 2).saturating_sub(self.spent)
+    }
+
+    /// From which call on the calls are to be lent for a read of this object, where so many are known, and so many of these evaluated in the
+    /// store. None where all calls are to be made: the object is not kept, and nothing more may be spent on single objects. Takes no memory.
+    pub fn start(&self, object: Object, known: usize, evaluated: usize) -> Option<usize>
+        ensures { IfSome result (λ at. at ≤ length self.now.walk.targets) }
     {
         let at = match self.place_of(object) {
             Some(place) => self.parts[place].upto,
+            None if self.limit(known.saturating_sub(evaluated)) == 0 => return None,
             None => evaluated,
         };
-        at.min(self.walk.len())
+        Some(at.min(self.walk.len()))
     }
 
     /// The part of this object, which is kept no more.
@@ -148,12 +167,6 @@ impl Kept {
     {
         make_place(&mut self.parts);
         self.parts.push_reserved(kept);
-    }
-
-    /// How much may be spent yet on single objects, while so many known calls are not evaluated in the store: half of what these take,
-    /// since all calls were made.
-    fn limit(&self, left: usize) -> usize {
-        (left / 2).saturating_sub(self.spent)
     }
 
     /// The object of this part after all calls, from its slice behind the part. None where the part lacks what is wanted there, or where
@@ -265,6 +278,7 @@ impl Kept {
         ensures one { IfOk result (λ made. IfSome made (IsKeptNow self.new.room known object)) }
     {
         match self.take(object) {
+            Some(kept) if kept.is_at(start, calls.len(), object) => Ok(Some(kept)),
             Some(kept) => self.onward(kept, calls, start, evaluated, object),
             None => self.anew(calls, start, state, evaluated, object),
         }

@@ -13,7 +13,7 @@ pub lent_calls-requires-clause-from : goal.lent_calls-requires-clause-from
 lent_calls-requires-clause-from g c =
     let recent : IsRecent (room_of c.args.reader.now.order) g.calls c.args.recent.now = c.requires.1.0 in
     let count : length g.calls ≡ length (known c.args.reader.now) = ap length c.requires.0 ∙ length-calls_of (known c.args.reader.now) in
-    omega (arith, c.start-start.ensures, recent.kept.walk.within, count)
+    omega (arith, c.in-Some.ensures, recent.kept.walk.within, count)
 
 pub reply-requires : goal.reply-requires
 reply-requires g c =
@@ -24,9 +24,9 @@ reply-requires g c =
       (
         omega (arith, few, count, recent.room_is),
         (
-          ap (map (λ x. x.now)) c.as_slice.ensures.value ∙ (c.in_ok-lent.ensures.calls ∙ ap (drop c.start-start.result) (sym c.requires.0)),
+          ap (map (λ x. x.now)) c.as_slice.ensures.value ∙ (c.in_ok-lent.ensures.calls ∙ ap (drop c.in-Some.start) (sym c.requires.0)),
           (
-            c.start-start.ensures,
+            c.in-Some.ensures,
             (
               c.requires.1.1.1.0,
               (
