@@ -8,6 +8,8 @@
 #[cfg(test)]
 mod draw;
 #[cfg(test)]
+mod kept;
+#[cfg(test)]
 mod matrices;
 #[cfg(test)]
 mod same;

@@ -16,7 +16,7 @@ use std::test::Fail;
 
 /// What a test does, to vectors by their numbers.
 #[derive(Clone, Copy)]
-enum Step {
+pub(crate) enum Step {
     /// A vector of this size.
     New(u64),
     Set(u32, u64, u64),
@@ -383,11 +383,11 @@ fn expect_of_calls(
     expect_held(rt, &mut held, v, row)
 }
 
-fn calls_of(alloc: Global, steps: &[Step]) -> Result<Vec<Call>, AllocError> {
+pub(crate) fn calls_of(alloc: Global, steps: &[Step]) -> Result<Vec<Call>, AllocError> {
     steps.iter().map(|step| call_of(*step)).collect(alloc)
 }
 
-fn lent(alloc: Global, calls: &[Call]) -> Result<Vec<&Call>, AllocError> {
+pub(crate) fn lent(alloc: Global, calls: &[Call]) -> Result<Vec<&Call>, AllocError> {
     calls.iter().collect(alloc)
 }
 

@@ -1,7 +1,7 @@
 -- What a pass keeps of the objects that it read, as calls are learnt.
-use Rattle.std.proofs.Common.{◌≡◌, ℕ, ◌+◌, ◌<◌, ◌≤◌, List, [], ◌∷◌, ◌++◌, length, take, drop, drop_of_length-le, sym, ap, subst, ◌∙◌, arith, Option, Some}
+use Rattle.std.proofs.Common.{◌≡◌, ℕ, ◌+◌, ◌<◌, List, [], ◌∷◌, ◌++◌, length, take, sym, ap, subst, ◌∙◌, Option, Some}
 use Rattle.std.specs.Prelude.{slice_get}
-use Rattle.std.proofs.lemmas.List.{drop-append-le, length-take-le, take_all, take_more}
+use Rattle.std.proofs.lemmas.List.{take_more}
 use Rattle.std.proofs.lemmas.Option.{slice_get_within, get_or_from_slice_get}
 use Rattle.grb_order.specs.Order.{room_of}
 use Rattle.grb_records.specs.Token.{Shown}
@@ -32,16 +32,7 @@ recent_tried room old new token r back order is all kept =
     recent_more old new r more.0 order more.1 kept
 
 -- one more call lent
-pub lent_next : (calls : List Call) (from at : ℕ) (c : Call) (lent : List Call) → slice_get calls at ≡ Some c → from ≤ at → lent ≡ drop from (take at calls) → lent ++ c ∷ [] ≡ drop from (take (at + 1) calls)
-lent_next calls from at c lent is le so =
+pub lent_next : (calls : List Call) (at : ℕ) (c : Call) (lent : List Call) → slice_get calls at ≡ Some c → lent ≡ take at calls → lent ++ c ∷ [] ≡ take (at + 1) calls
+lent_next calls at c lent is so =
     let near : at < length calls = slice_get_within calls at c is in
-    let first : length (take at calls) ≡ at = length-take-le at calls (omega (arith, near)) in
-    ap (λ (cs : List Call). cs ++ c ∷ []) so ∙ (sym (drop-append-le from (take at calls) (c ∷ []) (omega (arith, le, first)))
-    ∙ ap (drop from) (ap (λ (d : Call). take at calls ++ d ∷ []) (sym (get_or_from_slice_get calls at c c is)) ∙ sym (take_more calls at c near)))
-
--- none is lent at first
-pub lent_none : (calls : List Call) (from : ℕ) → from ≤ length calls → [] ≡ drop from (take from calls)
-lent_none calls from le = sym (drop_of_length-le (take from calls) (let first : length (take from calls) ≡ from = length-take-le from calls le in omega (arith, first)))
-
-pub lent_all : (calls : List Call) (from at : ℕ) (lent : List Call) → length calls ≤ at → lent ≡ drop from (take at calls) → lent ≡ drop from calls
-lent_all calls from at lent le is = is ∙ ap (drop from) (take_all at calls le)
+    ap (λ (cs : List Call). cs ++ c ∷ []) so ∙ (ap (λ (d : Call). take at calls ++ d ∷ []) (sym (get_or_from_slice_get calls at c c is)) ∙ sym (take_more calls at c near))

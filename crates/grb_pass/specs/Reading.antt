@@ -7,12 +7,13 @@ use Rattle.grb_order.specs.Order.{room_of}
 use Rattle.grb_order.specs.Holding.{Holding}
 use Rattle.grb_records.specs.Token.{Shown}
 use Rattle.grb_call.specs.declared.call.Call.{Call}
-use Rattle.grb_call.specs.Shapes.{RoomyShapes}
-use Rattle.grb_call.specs.Store.{Store, shapes_of}
+use Rattle.grb_call.specs.Store.{Store, empty_store, shapes_of}
 use Rattle.grb_call.specs.Kinds.{is_build}
 use Rattle.grb_call.specs.Refused.{refused_by_shapes}
 use Rattle.grb_call.specs.After.{refused, refused_build}
 use Rattle.grb_call.specs.History.{calls_of, store_of}
+use Rattle.grb_slices.specs.Followed.{targets_of}
+use Rattle.grb_values.specs.Targets.{WalkedCalls}
 use Rattle.grb_pass.specs.Explains.{ByStore, ground_of}
 use Rattle.grb_pass.specs.Known.{Knowing, known, spelled, AreRecords}
 use Rattle.grb_replay.specs.Evaluated.{IsEvaluated}
@@ -23,21 +24,22 @@ use Rattle.grb_pass.specs.declared.reader.Reader.TheInside.{Inside}
 abbrev pub knowing : Inside → Knowing
 knowing r = record { order = r.place.table_id; view = r.place.view; shown = r.tokens.items; steps = r.steps; statuses = r.statuses.rows; settled = r.settled }
 
--- a reader with these tokens and shapes; the words whose records were not shown yet are of others
-pub record IsKept (number size : ℕ) (place : Holding) (shown : List Shown) (capacity : ℕ) (shapes : RoomyShapes) : Type 0 where
+-- a reader with these tokens, targets and shapes; the words whose records were not shown yet are of others
+pub record IsKept (number size : ℕ) (place : Holding) (shown : List Shown) (capacity : ℕ) (walk : WalkedCalls) : Type 0 where
   pub number_is : number ≡ place.view.number
   pub sound : IsSound place.table_id.words place.view
   pub few : length shown ≤ length place.view.words
   pub records : AreRecords place.view.words shown
   pub others : All (IsOthers place.view) (drop (length shown) place.view.words)
-  pub shapes_are : shapes.objects ≡ shapes_of (store_of (spelled place.view.words shown))
-  pub room : shapes.room + length shown ≡ place.table_id.words
+  pub targets_are : walk.targets ≡ targets_of (shapes_of empty_store) (calls_of (spelled place.view.words shown))
+  pub shapes_are : walk.shapes.objects ≡ shapes_of (store_of (spelled place.view.words shown))
+  pub room : walk.shapes.room + length shown ≡ place.table_id.words
   pub roomy : place.table_id.words ≤ capacity
   pub room_is : size ≡ place.table_id.words
   pub small : place.table_id.words ≤ 4096
 
 abbrev pub IsReader : Inside → Type 0
-IsReader r = IsKept r.number r.statuses.room r.place r.tokens.items (vec_capacity r.tokens) r.shapes
+IsReader r = IsKept r.number r.statuses.room r.place r.tokens.items (vec_capacity r.tokens) r.targets
 
 -- where all calls that are known are settled, no change waits in any object
 abbrev pub IsAssembledWhereSettled : Knowing → RoomyStore → Type 0

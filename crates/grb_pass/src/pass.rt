@@ -1,10 +1,10 @@
-ghost use Rattle.std.specs.Prelude.{◌≡◌, ◌<◌, ◌≤◌, ◌+◌, ◌^◌, ◌⊎◌, false, Some, [], if◌then◌else◌, length, All, IfOk, IfErr, IfSome, OnOk, OnErr};
+ghost use Rattle.std.specs.Prelude.{◌≡◌, ◌<◌, ◌≤◌, ◌+◌, ◌^◌, ◌⊎◌, false, None, Some, [], if◌then◌else◌, length, All, IfOk, IfErr, IfSome, OnOk, OnErr};
 ghost use Rattle.std.specs.Option.{option_or};
 ghost use Rattle.grb_order.specs.View.{fresh, LookedLast};
 ghost use Rattle.grb_order.specs.Order.{room_of};
 ghost use Rattle.grb_records.specs.Token.{IsOf};
 ghost use Rattle.grb_call.specs.Kinds.{enters, is_size};
-ghost use Rattle.grb_call.specs.Refused.{is_in_bounds};
+ghost use Rattle.grb_call.specs.Refused.{is_in_bounds, refused_by_shapes};
 ghost use Rattle.grb_call.specs.Store.{empty_store, shapes_of};
 ghost use Rattle.grb_call.specs.After.{refused, reply_of};
 ghost use Rattle.grb_call.specs.History.{store_of};
@@ -29,6 +29,7 @@ use grb_core::{Info, Refusal};
 use grb_order::{Order, Place};
 use grb_records::{Records, Token};
 use grb_replay::State;
+use grb_slices::CallList;
 use grb_values::Kept;
 use grb_versions::Versions;
 use std::alloc::{AllocError, Global};
@@ -322,10 +323,10 @@ impl Pass {
         ensures unsettled { OnErr result (self.old.settled < length (known self.old)) }
         ensures same { self.new ≡ self.old }
     {
-        if self.evaluated >= self.known() as usize {
+        if self.evaluated >= self.reader.known() as usize {
             return Ok(None);
         }
-        let was_kept = self.recent.contains(object);
+        let kept = self.recent.len();
         let reply = reply_apart(
             &mut self.recent,
             records,
@@ -335,9 +336,10 @@ impl Pass {
             object,
             call,
         )?;
-        if reply.is_some() || !was_kept {
+        if reply.is_some() || self.recent.len() == kept {
             return Ok(reply);
         }
+        // What was kept of the object lacked what new calls read, and is dropped.
         reply_apart(
             &mut self.recent,
             records,
@@ -418,7 +420,7 @@ impl Pass {
         }
     }
 
-    /// Enters the record of a call after all known ones, in one atomic step. The token comes back where another pass was first; the
+    /// Enters the record of a call after all known ones, whose shapes do not refuse it, in one atomic step. The token comes back where another pass was first; the
     /// pass has then held back for a while, so that the other runs on.
     pub(crate) fn enter(&mut self, order: &Order, token: Token, call: &Call) -> Option<Token>
         requires order { self.old.order ≡ order.now }
@@ -427,6 +429,7 @@ impl Pass {
         requires pass { token.pass ≡ self.old.view.number }
         requires index { token.index < 2 ^ 48 }
         requires call { call.now ≡ token.call }
+        requires accepted { refused_by_shapes (shapes_of (store_of (known self.old))) call.now ≡ None }
         requires few { self.old.steps < 2 ^ 31 }
         ensures order { self.new.order ≡ self.old.order }
         ensures statuses { self.new.statuses ≡ self.old.statuses }

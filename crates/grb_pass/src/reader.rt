@@ -1,4 +1,4 @@
-ghost use Rattle.std.specs.Prelude.{◌≡◌, ◌<◌, ◌≤◌, ◌+◌, ◌^◌, true, [], ◌∷◌, ◌++◌, length, All, Some, slice_get, slice_index, MatchOption, IfOk};
+ghost use Rattle.std.specs.Prelude.{◌≡◌, ◌<◌, ◌≤◌, ◌+◌, ◌^◌, true, [], ◌∷◌, ◌++◌, length, All, None, Some, slice_get, slice_index, MatchOption, IfOk};
 ghost use Rattle.std.specs.Option.{option_or};
 ghost use Rattle.grb_order.specs.Word.{number_of, index_of, StartsWith};
 ghost use Rattle.grb_order.specs.View.{fresh, is_told, LookedLast};
@@ -6,34 +6,37 @@ ghost use Rattle.grb_order.specs.Order.{room_of};
 ghost use Rattle.grb_order.specs.Steps.{Looks};
 ghost use Rattle.grb_records.specs.Token.{IsOf};
 ghost use Rattle.grb_call.specs.Kinds.{enters, is_size};
-ghost use Rattle.grb_call.specs.Refused.{check_of};
-ghost use Rattle.grb_call.specs.Store.{shapes_of};
+ghost use Rattle.grb_call.specs.Refused.{check_of, refused_by_shapes};
+ghost use Rattle.grb_call.specs.Store.{empty_store, shapes_of};
 ghost use Rattle.grb_call.specs.After.{reply_of};
 ghost use Rattle.grb_call.specs.History.{calls_of, store_of};
 ghost use Rattle.grb_call.specs.Status.{info_of, made_by, with_status};
+ghost use Rattle.grb_slices.specs.Followed.{targets_of};
 ghost use Rattle.grb_statuses.specs.Statuses.{no_rows, status_at};
 ghost use Rattle.grb_pass.specs.Known.{known};
 ghost use Rattle.grb_pass.specs.Learning.{Enters, IsNextUnshown, IsSteady};
 ghost use Rattle.grb_pass.specs.Counting.{Counts, look_steps};
 ghost use Rattle.grb_pass.specs.Meeting.{SharesCallAt};
 
-use grb_call::{Call, Kind, MatrixId, Object, Reply, Shapes, VectorId, check, info_of, target_of};
+use grb_call::{Call, Kind, MatrixId, Object, Reply, VectorId, check, info_of, target_of};
 use grb_core::{Info, Refusal};
 use grb_order::{Entered, Look, Order, Place};
 use grb_records::{Records, Token};
+use grb_slices::CallList;
 use grb_statuses::Statuses;
+use grb_values::Targets;
 use std::alloc::{AllocError, Global};
 use std::marker::Model;
 
-/// What a pass has read of the order: its words, the records behind the first of them, the shapes that their calls leave,
-/// the status that each object has of the calls of the pass, and how many calls it settled.
+/// What a pass has read of the order: its words, the records behind the first of them, the targets of their calls and the shapes that they
+/// leave, the status that each object has of the calls of the pass, and how many calls it settled.
 #[derive(Drop)]
 pub(crate) struct Reader {
     number: u32,
     place: Place,
     // The records of the first words learnt, with room for all words of the order.
     tokens: Vec<Token>,
-    shapes: Shapes,
+    targets: Targets,
     // The steps of the last call.
     steps: u32,
     // The status of each object, whose number is below that of the words that the order has.
@@ -79,13 +82,13 @@ impl Reader {
         ensures { IfOk result (λ reader. reader ≡ record { order = place.table_id; view = place.view; shown = []; steps = 0; statuses = no_rows (room_of place.table_id); settled = 0 }) }
     {
         let tokens = Vec::with_capacity(alloc, room as usize)?;
-        let shapes = Shapes::open(alloc, room)?;
+        let targets = Targets::open(alloc, room)?;
         let statuses = Statuses::open(alloc, room)?;
         Ok(Reader {
             number,
             place,
             tokens,
-            shapes,
+            targets,
             steps: 0,
             statuses,
             settled: 0,
@@ -175,16 +178,6 @@ impl Reader {
         self.tokens.len() as u32
     }
 
-    /// The call of the record shown at this place.
-    pub(crate) fn call_at<'a>(&mut self, records: &'a Records, at: usize) -> &'a Call
-        requires known { at < length (known self.old) }
-        requires of { All (IsOf records.now) self.old.shown }
-        ensures call { slice_get (calls_of (known self.old)) at ≡ Some result.now }
-        ensures same { self.new ≡ self.old }
-    {
-        records.call_of(&mut self.tokens[at])
-    }
-
     /// The word learnt first of those whose record was not shown.
     pub(crate) fn next_unshown(&self) -> Option<u64>
         ensures next { MatchOption result (length self.now.shown ≡ length self.now.view.words) (λ word. IsNextUnshown self.now word) }
@@ -207,7 +200,7 @@ impl Reader {
         requires call { call.now ≡ token.call }
         ensures { self.new ≡ record self.old { shown = self.old.shown ++ token ∷ [] } }
     {
-        self.shapes.absorb(call);
+        self.targets.go_over(call);
         self.tokens.push_reserved(token);
     }
 
@@ -267,7 +260,7 @@ impl Reader {
     pub(crate) fn check(&self, call: &Call) -> Result<Kind, Refusal>
         ensures { result ≡ check_of (shapes_of (store_of (known self.now))) call.now }
     {
-        check(&self.shapes, call)
+        check(self.targets.shapes(), call)
     }
 
     /// The reply to a call that is entered after all known ones.
@@ -277,10 +270,10 @@ impl Reader {
     {
         match call {
             Call::NewMatrix { .. } | Call::DupMatrix { .. } => {
-                Reply::MadeMatrix(MatrixId(self.shapes.matrices()))
+                Reply::MadeMatrix(MatrixId(self.targets.shapes().matrices()))
             }
             Call::NewVector { .. } | Call::DupVector { .. } => {
-                Reply::MadeVector(VectorId(self.shapes.vectors()))
+                Reply::MadeVector(VectorId(self.targets.shapes().vectors()))
             }
             _ => Reply::Done,
         }
@@ -293,18 +286,20 @@ impl Reader {
     {
         match call {
             Call::SizeMatrix { a } => self
-                .shapes
+                .targets
+                .shapes()
                 .matrix(*a)
                 .map_or(Reply::Done, |shape| Reply::Dims(shape.1, shape.2)),
             Call::SizeVector { v } => self
-                .shapes
+                .targets
+                .shapes()
                 .vector(*v)
                 .map_or(Reply::Done, |shape| Reply::Size(shape.1)),
             _ => unreachable!(),
         }
     }
 
-    /// Enters the record of a call after all known ones, in one atomic step. The token comes back where another pass was first.
+    /// Enters the record of a call after all known ones, whose shapes do not refuse it, in one atomic step. The token comes back where another pass was first.
     pub(crate) fn enter(&mut self, order: &Order, token: Token, call: &Call) -> Option<Token>
         requires order { self.old.order ≡ order.now }
         requires looked { LookedLast self.old.view }
@@ -312,6 +307,7 @@ impl Reader {
         requires pass { token.pass ≡ self.old.view.number }
         requires index { token.index < 2 ^ 48 }
         requires call { call.now ≡ token.call }
+        requires accepted { refused_by_shapes (shapes_of (store_of (known self.old))) call.now ≡ None }
         requires few { self.old.steps < 2 ^ 31 }
         ensures order { self.new.order ≡ self.old.order }
         ensures statuses { self.new.statuses ≡ self.old.statuses }
@@ -323,11 +319,27 @@ impl Reader {
         self.steps += 1;
         match order.enter(&mut self.place, token.index()) {
             Entered::Won => {
-                self.shapes.absorb(call);
+                self.targets.take_in(call);
                 self.tokens.push_reserved(token);
                 None
             }
             Entered::Lost(_) => Some(token),
         }
+    }
+}
+
+impl CallList<Records> for Reader {
+    ghost is_in = { λ records reader. All (IsOf records) reader.shown };
+
+    ghost calls = { λ records reader. calls_of (known reader) };
+
+    ghost target_list = { λ reader. targets_of (shapes_of empty_store) (calls_of (known reader)) };
+
+    fn targets(&self) -> &[Option<Object>] {
+        self.targets.targets()
+    }
+
+    fn call_at<'a>(&mut self, source: &'a Records, at: usize) -> &'a Call {
+        source.call_of(&mut self.tokens[at])
     }
 }

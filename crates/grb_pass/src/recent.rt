@@ -1,4 +1,4 @@
-ghost use Rattle.std.specs.Prelude.{◌≡◌, ◌<◌, ◌≤◌, ◌^◌, false, List, None, Some, drop, length, map, All, IfOk, IfSome};
+ghost use Rattle.std.specs.Prelude.{◌≡◌, ◌<◌, ◌≤◌, ◌^◌, false, None, Some, length, map, All, IfOk, IfSome};
 ghost use Rattle.grb_order.specs.Order.{room_of};
 ghost use Rattle.grb_records.specs.Token.{IsOf};
 ghost use Rattle.grb_call.specs.declared.call.Call.{Call};
@@ -15,6 +15,7 @@ use crate::reader::Reader;
 use grb_call::{Call, Object, Reply, WaitMode};
 use grb_records::Records;
 use grb_replay::State;
+use grb_slices::CallList;
 use grb_values::Kept;
 use std::alloc::AllocError;
 
@@ -42,57 +43,24 @@ pub(crate) fn object_read(call: &Call) -> Option<Object>
     }
 }
 
-/// The known calls from this place on, in turn. `AllocError` where memory is refused.
+/// The known calls, in turn. `AllocError` where memory is refused.
 pub(crate) fn lent_calls<'a>(
     records: &'a Records,
     reader: &mut Reader,
-    from: usize,
 ) -> Result<Vec<&'a Call>, AllocError>
     requires of { All (IsOf records.now) reader.old.shown }
-    requires from { from ≤ length (known reader.old) }
-    ensures calls { IfOk result (λ calls. map (λ c. c.now) calls.items ≡ drop from (calls_of (known reader.old))) }
+    ensures calls { IfOk result (λ calls. map (λ c. c.now) calls.items ≡ calls_of (known reader.old)) }
     ensures few { IfOk result (λ calls. length calls.items < 2 ^ 32) }
     ensures within { IfOk result (λ calls. length calls.items ≤ room_of reader.old.order) }
     ensures known { length (known reader.old) ≤ room_of reader.old.order }
     ensures same { reader.new ≡ reader.old }
 {
     let known = reader.known() as usize;
-    let mut calls = Vec::with_capacity(reader.allocator(), known - from)?;
-    'calls: for at in from..known {
+    let mut calls = Vec::with_capacity(reader.allocator(), known)?;
+    'calls: for at in 0..known {
         calls.push_reserved(reader.call_at(records, at));
     }
     Ok(calls)
-}
-
-/// As [`reply_apart`], where these are the known calls.
-fn reply_after(
-    recent: &mut Kept,
-    records: &Records,
-    reader: &mut Reader,
-    state: &State,
-    evaluated: usize,
-    object: Object,
-    call: &Call,
-) -> Result<Option<Reply>, AllocError>
-    ghost calls: { List Call }
-    requires calls { calls ≡ calls_of (known reader.old) }
-    requires recent { IsRecent (room_of reader.old.order) calls recent.old }
-    requires records { All (IsOf records.now) reader.old.shown }
-    requires state { IsEvaluated calls evaluated state.now.store }
-    requires reads { enters call.now ≡ false }
-    requires no_size { is_size call.now ≡ false }
-    requires about { object_of call.now ≡ Some object }
-    requires accepted { refused (store_of (known reader.old)) call.now ≡ None }
-    ensures same { reader.new ≡ reader.old }
-    ensures recent { IsRecent (room_of reader.old.order) calls recent.new }
-    ensures reply { IfOk result (λ given. IfSome given (λ reply. reply ≡ reply_of (store_of (known reader.old)) call.now)) }
-{
-    let known = reader.known() as usize;
-    let Some(start) = recent.start(object, known, evaluated) else {
-        return Ok(None);
-    };
-    let lent = lent_calls(records, reader, start)?;
-    recent.reply(lent.as_slice(), start, state, evaluated, object, call)
 }
 
 /// The reply to a call that only reads the object and is not refused, after all known calls, of which so many are evaluated in the state:
@@ -108,6 +76,7 @@ pub(crate) fn reply_apart(
     call: &Call,
 ) -> Result<Option<Reply>, AllocError>
     requires recent { IsRecent (room_of reader.old.order) (calls_of (known reader.old)) recent.old }
+    requires few { length (known reader.old) ≤ room_of reader.old.order }
     requires records { All (IsOf records.now) reader.old.shown }
     requires state { IsEvaluated (calls_of (known reader.old)) evaluated state.now.store }
     requires reads { enters call.now ≡ false }
@@ -118,5 +87,5 @@ pub(crate) fn reply_apart(
     ensures recent { IsRecent (room_of reader.old.order) (calls_of (known reader.old)) recent.new }
     ensures reply { IfOk result (λ given. IfSome given (λ reply. reply ≡ reply_of (store_of (known reader.old)) call.now)) }
 {
-    reply_after(recent, records, reader, state, evaluated, object, call)
+    recent.reply(reader, records, state, evaluated, object, call)
 }

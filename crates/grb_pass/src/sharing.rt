@@ -60,7 +60,7 @@ impl Sharing {
         if self.versions.longest() <= *evaluated {
             return;
         }
-        let Ok(calls) = lent_calls(records, reader, 0) else {
+        let Ok(calls) = lent_calls(records, reader) else {
             return;
         };
         let room = reader.room();
@@ -87,7 +87,7 @@ impl Sharing {
             return;
         }
         self.offered = known;
-        let Ok(calls) = lent_calls(records, reader, 0) else {
+        let Ok(calls) = lent_calls(records, reader) else {
             return;
         };
         let Ok(copy) = state.try_clone(0) else {

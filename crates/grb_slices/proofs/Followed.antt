@@ -55,10 +55,10 @@ reshaped_vectors s (call.FreeVector v) = length-set s.vectors v.0 _
 reshaped_vectors s (call.ResizeVector v size) = length-set s.vectors v.0 _
 reshaped_vectors s _ = refl
 
-matrices_of : (s : Store) → length (shapes_of s).matrices ≡ length s.matrices
+pub matrices_of : (s : Store) → length (shapes_of s).matrices ≡ length s.matrices
 matrices_of s = length-map s.matrices _
 
-vectors_of : (s : Store) → length (shapes_of s).vectors ≡ length s.vectors
+pub vectors_of : (s : Store) → length (shapes_of s).vectors ≡ length s.vectors
 vectors_of s = length-map s.vectors _
 
 module _ (s : Store) (c : Call) where

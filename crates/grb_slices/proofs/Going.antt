@@ -63,6 +63,16 @@ goes_at w s part cs ts bs k c t b within same_t same_b ec et eb goes =
     (subst (λ (x : List (Option Object)). GoesOn w (after_all s (take k cs)) (drop k cs) x (b ∷ drop (suc k) bs) part) here_t
     (subst (λ (x : List Bool). GoesOn w (after_all s (take k cs)) (drop k cs) (drop k ts) x part) here_b goes))))
 
+-- and the target at that place
+pub goes_target : (w : Wants) (s part : Store) (cs : List Call) (ts : List (Option Object)) (bs : List Bool) (k : ℕ) (c : Call) (t : Option Object) →
+    k < length cs → length ts ≡ length cs → get_or cs k c ≡ c → get_or ts k t ≡ t → GoesOn w (after_all s (take k cs)) (drop k cs) (drop k ts) (drop k bs) part →
+    t ≡ effective_target (shapes_of (after_all s (take k cs))) c
+goes_target w s part cs ts bs k c t within same_t ec et goes =
+    let u : ObjectShapes = shapes_of (after_all s (take k cs)) in
+    let here_c : drop k cs ≡ c ∷ drop (suc k) cs = drop_at cs k c within ∙ ap (λ x. x ∷ drop (suc k) cs) ec in
+    let here_t : drop k ts ≡ t ∷ drop (suc k) ts = drop_at ts k t (omega (arith, within, same_t)) ∙ ap (λ x. x ∷ drop (suc k) ts) et in
+    first_of t (effective_target u c) (drop (suc k) ts) (targets_of (shapes_after u c) (drop (suc k) cs)) (sym here_t ∙ (goes.targets_are ∙ ap (targets_of u) here_c))
+
 pub drop_all : {X : Type 0} (xs : List X) (n : ℕ) → n ≡ length xs → drop n xs ≡ []
 drop_all [] n e = ap (λ m. drop m []) e
 drop_all (x ∷ xs) n e = ap (λ m. drop m (x ∷ xs)) e ∙ drop_all xs (length xs) refl

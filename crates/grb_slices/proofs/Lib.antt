@@ -5,6 +5,7 @@ pub mod Going
 pub mod Kept
 pub mod Live
 pub mod Marks
+pub mod Placed
 pub mod Refusals
 pub mod Sliced
 pub mod Targets

@@ -37,7 +37,7 @@ first_holds : (b : Bool) (rest : Option Refusal) → (if not b then Some Uniniti
 first_holds true rest e = refl
 first_holds false rest e = cc
 
-initialized : (s : ObjectShapes) (c : Call) → refused_by_shapes s c ≡ None → is_initialized s c ≡ true
+pub initialized : (s : ObjectShapes) (c : Call) → refused_by_shapes s c ≡ None → is_initialized s c ≡ true
 initialized s c e = first_holds (is_initialized s c) _ e
 
 and_left : (a b : Bool) → (a && b) ≡ true → a ≡ true
@@ -48,7 +48,7 @@ and_right : (a b : Bool) → (a && b) ≡ true → b ≡ true
 and_right true b e = e
 and_right false b e = cc
 
-all_of : (P : Object → Bool) (os : List Object) (o : Object) → list_all P os ≡ true → is_among os o ≡ true → P o ≡ true
+pub all_of : (P : Object → Bool) (os : List Object) (o : Object) → list_all P os ≡ true → is_among os o ≡ true → P o ≡ true
 all_of P [] o all among = cc
 all_of P (p ∷ os) o all among = elim (is_same_object o p) as (λ b. is_same_object o p ≡ b → (b || list_any (is_same_object o) os) ≡ true → P o ≡ true) [
   | true ↦ λ e _. subst (λ (x : Object). P x ≡ true) (sym (is_same_object-true o p e)) (and_left (P p) (list_all P os) all)

@@ -1,6 +1,9 @@
 -- The walk back over entries: one step of it, and where it begins.
-use Rattle.std.proofs.Common.{◌≡◌, ℕ, zero, suc, ◌+◌, ◌<◌, ◌≤◌, Bool, true, false, ◌||◌, if◌then◌else◌, List, [], ◌∷◌, refl, sym, ap, ◌∙◌, arith, length, map, drop, get_or, set, Option, Some, None}
+use Rattle.std.proofs.Common.{◌≡◌, ℕ, zero, suc, ◌+◌, ◌-◌, ◌<◌, ◌≤◌, Bool, true, false, ◌||◌, if◌then◌else◌, List, [], ◌∷◌, refl, sym, ap, ◌∙◌, arith, length, map, drop, get_or, set, Option, Some, None}
+use Rattle.std.specs.Prelude.{slice_get}
 use Rattle.std.specs.Option.{option_map_or}
+use Rattle.std.proofs.lemmas.List.{get_or-drop}
+use Rattle.std.proofs.lemmas.Option.{get_or_from_slice_get}
 use Rattle.grb_call.specs.declared.call.Call.{Call}
 use Rattle.grb_call.specs.declared.ids.Object.{Object}
 use Rattle.grb_slices.specs.Slice.{Step, Entry, Make, Wants, wants_before, choices, entries, sliced}
@@ -105,6 +108,16 @@ walk_goes w v u ts cs k c chosen n b same within count is walked chose goes =
 pub walk_count : (k m n : ℕ) (b : Bool) → n + suc k ≤ m → (if b then n + 1 else n) + k ≤ m
 walk_count k m n true h = omega (arith, h)
 walk_count k m n false h = omega (arith, h)
+
+-- a call at a place of a list
+pub call_there : (cs : List Call) (n : ℕ) → n < length cs → (c : Call) × (slice_get cs n ≡ Some c)
+call_there [] n h = absurd (omega arith)
+call_there (c ∷ cs) zero h = (c, refl)
+call_there (c ∷ cs) (suc n) h = call_there cs n (omega arith)
+
+-- and at that place of what stands behind an earlier one
+pub call_behind : (cs : List Call) (from at : ℕ) (c : Call) → from ≤ at → slice_get cs at ≡ Some c → get_or (drop from cs) (at - from) c ≡ c
+call_behind cs from at c le is = get_or-drop from cs (at - from) c ∙ (ap (λ (n : ℕ). get_or cs n c) (omega (arith, le)) ∙ get_or_from_slice_get cs at c c is)
 
 -- a call that is lent
 pub lent_call : {X : Type 0} (f : X → Call) (xs : List X) (k : ℕ) (d : X) → d ≡ get_or xs k d → get_or (map f xs) k (f d) ≡ f d

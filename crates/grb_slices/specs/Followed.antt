@@ -1,6 +1,6 @@
 -- A store that holds of another what is wanted, and has a place for each object that the other has (own): what evaluating a slice in place
 -- of all calls leaves.
-use Rattle.std.specs.Prelude.{◌≡◌, List, [], ◌∷◌, length, Bool, true, false, Option, Some, None}
+use Rattle.std.specs.Prelude.{◌≡◌, ◌<◌, ◌≤◌, List, [], ◌∷◌, length, Bool, true, false, Option, Some, None}
 use Rattle.std.specs.Option.{option_map_or}
 use Rattle.grb_core.specs.declared.domain.Domain.TheVariants as domain
 use Rattle.grb_call.specs.declared.call.Call.{Call}
@@ -25,6 +25,16 @@ pub record Follows (w : Wants) (whole part : Store) : Type 0 where
 abbrev pub place_for : Object → Call
 place_for (object.Matrix a) = call.NewMatrix domain.Bool 1 1
 place_for (object.Vector v) = call.NewVector domain.Bool 1
+
+-- a store has a place for the object, whether or not it was freed
+abbrev pub HasPlaceIn : Store → Object → Type 0
+HasPlaceIn s (object.Matrix a) = a.0 < length s.matrices
+HasPlaceIn s (object.Vector v) = v.0 < length s.vectors
+
+-- it has none yet
+abbrev pub LacksPlaceIn : Store → Object → Type 0
+LacksPlaceIn s (object.Matrix a) = length s.matrices ≤ a.0
+LacksPlaceIn s (object.Vector v) = length s.vectors ≤ v.0
 
 -- what becomes of the part at one entry: a chosen call is made; of one that is not, the object that it would make gets a place
 abbrev pub part_after : Bool → Option Object → Call → Store → Store

@@ -1,11 +1,13 @@
-ghost use Rattle.std.specs.Prelude.{◌≡◌, ◌+◌, ◌<◌, ◌≤◌, ◌^◌, ℕ, if◌then◌else◌, length, map, IfOk};
+ghost use Rattle.std.specs.Prelude.{◌≡◌, ◌+◌, ◌<◌, ◌≤◌, ◌^◌, ℕ, Some, if◌then◌else◌, drop, length, slice_get, IfOk, OnOk};
+ghost use Rattle.grb_call.specs.declared.call.Call.{Call};
 ghost use Rattle.grb_call.specs.declared.ids.Object.{Object};
 ghost use Rattle.grb_call.specs.Status.{is_same_object};
 ghost use Rattle.grb_slices.specs.Found.{IsSliceFor};
-ghost use Rattle.grb_slices.specs.Wanted.{is_wanted};
+ghost use Rattle.grb_slices.specs.Wanted.{is_chosen, is_wanted, wants_behind};
 
+use crate::calls::CallList;
 use crate::wanted::Wanted;
-use grb_call::{Call, Object};
+use grb_call::Object;
 use std::alloc::{AllocError, Global};
 
 /// The slice of a list of calls for one object.
@@ -27,27 +29,55 @@ fn counted(count: usize, is_chosen: bool) -> usize
     if is_chosen { count + 1 } else { count }
 }
 
-/// The calls that what is wanted depends on, of a list of calls whose targets at their places these are, none for one that is refused there.
-/// `AllocError` where memory is refused.
+/// Goes back over the call at this place, which has this target there: whether the target is wanted, so that the call is chosen. Only then
+/// is the call read. `AllocError` where memory is refused.
+fn go_back_at<S, C: CallList<S>>(
+    wanted: &mut Wanted,
+    target: Option<Object>,
+    calls: &mut C,
+    source: &S,
+    at: usize,
+) -> Result<bool, AllocError>
+    requires held { C.is_in source.now calls.old }
+    requires at { at < length (C.calls source.now calls.old) }
+    ensures same { calls.new ≡ calls.old }
+    ensures chosen { IfOk result (λ chosen. chosen ≡ is_chosen (is_wanted wanted.old) target) }
+    ensures wanted { OnOk result ((call : Call) → slice_get (C.calls source.now calls.old) at ≡ Some call → (o : Object) → is_wanted wanted.new o ≡ wants_behind (is_wanted wanted.old) target call o) }
+{
+    let Some(object) = target else {
+        return Ok(false);
+    };
+    if !wanted.contains(object) {
+        return Ok(false);
+    }
+    wanted.go_back(target, calls.call_at(source, at))
+}
+
+/// The calls from a place on that what is wanted behind the last depends on. `AllocError` where memory is refused.
 ///
 /// Source: Weiser, "Program slicing", 1981; over calls own.
-pub fn slice_for(
+pub fn slice_for<S, C: CallList<S>>(
     alloc: Global,
-    targets: &[Option<Object>],
-    calls: &[&Call],
+    calls: &mut C,
+    source: &S,
+    from: usize,
     wanted: Wanted,
 ) -> Result<Slice, AllocError>
-    requires { length targets.now ≡ length calls.now }
-    ensures { IfOk result (λ slice. IsSliceFor slice (is_wanted wanted) targets.now (map (λ c. c.now) calls.now)) }
+    requires held { C.is_in source.now calls.old }
+    requires targets { length (C.target_list calls.old) ≡ length (C.calls source.now calls.old) }
+    requires from { from ≤ length (C.calls source.now calls.old) }
+    ensures same { calls.new ≡ calls.old }
+    ensures slice { IfOk result (λ slice. IsSliceFor slice (is_wanted wanted) (drop from (C.target_list calls.old)) (drop from (C.calls source.now calls.old))) }
 {
     let mut wanted = wanted;
-    let mut chosen = vec![in alloc; false; calls.len()]?;
+    let mut at = calls.targets().len();
+    let mut chosen = vec![in alloc; false; at - from]?;
     let mut count = 0;
-    let mut at = calls.len();
-    'calls: while at > 0 {
+    'back: while at > from {
         at -= 1;
-        let is_chosen = wanted.go_back(targets[at], calls[at])?;
-        chosen[at] = is_chosen;
+        let target = calls.targets()[at];
+        let is_chosen = go_back_at(&mut wanted, target, calls, source, at)?;
+        chosen[at - from] = is_chosen;
         count = counted(count, is_chosen);
     }
     Ok(Slice {
@@ -57,20 +87,21 @@ pub fn slice_for(
     })
 }
 
-/// The calls that an object depends on, of a list of calls whose targets at their places these are, none for one that is refused there.
-/// `AllocError` where memory is refused.
+/// The calls of a list that an object depends on. `AllocError` where memory is refused.
 ///
 /// Source: Weiser, "Program slicing", 1981; over calls own.
-pub fn slice_of(
+pub fn slice_of<S, C: CallList<S>>(
     alloc: Global,
-    targets: &[Option<Object>],
-    calls: &[&Call],
+    calls: &mut C,
+    source: &S,
     object: Object,
 ) -> Result<Slice, AllocError>
-    requires { length targets.now ≡ length calls.now }
-    ensures { IfOk result (λ slice. IsSliceFor slice (is_same_object object) targets.now (map (λ c. c.now) calls.now)) }
+    requires held { C.is_in source.now calls.old }
+    requires targets { length (C.target_list calls.old) ≡ length (C.calls source.now calls.old) }
+    ensures same { calls.new ≡ calls.old }
+    ensures slice { IfOk result (λ slice. IsSliceFor slice (is_same_object object) (C.target_list calls.old) (C.calls source.now calls.old)) }
 {
     let mut wanted = Wanted::new(alloc);
     wanted.want(object)?;
-    slice_for(alloc, targets, calls, wanted)
+    slice_for(alloc, calls, source, 0, wanted)
 }

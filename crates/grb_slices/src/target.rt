@@ -5,8 +5,8 @@ ghost use Rattle.grb_slices.specs.Followed.{place_for};
 use grb_call::{Call, MatrixId, Object, Shapes, VectorId, check};
 use grb_core::Domain;
 
-/// The object that the call changes or makes, on objects of these shapes, where it is not refused.
-fn target_of(shapes: &Shapes, call: &Call) -> Option<Object>
+/// The object that the call changes or makes, on objects of these shapes, where it is not refused. Takes no memory.
+pub fn target_of(shapes: &Shapes, call: &Call) -> Option<Object>
     ensures { result ≡ target_of shapes.now.objects call.now }
 {
     match call {

@@ -1,9 +1,8 @@
 -- Objects that were read, as they go on.
-use Rattle.std.proofs.Common.{◌≡◌, ℕ, ◌+◌, ◌-◌, ◌≤◌, true, List, ◌++◌, length, take, drop, map, Bool, ◌||◌, sym, ap, subst, ◌∙◌, arith, length-append, Option}
+use Rattle.std.proofs.Common.{◌≡◌, ℕ, ◌+◌, ◌≤◌, true, List, ◌++◌, length, take, drop, Bool, ◌||◌, refl, sym, ap, subst, ◌∙◌, arith, length-append, Option}
 use Rattle.std.specs.Prelude.{All}
-use Rattle.std.proofs.lemmas.List.{drop-drop, take_all, take-append-le}
+use Rattle.std.proofs.lemmas.List.{take_all, take-append-le}
 use Rattle.std.proofs.lemmas.List.Elements.{All-weaker}
-use lib.ListN.{length-drop, length-map}
 use Rattle.grb_call.specs.declared.call.Call.{Call}
 use Rattle.grb_call.specs.declared.ids.Object.{Object}
 use Rattle.grb_call.specs.Store.{Store, empty_store, shapes_of}
@@ -14,20 +13,8 @@ use Rattle.grb_slices.specs.Wanted.{Marks, is_wanted}
 use Rattle.grb_slices.proofs.Wants.{is_same_object-self}
 use Rattle.grb_call.specs.Status.{is_same_object}
 use Rattle.grb_values.specs.Keeping.{AreKept, IsKeptAt, IsKeptNow, KeptObject, KeptObjects}
-use Rattle.grb_values.specs.Targets.{AreTargetsOf, WalkedCalls}
-use Rattle.grb_values.proofs.NextTarget.{walk_ends, walked_more}
-use Rattle.grb_values.proofs.Onward.{after_behind, calls_behind, targets_here}
-
--- the calls behind a place, of calls that are lent from a place on
-pub lent_behind : {X : Type 0} (f : X → Call) (xs ys : List X) (known : List Call) (start at : ℕ) → map f xs ≡ drop start known → start ≤ at → ys ≡ drop (at - start) xs → map f ys ≡ drop at known
-lent_behind f xs ys known start at lent le is =
-    calls_behind f xs ys (at - start) is ∙ (ap (drop (at - start)) lent ∙ (drop-drop (at - start) start known
-    ∙ ap (λ (n : ℕ). drop n known) (omega (arith, le))))
-
-pub lent_count : {X : Type 0} (f : X → Call) (xs : List X) (known : List Call) (start : ℕ) → map f xs ≡ drop start known → start ≤ length known → start + length xs ≡ length known
-lent_count f xs known start lent le =
-    let n : length xs ≡ length known - start = sym (length-map xs f) ∙ (ap length lent ∙ length-drop start known) in
-    omega (arith, n, le)
+use Rattle.grb_values.proofs.NextTarget.{length-targets_of}
+use Rattle.grb_values.proofs.Onward.{after_behind, targets_here}
 
 -- kept as it is after all calls
 pub kept_now : (room : ℕ) (known : List Call) (o : Object) (k : KeptObject) → k.upto ≡ length known → is_wanted k.part.held o ≡ true →
@@ -46,26 +33,25 @@ kept_now room known o k all held follows roomy = record {
 pub wanted_self : (o : Object) (b : Bool) → (is_same_object o o || b) ≡ true
 wanted_self o b = ap (λ (a : Bool). a || b) (is_same_object-self o)
 
--- what stands behind a place of one walk over all calls
-module _ (known bs : List Call) (at : ℕ) (walk : WalkedCalls) (walked : AreTargetsOf walk known) (all : length walk.targets ≡ length known) (ts : List (Option Object)) (here : ts ≡ drop at walk.targets) (behind : bs ≡ drop at known) where
-  pub count_behind : length ts ≡ length bs
-  count_behind = ap length here ∙ (length-drop at walk.targets ∙ (ap (λ n. n - at) all ∙ sym (ap length behind ∙ length-drop at known)))
+-- what stands behind a place of all calls, and of their targets
+module _ (known : List Call) (at : ℕ) (ws : List (Option Object)) (walked : ws ≡ targets_of (shapes_of empty_store) known) where
+  pub count_all : length ws ≡ length known
+  count_all = ap length walked ∙ length-targets_of (shapes_of empty_store) known
 
-  pub targets_behind_are : (s : Store) → s ≡ after_all empty_store (take at known) → ts ≡ targets_of (shapes_of s) bs
-  targets_behind_are s is = targets_here known bs at s is behind walk.targets ts (walk_ends walk known walked all).0 here
+  pub targets_behind_are : (s : Store) → s ≡ after_all empty_store (take at known) → drop at ws ≡ targets_of (shapes_of s) (drop at known)
+  targets_behind_are s is = targets_here known (drop at known) at s is refl ws (drop at ws) walked refl
 
   -- a part that went on to the end
-  pub kept_onward : (o : Object) (m : Marks) (s : Store) → s ≡ after_all empty_store (take at known) → (room before : ℕ) (k : KeptObject) → at ≤ length known → k.upto ≡ length known → k.part.held ≡ m → is_wanted m o ≡ true →
-      Follows (is_wanted m) (after_all s bs) k.part.part.store → room ≤ before + at → before ≤ k.part.part.room + length bs → IsKeptNow room known o k
-  kept_onward o m s is room before k within now held wanted follows roomy more =
+  pub kept_onward : (o : Object) (m : Marks) (s : Store) → s ≡ after_all empty_store (take at known) → (room before : ℕ) (k : KeptObject) → k.upto ≡ length known → k.part.held ≡ m → is_wanted m o ≡ true →
+      Follows (is_wanted m) (after_all s (drop at known)) k.part.part.store → room ≤ before + at → before + at ≤ k.part.part.room + length known → IsKeptNow room known o k
+  kept_onward o m s is room before k now held wanted follows roomy more =
       let end : Follows (is_wanted k.part.held) (after_all empty_store known) k.part.part.store =
-      subst (λ (t : Store). Follows (is_wanted k.part.held) t k.part.part.store) (after_behind known bs at s is behind) (subst (λ (n : Marks). Follows (is_wanted n) (after_all s bs) k.part.part.store) (sym held) follows) in
-      let n : length bs ≡ length known - at = ap length behind ∙ length-drop at known in
-      kept_now room known o k now (ap (λ (n : Marks). is_wanted n o) held ∙ wanted) end (omega (arith, roomy, more, n, within))
+      subst (λ (t : Store). Follows (is_wanted k.part.held) t k.part.part.store) (after_behind known (drop at known) at s is refl) (subst (λ (n : Marks). Follows (is_wanted n) (after_all s (drop at known)) k.part.part.store) (sym held) follows) in
+      kept_now room known o k now (ap (λ (n : Marks). is_wanted n o) held ∙ wanted) end (omega (arith, roomy, more))
 
 -- other parts
 pub kept_with : (known : List Call) (old new : KeptObjects) → new ≡ record old { parts = new.parts } → AreKept known old → All (IsKeptAt old.room known) new.parts → AreKept known new
-kept_with known old new same is parts = subst (AreKept known) (sym same) (record { walk = is.walk; roomy = is.roomy; parts = parts })
+kept_with known old new same is parts = subst (AreKept known) (sym same) (record { parts = parts })
 
 -- what an object holds that is kept as it is after all calls
 pub now_content : (room : ℕ) (known : List Call) (o : Object) (k : KeptObject) → IsKeptNow room known o k → content_at (after_all empty_store known) o ≡ content_at k.part.part.store o
@@ -85,8 +71,6 @@ kept_same room known old new upto held store roomy is = record {
 -- more calls
 pub kept_more : (known more : List Call) (k : KeptObjects) → AreKept known k → AreKept (known ++ more) k
 kept_more known more k is = record {
-  walk = walked_more k.walk known more is.walk;
-  roomy = is.roomy;
   parts = All-weaker (IsKeptAt k.room known) (IsKeptAt k.room (known ++ more)) (λ p at. record {
     within = omega (arith, at.within, length-append known more);
     follows = subst (λ (cs : List Call). Follows (is_wanted p.part.held) (after_all empty_store cs) p.part.part.store) (sym (take-append-le p.upto known more at.within)) at.follows;

@@ -15,11 +15,16 @@ use Rattle.grb_slices.specs.Followed.{targets_of}
 use Rattle.grb_slices.proofs.Going.{take_all}
 use Rattle.grb_values.specs.Targets.{AreTargetsOf, WalkedCalls}
 
-targets_push : (s : Store) (cs : List Call) (c : Call) → targets_of (shapes_of s) (cs ++ c ∷ []) ≡ targets_of (shapes_of s) cs ++ effective_target (shapes_of (after_all s cs)) c ∷ []
+pub targets_push : (s : Store) (cs : List Call) (c : Call) → targets_of (shapes_of s) (cs ++ c ∷ []) ≡ targets_of (shapes_of s) cs ++ effective_target (shapes_of (after_all s cs)) c ∷ []
 targets_push s [] c = refl
 targets_push s (d ∷ cs) c = ap (λ (ts : List (Option Object)). effective_target (shapes_of s) d ∷ ts)
     (ap (λ (u : ObjectShapes). targets_of u (cs ++ c ∷ [])) (sym (shapes_of-after s d)) ∙ (targets_push (after s d) cs c
     ∙ ap (λ (u : ObjectShapes). targets_of u cs ++ effective_target (shapes_of (after_all (after s d) cs)) c ∷ []) (shapes_of-after s d)))
+
+-- one for each call
+pub length-targets_of : (s : ObjectShapes) (cs : List Call) → length (targets_of s cs) ≡ length cs
+length-targets_of s [] = refl
+length-targets_of s (c ∷ cs) = ap suc (length-targets_of (shapes_after s c) cs)
 
 -- the targets behind a place are those of the calls behind it
 pub targets_behind : (s : Store) (cs : List Call) (k : ℕ) → drop k (targets_of (shapes_of s) cs) ≡ targets_of (shapes_of (after_all s (take k cs))) (drop k cs)

@@ -1,5 +1,5 @@
 -- The calls behind those that are evaluated.
-use Rattle.std.proofs.Common.{zero, suc, refl, map, drop, ◌≡◌, ℕ, List, [], ◌∷◌, take, sym, ap, ◌∙◌, Option}
+use Rattle.std.proofs.Common.{drop, ◌≡◌, ℕ, List, take, sym, ap, ◌∙◌, Option}
 use Rattle.std.proofs.lemmas.List.{take-append-drop}
 use Rattle.grb_call.specs.declared.call.Call.{Call}
 use Rattle.grb_call.specs.declared.ids.Object.{Object}
@@ -8,11 +8,6 @@ use Rattle.grb_call.specs.History.{after_all}
 use Rattle.grb_call.proofs.Runs.{after_all-append}
 use Rattle.grb_slices.specs.Followed.{targets_of}
 use Rattle.grb_values.proofs.NextTarget.{targets_behind}
-
-map_drop : {X Y : Type 0} (f : X → Y) (xs : List X) (n : ℕ) → map f (drop n xs) ≡ drop n (map f xs)
-map_drop f xs zero = refl
-map_drop f [] (suc n) = refl
-map_drop f (x ∷ xs) (suc n) = map_drop f xs n
 
 -- the calls behind those that are evaluated
 module _ (cs bs : List Call) (e : ℕ) (s : Store) (is : s ≡ after_all empty_store (take e cs)) (behind : bs ≡ drop e cs) where
@@ -25,6 +20,3 @@ module _ (cs bs : List Call) (e : ℕ) (s : Store) (is : s ≡ after_all empty_s
   targets_here ws ts walked here =
       here ∙ (ap (drop e) walked ∙ (targets_behind empty_store cs e
       ∙ (ap (λ (t : Store). targets_of (shapes_of t) (drop e cs)) (sym is) ∙ ap (targets_of (shapes_of s)) (sym behind))))
-
-pub calls_behind : {X : Type 0} (f : X → Call) (xs ys : List X) (e : ℕ) → ys ≡ drop e xs → map f ys ≡ drop e (map f xs)
-calls_behind f xs ys e is = ap (map f) is ∙ map_drop f xs e

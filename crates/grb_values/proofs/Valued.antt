@@ -1,5 +1,6 @@
 -- The object after all calls, and how many of them were made for it.
 use Rattle.std.proofs.Common.{◌≡◌, is_some, option_map, refl, if◌then◌else◌, Bool, false, true, List, length, sym, ap, ◌∙◌, Option, Some, None, Result, Ok, Err, ℕ}
+use Rattle.std.specs.Prelude.{OnOk}
 use Rattle.std.specs.Option.{option_map_or}
 use Rattle.grb_core.specs.declared.refusal.Refusal.{Refusal}
 use Rattle.grb_call.specs.declared.reply.Reply.{Reply}
@@ -39,6 +40,11 @@ pub counted : (o : Object) (s : Store) (cs : List Call) (ts : List (Option Objec
     n ≡ length (sliced (is_same_object o) (entries ts cs)).tasks → n ≡ length (sliced (is_same_object o) (steps_of (shapes_of s) cs)).tasks
 counted o s cs ts n targets count =
     count ∙ ap (λ (xs : List Step). length (sliced (is_same_object o) xs).tasks) (ap (λ (us : List (Option Object)). entries us cs) targets ∙ entries_are (shapes_of s) cs)
+
+-- what follows from what an answer promises
+pub on_ok : {T E P Q : Type 0} → (P → Q) → (r : Result T E) → OnOk r P → OnOk r Q
+on_ok f (Ok x) p = f p
+on_ok f (Err e) p = p
 
 -- the answer by the part, where the object holds the same as in the whole
 pub refused-by : (whole part : Store) (c : Call) (o : Object) (r : Refusal) → enters c ≡ false → object_of c ≡ Some o → content_at whole o ≡ content_at part o → refused part c ≡ Some r →

@@ -7,7 +7,6 @@ use Rattle.grb_call.specs.History.{after_all}
 use Rattle.grb_replay.specs.State.{RoomyStore}
 use Rattle.grb_slices.specs.Followed.{Follows}
 use Rattle.grb_slices.specs.Wanted.{Marks, is_wanted}
-use Rattle.grb_values.specs.Targets.{AreTargetsOf, WalkedCalls}
 
 -- a part of a store, and the objects that it holds of the store
 pub record HeldPart : Type 0 where
@@ -20,10 +19,9 @@ pub record KeptObject : Type 0 where
   pub part : HeldPart
   pub upto : ℕ
 
--- the objects that were read, the walk over the calls, and how many calls there is room for
+-- the objects that were read, and how many calls there is room for
 pub record KeptObjects : Type 0 where
   pub parts : List KeptObject
-  pub walk : WalkedCalls
   pub room : ℕ
 
 -- the part holds what the store holds after so many of the calls, with room for the others
@@ -38,8 +36,6 @@ pub record IsKeptNow (room : ℕ) (calls : List Call) (object : Object) (k : Kep
   pub all : k.upto ≡ length calls
   pub held : is_wanted k.part.held object ≡ true
 
--- each part is kept so, and the walk is over the first of the calls, with room for all
+-- each part is kept so
 pub record AreKept (calls : List Call) (k : KeptObjects) : Type 0 where
-  pub walk : AreTargetsOf k.walk calls
-  pub roomy : length k.walk.targets + k.walk.shapes.room ≡ k.room
   pub parts : All (IsKeptAt k.room calls) k.parts

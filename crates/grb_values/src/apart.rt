@@ -1,4 +1,4 @@
-ghost use Rattle.std.specs.Prelude.{◌≡◌, ◌+◌, ◌≤◌, false, true, List, Some, length, map, IfOk, OnOk};
+ghost use Rattle.std.specs.Prelude.{◌≡◌, ◌+◌, ◌≤◌, false, true, Some, drop, length, IfOk, OnOk};
 ghost use Rattle.grb_call.specs.Kinds.{enters, is_size};
 ghost use Rattle.grb_call.specs.Status.{object_of};
 ghost use Rattle.grb_call.specs.Store.{Store, shapes_of};
@@ -13,7 +13,7 @@ use crate::part::make_chosen;
 use grb_call::{Call, Object, Reply};
 use grb_core::Refusal;
 use grb_replay::State;
-use grb_slices::{Slice, Wanted};
+use grb_slices::{CallList, Slice, Wanted};
 use std::alloc::AllocError;
 use std::marker::Model;
 
@@ -58,52 +58,66 @@ pub(crate) fn answer_of(
 }
 
 impl Part {
-    /// The wanted objects after these calls on the store, by only the calls of the slice, with room for so many calls on the store. No entry
-    /// is copied but of objects that these calls change. The targets of the calls at their places are given, and the slice for what is
-    /// wanted. `AllocError` where memory is refused, or where objects and calls are together 2^32 or more; the store is as it was (own).
-    pub fn of(
+    /// The wanted objects after the calls from a place on, which come on the store, by only the calls of the slice, with room for so many
+    /// calls on the store. No entry is copied but of objects that these calls change. `AllocError` where memory is refused, or where objects
+    /// and calls are together 2^32 or more; the store is as it was (own).
+    pub fn of<S, C: CallList<S>>(
         whole: &State,
-        targets: &[Option<Object>],
-        calls: &[&Call],
+        calls: &mut C,
+        source: &S,
+        from: usize,
         slice: &Slice,
         wanted: Wanted,
         room: u32,
     ) -> Result<Part, AllocError>
-        requires room { length calls.now ≤ room }
-        requires count { length targets.now ≡ length calls.now }
-        requires targets { targets.now ≡ targets_of (shapes_of whole.now.store) (map (λ c. c.now) calls.now) }
-        requires slice { IsSliceFor slice.now (is_wanted wanted) targets.now (map (λ c. c.now) calls.now) }
+        requires held { C.is_in source.now calls.old }
+        requires count { length (C.target_list calls.old) ≡ length (C.calls source.now calls.old) }
+        requires from { from ≤ length (C.calls source.now calls.old) }
+        requires room { length (C.calls source.now calls.old) ≤ room + from }
+        requires targets { drop from (C.target_list calls.old) ≡ targets_of (shapes_of whole.now.store) (drop from (C.calls source.now calls.old)) }
+        requires slice { IsSliceFor slice.now (is_wanted wanted) (drop from (C.target_list calls.old)) (drop from (C.calls source.now calls.old)) }
+        ensures same { calls.new ≡ calls.old }
         ensures held { IfOk result (λ part. part.held ≡ wanted) }
-        ensures follows { IfOk result (λ part. Follows (is_wanted wanted) (after_all whole.now.store (map (λ c. c.now) calls.now)) part.part.store) }
-        ensures room { IfOk result (λ part. room ≤ part.part.room + length calls.now) }
+        ensures follows { IfOk result (λ part. Follows (is_wanted wanted) (after_all whole.now.store (drop from (C.calls source.now calls.old))) part.part.store) }
+        ensures room { IfOk result (λ part. room + from ≤ part.part.room + length (C.calls source.now calls.old)) }
     {
         let mut state = whole.try_clone(room)?;
-        make_chosen(&mut state, targets, calls, slice.chosen.as_slice())?;
+        make_chosen(&mut state, calls, source, from, slice.chosen.as_slice())?;
         Ok(Part {
             state,
             held: wanted,
         })
     }
 
-    /// Goes on by these calls, those of the slice alone: it holds the wanted objects then, where it held what is wanted before the calls. The
-    /// targets of the calls at their places are given, and the slice for what is wanted. `AllocError` where memory is refused; what it holds
-    /// then is not said (own).
-    pub fn go_on(
+    /// Goes on by the calls from a place on, those of the slice alone: it holds the wanted objects then, where it held what is wanted before
+    /// the calls. `AllocError` where memory is refused; what it holds then is not said (own).
+    pub fn go_on<S, C: CallList<S>>(
         &mut self,
-        targets: &[Option<Object>],
-        calls: &[&Call],
+        calls: &mut C,
+        source: &S,
+        from: usize,
         slice: &Slice,
         wanted: Wanted,
     ) -> Result<(), AllocError>
-        requires room { length calls.now ≤ self.old.part.room }
-        requires count { length targets.now ≡ length calls.now }
-        requires slice { IsSliceFor slice.now (is_wanted wanted) targets.now (map (λ c. c.now) calls.now) }
+        requires held { C.is_in source.now calls.old }
+        requires count { length (C.target_list calls.old) ≡ length (C.calls source.now calls.old) }
+        requires from { from ≤ length (C.calls source.now calls.old) }
+        requires room { length (C.calls source.now calls.old) ≤ self.old.part.room + from }
+        requires slice { IsSliceFor slice.now (is_wanted wanted) (drop from (C.target_list calls.old)) (drop from (C.calls source.now calls.old)) }
         requires within { (o : Object) → is_wanted slice.now.wanted o ≡ true → is_wanted self.old.held o ≡ true }
+        ensures same { calls.new ≡ calls.old }
         ensures held { OnOk result (self.new.held ≡ wanted) }
-        ensures follows { OnOk result ((whole : Store) → targets.now ≡ targets_of (shapes_of whole) (map (λ c. c.now) calls.now) → Follows (is_wanted self.old.held) whole self.old.part.store → Follows (is_wanted wanted) (after_all whole (map (λ c. c.now) calls.now)) self.new.part.store) }
-        ensures room { OnOk result (self.old.part.room ≤ self.new.part.room + length calls.now) }
+        ensures follows { OnOk result ((whole : Store) → drop from (C.target_list calls.old) ≡ targets_of (shapes_of whole) (drop from (C.calls source.now calls.old)) → Follows (is_wanted self.old.held) whole self.old.part.store
+            → Follows (is_wanted wanted) (after_all whole (drop from (C.calls source.now calls.old))) self.new.part.store) }
+        ensures room { OnOk result (self.old.part.room + from ≤ self.new.part.room + length (C.calls source.now calls.old)) }
     {
-        make_chosen(&mut self.state, targets, calls, slice.chosen.as_slice())?;
+        make_chosen(
+            &mut self.state,
+            calls,
+            source,
+            from,
+            slice.chosen.as_slice(),
+        )?;
         self.held = wanted;
         Ok(())
     }

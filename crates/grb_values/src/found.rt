@@ -1,12 +1,12 @@
-ghost use Rattle.std.specs.Prelude.{◌≡◌, true, length, map, IfOk, IfSome};
+ghost use Rattle.std.specs.Prelude.{◌≡◌, ◌≤◌, true, drop, length, IfOk, IfSome};
 ghost use Rattle.grb_call.specs.declared.ids.Object.{Object};
 ghost use Rattle.grb_slices.specs.Found.{IsSliceFor};
 ghost use Rattle.grb_slices.specs.Wanted.{is_wanted};
 
 use crate::apart::Part;
-use grb_call::{Call, MatrixId, Object, VectorId};
+use grb_call::{MatrixId, Object, VectorId};
 use grb_replay::State;
-use grb_slices::{Slice, Wanted, slice_for};
+use grb_slices::{CallList, Slice, Wanted, slice_for};
 use std::alloc::{AllocError, Global};
 
 /// How many calls are passed over, or objects shared, in the time that a call takes that is made, about (own).
@@ -57,22 +57,26 @@ pub(crate) struct Found {
     pub(crate) cost: usize,
 }
 
-/// The slice of these calls, with these targets, for the object and for what they leave the same. `AllocError` where memory is refused.
-fn found_for(
+/// The slice of the calls from a place on for the object and for what they leave the same. `AllocError` where memory is refused.
+fn found_for<S, C: CallList<S>>(
     alloc: Global,
-    targets: &[Option<Object>],
-    calls: &[&Call],
+    calls: &mut C,
+    source: &S,
+    from: usize,
     same: &Wanted,
     object: Object,
 ) -> Result<Found, AllocError>
-    requires { length targets.now ≡ length calls.now }
-    ensures slice { IfOk result (λ found. IsSliceFor found.slice (is_wanted found.wanted) targets.now (map (λ c. c.now) calls.now)) }
+    requires held { C.is_in source.now calls.old }
+    requires targets { length (C.target_list calls.old) ≡ length (C.calls source.now calls.old) }
+    requires from { from ≤ length (C.calls source.now calls.old) }
+    ensures calls { calls.new ≡ calls.old }
+    ensures slice { IfOk result (λ found. IsSliceFor found.slice (is_wanted found.wanted) (drop from (C.target_list calls.old)) (drop from (C.calls source.now calls.old))) }
     ensures object { IfOk result (λ found. is_wanted found.wanted object ≡ true) }
 {
     let mut wanted = same.try_clone()?;
     wanted.want(object)?;
-    let slice = slice_for(alloc, targets, calls, wanted.try_clone()?)?;
-    let cost = slice.count.saturating_add(calls.len() / PASSED_OVER);
+    let slice = slice_for(alloc, calls, source, from, wanted.try_clone()?)?;
+    let cost = slice.count.saturating_add(slice.chosen.len() / PASSED_OVER);
     Ok(Found {
         slice,
         wanted,
@@ -80,23 +84,27 @@ fn found_for(
     })
 }
 
-/// The slice for the object of calls that come behind what a part holds. None where the part lacks what is wanted before them, or where the
-/// slice takes more than the limit. `AllocError` where memory is refused.
-pub(crate) fn found_onward(
+/// The slice for the object of the calls from a place on, behind what a part holds. None where the part lacks what is wanted before them, or
+/// where the slice takes more than the limit. `AllocError` where memory is refused.
+pub(crate) fn found_onward<S, C: CallList<S>>(
     alloc: Global,
     part: &Part,
-    targets: &[Option<Object>],
-    calls: &[&Call],
+    calls: &mut C,
+    source: &S,
+    from: usize,
     object: Object,
     limit: usize,
 ) -> Result<Option<Found>, AllocError>
-    requires { length targets.now ≡ length calls.now }
-    ensures slice { IfOk result (λ made. IfSome made (λ found. IsSliceFor found.slice (is_wanted found.wanted) targets.now (map (λ c. c.now) calls.now))) }
+    requires held { C.is_in source.now calls.old }
+    requires targets { length (C.target_list calls.old) ≡ length (C.calls source.now calls.old) }
+    requires from { from ≤ length (C.calls source.now calls.old) }
+    ensures calls { calls.new ≡ calls.old }
+    ensures slice { IfOk result (λ made. IfSome made (λ found. IsSliceFor found.slice (is_wanted found.wanted) (drop from (C.target_list calls.old)) (drop from (C.calls source.now calls.old)))) }
     ensures object { IfOk result (λ made. IfSome made (λ found. is_wanted found.wanted object ≡ true)) }
     ensures within { IfOk result (λ made. IfSome made (λ found. (o : Object) → is_wanted found.slice.wanted o ≡ true → is_wanted part.now.held o ≡ true)) }
 {
-    let same = untouched(part.held().try_clone()?, targets);
-    let found = found_for(alloc, targets, calls, &same, object)?;
+    let same = untouched(part.held().try_clone()?, &calls.targets()[from..]);
+    let found = found_for(alloc, calls, source, from, &same, object)?;
     if found.cost > limit {
         return Ok(None);
     }
@@ -106,30 +114,35 @@ pub(crate) fn found_onward(
     Ok(None)
 }
 
-/// The slice for the object of calls that come behind those that are evaluated in the store. None where it takes more than the limit, with
-/// the places of all objects, which a part shares, and the copies of what it changes. `AllocError` where memory is refused.
-pub(crate) fn found_anew(
+/// The slice for the object of the calls from a place on, behind those that are evaluated in the store. None where it takes more than the
+/// limit, with the places of all objects, which a part shares, and the copies of what it changes. `AllocError` where memory is refused.
+pub(crate) fn found_anew<S, C: CallList<S>>(
     alloc: Global,
     whole: &State,
-    targets: &[Option<Object>],
-    calls: &[&Call],
+    calls: &mut C,
+    source: &S,
+    from: usize,
     object: Object,
     limit: usize,
 ) -> Result<Option<Found>, AllocError>
-    requires { length targets.now ≡ length calls.now }
-    ensures slice { IfOk result (λ made. IfSome made (λ found. IsSliceFor found.slice (is_wanted found.wanted) targets.now (map (λ c. c.now) calls.now))) }
+    requires held { C.is_in source.now calls.old }
+    requires targets { length (C.target_list calls.old) ≡ length (C.calls source.now calls.old) }
+    requires from { from ≤ length (C.calls source.now calls.old) }
+    ensures calls { calls.new ≡ calls.old }
+    ensures slice { IfOk result (λ made. IfSome made (λ found. IsSliceFor found.slice (is_wanted found.wanted) (drop from (C.target_list calls.old)) (drop from (C.calls source.now calls.old)))) }
     ensures object { IfOk result (λ made. IfSome made (λ found. is_wanted found.wanted object ≡ true)) }
 {
     let objects = (whole.matrices() as usize).saturating_add(whole.vectors() as usize)
         / PASSED_OVER;
-    if objects.saturating_add(calls.len() / PASSED_OVER) > limit {
+    let passed = calls.targets().len() - from;
+    if limit == 0 || objects.saturating_add(passed / PASSED_OVER) > limit {
         return Ok(None);
     }
     let same = untouched(
         Wanted::all(alloc, whole.matrices(), whole.vectors())?,
-        targets,
+        &calls.targets()[from..],
     );
-    let mut found = found_for(alloc, targets, calls, &same, object)?;
+    let mut found = found_for(alloc, calls, source, from, &same, object)?;
     let copies = cost_of_copies(whole, &found.slice, &same);
     found.cost = found.cost.saturating_add(objects).saturating_add(copies);
     if found.cost > limit {

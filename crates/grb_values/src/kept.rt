@@ -1,19 +1,20 @@
-ghost use Rattle.std.specs.Prelude.{◌≡◌, ◌+◌, ◌≤◌, ◌<◌, ◌^◌, ℕ, [], false, true, List, None, Some, drop, length, map, vec_capacity, vec_len, All, IfOk, IfSome};
+ghost use Rattle.std.specs.Prelude.{◌≡◌, ◌≤◌, ◌<◌, ℕ, [], false, true, List, None, Some, length, vec_capacity, vec_len, All, IfOk, IfSome};
 ghost use Rattle.grb_call.specs.declared.call.Call.{Call};
 ghost use Rattle.grb_call.specs.Kinds.{enters, is_size};
 ghost use Rattle.grb_call.specs.Status.{object_of};
-ghost use Rattle.grb_call.specs.Store.{empty_store};
+ghost use Rattle.grb_call.specs.Store.{empty_store, shapes_of};
 ghost use Rattle.grb_call.specs.After.{refused, reply_of};
 ghost use Rattle.grb_call.specs.History.{after_all};
 ghost use Rattle.grb_replay.specs.Evaluated.{IsEvaluated};
+ghost use Rattle.grb_slices.specs.Followed.{targets_of};
 ghost use Rattle.grb_slices.specs.Wanted.{is_wanted};
 ghost use Rattle.grb_values.specs.Keeping.{AreKept, IsKeptAt, IsKeptNow};
 
 use crate::apart::Part;
 use crate::found::{Found, found_anew, found_onward};
-use crate::targets::Targets;
 use grb_call::{Call, Object, Reply};
 use grb_replay::State;
+use grb_slices::CallList;
 use std::alloc::{AllocError, Global};
 use std::marker::Model;
 
@@ -26,8 +27,6 @@ const MOST: usize = 8;
 pub struct Kept {
     alloc: Global,
     room: u32,
-    // Over the known calls, as far as they were walked over.
-    walk: Targets,
     parts: Vec<KeptPart>,
     // What was spent since all calls were made, as a number of calls that are made.
     spent: usize,
@@ -39,7 +38,7 @@ impl Model for Kept {
 
     ghost Value = { KeptObjects };
 
-    ghost view = { λ k. record { parts = k.parts.items; walk = k.walk; room = k.room } };
+    ghost view = { λ k. record { parts = k.parts.items; room = k.room } };
 
     ghost invariant = { λ k. 8 ≤ vec_capacity k.parts };
 }
@@ -61,21 +60,13 @@ impl Model for KeptPart {
 }
 
 impl KeptPart {
-    /// Whether it holds the object after just the calls before `start` and so many more.
-    fn is_at(&self, start: usize, more: usize, object: Object) -> bool
-        ensures upto { result ≡ true → self.now.upto ≡ start + more }
+    /// Whether it holds the object after just so many calls.
+    fn is_at(&self, known: usize, object: Object) -> bool
+        ensures upto { result ≡ true → self.now.upto ≡ known }
         ensures held { result ≡ true → is_wanted self.now.part.held object ≡ true }
     {
-        self.upto >= start && self.upto - start == more && self.part.held().contains(object)
+        self.upto == known && self.part.held().contains(object)
     }
-}
-
-/// The calls from this place on.
-fn calls_from<'a, 'b>(calls: &'b [&'a Call], at: usize) -> &'b [&'a Call]
-    requires { at ≤ length calls.now }
-    ensures { result.now ≡ drop at calls.now }
-{
-    &calls[at..]
 }
 
 /// Makes a place for one more part: the first goes where there are many.
@@ -92,7 +83,7 @@ fn make_place(parts: &mut Vec<KeptPart>)
 }
 
 impl Kept {
-    /// No object was read, and there is memory to walk over so many calls. `AllocError` where memory is refused.
+    /// No object was read; a part has room for so many calls in all. `AllocError` where memory is refused.
     pub fn open(alloc: Global, room: u32) -> Result<Kept, AllocError>
         ensures kept { IfOk result (AreKept []) }
         ensures room { IfOk result (λ kept. kept.room ≡ room) }
@@ -100,7 +91,6 @@ impl Kept {
         Ok(Kept {
             alloc,
             room,
-            walk: Targets::open(alloc, room)?,
             parts: Vec::with_capacity(alloc, MOST)?,
             spent: 0,
         })
@@ -126,28 +116,17 @@ impl Kept {
         None
     }
 
-    /// Whether this object is kept. Takes no memory.
-    pub fn contains(&self, object: Object) -> bool {
-        self.place_of(object).is_some()
+    /// How many objects are kept. Takes no memory.
+    pub fn len(&self) -> usize
+        ensures { result ≡ length self.now.parts }
+    {
+        self.parts.len()
     }
 
     /// How much may be spent yet on single objects, while so many known calls are not evaluated in the store: half of what these take,
     /// since all calls were made.
     fn limit(&self, left: usize) -> usize {
         (left / 2).saturating_sub(self.spent)
-    }
-
-    /// From which call on the calls are to be lent for a read of this object, where so many are known, and so many of these evaluated in the
-    /// store. None where all calls are to be made: the object is not kept, and nothing more may be spent on single objects. Takes no memory.
-    pub fn start(&self, object: Object, known: usize, evaluated: usize) -> Option<usize>
-        ensures { IfSome result (λ at. at ≤ length self.now.walk.targets) }
-    {
-        let at = match self.place_of(object) {
-            Some(place) => self.parts[place].upto,
-            None if self.limit(known.saturating_sub(evaluated)) == 0 => return None,
-            None => evaluated,
-        };
-        Some(at.min(self.walk.len()))
     }
 
     /// The part of this object, which is kept no more.
@@ -171,34 +150,27 @@ impl Kept {
 
     /// The object of this part after all calls, from its slice behind the part. None where the part lacks what is wanted there, or where
     /// that would take more than may be spent. `AllocError` where memory is refused.
-    fn onward(
+    fn onward<S, C: CallList<S>>(
         &mut self,
         kept: KeptPart,
-        calls: &[&Call],
-        start: usize,
+        calls: &mut C,
+        source: &S,
         evaluated: usize,
         object: Object,
     ) -> Result<Option<KeptPart>, AllocError>
-        ghost known: { List Call }
-        requires kept { AreKept known self.old }
-        requires walked { length self.old.walk.targets ≡ length known }
-        requires few { length known ≤ self.old.room }
-        requires one { IsKeptAt self.old.room known kept }
-        requires calls { map (λ c. c.now) calls.now ≡ drop start known }
-        requires start { start ≤ length known }
+        requires held { C.is_in source.now calls.old }
+        requires targets { C.target_list calls.old ≡ targets_of (shapes_of empty_store) (C.calls source.now calls.old) }
+        requires few { length (C.calls source.now calls.old) ≤ self.old.room }
+        requires one { IsKeptAt self.old.room (C.calls source.now calls.old) kept }
         ensures same { self.new ≡ self.old }
-        ensures kept { IfOk result (λ made. IfSome made (IsKeptNow self.old.room known object)) }
+        ensures calls { calls.new ≡ calls.old }
+        ensures kept { IfOk result (λ made. IfSome made (IsKeptNow self.old.room (C.calls source.now calls.old) object)) }
     {
         let mut kept = kept;
         let at = kept.upto;
-        if at < start {
-            return Ok(None);
-        }
-        let targets = self.walk.behind(at);
-        let behind = calls_from(calls, at - start);
-        let known = start + calls.len();
+        let known = calls.targets().len();
         let limit = self.limit(known.saturating_sub(evaluated));
-        let Some(found) = found_onward(self.alloc, &kept.part, targets, behind, object, limit)?
+        let Some(found) = found_onward(self.alloc, &kept.part, calls, source, at, object, limit)?
         else {
             return Ok(None);
         };
@@ -207,7 +179,7 @@ impl Kept {
             wanted,
             cost,
         } = found;
-        kept.part.go_on(targets, behind, &slice, wanted)?;
+        kept.part.go_on(calls, source, at, &slice, wanted)?;
         kept.upto = known;
         self.spent = self.spent.saturating_add(cost);
         Ok(Some(kept))
@@ -215,31 +187,26 @@ impl Kept {
 
     /// The object after all calls, from its slice behind the evaluated ones. None where that would take more than may be spent.
     /// `AllocError` where memory is refused.
-    fn anew(
+    fn anew<S, C: CallList<S>>(
         &mut self,
-        calls: &[&Call],
-        start: usize,
+        calls: &mut C,
+        source: &S,
         state: &State,
         evaluated: usize,
         object: Object,
     ) -> Result<Option<KeptPart>, AllocError>
-        ghost known: { List Call }
-        requires kept { AreKept known self.old }
-        requires walked { length self.old.walk.targets ≡ length known }
-        requires few { length known ≤ self.old.room }
-        requires calls { map (λ c. c.now) calls.now ≡ drop start known }
-        requires start { start ≤ length known }
-        requires state { IsEvaluated known evaluated state.now.store }
+        requires held { C.is_in source.now calls.old }
+        requires targets { C.target_list calls.old ≡ targets_of (shapes_of empty_store) (C.calls source.now calls.old) }
+        requires few { length (C.calls source.now calls.old) ≤ self.old.room }
+        requires state { IsEvaluated (C.calls source.now calls.old) evaluated state.now.store }
         ensures same { self.new ≡ self.old }
-        ensures kept { IfOk result (λ made. IfSome made (IsKeptNow self.old.room known object)) }
+        ensures calls { calls.new ≡ calls.old }
+        ensures kept { IfOk result (λ made. IfSome made (IsKeptNow self.old.room (C.calls source.now calls.old) object)) }
     {
-        if evaluated < start {
-            return Ok(None);
-        }
-        let behind = calls_from(calls, evaluated - start);
-        let targets = self.walk.behind(evaluated);
-        let limit = self.limit(behind.len());
-        let Some(found) = found_anew(self.alloc, state, targets, behind, object, limit)? else {
+        let known = calls.targets().len();
+        let limit = self.limit(known - evaluated);
+        let Some(found) = found_anew(self.alloc, state, calls, source, evaluated, object, limit)?
+        else {
             return Ok(None);
         };
         let room = self.room - evaluated as u32;
@@ -248,70 +215,69 @@ impl Kept {
             wanted,
             cost,
         } = found;
-        let part = Part::of(state, targets, behind, &slice, wanted, room)?;
+        let part = Part::of(state, calls, source, evaluated, &slice, wanted, room)?;
         self.spent = self.spent.saturating_add(cost);
         Ok(Some(KeptPart {
             object,
             part,
-            upto: start + calls.len(),
+            upto: known,
         }))
     }
 
     /// The object after all calls, as far as it can be had so.
-    fn part_of(
+    fn part_of<S, C: CallList<S>>(
         &mut self,
-        calls: &[&Call],
-        start: usize,
+        calls: &mut C,
+        source: &S,
         state: &State,
         evaluated: usize,
         object: Object,
     ) -> Result<Option<KeptPart>, AllocError>
-        ghost known: { List Call }
-        requires kept { AreKept known self.old }
-        requires walked { length self.old.walk.targets ≡ length known }
-        requires few { length known ≤ self.old.room }
-        requires calls { map (λ c. c.now) calls.now ≡ drop start known }
-        requires start { start ≤ length known }
-        requires state { IsEvaluated known evaluated state.now.store }
-        ensures kept { AreKept known self.new }
+        requires kept { AreKept (C.calls source.now calls.old) self.old }
+        requires held { C.is_in source.now calls.old }
+        requires targets { C.target_list calls.old ≡ targets_of (shapes_of empty_store) (C.calls source.now calls.old) }
+        requires few { length (C.calls source.now calls.old) ≤ self.old.room }
+        requires state { IsEvaluated (C.calls source.now calls.old) evaluated state.now.store }
+        ensures calls { calls.new ≡ calls.old }
+        ensures kept { AreKept (C.calls source.now calls.old) self.new }
         ensures room { self.new.room ≡ self.old.room }
-        ensures one { IfOk result (λ made. IfSome made (IsKeptNow self.new.room known object)) }
+        ensures one { IfOk result (λ made. IfSome made (IsKeptNow self.new.room (C.calls source.now calls.old) object)) }
     {
+        let known = calls.targets().len();
         match self.take(object) {
-            Some(kept) if kept.is_at(start, calls.len(), object) => Ok(Some(kept)),
-            Some(kept) => self.onward(kept, calls, start, evaluated, object),
-            None => self.anew(calls, start, state, evaluated, object),
+            Some(kept) if kept.is_at(known, object) => Ok(Some(kept)),
+            Some(kept) => self.onward(kept, calls, source, evaluated, object),
+            None => self.anew(calls, source, state, evaluated, object),
         }
     }
 
-    /// The reply to a call that only reads the object and is not refused, after all known calls, of which so many are evaluated in the
-    /// state; those from `start` on are lent. The object is kept then. None where it is not to be had so: from a part that lacks what new
-    /// calls read, and which is dropped then, or where all calls are to be made. `AllocError` where memory is refused.
-    pub fn reply(
+    /// The reply to a call that only reads the object and is not refused, after all calls of the list, of which so many are evaluated in the
+    /// state. The object is kept then. None where it is not to be had so: from a part that lacks what new calls read, and which is dropped
+    /// then, or where all calls are to be made. `AllocError` where memory is refused.
+    pub fn reply<S, C: CallList<S>>(
         &mut self,
-        calls: &[&Call],
-        start: usize,
+        calls: &mut C,
+        source: &S,
         state: &State,
         evaluated: usize,
         object: Object,
         call: &Call,
     ) -> Result<Option<Reply>, AllocError>
-        ghost known: { List Call }
-        requires kept { AreKept known self.old }
-        requires few { length known ≤ self.old.room }
-        requires calls { map (λ c. c.now) calls.now ≡ drop start known }
-        requires start { start ≤ length self.old.walk.targets }
-        requires state { IsEvaluated known evaluated state.now.store }
+        requires kept { AreKept (C.calls source.now calls.old) self.old }
+        requires held { C.is_in source.now calls.old }
+        requires targets { C.target_list calls.old ≡ targets_of (shapes_of empty_store) (C.calls source.now calls.old) }
+        requires few { length (C.calls source.now calls.old) ≤ self.old.room }
+        requires state { IsEvaluated (C.calls source.now calls.old) evaluated state.now.store }
         requires reads { enters call.now ≡ false }
         requires no_size { is_size call.now ≡ false }
         requires about { object_of call.now ≡ Some object }
-        requires accepted { refused (after_all empty_store known) call.now ≡ None }
-        ensures kept { AreKept known self.new }
+        requires accepted { refused (after_all empty_store (C.calls source.now calls.old)) call.now ≡ None }
+        ensures calls { calls.new ≡ calls.old }
+        ensures kept { AreKept (C.calls source.now calls.old) self.new }
         ensures room { self.new.room ≡ self.old.room }
-        ensures reply { IfOk result (λ given. IfSome given (λ reply. reply ≡ reply_of (after_all empty_store known) call.now)) }
+        ensures reply { IfOk result (λ given. IfSome given (λ reply. reply ≡ reply_of (after_all empty_store (C.calls source.now calls.old)) call.now)) }
     {
-        self.walk.go_on(calls_from(calls, self.walk.len() - start));
-        let Some(mut kept) = self.part_of(calls, start, state, evaluated, object)? else {
+        let Some(mut kept) = self.part_of(calls, source, state, evaluated, object)? else {
             return Ok(None);
         };
         let answer = kept.part.answer(object, call);

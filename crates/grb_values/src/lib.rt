@@ -13,4 +13,5 @@ mod targets;
 mod value;
 
 pub use kept::Kept;
+pub use targets::{LentCalls, Targets};
 pub use value::{Held, value_of};

@@ -1,53 +1,78 @@
-ghost use Rattle.std.specs.Prelude.{◌≡◌, ◌+◌, ◌<◌, ◌≤◌, List, length, map, OnOk, OnErr};
+ghost use Rattle.std.specs.Prelude.{◌≡◌, ◌+◌, ◌<◌, ◌≤◌, false, true, Some, drop, length, slice_get, OnOk, OnErr};
 ghost use Rattle.grb_call.specs.declared.call.Call.{Call};
-ghost use Rattle.grb_call.specs.Store.{Store};
+ghost use Rattle.grb_call.specs.Store.{Store, shapes_of};
 ghost use Rattle.grb_call.specs.History.{after_all};
+ghost use Rattle.grb_slices.specs.Content.{effective_target};
 ghost use Rattle.grb_slices.specs.Slice.{Wants};
-ghost use Rattle.grb_slices.specs.Followed.{Follows, GoesOn, part_after};
+ghost use Rattle.grb_slices.specs.Followed.{Follows, GoesOn, HasPlaceIn, LacksPlaceIn, part_after};
 
-use grb_call::{Call, Object};
+use grb_call::Object;
 use grb_replay::State;
-use grb_slices::place_for;
+use grb_slices::{CallList, place_for};
 use std::alloc::AllocError;
 
-/// Makes one call on a state where it is chosen; of one that is not, the object that it would make gets a place. `AllocError` where memory
-/// is refused.
-fn make_one(
-    state: &mut State,
-    target: Option<Object>,
-    call: &Call,
-    is_chosen: bool,
-) -> Result<(), AllocError>
-    requires { 0 < state.old.room }
-    ensures store { OnOk result (state.new.store ≡ part_after is_chosen target call.now state.old.store) }
-    ensures room { OnOk result (state.old.room ≤ state.new.room + 1) }
+/// Whether the state has a place for the object: it was made, whether or not it was freed.
+fn has_place(state: &State, object: Object) -> bool
+    ensures has { result ≡ true → HasPlaceIn state.now.store object }
+    ensures lacks { result ≡ false → LacksPlaceIn state.now.store object }
 {
-    if is_chosen {
-        return state.apply(call);
-    }
-    match (target, call.output()) {
-        (Some(object), None) => state.apply(&place_for(object)),
-        _ => Ok(()),
+    match object {
+        Object::Matrix(a) => a.0 < state.matrices(),
+        Object::Vector(v) => v.0 < state.vectors(),
     }
 }
 
-/// Makes, of calls that come one after another on a whole store, those that were chosen, on a state that holds of it what is wanted before
-/// them; after them the state holds what is wanted then, as the whole store does after all of them. The targets of the calls at their
-/// places are given, none for one that is refused there. `AllocError` where memory is refused; what the state holds then is not said.
-pub(crate) fn make_chosen(
+/// Makes the call at this place on a state where it is chosen; of one that is not, which is not read, the object that it would make gets a
+/// place. `AllocError` where memory is refused.
+fn make_one<S, C: CallList<S>>(
     state: &mut State,
-    targets: &[Option<Object>],
-    calls: &[&Call],
+    target: Option<Object>,
+    calls: &mut C,
+    source: &S,
+    at: usize,
+    is_chosen: bool,
+) -> Result<(), AllocError>
+    requires held { C.is_in source.now calls.old }
+    requires at { at < length (C.calls source.now calls.old) }
+    requires room { 0 < state.old.room }
+    ensures same { calls.new ≡ calls.old }
+    ensures store { OnOk result ((call : Call) (whole : Store) → slice_get (C.calls source.now calls.old) at ≡ Some call → target ≡ effective_target (shapes_of whole) call → length state.old.store.matrices ≡ length whole.matrices → length state.old.store.vectors ≡ length whole.vectors → state.new.store ≡ part_after is_chosen target call state.old.store) }
+    ensures room { OnOk result (state.old.room ≤ state.new.room + 1) }
+{
+    if is_chosen {
+        return state.apply(calls.call_at(source, at));
+    }
+    let Some(object) = target else {
+        return Ok(());
+    };
+    if has_place(state, object) {
+        return Ok(());
+    }
+    state.apply(&place_for(object))
+}
+
+/// Makes, of the calls from a place on, which come one after another on a whole store, those that were chosen, on a state that holds of it
+/// what is wanted before them; after them the state holds what is wanted then, as the whole store does after all of them. `AllocError` where
+/// memory is refused; what the state holds then is not said.
+pub(crate) fn make_chosen<S, C: CallList<S>>(
+    state: &mut State,
+    calls: &mut C,
+    source: &S,
+    from: usize,
     chosen: &[bool],
 ) -> Result<(), AllocError>
-    requires room { length calls.now ≤ state.old.room }
-    requires targets { length targets.now ≡ length calls.now }
-    requires chosen { length chosen.now ≡ length calls.now }
-    ensures room { OnOk result (state.old.room ≤ state.new.room + length calls.now) }
-    ensures follows { OnOk result ((w : Wants) (whole : Store) → GoesOn w whole (map (λ c. c.now) calls.now) targets.now chosen.now state.old.store → Follows w (after_all whole (map (λ c. c.now) calls.now)) state.new.store) }
+    requires held { C.is_in source.now calls.old }
+    requires targets { length (C.target_list calls.old) ≡ length (C.calls source.now calls.old) }
+    requires chosen { from + length chosen.now ≡ length (C.calls source.now calls.old) }
+    requires room { length chosen.now ≤ state.old.room }
+    ensures same { calls.new ≡ calls.old }
+    ensures room { OnOk result (state.old.room ≤ state.new.room + length chosen.now) }
+    ensures follows { OnOk result ((w : Wants) (whole : Store) → GoesOn w whole (drop from (C.calls source.now calls.old)) (drop from (C.target_list calls.old)) chosen.now state.old.store
+        → Follows w (after_all whole (drop from (C.calls source.now calls.old))) state.new.store) }
 {
-    'calls: for at in 0..calls.len() {
-        make_one(state, targets[at], calls[at], chosen[at])?;
+    'places: for at in from..calls.targets().len() {
+        let target = calls.targets()[at];
+        make_one(state, target, calls, source, at, chosen[at - from])?;
     }
     Ok(())
 }

@@ -1,13 +1,13 @@
-ghost use Rattle.std.specs.Prelude.{◌≡◌, ◌+◌, ◌<◌, ◌≤◌, ◌++◌, ◌∷◌, [], List, length, drop, map, IfOk};
+ghost use Rattle.std.specs.Prelude.{◌≡◌, ◌+◌, ◌<◌, ◌≤◌, ◌++◌, ◌∷◌, [], List, None, length, drop, map, IfOk};
 ghost use Rattle.grb_call.specs.declared.call.Call.{Call};
-ghost use Rattle.grb_call.specs.Refused.{shapes_after};
+ghost use Rattle.grb_call.specs.Refused.{refused_by_shapes, shapes_after};
 ghost use Rattle.grb_slices.specs.Content.{effective_target};
 ghost use Rattle.grb_call.specs.Shapes.{is_live};
 ghost use Rattle.grb_call.specs.Store.{empty_store, shapes_of};
 ghost use Rattle.grb_values.specs.Targets.{AreTargetsOf};
 
 use grb_call::{Call, Object, Shapes};
-use grb_slices::target_at;
+use grb_slices::{CallList, target_at, target_of};
 use std::alloc::{AllocError, Global};
 use std::marker::Model;
 
@@ -43,14 +43,26 @@ impl Targets {
         })
     }
 
-    /// Takes in the call behind those walked over.
-    fn go_over(&mut self, call: &Call)
+    /// Takes in the call behind those walked over. Takes no memory.
+    pub fn go_over(&mut self, call: &Call)
         requires { 0 < self.old.shapes.room }
         ensures targets { self.new.targets ≡ self.old.targets ++ effective_target self.old.shapes.objects call.now ∷ [] }
         ensures shapes { self.new.shapes.objects ≡ shapes_after self.old.shapes.objects call.now }
         ensures room { self.new.shapes.room + 1 ≡ self.old.shapes.room }
     {
         self.targets.push_reserved(target_at(&self.shapes, call));
+        self.shapes.absorb(call);
+    }
+
+    /// Takes in the call behind those walked over, which the shapes behind these do not refuse: it is not checked again. Takes no memory.
+    pub fn take_in(&mut self, call: &Call)
+        requires room { 0 < self.old.shapes.room }
+        requires accepted { refused_by_shapes self.old.shapes.objects call.now ≡ None }
+        ensures targets { self.new.targets ≡ self.old.targets ++ effective_target self.old.shapes.objects call.now ∷ [] }
+        ensures shapes { self.new.shapes.objects ≡ shapes_after self.old.shapes.objects call.now }
+        ensures room { self.new.shapes.room + 1 ≡ self.old.shapes.room }
+    {
+        self.targets.push_reserved(target_of(&self.shapes, call));
         self.shapes.absorb(call);
     }
 
@@ -66,19 +78,18 @@ impl Targets {
         }
     }
 
-    /// How many calls were walked over. Takes no memory.
-    pub fn len(&self) -> usize
-        ensures { result ≡ length self.now.targets }
+    /// The shapes behind the calls walked over. Takes no memory.
+    pub fn shapes(&self) -> &Shapes
+        ensures { result.now ≡ self.now.shapes }
     {
-        self.targets.len()
+        &self.shapes
     }
 
-    /// The targets from this place on. Takes no memory.
-    pub fn behind(&self, at: usize) -> &[Option<Object>]
-        requires { at ≤ length self.now.targets }
-        ensures { result.now ≡ drop at self.now.targets }
+    /// The target of each call walked over, in turn. Takes no memory.
+    pub fn targets(&self) -> &[Option<Object>]
+        ensures { result.now ≡ self.now.targets }
     {
-        &self.targets[at..]
+        &self.targets
     }
 
     /// Whether the object is there behind the calls. Takes no memory.
@@ -89,5 +100,28 @@ impl Targets {
             Object::Matrix(a) => self.shapes.matrix(a).is_some(),
             Object::Vector(v) => self.shapes.vector(v).is_some(),
         }
+    }
+}
+
+/// Calls that are lent together (own).
+#[derive(Drop)]
+pub struct LentCalls<'a, 'b> {
+    /// The calls, in turn.
+    pub calls: &'b [&'a Call],
+}
+
+impl<'a, 'b> CallList<LentCalls<'a, 'b>> for Targets {
+    ghost is_in = { λ s t. Unit {0} };
+
+    ghost calls = { λ s t. map (λ c. c.now) s.calls.now };
+
+    ghost target_list = { λ t. t.targets };
+
+    fn targets(&self) -> &[Option<Object>] {
+        Targets::targets(self)
+    }
+
+    fn call_at<'c>(&mut self, source: &'c LentCalls<'a, 'b>, at: usize) -> &'c Call {
+        source.calls[at]
     }
 }

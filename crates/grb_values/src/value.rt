@@ -9,7 +9,7 @@ ghost use Rattle.grb_values.specs.Held.{tasks_of};
 
 use crate::apart::answer_of;
 use crate::part::make_chosen;
-use crate::targets::Targets;
+use crate::targets::{LentCalls, Targets};
 use grb_call::{Call, Object, Reply};
 use grb_core::Refusal;
 use grb_replay::State;
@@ -56,9 +56,9 @@ pub fn value_of(alloc: Global, calls: &[&Call], object: Object) -> Result<Held, 
             evaluated: 0,
         });
     }
-    let targets = walk.behind(0);
-    let slice = slice_of(alloc, targets, calls, object)?;
-    make_chosen(&mut state, targets, calls, slice.chosen.as_slice())?;
+    let source = LentCalls { calls };
+    let slice = slice_of(alloc, &mut walk, &source, object)?;
+    make_chosen(&mut state, &mut walk, &source, 0, slice.chosen.as_slice())?;
     Ok(Held {
         object,
         state,

@@ -1,26 +1,12 @@
 use Prim.{search}
-use Rattle.std.proofs.Common.{◌≡◌, ◌≤◌, List, [], ◌∷◌, length, map, rules, ap, subst, ◌∙◌, arith}
+use Rattle.std.proofs.Common.{◌≡◌, List, [], ◌∷◌, map, rules, ap, subst, ◌∙◌}
 use Rattle.std.specs.Prelude.{Some, slice_get}
 use Rattle.std.proofs.lemmas.List.{map-append}
 use Rattle.grb_call.specs.declared.call.Call.{Call}
 use Rattle.grb_call.specs.History.{calls_of}
 use Rattle.grb_pass.specs.Known.{Knowing, known}
-use Rattle.grb_pass.proofs.Evaluated.{length-calls_of}
-use Rattle.grb_pass.proofs.Lately.{lent_next, lent_none}
+use Rattle.grb_pass.proofs.Lately.{lent_next}
 use Rattle.grb_pass.proofs.recent.lent_calls.Goals as goal
-
-pub calls-init : goal.calls-init
-calls-init c =
-    let cs : List Call = calls_of (known c.args.reader.now) in
-    let none : c.in_ok-calls.calls.items ≡ [] = search rules in
-    let few : c.args.from ≤ length cs = omega (arith, c.requires.from, length-calls_of (known c.args.reader.now)) in
-    record {
-      same = search rules;
-      from = search rules;
-      capacity = search rules;
-      count = search rules;
-      calls = ap (map (λ x. x.now)) none ∙ lent_none cs c.args.from few;
-    }
 
 pub calls-preserved : goal.calls-preserved
 calls-preserved c =
@@ -28,8 +14,7 @@ calls-preserved c =
     let call : slice_get cs at ≡ Some c.call_at.result.now = subst (λ (p : Knowing). slice_get (calls_of (known p)) at ≡ Some c.call_at.result.now) c.calls.invariant.same c.call_at.ensures.call in
     record {
       same = c.call_at.ensures.same ∙ c.calls.invariant.same;
-      from = search rules;
       capacity = search rules;
       count = search rules;
-      calls = ap (map (λ x. x.now)) c.push_reserved.ensures.items ∙ map-append (λ x. x.now) c.calls.calls.items (c.call_at.result ∷ []) ∙ lent_next cs c.args.from at c.call_at.result.now (map (λ x. x.now) c.calls.calls.items) call c.calls.invariant.from c.calls.invariant.calls;
+      calls = ap (map (λ x. x.now)) c.push_reserved.ensures.items ∙ map-append (λ x. x.now) c.calls.calls.items (c.call_at.result ∷ []) ∙ lent_next cs at c.call_at.result.now (map (λ x. x.now) c.calls.calls.items) call c.calls.invariant.calls;
     }

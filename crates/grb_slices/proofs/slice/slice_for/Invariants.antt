@@ -1,16 +1,18 @@
-use Rattle.std.proofs.Common.{◌≡◌, ◌+◌, ◌≤◌, length, map}
+use Rattle.std.proofs.Common.{◌≡◌, ◌+◌, ◌-◌, ◌≤◌, drop, length}
 use Rattle.grb_slices.specs.Slice.{entries}
 use Rattle.grb_slices.specs.Wanted.{is_wanted}
 use Rattle.grb_slices.proofs.Walked.{IsWalked}
 use Rattle.grb_slices.proofs.slice.slice_for.Given as goal
 
-abbrev pub invariant-calls : goal.invariant-calls
-invariant-calls l = record {
-  within : l.at ≤ length l.calls;
-  count : length l.chosen.items ≡ length l.calls;
-  few : l.count + l.at ≤ length l.calls;
-  walked : IsWalked (is_wanted l.fn.wanted) (entries l.targets (map (λ c. c.now) l.calls)) l.at l.chosen.items l.count (is_wanted l.wanted);
+abbrev pub invariant-back : goal.invariant-back
+invariant-back g l = record {
+  same : l.calls ≡ l.initial.calls;
+  begun : l.fn.from ≤ l.at;
+  within : l.at ≤ length (g.C.CallList.calls l.source l.initial.calls);
+  size : length l.chosen.items + l.fn.from ≡ length (g.C.CallList.calls l.source l.initial.calls);
+  few : l.count + l.at ≤ length (g.C.CallList.calls l.source l.initial.calls);
+  walked : IsWalked (is_wanted l.fn.wanted) (entries (drop l.fn.from (g.C.CallList.target_list l.initial.calls)) (drop l.fn.from (g.C.CallList.calls l.source l.initial.calls))) (l.at - l.fn.from) l.chosen.items l.count (is_wanted l.wanted);
 }
 
-abbrev pub decreases-calls : goal.decreases-calls
-decreases-calls l = l.at
+abbrev pub decreases-back : goal.decreases-back
+decreases-back g l = l.at

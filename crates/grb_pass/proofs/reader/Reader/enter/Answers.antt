@@ -1,11 +1,20 @@
 use Rattle.std.proofs.lemmas.Grind.{common_steps}
 use Prim.{grind}
-use Rattle.std.proofs.Common.{◌≡◌, length, subst, sym, ap, ◌∙◌, arith}
+use Rattle.std.proofs.Common.{◌≡◌, None, length, subst, sym, ap, ◌∙◌, arith}
 use Rattle.grb_order.specs.Word.{order_word}
 use Rattle.grb_order.specs.View.{enters_word}
-use Rattle.grb_pass.specs.Known.{Knowing}
+use Rattle.grb_call.specs.Refused.{refused_by_shapes}
+use Rattle.grb_call.specs.Shapes.{ObjectShapes}
+use Rattle.grb_call.specs.Store.{shapes_of}
+use Rattle.grb_call.specs.History.{store_of}
+use Rattle.grb_pass.specs.Known.{Knowing, known}
 use Rattle.grb_pass.proofs.Kept.{kept_won, kept_lost, kept_order, sound_order, steady}
 use Rattle.grb_pass.proofs.reader.Reader.enter.Goals as goal
+
+pub take_in-requires-clause-accepted : goal.take_in-requires-clause-accepted
+take_in-requires-clause-accepted c =
+    ap (λ (s : ObjectShapes). refused_by_shapes s c.args.call.now) c.self.invariant.shapes_are
+    ∙ subst (λ (p : Knowing). refused_by_shapes (shapes_of (store_of (known p))) c.args.call.now ≡ None) (sym c.self.view_is) c.requires.accepted
 
 pub invariant_of-self : goal.invariant_of-self
 invariant_of-self c =
@@ -19,7 +28,7 @@ invariant_of-self c =
     c.requires.index
     (c.in-Won.ensures.entered.0 ∙ ap (λ n. enters_word place.view (order_word place.view.number n)) index)
     (sound_order _ _ _ same c.enter.ensures.sound)
-    c.requires.call c.push_reserved.ensures.items c.push_reserved.ensures.capacity c.absorb.ensures.objects c.absorb.ensures.room)
+    c.requires.call c.push_reserved.ensures.items c.push_reserved.ensures.capacity c.take_in.ensures.shapes c.take_in.ensures.room c.take_in.ensures.targets)
 
 pub invariant_of-self-in-Lost : goal.invariant_of-self-in-Lost
 invariant_of-self-in-Lost c =

@@ -1,14 +1,17 @@
-use Rattle.std.proofs.Common.{◌≡◌, ◌^◌, ◌<◌, ◌≤◌, refl, sym, subst, ap, arith, ◌∙◌}
+use Rattle.std.proofs.Common.{◌≡◌, ◌^◌, ◌<◌, ◌≤◌, None, refl, sym, subst, ap, arith, ◌∙◌}
 use Rattle.std.proofs.lemmas.Result.{err_from_is_err_and}
 use Rattle.grb_order.specs.Word.{order_word}
 use Rattle.grb_order.specs.Holding.{TableId}
 use Rattle.grb_order.specs.Order.{room_of}
 use Rattle.grb_records.specs.Token.{Shown, IsOf}
 use Rattle.grb_call.specs.declared.call.Call.{Call}
+use Rattle.grb_call.specs.Refused.{refused_by_shapes}
+use Rattle.grb_call.specs.Store.{shapes_of}
 use Rattle.grb_call.specs.After.{reply_of}
 use Rattle.grb_call.specs.History.{store_of}
 use Rattle.grb_pass.specs.Known.{Knowing, known}
 use Rattle.grb_pass.specs.Learning.{IsReady, IsRefused, Learns}
+use Rattle.grb_pass.proofs.Checking.{unrefused_by_shapes}
 use Rattle.grb_pass.proofs.Learnt.{learns_refl, learns_then, pass_push}
 use Rattle.grb_pass.proofs.Answering.{explains_refused, explains_won, known_entered, learns_lost, refused_before}
 use Rattle.grb_pass.proofs.Counted.{counts_then, counts_same, counts_won, counts_lost, looks_again, steps_near, steps_lost}
@@ -28,6 +31,12 @@ tries-init c =
       counts = counts_same pass pass refl refl;
       looks = omega arith;
     }
+
+pub enter-requires-clause-accepted : goal.enter-requires-clause-accepted
+enter-requires-clause-accepted c =
+    let now = c.tries.invariant in
+    let is : c.call_of-call.result.now ≡ c.args.token.call = subst (λ (x : Call). c.call_of-call.result.now ≡ x) now.call c.call_of-call.ensures.call in
+    subst (λ (x : Call). refused_by_shapes (shapes_of (store_of (known c.tries.pass))) x ≡ None) (sym is) (unrefused_by_shapes (store_of (known c.tries.pass)) c.args.token.call now.ready.unrefused)
 
 pub enter-requires-clause-few : goal.enter-requires-clause-few
 enter-requires-clause-few c =
