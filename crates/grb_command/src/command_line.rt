@@ -23,7 +23,13 @@ fn command<'a>(alloc: Global) -> Result<Command<'a>, AllocError>
         .value_name("SCRIPT")
         .action(ArgAction::Set)
         .required(true)
-        .help("The script to run; the paths of its loads begin in the working folder");
+        .help(
+            "The script to run, of at most 1,048,576 bytes; the paths of its loads\n\
+            begin in the working folder. A load reads a Matrix Market coordinate\n\
+            file of at most 67,108,864 bytes, integer or pattern, general or\n\
+            symmetric. All files are read and checked after the script, and before\n\
+            anything runs.",
+        );
     Command::new(alloc, "grbrun")
         .about("Runs a script of GraphBLAS calls on one shared store")
         .no_binary_name(true)

@@ -28,7 +28,8 @@ impl Model for Context {
 
 impl Context {
     /// A context whose history takes `room` calls, from 1 to 4,096, and its passes, from 1 to 64, which know no call and have no status: the one
-    /// at index k has the number k. After this only the records of entered calls and the evaluation of reads and builds take memory.
+    /// at index k has the number k. After this memory is taken for the records of entered calls, for the evaluation of reads and builds, by
+    /// a wait for all objects for what it offers to the other passes, and by `run` for its answers and for its copies of builds' lists.
     /// `AllocError` where memory is refused.
     pub fn open(alloc: Global, room: u32, passes: u32) -> Result<(Context, Vec<Pass>), AllocError>
         requires room { (0 < room) × (room ≤ 4096) }
@@ -44,8 +45,8 @@ impl Context {
 
     /// Makes one call, by whichever thread has the pass, and does not wait. A refusal says why the call was not made: by shapes (the
     /// lowest of those that apply, at the end of the history), by a build's object, `OrderFull` where the history has no room for a call
-    /// that would be entered, `OutOfMemory` where the record of an entered call or the evaluation of a read or of a build's object is
-    /// refused memory, and `Panic` where a record could not be put, or the record of an earlier call is not shown yet; the next call
+    /// that would be entered, `OutOfMemory` where the record of an entered call, the evaluation of a read or of a build's object, or what
+    /// a wait for all objects offers to the other passes is refused memory, and `Panic` where a record could not be put, or the record of an earlier call is not shown yet; the next call
     /// asks for it again. The answer is kept as the status of the call's object, as [`Pass::last_info`] says.
     ///
     /// Source: GraphBLAS C API 2.0, "Execution modes"; Herlihy, "Wait-free synchronization", 1991.
@@ -62,9 +63,9 @@ impl Context {
         }
     }
 
-    /// Lets the pass learn all that the other knows: one atomic load of each word that it had not learnt, and one of the first word. `Panic`
-    /// where a record is not shown; the words stay learnt, and the next call or meeting asks for it again. Nothing that the other pass
-    /// knows changes, whatever is answered. Takes no memory and does not wait.
+    /// Lets the pass learn all that the other knows: one atomic load of each word that it had not learnt, and three of the first word, which
+    /// are not counted. `Panic` where a record is not shown; the words stay learnt, and the next call or meeting asks for it again. Nothing
+    /// that the other pass knows changes, whatever is answered. Takes no memory and does not wait.
     pub fn meet(&self, pass: &mut Pass, other: &mut Pass) -> Result<(), Refusal>
         requires pass { IsPassOf self.now pass.old }
         requires other { IsPassOf self.now other.old }

@@ -2,6 +2,8 @@ pub mod LowestBit
 pub mod MarksOf
 pub mod WordByWord
 pub mod Cleared
+pub mod Taken
+pub mod Touched
 pub mod Renamed
 pub mod RowSums
 pub mod OpenRow

@@ -1,5 +1,6 @@
 -- Values picked by the bits of a word (own): bit t of the word stands for the place base + t.
-use Rattle.std.specs.Prelude.{ℕ, zero, suc, ◌+◌, ◌*◌, ◌/◌, ◌%◌, ◌<◌, ◌≡◌, Bool, true, false, slice_index, slice_index_or, length, nat_eq, if◌then◌else◌, List, [], ◌∷◌, Option, Some, None}
+use Rattle.std.specs.Prelude.{ℕ, zero, suc, ◌+◌, ◌*◌, ◌/◌, ◌%◌, ◌<◌, ◌≤◌, ◌≡◌, Bool, true, false, slice_index, slice_index_or, length, take, nat_eq, if◌then◌else◌, List, [], ◌∷◌, Option, Some, None, All}
+use Rattle.std.specs.List.{Contains}
 use Rattle.std.specs.Int.{bit_at}
 use Rattle.grb_core.specs.declared.value.Value.{Value}
 use Rattle.grb_core.specs.Entries.{VectorEntries, before_entries}
@@ -31,6 +32,20 @@ marks_from words j (suc n) = has_bit (slice_index words (j / 64)) (j % 64) ∷ m
 -- the marks of the first n places
 abbrev pub marks_of : ℕ → List ℕ → List Bool
 marks_of n words = marks_from words 0 n
+
+-- each of these is the number of a word
+abbrev pub AreWords : List ℕ → List ℕ → Type 0
+AreWords words listed = All (λ w. w < length words) listed
+
+-- the words that have a bit are among these
+abbrev pub ListTouched : List ℕ → List ℕ → Type 0
+ListTouched words listed = (w : ℕ) → 0 < slice_index words w → Contains listed w
+
+-- the first n of a list are numbers of words; while there is room behind them, they list the words that have a bit
+pub record AreTouched (words touched : List ℕ) (n : ℕ) : Type 0 where
+  pub room : n ≤ length touched
+  pub inside : AreWords words (take n touched)
+  pub all : n < length touched → ListTouched words (take n touched)
 
 -- at each place there is this value
 abbrev pub HoldAll : {V : Type 0} → (V → Value) → Value → List V → Type 0

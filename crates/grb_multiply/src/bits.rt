@@ -1,9 +1,10 @@
-//! The marks of a row of sums as the bits of words, so that a row is read in order and cleared by what was marked.
+//! The marks of a row of sums as the bits of words, so that a row is read in order and cleared by what was marked. While few words have a
+//! bit they are listed, so that a row of a few sums looks at those words alone.
 ghost use Rattle.std.specs.Prelude.{◌≡◌, ◌+◌, ◌<◌, ◌≤◌, ◌≢◌, ◌^◌, ◌*◌, ◌++◌, ℕ, Bool, List, length, slice_set, slice_index, true, false, Some};
 ghost use Rattle.grb_core.specs.Monoid.{identity_of};
 ghost use Rattle.grb_kernels.specs.Typed.{first_entries};
 ghost use Rattle.grb_multiply.specs.Rows.{name_in};
-ghost use Rattle.grb_multiply.specs.Bits.{has_bit, value_at, bits_from, marks_of, AreMarks, HoldAll, HoldUnmarked};
+ghost use Rattle.grb_multiply.specs.Bits.{has_bit, value_at, bits_from, marks_of, AreMarks, HoldAll, HoldUnmarked, AreWords, ListTouched, AreTouched};
 ghost use Rattle.grb_multiply.specs.Open.{marked_from};
 
 use grb_kernels::Scalar;
@@ -99,12 +100,62 @@ pub(crate) fn take_words<T: Scalar, M: MonoidOver<T>>(
     k
 }
 
-/// Sets the bit of a place: each list of marks that the words have is marked there.
-pub(crate) fn mark(words: &mut [u64], at: usize)
-    requires { at < 64 * length words.old }
-    ensures { (marks : List Bool) → at < length marks → AreMarks marks words.old → AreMarks (slice_set marks at true) words.new }
+/// Writes and clears as `take_words` does, and looks at no word but those that are listed, among which is each that has a bit. Sorts the list,
+/// and passes over a number that it has a second time.
+pub(crate) fn take_listed<T: Scalar, M: MonoidOver<T>>(
+    words: &mut [u64],
+    listed: &mut [usize],
+    names: &[u32],
+    sums: &mut [T],
+    columns: &mut [u32],
+    values: &mut [T],
+) -> usize
+    requires inside { AreWords words.old listed.old }
+    requires all { ListTouched words.old listed.old }
+    requires bits { AreMarks (marks_of (length sums.old) words.old) words.old }
+    requires words_few { length words.old ≤ 2 ^ 58 }
+    requires named { length sums.old ≡ length names.now }
+    requires room { length sums.old ≤ length columns.old }
+    requires room_same { length columns.old ≡ length values.old }
+    requires enough { length sums.old ≤ 64 * length words.old }
+    requires clear { HoldUnmarked T.value (identity_of M.monoid) (marks_of (length sums.old) words.old) sums.old }
+    ensures entries { first_entries T.value result columns.new values.new ≡ marked_from T.value (name_in names.now) 0 (marks_of (length sums.old) words.old) sums.old }
+    ensures most { result ≤ length sums.old }
+    ensures none { (w : ℕ) → slice_index words.new w ≡ 0 }
+    ensures clear { HoldAll T.value (identity_of M.monoid) sums.new }
 {
-    words[at / 64] |= 1 << (at % 64);
+    listed.sort_unstable();
+    let mut k = 0;
+    let mut next = 0;
+    'listed: for i in 0..listed.len() {
+        let w = listed[i];
+        if w < next {
+            continue;
+        }
+        let word = words[w];
+        k = take_word::<T, M>(64 * w, word, names, sums, columns, values, k);
+        words[w] = 0;
+        next = w + 1;
+    }
+    k
+}
+
+/// Sets the bit of a place: each list of marks that the words have is marked there. A word that had no bit is put behind the first `count` of
+/// `touched`, if there is room. Answers how many there are then.
+pub(crate) fn mark(words: &mut [u64], touched: &mut [usize], count: usize, at: usize) -> usize
+    requires in_range { at < 64 * length words.old }
+    requires listed { AreTouched words.old touched.old count }
+    ensures marked { (marks : List Bool) → at < length marks → AreMarks marks words.old → AreMarks (slice_set marks at true) words.new }
+    ensures listed { AreTouched words.new touched.new result }
+{
+    let w = at / 64;
+    let word = words[w];
+    words[w] = word | 1 << (at % 64);
+    if count < touched.len() && word == 0 {
+        touched[count] = w;
+        return count + 1;
+    }
+    count
 }
 
 /// Puts the identity at each place.

@@ -14,49 +14,58 @@ ghost use Rattle.grb_rows.specs.Cells.{decoded};
 ghost use Rattle.grb_products.specs.Open.{marked_at};
 ghost use Rattle.grb_products.specs.Products.{products};
 ghost use Rattle.grb_multiply.specs.Rows.{name_in, product_row};
-ghost use Rattle.grb_multiply.specs.Bits.{marks_of, AreMarks, HoldAll, HoldUnmarked};
+ghost use Rattle.grb_multiply.specs.Bits.{marks_of, AreMarks, HoldAll, HoldUnmarked, AreTouched};
 
-use crate::bits::{mark, take_words};
+use crate::bits::{mark, take_listed, take_words};
 use crate::ranked::RankedRows;
 use grb_kernels::Operator;
 use grb_products::{MonoidOver, Stored};
 
-/// Adds a row, times `x`, to the sums: at a place there is a sum where its bit of `words` is set, and elsewhere the identity.
+/// Adds a row, times `x`, to the sums: at a place there is a sum where its bit of `words` is set, and elsewhere the identity. The first `count`
+/// of `touched` list the words that have a bit, unless they fill it. Answers how many there are then.
 fn add_row<T: Stored, M: MonoidOver<T>, O: Operator<T>>(
     x: T,
     places: &[u32],
     values: &[T],
     sums: &mut [T],
     words: &mut [u64],
-)
+    touched: &mut [usize],
+    count: usize,
+) -> usize
     requires same { length places.now ≡ length values.now }
     requires rising { IsTrue (is_sorted nat_cmp (entries_of T.value places.now values.now)) }
     requires in_range { All (λ p. p < length sums.old) places.now }
     requires enough { length sums.old ≤ 64 * length words.old }
     requires bits { AreMarks (marks_of (length sums.old) words.old) words.old }
     requires clear { HoldUnmarked T.value (identity_of M.monoid) (marks_of (length sums.old) words.old) sums.old }
+    requires listed { AreTouched words.old touched.old count }
     ensures added { (p : ℕ) → marked_at T.value (marks_of (length sums.new) words.new) sums.new p ≡ either_value (value_of_op (monoid_op M.monoid)) (marked_at T.value (marks_of (length sums.old) words.old) sums.old p) (both_values (value_of_op O.op) (Some (T.value x)) (find nat_cmp p (entries_of T.value places.now values.now))) }
     ensures of_domain { AllByRecursion (λ e. IsValueOf T.domain (value_of_op O.op (T.value x) e.1)) (entries_of T.value places.now values.now) }
     ensures bits { AreMarks (marks_of (length sums.new) words.new) words.new }
     ensures clear { HoldUnmarked T.value (identity_of M.monoid) (marks_of (length sums.new) words.new) sums.new }
+    ensures listed { AreTouched words.new touched.new result }
 {
+    let mut count = count;
     'row: for i in 0..places.len() {
         let at = places[i] as usize;
         let made = O::apply(x, values[i]);
         let product = made.read();
         sums[at] = M::add(sums[at], product);
-        mark(words, at);
+        count = mark(words, touched, count, at);
     }
+    count
 }
 
-/// The sums of a row of the product of two matrices, where none lay open before.
+/// The sums of a row of the product of two matrices, where none lay open before. Answers how many numbers of
+/// `touched` list the words that have a bit, unless they fill it.
 fn sum_row<T: Stored, M: MonoidOver<T>, O: Operator<T>>(
     columns: &[u32],
     values: &[T],
     b: &RankedRows<T>,
     sums: &mut [T],
     words: &mut [u64],
-)
+    touched: &mut [usize],
+) -> usize
     requires same { length columns.now ≡ length values.now }
     requires named { length sums.old ≡ length b.now.names.now }
     requires enough { length sums.old ≤ 64 * length words.old }
@@ -65,21 +74,33 @@ fn sum_row<T: Stored, M: MonoidOver<T>, O: Operator<T>>(
     ensures sums { (p : ℕ) → p < length b.now.names.now → marked_at T.value (marks_of (length sums.new) words.new) sums.new p ≡ fold_of_some M.monoid (products O.op (λ k. find nat_cmp (name_in b.now.names.now p) (row_of k (decoded b.now.lists.now.entries))) (entries_of T.value columns.now values.now)) }
     ensures bits { AreMarks (marks_of (length sums.new) words.new) words.new }
     ensures clear { HoldUnmarked T.value (identity_of M.monoid) (marks_of (length sums.new) words.new) sums.new }
+    ensures listed { AreTouched words.new touched.new result }
 {
+    let mut count = 0;
     'entries: for i in 0..columns.len() {
         let row = (&*b).row(columns[i]);
-        add_row::<T, M, O>(values[i], row.indices, row.values, sums, words);
+        count = add_row::<T, M, O>(
+            values[i],
+            row.indices,
+            row.values,
+            sums,
+            words,
+            touched,
+            count,
+        );
     }
+    count
 }
 
 /// A row of the product of two matrices, written to the front of `made_columns` and `made_values`. Answers how many entries it has.
-/// Nothing lies open before or after.
+/// Nothing lies open before or after. Where the words that get a bit fill `touched`, all words are looked at, and else they alone.
 pub(crate) fn multiply_row<T: Stored, M: MonoidOver<T>, O: Operator<T>>(
     columns: &[u32],
     values: &[T],
     b: &RankedRows<T>,
     sums: &mut [T],
     words: &mut [u64],
+    touched: &mut [usize],
     made_columns: &mut [u32],
     made_values: &mut [T],
 ) -> usize
@@ -97,6 +118,10 @@ pub(crate) fn multiply_row<T: Stored, M: MonoidOver<T>, O: Operator<T>>(
     ensures clear { HoldAll T.value (identity_of M.monoid) sums.new }
     ensures most { result ≤ length sums.old }
 {
-    sum_row::<T, M, O>(columns, values, &*b, sums, words);
+    let count = sum_row::<T, M, O>(columns, values, &*b, sums, words, touched);
+    if count < touched.len() {
+        let listed = &mut touched[..count];
+        return take_listed::<T, M>(words, listed, b.names, sums, made_columns, made_values);
+    }
     take_words::<T, M>(words, b.names, sums, made_columns, made_values)
 }

@@ -58,6 +58,7 @@ pub(crate) fn multiply_rows<T: Stored + Drop, M: MonoidOver<T>, O: Operator<T>>(
     b: &RankedRows<T>,
     sums: &mut [T],
     words: &mut [u64],
+    touched: &mut [usize],
     made_columns: &mut [u32],
     made_values: &mut [T],
 ) -> Result<MadeRows<T>, AllocError>
@@ -84,6 +85,7 @@ pub(crate) fn multiply_rows<T: Stored + Drop, M: MonoidOver<T>, O: Operator<T>>(
             &*b,
             sums,
             words,
+            touched,
             made_columns,
             made_values,
         );

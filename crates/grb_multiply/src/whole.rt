@@ -18,6 +18,10 @@ use grb_rows::FlatRows;
 use std::alloc::{AllocError, Global};
 use std::marker::PhantomData;
 
+/// A row's words are listed while they are fewer than one in so many of all. So a walk over all words takes at most as many steps for each
+/// word that the row touched, and the list that is sorted is short beside it.
+const WORDS_FOR_ONE_LISTED: usize = 16;
+
 /// The product of two matrices, the columns of the second of which have ranks. Takes memory to work in, some places for each name.
 fn multiply_ranked<T: Stored + Drop, M: MonoidOver<T>, O: Operator<T>>(
     alloc: Global,
@@ -30,6 +34,7 @@ fn multiply_ranked<T: Stored + Drop, M: MonoidOver<T>, O: Operator<T>>(
 {
     let count = b.names.len();
     let mut words = vec![in alloc; 0u64; count / 64 + 1]?;
+    let mut touched = vec![in alloc; 0usize; words.len() / WORDS_FOR_ONE_LISTED + 1]?;
     let mut room = row_room::<T>(alloc, count)?;
     let open_sums = room.sums.as_mut_slice();
     clear_all::<T, M>(open_sums);
@@ -39,6 +44,7 @@ fn multiply_ranked<T: Stored + Drop, M: MonoidOver<T>, O: Operator<T>>(
         &*b,
         open_sums,
         words.as_mut_slice(),
+        touched.as_mut_slice(),
         room.columns.as_mut_slice(),
         room.values.as_mut_slice(),
     )

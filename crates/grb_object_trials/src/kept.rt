@@ -8,8 +8,10 @@ use crate::values::{Step, calls_of, lent};
 use grb_call::{Call, Object, Reply, VectorId};
 use grb_core::Value;
 use grb_replay::{State, replay};
+use grb_slices::CallList;
 use grb_values::{Kept, LentCalls, Targets};
 use std::alloc::{AllocError, Global};
+use std::marker::Model;
 use std::process::Abort;
 use std::test::Fail;
 
@@ -34,14 +36,15 @@ static STEPS: [Step; 17] = [
     Step::Add(0, 0, 1),
 ];
 
-/// A read of the first vector behind so many of the steps: the index, what a part answers, none where there is no answer from a part, and how
-/// many objects are kept then.
+/// A read of the first vector behind so many of the steps: the index, what a part answers, none where there is no answer from a part, which
+/// calls are lent for that, each as the bit of its place, and how many objects are kept then.
 #[derive(Clone, Copy)]
 struct Row {
     name: &'static str,
     upto: usize,
     i: u64,
     answer: Option<Reply>,
+    lent: u64,
     kept: usize,
 }
 
@@ -51,6 +54,7 @@ static ROWS: [Row; 7] = [
         upto: 12,
         i: 0,
         answer: Some(Reply::Value(Value::Uint64(7))),
+        lent: (1 << 0) | (1 << 2),
         kept: 1,
     },
     Row {
@@ -58,6 +62,7 @@ static ROWS: [Row; 7] = [
         upto: 12,
         i: 1,
         answer: Some(Reply::NoValue),
+        lent: 0,
         kept: 1,
     },
     Row {
@@ -65,6 +70,7 @@ static ROWS: [Row; 7] = [
         upto: 16,
         i: 1,
         answer: Some(Reply::Value(Value::Uint64(8))),
+        lent: 1 << 12,
         kept: 1,
     },
     Row {
@@ -72,6 +78,7 @@ static ROWS: [Row; 7] = [
         upto: 16,
         i: 0,
         answer: Some(Reply::Value(Value::Uint64(7))),
+        lent: 0,
         kept: 1,
     },
     Row {
@@ -79,6 +86,7 @@ static ROWS: [Row; 7] = [
         upto: 17,
         i: 2,
         answer: None,
+        lent: 1 << 16,
         kept: 0,
     },
     Row {
@@ -86,6 +94,7 @@ static ROWS: [Row; 7] = [
         upto: 17,
         i: 2,
         answer: None,
+        lent: (1 << 17) - 1,
         kept: 0,
     },
     Row {
@@ -93,6 +102,7 @@ static ROWS: [Row; 7] = [
         upto: 17,
         i: 0,
         answer: None,
+        lent: (1 << 17) - 1,
         kept: 0,
     },
 ];
@@ -105,7 +115,41 @@ fn first_calls<'a, 'b>(calls: &'b [&'a Call], upto: usize) -> &'b [&'a Call]
     &calls[..upto]
 }
 
-/// What a part answers to a get that is not refused, where none of the calls is evaluated in the store.
+/// The targets of calls, and which of the calls were lent: each is the bit of its place.
+#[derive(Drop)]
+struct Counting {
+    walk: Targets,
+    lent: u64,
+}
+
+impl Model for Counting {
+    ghost use Rattle.grb_values.specs.Targets.{WalkedCalls};
+
+    ghost Value = { WalkedCalls };
+
+    ghost view = { λ c. c.walk };
+}
+
+impl<'a, 'b> CallList<LentCalls<'a, 'b>> for Counting {
+    ghost is_in = { λ s t. Unit {0} };
+
+    ghost calls = { λ s t. map (λ c. c.now) s.calls.now };
+
+    ghost target_list = { λ t. t.targets };
+
+    fn targets(&self) -> &[Option<Object>] {
+        self.walk.targets()
+    }
+
+    fn call_at<'c>(&mut self, source: &'c LentCalls<'a, 'b>, at: usize) -> &'c Call {
+        if at < 64 {
+            self.lent |= 1 << at;
+        }
+        source.calls[at]
+    }
+}
+
+/// What a part answers to a get that is not refused, where none of the calls is evaluated in the store, and which calls are lent for that.
 fn read(
     rt: &impl Abort,
     alloc: Global,
@@ -113,7 +157,7 @@ fn read(
     empty: &State,
     calls: &[&Call],
     i: u64,
-) -> Result<Option<Reply>, AllocError>
+) -> Result<(Option<Reply>, u64), AllocError>
     requires kept { AreKept (map (λ c. c.now) calls.now) kept.old }
     requires room { length calls.now ≤ kept.old.room }
     requires few { length calls.now ≤ 1000 }
@@ -128,8 +172,11 @@ fn read(
     }
     let mut walk = Targets::open(alloc, calls.len() as u32)?;
     walk.go_on(calls);
+    let mut counting = Counting { walk, lent: 0 };
     let source = LentCalls { calls };
-    kept.reply(&mut walk, &source, empty, 0, Object::Vector(v), &call)
+    let object = Object::Vector(v);
+    let reply = kept.reply(&mut counting, &source, empty, 0, object, &call)?;
+    Ok((reply, counting.lent))
 }
 
 /// A read behind the calls of the row, which are not fewer than those of the row before.
@@ -153,7 +200,7 @@ fn expect_row(
         panic!(rt; "{upto} calls");
     }
     let answer = read(rt, alloc, kept, empty, first_calls(calls, upto), row.i)?;
-    same(rt, answer, row.answer, row.name);
+    same(rt, answer, (row.answer, row.lent), row.name);
     same(rt, kept.len(), row.kept, row.name);
     Ok(upto)
 }

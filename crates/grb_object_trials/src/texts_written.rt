@@ -99,11 +99,15 @@ fn a_matrix_is_written_in_canonical_form(rt: HostRuntime) -> Result<(), Fail> {
     Ok(())
 }
 
-/// It stores a true and a false.
-fn matrix_with_a_false(alloc: Global) -> Result<SparseMatrix, AllocError>
+/// It stores a false, alone or beside a true.
+fn matrix_with_a_false(alloc: Global, is_alone: bool) -> Result<SparseMatrix, AllocError>
     ensures { IfOk result (λ a. a.assembled ≡ true) }
 {
     let mut a = SparseMatrix::new(alloc, Domain::Bool, 2, 2);
+    if is_alone {
+        a.build(&[(0, 0, Value::Bool(false))], Monoid::Lor)?;
+        return Ok(a);
+    }
     a.build(
         &[(1, 1, Value::Bool(true)), (0, 0, Value::Bool(false))],
         Monoid::Lor,
@@ -118,13 +122,15 @@ fn expect_no_pattern(rt: &impl Abort, alloc: Global, a: &SparseMatrix)
     let found = write(alloc, a, &mut small);
     same(rt, found, Err(WriteFault::NotPattern), "a false");
     same(rt, small.taken.is_empty(), true, "a false");
+    same(rt, small.failures, 0, "a false");
 }
 
 #[test]
 fn a_stored_false_is_refused_and_nothing_is_written(rt: HostRuntime) -> Result<(), Fail> {
-    let a = matrix_with_a_false(rt.alloc())?;
-    assert!(rt; a.is_assembled());
-    expect_no_pattern(&rt, rt.alloc(), &a);
+    for is_alone in [true, false] {
+        let a = matrix_with_a_false(rt.alloc(), is_alone)?;
+        expect_no_pattern(&rt, rt.alloc(), &a);
+    }
     Ok(())
 }
 
@@ -152,6 +158,16 @@ fn set(a: &mut SparseMatrix, i: u64, j: u64, value: Value) -> Result<(), AllocEr
     Ok(())
 }
 
+/// A drawn number: a small one, or one of the largest.
+fn drawn_number(state: &mut u64) -> u64 {
+    let number = drawn(state, 1 << 31);
+    if drawn(state, 3) == 0 {
+        u64::MAX - number % 8
+    } else {
+        number
+    }
+}
+
 /// A drawn matrix, assembled, of at most 12 rows and columns.
 fn drawn_matrix(alloc: Global, state: &mut u64, domain: Domain) -> Result<SparseMatrix, AllocError>
     ensures { IfOk result (λ a. a.assembled ≡ true) }
@@ -163,7 +179,7 @@ fn drawn_matrix(alloc: Global, state: &mut u64, domain: Domain) -> Result<Sparse
         let (i, j) = (drawn(state, nrows), drawn(state, ncols));
         match a.domain() {
             Domain::Bool => set(&mut a, i, j, Value::Bool(true))?,
-            Domain::Uint64 => set(&mut a, i, j, Value::Uint64(drawn(state, 1 << 31)))?,
+            Domain::Uint64 => set(&mut a, i, j, Value::Uint64(drawn_number(state)))?,
         }
     }
     a.assemble()?;
@@ -183,32 +199,32 @@ fn tuples_of(alloc: Global, a: &SparseMatrix) -> Result<Vec<(u64, u64, Value)>, 
     Ok(tuples)
 }
 
-/// Adds the line of this number, if there is one, and a line end.
-fn add_line(text: &mut Vec<u8>, lines: &[&[u8]], number: usize) -> Result<(), AllocError> {
-    if let Some(line) = lines.get(number) {
+/// Puts the lines in a drawn order.
+fn shuffle(lines: &mut [&[u8]], state: &mut u64) {
+    for k in 1..lines.len() {
+        let other = drawn(state, k as u64 + 1);
+        lines.swap(k, other as usize);
+    }
+}
+
+/// The lines, each with a line end.
+fn joined(alloc: Global, lines: &[&[u8]]) -> Result<Vec<u8>, AllocError> {
+    let mut text = Vec::new(alloc);
+    for line in lines {
         text.extend_from_slice(*line)?;
         text.extend_from_slice(b"\n")?;
     }
-    Ok(())
+    Ok(text)
 }
 
-/// Adds the first two lines, and then the others in falling order. Behind the last line end stands no line.
-fn add_turned(text: &mut Vec<u8>, lines: &[&[u8]]) -> Result<(), AllocError> {
-    add_line(text, lines, 0)?;
-    add_line(text, lines, 1)?;
-    let end = lines.len().saturating_sub(1);
-    for number in 2..end {
-        add_line(text, lines, end - number + 1)?;
+/// The text with its entry lines in a drawn order. Behind the last line end stands no line.
+fn shuffled(alloc: Global, text: &[u8], state: &mut u64) -> Result<Vec<u8>, AllocError> {
+    let mut lines: Vec<&[u8]> = text.split(|b| *b == b'\n').collect(alloc)?;
+    lines.truncate(lines.len().saturating_sub(1));
+    if lines.len() > 2 {
+        shuffle(&mut lines[2..], state);
     }
-    Ok(())
-}
-
-/// The text with its entry lines in falling order.
-fn turned(alloc: Global, text: &[u8]) -> Result<Vec<u8>, AllocError> {
-    let lines: Vec<&[u8]> = text.split(|b| *b == b'\n').collect(alloc)?;
-    let mut turned = Vec::new(alloc);
-    add_turned(&mut turned, lines.as_slice())?;
-    Ok(turned)
+    joined(alloc, lines.as_slice())
 }
 
 /// The text is read as a matrix of the domain, rows and columns of `a`, and these tuples.
@@ -227,17 +243,18 @@ fn expect_read(
     Ok(())
 }
 
-/// The same with the entry lines of the text in falling order.
-fn expect_read_falling(
+/// The same with the entry lines of the text in a drawn order.
+fn expect_read_shuffled(
     rt: &impl Abort,
     alloc: Global,
     text: &[u8],
     a: &SparseMatrix,
     tuples: &[(u64, u64, Value)],
+    state: &mut u64,
     round: u64,
 ) -> Result<(), Fail> {
-    let falling = turned(alloc, text)?;
-    expect_read(rt, alloc, falling.as_slice(), a, tuples, round)
+    let shuffled = shuffled(alloc, text, state)?;
+    expect_read(rt, alloc, shuffled.as_slice(), a, tuples, round)
 }
 
 fn expect_text(
@@ -245,26 +262,28 @@ fn expect_text(
     alloc: Global,
     text: &[u8],
     a: &SparseMatrix,
+    state: &mut u64,
     round: u64,
 ) -> Result<(), Fail>
     requires { a.now.assembled ≡ true }
 {
     let tuples = tuples_of(alloc, a)?;
     expect_read(rt, alloc, text, a, tuples.as_slice(), round)?;
-    expect_read_falling(rt, alloc, text, a, tuples.as_slice(), round)
+    expect_read_shuffled(rt, alloc, text, a, tuples.as_slice(), state, round)
 }
 
 fn expect_read_back(
     rt: &impl Abort,
     alloc: Global,
     a: &SparseMatrix,
+    state: &mut u64,
     round: u64,
 ) -> Result<(), Fail>
     requires { a.now.assembled ≡ true }
 {
     let mut whole = sink(alloc, 65_536, 65_536);
     same(rt, write(alloc, a, &mut whole), Ok(()), round);
-    expect_text(rt, alloc, whole.taken.as_slice(), a, round)
+    expect_text(rt, alloc, whole.taken.as_slice(), a, state, round)
 }
 
 fn expect_drawn(rt: &impl Abort, alloc: Global, state: &mut u64, round: u64) -> Result<(), Fail> {
@@ -274,7 +293,7 @@ fn expect_drawn(rt: &impl Abort, alloc: Global, state: &mut u64, round: u64) -> 
         Domain::Uint64
     };
     let a = drawn_matrix(alloc, state, domain)?;
-    expect_read_back(rt, alloc, &a, round)
+    expect_read_back(rt, alloc, &a, state, round)
 }
 
 #[test]

@@ -1,14 +1,14 @@
 //! What one object holds after a list of calls, had from only the calls that it depends on: by hand, and beside the whole store.
-ghost use Rattle.std.specs.Prelude.{◌≡◌, ◌≤◌, false, length, IfOk, Some};
+ghost use Rattle.std.specs.Prelude.{◌≡◌, false, IfOk, Some};
 ghost use Rattle.grb_call.specs.Kinds.{enters, is_size};
 ghost use Rattle.grb_call.specs.Status.{object_of};
 ghost use Rattle.grb_call.specs.declared.ids.Object.TheVariants.{Vector};
 
 use crate::draw::Draw;
 use crate::same::same;
-use grb_call::{Call, Descriptor, Object, Reply, VectorId};
+use grb_call::{Call, Descriptor, MatrixId, Object, Reply, VectorId};
 use grb_core::{BinaryOp, Domain, Refusal, Value};
-use grb_replay::State;
+use grb_replay::{State, replay};
 use grb_values::{Held, value_of};
 use std::alloc::{AllocError, Global};
 use std::process::Abort;
@@ -351,25 +351,30 @@ fn expect_held(rt: &impl Abort, held: &mut Held, v: VectorId, row: &Row) -> Resu
     requires { held.old.object ≡ Vector v }
 {
     same(rt, held.evaluated(), row.evaluated, row.name);
+    same(rt, held.matrix().is_none(), true, row.name);
+    let lent = held.vector().map(|vector| vector.nvals());
+    let count = row.stored.map(|stored| stored.1);
+    same(rt, lent, count, row.name);
     match row.stored {
         Some(stored) => expect_stored(rt, held, v, stored, row.name),
         None => expect_none(rt, held, v, row.name),
     }
 }
 
-/// What a vector holds after the calls, which are few.
+/// What an object holds after the calls, which are few.
 fn held_after(
     rt: &impl Abort,
     alloc: Global,
     calls: &[&Call],
-    v: VectorId,
+    object: Object,
 ) -> Result<Held, AllocError>
-    ensures { IfOk result (λ held. held.object ≡ Vector v) }
+    ensures { IfOk result (λ held. held.object ≡ object) }
 {
-    if calls.len() > 1_000 {
+    if calls.len() > 10_000 {
         panic!(rt; "{calls} calls", calls = calls.len());
     }
-    value_of(alloc, calls, Object::Vector(v))
+    let empty = State::open(alloc, 0)?;
+    value_of(alloc, &empty, calls, object)
 }
 
 fn expect_of_calls(
@@ -379,7 +384,7 @@ fn expect_of_calls(
     row: &Row,
 ) -> Result<(), AllocError> {
     let v = VectorId(row.v);
-    let mut held = held_after(rt, alloc, calls, v)?;
+    let mut held = held_after(rt, alloc, calls, Object::Vector(v))?;
     expect_held(rt, &mut held, v, row)
 }
 
@@ -415,54 +420,31 @@ fn a_vector_holds_what_the_calls_make_that_it_depends_on(rt: HostRuntime) -> Res
     Ok(())
 }
 
-// ---- beside the whole store
+/// Of a vector that is made and set 16 times, while another is set 4,000 times.
+static LONG: Row = Row {
+    name: "a long history of another vector",
+    steps: &[],
+    v: 0,
+    stored: Some((&[Some(15), Some(13), Some(14)], 3)),
+    evaluated: 17,
+};
 
-/// The number of a vector, drawn below `n`.
-fn drawn_vector(draw: &mut Draw, n: u64) -> u32 {
-    match u32::try_from(draw.below(n)) {
-        Ok(v) => v,
-        Err(_) => 0,
+#[test]
+fn a_read_makes_its_own_calls_alone_in_a_long_history(rt: HostRuntime) -> Result<(), Fail> {
+    let alloc = rt.alloc();
+    let mut steps = vec![in alloc; Step::New(3), Step::New(3)]?;
+    for k in 0..4_000 {
+        if k % 250 == 0 {
+            steps.push(Step::Set(0, k / 250 % 3, k / 250))?;
+        }
+        steps.push(Step::Set(1, k % 3, k))?;
     }
-}
-
-/// A step, drawn. Some name a vector or an index that is not there.
-fn drawn_step(draw: &mut Draw) -> Step {
-    let v = drawn_vector(draw, 4);
-    let u = drawn_vector(draw, 4);
-    let w = drawn_vector(draw, 3);
-    let i = draw.below(4);
-    let n = draw.below(3);
-    match draw.below(24) {
-        0 => Step::New(3),
-        1 => Step::Free(v),
-        2 => Step::Clear(v),
-        3 | 4 => Step::Dup(v),
-        5 | 6 | 7 => Step::Remove(v, i),
-        8 | 9 | 10 => Step::Add(w, v, u),
-        11 | 12 => Step::AddInside(w, v, u),
-        13 => Step::Replace(w, v, u),
-        _ => Step::Set(v, i, n),
-    }
-}
-
-/// Three vectors are made first.
-fn drawn_history(draw: &mut Draw) -> [Step; 40] {
-    let mut steps = [Step::New(3); 40];
-    for at in 3..40 {
-        steps[at] = drawn_step(draw);
-    }
-    steps
-}
-
-/// Makes the calls, one after another.
-fn make(state: &mut State, calls: &[&Call]) -> Result<(), AllocError>
-    requires { length calls.now ≤ state.old.room }
-{
-    for call in calls {
-        state.apply(*call)?;
-    }
+    let calls = calls_of(alloc, steps.as_slice())?;
+    expect_of_lent(&rt, alloc, calls.as_slice(), &LONG)?;
     Ok(())
 }
+
+// ---- beside the whole store
 
 /// What the whole store answers to a reading call.
 fn answer_of_whole(state: &mut State, call: &Call) -> Result<Answer, AllocError>
@@ -493,67 +475,70 @@ fn same_answer(
     expect_answer(rt, held, call, wanted, "a drawn history")
 }
 
-fn same_value(
-    rt: &impl Abort,
-    held: &mut Held,
-    whole: &mut State,
-    v: VectorId,
-    i: u64,
-) -> Result<(), AllocError>
-    requires { held.old.object ≡ Vector v }
-    ensures { held.new.object ≡ held.old.object }
+/// A get of the object; of a vector at `i`.
+fn get_of(object: Object, i: u64, j: u64) -> Call
+    ensures reads { enters result ≡ false }
+    ensures no_size { is_size result ≡ false }
+    ensures about { object_of result ≡ Some object }
 {
-    same_answer(rt, held, whole, &Call::GetVector { v, i })
+    match object {
+        Object::Matrix(a) => Call::GetMatrix { a, i, j },
+        Object::Vector(v) => Call::GetVector { v, i },
+    }
 }
 
+/// A question for how many entries the object stores.
+fn count_of(object: Object) -> Call
+    ensures reads { enters result ≡ false }
+    ensures no_size { is_size result ≡ false }
+    ensures about { object_of result ≡ Some object }
+{
+    match object {
+        Object::Matrix(a) => Call::NvalsMatrix { a },
+        Object::Vector(v) => Call::NvalsVector { v },
+    }
+}
+
+/// The object, which has at most five rows and columns, is held as the whole store has it.
 fn same_answers(
     rt: &impl Abort,
     held: &mut Held,
     whole: &mut State,
-    v: VectorId,
+    object: Object,
 ) -> Result<(), AllocError>
-    requires { held.old.object ≡ Vector v }
+    requires { held.old.object ≡ object }
 {
-    same_value(rt, held, whole, v, 0)?;
-    same_value(rt, held, whole, v, 1)?;
-    same_value(rt, held, whole, v, 2)?;
-    same_answer(rt, held, whole, &Call::NvalsVector { v })
-}
-
-fn same_vector(
-    rt: &impl Abort,
-    alloc: Global,
-    calls: &[&Call],
-    whole: &mut State,
-    v: u32,
-) -> Result<(), AllocError> {
-    let v = VectorId(v);
-    let mut held = held_after(rt, alloc, calls, v)?;
-    same_answers(rt, &mut held, whole, v)
-}
-
-/// Makes the calls in the whole store, and compares each vector.
-fn same_after_all(
-    rt: &impl Abort,
-    alloc: Global,
-    calls: &[&Call],
-    whole: &mut State,
-) -> Result<(), AllocError>
-    requires { length calls.now ≤ whole.old.room }
-{
-    make(whole, calls)?;
-    for v in 0..5 {
-        same_vector(rt, alloc, calls, whole, v)?;
+    'places: for place in 0..25 {
+        same_answer(rt, held, whole, &get_of(object, place / 5, place % 5))?;
     }
-    Ok(())
+    same_answer(rt, held, whole, &count_of(object))
 }
 
+fn same_object(
+    rt: &impl Abort,
+    alloc: Global,
+    calls: &[&Call],
+    whole: &mut State,
+    object: Object,
+) -> Result<(), AllocError> {
+    let mut held = held_after(rt, alloc, calls, object)?;
+    same_answers(rt, &mut held, whole, object)
+}
+
+/// Compares each object that the calls make, and of each sort the next, which they do not make.
 fn same_as_whole(rt: &impl Abort, alloc: Global, calls: &[&Call]) -> Result<(), AllocError> {
-    if calls.len() > 1_000 {
+    if calls.len() > 10_000 {
         panic!(rt; "{calls} calls", calls = calls.len());
     }
-    let mut whole = State::open(alloc, calls.len() as u32)?;
-    same_after_all(rt, alloc, calls, &mut whole)
+    let empty = State::open(alloc, 0)?;
+    let mut whole = replay(&empty, calls)?;
+    for v in 0..=whole.vectors() {
+        same_object(rt, alloc, calls, &mut whole, Object::Vector(VectorId(v)))?;
+    }
+    for a in 0..=whole.matrices() {
+        same_object(rt, alloc, calls, &mut whole, Object::Matrix(MatrixId(a)))?;
+    }
+    Ok(())
 }
 
 fn same_of_lent(rt: &impl Abort, alloc: Global, calls: &[Call]) -> Result<(), AllocError> {
@@ -561,17 +546,21 @@ fn same_of_lent(rt: &impl Abort, alloc: Global, calls: &[Call]) -> Result<(), Al
     same_as_whole(rt, alloc, lent.as_slice())
 }
 
-fn same_after_steps(rt: &impl Abort, alloc: Global, steps: &[Step]) -> Result<(), AllocError> {
-    let calls = calls_of(alloc, steps)?;
+fn same_in_a_drawn_history(
+    rt: &impl Abort,
+    alloc: Global,
+    draw: &mut Draw,
+) -> Result<(), AllocError> {
+    let calls = draw.history(alloc)?;
     same_of_lent(rt, alloc, calls.as_slice())
 }
 
 #[test]
-fn a_vector_holds_what_it_holds_in_the_whole_store(rt: HostRuntime) -> Result<(), Fail> {
+fn an_object_holds_what_it_holds_in_the_whole_store(rt: HostRuntime) -> Result<(), Fail> {
     let mut draw = Draw { state: 40_200 };
     let alloc = rt.alloc();
-    for _ in 0..200 {
-        same_after_steps(&rt, alloc, &drawn_history(&mut draw))?;
+    for _ in 0..2_000 {
+        same_in_a_drawn_history(&rt, alloc, &mut draw)?;
     }
     Ok(())
 }

@@ -134,12 +134,14 @@ fn found_for(
     found_for_calls(rt, alloc, versions, calls.as_slice())
 }
 
-/// Versions of a room: those offered in turn, the calls that are asked for, and what is found for them.
+/// Versions of a room: those offered in turn, how many calls the longest has that is kept, the calls that are asked for, and what is found
+/// for them.
 #[derive(Clone, Copy)]
 struct Row {
     name: &'static str,
     room: u32,
     offered: &'static [Numbers],
+    longest: usize,
     asked: Numbers,
     found: Option<(usize, Reply)>,
 }
@@ -162,6 +164,7 @@ static ROWS: [Row; 12] = [
         name: "nothing was offered",
         room: 128,
         offered: &[],
+        longest: 0,
         asked: &[0, 5],
         found: None,
     },
@@ -169,6 +172,7 @@ static ROWS: [Row; 12] = [
         name: "the calls themselves",
         room: 128,
         offered: &[&[0, 5]],
+        longest: 2,
         asked: &[0, 5],
         found: Some((2, Reply::Value(Value::Uint64(5)))),
     },
@@ -176,6 +180,7 @@ static ROWS: [Row; 12] = [
         name: "more calls",
         room: 128,
         offered: &[&[0, 5]],
+        longest: 2,
         asked: &[0, 5, 6],
         found: Some((2, Reply::Value(Value::Uint64(5)))),
     },
@@ -183,6 +188,7 @@ static ROWS: [Row; 12] = [
         name: "as many other calls",
         room: 128,
         offered: &[&[0, 5]],
+        longest: 2,
         asked: &[0, 6],
         found: None,
     },
@@ -190,6 +196,7 @@ static ROWS: [Row; 12] = [
         name: "the same calls, and another between them",
         room: 128,
         offered: &[&[0, 5]],
+        longest: 2,
         asked: &[0, 6, 5],
         found: None,
     },
@@ -197,6 +204,7 @@ static ROWS: [Row; 12] = [
         name: "fewer calls",
         room: 128,
         offered: &[&[0, 5]],
+        longest: 2,
         asked: &[0],
         found: None,
     },
@@ -204,6 +212,7 @@ static ROWS: [Row; 12] = [
         name: "a vector without entries",
         room: 128,
         offered: &[&[0]],
+        longest: 1,
         asked: &[0, 5],
         found: Some((1, Reply::NoValue)),
     },
@@ -211,6 +220,7 @@ static ROWS: [Row; 12] = [
         name: "a cell is set once",
         room: 128,
         offered: &[&[0, 5], &[0, 6]],
+        longest: 2,
         asked: &[0, 6],
         found: None,
     },
@@ -218,6 +228,7 @@ static ROWS: [Row; 12] = [
         name: "no calls are no version",
         room: 128,
         offered: &[&[]],
+        longest: 0,
         asked: &[],
         found: None,
     },
@@ -225,6 +236,7 @@ static ROWS: [Row; 12] = [
         name: "the longer of two",
         room: 128,
         offered: &[&[0, 1], &SHORTER],
+        longest: 65,
         asked: &LONG,
         found: Some((65, Reply::Value(Value::Uint64(64)))),
     },
@@ -232,6 +244,7 @@ static ROWS: [Row; 12] = [
         name: "the shorter of two, where the longer has other calls",
         room: 128,
         offered: &[&[0, 1], &SHORTER],
+        longest: 65,
         asked: &[0, 1, 9],
         found: Some((2, Reply::Value(Value::Uint64(1)))),
     },
@@ -239,6 +252,7 @@ static ROWS: [Row; 12] = [
         name: "beyond the room",
         room: 64,
         offered: &[&SHORTER],
+        longest: 0,
         asked: &LONG,
         found: None,
     },
@@ -253,6 +267,7 @@ fn expect_found(
     for numbers in row.offered {
         offer(rt, alloc, versions, *numbers)?;
     }
+    same(rt, versions.longest(), row.longest, row.name);
     let found = found_for(rt, alloc, versions, row.asked)?;
     same(rt, found, row.found, row.name);
     Ok(())

@@ -74,7 +74,8 @@ impl Order {
     }
 
     /// Tells the place all that the other has learnt: it goes by a note of the other's seat, and each word that the place had not learnt
-    /// is loaded once. Nothing of the other changes. Takes no memory.
+    /// is loaded once. Beside these the first word is loaded three times, by the note and to compare the two. Nothing of the other
+    /// changes. Takes no memory.
     pub fn tell(&self, place: &mut Place, other: &mut Place)
         requires place { place.old.table_id ≡ self.now }
         requires other { other.old.table_id ≡ self.now }

@@ -8,7 +8,7 @@ use Rattle.grb_order.specs.declared.view.View.{View}
 use Rattle.grb_order.specs.declared.step.Look.{Look}
 use Rattle.grb_order.specs.declared.step.Look.TheVariants.{Next, Vacant, Full}
 use Rattle.grb_call.specs.declared.call.Call.{Call}
-use Rattle.grb_pass.specs.Counting.{steps_of, look_steps, Counts, CountsTries, CountsCall}
+use Rattle.grb_pass.specs.Counting.{steps_of, look_steps, Counts, CountsTries, CountsCall, LooksOnce}
 use Rattle.grb_pass.specs.Known.{Knowing, known}
 use Rattle.grb_pass.specs.Explains.{Answer, ExplainsCall, ground_of}
 use Rattle.grb_pass.specs.Learning.{Learns}
@@ -67,6 +67,9 @@ learnt_more old new l = let n : length new.view.words ≡ length old.view.words 
 -- a call that made one look at the most
 pub counts_looked : (old new : Knowing) → Learns old new → Counts old new → old.steps ≡ 0 → length new.view.looks ≤ length old.view.looks + 1 → CountsCall old new
 counts_looked old new l counts begun looks = let more : length old.view.words ≤ length new.view.words = learnt_more old new l in counts_refused old new l counts begun (omega arith)
+
+pub looks_once : (old new : Knowing) → Counts old new → old.steps ≡ 0 → length new.view.looks ≤ length old.view.looks + 1 → LooksOnce old new
+looks_once old new counts begun looks = omega (arith, counts)
 
 -- a call that looked once, and then tried
 pub counts_tried : (old mid new : Knowing) → Learns old mid → Counts old mid → CountsTries mid new → old.steps ≡ 0 → length mid.view.looks ≤ length old.view.looks + 1 → CountsCall old new

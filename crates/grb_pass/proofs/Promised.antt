@@ -1,13 +1,14 @@
 -- All that a call promises follows from what its parts do.
-use Rattle.std.proofs.Common.{◌≡◌, ℕ, length, Option, ap, sym, subst, ◌∙◌}
+use Rattle.std.proofs.Common.{◌≡◌, ℕ, false, length, Option, ap, sym, subst, ◌∙◌}
 use Rattle.std.specs.Option.{option_or}
 use Rattle.grb_order.specs.Order.{room_of}
 use Rattle.grb_call.specs.declared.call.Call.{Call}
 use Rattle.grb_call.specs.declared.ids.Object.{Object}
+use Rattle.grb_call.specs.Kinds.{enters}
 use Rattle.grb_call.specs.Status.{info_of, made_by, object_of, statuses_after, with_status}
 use Rattle.grb_pass.specs.Known.{Shared, Knowing, known, IsPassOf}
 use Rattle.grb_pass.specs.Explains.{Answer, ExplainsCall, IsCaughtUp, ground_of}
-use Rattle.grb_pass.specs.Counting.{CountsCall}
+use Rattle.grb_pass.specs.Counting.{CountsCall, LooksOnce}
 use Rattle.grb_statuses.specs.Statuses.{status_at}
 use Rattle.grb_pass.specs.Learning.{IsSteady}
 use Rattle.grb_pass.specs.Answered.{Promise, Answered, promised}
@@ -31,9 +32,9 @@ pub pass_kept : (context : Shared) (mid new : Knowing) (x : Option Object) (r : 
 pass_kept context mid new x r kept of = pass_same context mid new (ap (λ (p : Knowing). p.order) kept.same) (ap (λ (p : Knowing). p.shown) kept.same) of
 
 -- the parts of a call leave the statuses, and settle calls where they are to; and then its answer is kept
-pub answered : (context : Shared) (old now mid new : Knowing) (x : Option Object) (c : Call) (r : Answer) → now ≡ begun old → IsPassOf context mid → ExplainsCall (room_of context.order) now mid c r → IsSteady mid → IsCaughtUp (ground_of r) mid → CountsCall now mid
+pub answered : (context : Shared) (old now mid new : Knowing) (x : Option Object) (c : Call) (r : Answer) → now ≡ begun old → IsPassOf context mid → ExplainsCall (room_of context.order) now mid c r → IsSteady mid → IsCaughtUp (ground_of r) mid → CountsCall now mid → (enters c ≡ false → LooksOnce now mid)
     → mid.statuses ≡ now.statuses → mid.settled ≡ settled_after c r (length (known mid)) now.settled → x ≡ object_of c → IsKeptAs mid x r new → Answered context old new c r
-answered context old now mid new x c r is pass explains steady caught_up steps same settled about kept =
+answered context old now mid new x c r is pass explains steady caught_up steps looks same settled about kept =
     let room : ℕ = room_of context.order in
     let last : Knowing = with_rest mid new.statuses mid.settled in
     let first : ExplainsCall room old mid c r = explains_begun room old now mid c r is explains in
@@ -48,6 +49,7 @@ answered context old now mid new x c r is pass explains steady caught_up steps s
       caught_up = caught_up_alike mid new.statuses mid.settled (ground_of r) caught_up;
       memory = memory_explained room old last c r e;
       steps = counts_alike old mid new.statuses mid.settled (counts_begun old now mid is steps);
+      read_steps = λ reads. subst (λ (p : Knowing). LooksOnce p mid) is (looks reads);
       statuses = after;
       settled = settled ∙ ap (λ (p : Knowing). settled_after c r (length (known mid)) p.settled) is;
     } in

@@ -1,19 +1,21 @@
 -- All that a call promises (own): one record, under one name, which each method of the store cites with its call.
-use Rattle.std.specs.Prelude.{◌≡◌, ◌++◌, length, Err}
+use Rattle.std.specs.Prelude.{◌≡◌, ◌++◌, false, length, Err}
 use Rattle.grb_core.specs.declared.refusal.Refusal.TheVariants.{OutOfMemory}
 use Rattle.grb_order.specs.Order.{room_of}
 use Rattle.grb_call.specs.declared.call.Call.{Call}
+use Rattle.grb_call.specs.Kinds.{enters}
 use Rattle.grb_call.specs.Status.{statuses_after}
 use Rattle.grb_pass.specs.Known.{Shared, Knowing, known, calls_by, IsKnown}
 use Rattle.grb_pass.specs.Explains.{Answer, entered_calls, ground_of, ExplainsCall, IsCaughtUp, MayLackMemory}
-use Rattle.grb_pass.specs.Counting.{CountsCall}
+use Rattle.grb_pass.specs.Counting.{CountsCall, LooksOnce}
 use Rattle.grb_pass.specs.Settled.{settled_after}
 use Rattle.grb_statuses.specs.Statuses.{status_at}
 
 -- One call of a pass, with what the pass knows before and after it. The answer is that of one history, which it now knows to the end
 -- of the words that it has learnt unless a record is not there. Of its own calls it knows those of before, and this one if it was
--- entered. Memory is refused only where nothing that comes first refuses the call. The steps on the order are counted. The
--- answer is kept as the status of the target, and no other status changes. A Materialize that is done settles what is then known, and
+-- entered. Memory is refused only where nothing that comes first refuses the call. The steps on the order are counted, and a
+-- call that only reads makes no more than one for each word that it learns, and one. The answer is kept as the status of the target, and no
+-- other status changes. A Materialize that is done settles what is then known, and
 -- nothing else settles a call
 pub record Promise (context : Shared) (old new : Knowing) (c : Call) (r : Answer) : Type 0 where
   pub explains : ExplainsCall (room_of context.order) old new c r
@@ -22,6 +24,7 @@ pub record Promise (context : Shared) (old new : Knowing) (c : Call) (r : Answer
   pub caught_up : IsCaughtUp (ground_of r) new
   pub memory : r ≡ Err OutOfMemory → MayLackMemory (room_of context.order) old.settled (known new) c
   pub steps : CountsCall old new
+  pub read_steps : enters c ≡ false → LooksOnce old new
   pub statuses : status_at new.statuses ≡ statuses_after (room_of context.order) c r (status_at old.statuses)
   pub settled : new.settled ≡ settled_after c r (length (known new)) old.settled
 

@@ -26,6 +26,10 @@ pub record CountsTries (old new : Knowing) : Type 0 where
   pub own : length old.view.own ≤ length new.view.own
   pub few : length new.view.looks + length old.view.words + length new.view.own ≤ length old.view.looks + length new.view.words + length old.view.own
 
+-- the steps of a call that only reads: one for each word learnt, and one more at the most
+abbrev pub LooksOnce : Knowing → Knowing → Type 0
+LooksOnce old new = new.steps + length old.view.words ≤ length new.view.words + 1
+
 -- The steps of one call: those by which the view grew, and at most 2d + 1 where it learnt d words; where it learnt just what it
 -- entered itself, at most d + 1
 pub record CountsCall (old new : Knowing) : Type 0 where

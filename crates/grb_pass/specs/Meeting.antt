@@ -12,9 +12,10 @@ use Rattle.grb_pass.specs.Learning.{Learns}
 abbrev pub SharesCallAt : List Shown → List Shown → ℕ → Type 0
 SharesCallAt a b at = (t u : Shown) → slice_get a at ≡ Some t → slice_get b at ≡ Some u → IsSameRecord t u → t.call ≡ u.call
 
--- what the answer of a meeting says: what the other knew begins what the pass knows; or a record is not there
+-- what the answer of a meeting says: what the other knew begins what the pass knows, which is the call of each word that it has learnt;
+-- or a record is not there
 abbrev pub IsMet : Knowing → Knowing → Result (Unit {0}) Refusal → Type 0
-IsMet new other (Ok _) = Begins (known other) (known new)
+IsMet new other (Ok _) = Begins (known other) (known new) × (length (known new) ≡ length new.view.words)
 IsMet new other (Err r) = (r ≡ Panic) × IsUnshown new
 
 -- A meeting of a pass with another, with what it knows before and after. It is still a pass of the context. It learnt entries of

@@ -42,9 +42,9 @@ impl Shared {
         Ok(())
     }
 
-    /// Lets the pass learn all that the other knows: one atomic load of each word that it had not learnt, and one of the first word. `Panic`
-    /// where a record is not shown; the words stay learnt, and the next call or meeting asks for it again. Nothing that the other pass
-    /// knows changes, whatever is answered. Takes no memory and does not wait.
+    /// Lets the pass learn all that the other knows: one atomic load of each word that it had not learnt, and three of the first word, which
+    /// are not counted. `Panic` where a record is not shown; the words stay learnt, and the next call or meeting asks for it again. Nothing
+    /// that the other pass knows changes, whatever is answered. Takes no memory and does not wait.
     pub fn meet(&self, pass: &mut Pass, other: &mut Pass) -> Result<(), Refusal>
         requires pass { IsPassOf self.now pass.old }
         requires other { IsPassOf self.now other.old }

@@ -101,7 +101,7 @@ fn evaluate(
 }
 
 /// Whether the call waits for all objects.
-pub(crate) fn is_materialize(call: &Call) -> bool
+fn is_materialize(call: &Call) -> bool
     ensures { result ≡ is_materialize call.now }
 {
     match call {
@@ -114,8 +114,16 @@ pub(crate) fn is_materialize(call: &Call) -> bool
 }
 
 /// Has the changes done that a reading call asks for, where all known calls are evaluated; where these are settled none wait. A call that
-/// waits for all objects settles them. `AllocError` where memory is refused.
-fn settle(reader: &mut Reader, state: &mut State, call: &Call) -> Result<(), AllocError>
+/// waits for all objects then offers the store to the other passes, and settles them. `AllocError` where memory is refused to any of it.
+fn settle(
+    records: &Records,
+    reader: &mut Reader,
+    state: &mut State,
+    sharing: &mut Sharing,
+    call: &Call,
+) -> Result<(), AllocError>
+    requires of { All (IsOf records.now) reader.old.shown }
+    requires all { state.old.store ≡ store_of (known reader.old) }
     requires within { reader.old.settled ≤ length (known reader.old) }
     requires assembled { IsAssembledWhereSettled reader.old state.old }
     ensures store { state.new.store ≡ state.old.store }
@@ -131,6 +139,7 @@ fn settle(reader: &mut Reader, state: &mut State, call: &Call) -> Result<(), All
     if reader.settled() < reader.known() {
         state.settle(call)?;
         if is_materialize(call) {
+            sharing.offer(records, reader, state)?;
             reader.settle();
         }
     }
@@ -185,7 +194,8 @@ impl Pass {
         self.reader.words()
     }
 
-    /// How many atomic steps the pass's last call made on the order; 0 before its first. Takes no memory.
+    /// How many atomic steps the pass's last call made on the order, or its last meeting with it as the first pass, if that came later; 0
+    /// before either. Takes no memory.
     pub fn steps(&self) -> u32
         ensures { result ≡ self.now.steps }
     {
@@ -222,7 +232,7 @@ impl Pass {
         self.reader.keep(object, answer);
     }
 
-    /// Begins to count the steps of a call.
+    /// Begins to count the steps of a call or a meeting.
     pub(crate) fn begin(&mut self)
         ensures { self.new ≡ record self.old { steps = 0 } }
     {
@@ -371,9 +381,13 @@ impl Pass {
             &mut self.state,
             &mut self.evaluated,
         )?;
-        settle(&mut self.reader, &mut self.state, call)?;
-        self.sharing
-            .offer(records, &mut self.reader, &self.state, call);
+        settle(
+            records,
+            &mut self.reader,
+            &mut self.state,
+            &mut self.sharing,
+            call,
+        )?;
         Ok(self.state.reply(call))
     }
 

@@ -4,7 +4,7 @@ ghost use Rattle.grb_call.specs.Kinds.{enters};
 ghost use Rattle.grb_pass.specs.Known.{IsPassOf, known};
 ghost use Rattle.grb_pass.specs.Explains.{ExplainsCall, IsCaughtUp, ground_of};
 ghost use Rattle.grb_pass.specs.Answered.{Answered};
-ghost use Rattle.grb_pass.specs.Counting.{CountsCall};
+ghost use Rattle.grb_pass.specs.Counting.{CountsCall, LooksOnce};
 ghost use Rattle.grb_pass.specs.Learning.{IsSteady};
 ghost use Rattle.grb_pass.specs.Settled.{settled_after};
 
@@ -23,6 +23,7 @@ impl Shared {
         ensures statuses { pass.new.statuses ≡ pass.old.statuses }
         ensures settled { pass.new.settled ≡ settled_after call.now result (length (known pass.new)) pass.old.settled }
         ensures counts { CountsCall pass.old pass.new }
+        ensures looks { LooksOnce pass.old pass.new }
         ensures explains { ExplainsCall (room_of self.now.order) pass.old pass.new call.now result }
         ensures steady { IsSteady pass.new }
         ensures caught_up { IsCaughtUp (ground_of result) pass.new }

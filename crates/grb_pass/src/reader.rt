@@ -37,7 +37,7 @@ pub(crate) struct Reader {
     // The records of the first words learnt, with room for all words of the order.
     tokens: Vec<Token>,
     targets: Targets,
-    // The steps of the last call.
+    // The steps of the last call or meeting.
     steps: u32,
     // The status of each object, whose number is below that of the words that the order has.
     statuses: Statuses,
@@ -105,14 +105,14 @@ impl Reader {
         self.number
     }
 
-    /// Begins to count the steps of a call.
+    /// Begins to count the steps of a call or a meeting.
     pub(crate) fn begin(&mut self)
         ensures { self.new ≡ record self.old { steps = 0 } }
     {
         self.steps = 0;
     }
 
-    /// The steps of the last call.
+    /// The steps of the last call or meeting.
     pub(crate) fn steps(&self) -> u32
         ensures { result ≡ self.now.steps }
     {

@@ -4,13 +4,12 @@ ghost use Rattle.grb_call.specs.History.{store_of};
 ghost use Rattle.grb_pass.specs.Known.{known};
 ghost use Rattle.grb_pass.specs.Reading.{IsPass};
 
-use crate::pass::is_materialize;
 use crate::reader::Reader;
 use crate::recent::lent_calls;
-use grb_call::Call;
 use grb_records::Records;
 use grb_replay::State;
 use grb_versions::Versions;
+use std::alloc::AllocError;
 use std::sync::Arc;
 
 /// How many known calls are to be evaluated yet where a pass asks for a version (own).
@@ -69,30 +68,26 @@ impl Sharing {
             .advance(calls.as_slice(), state, *evaluated, room);
     }
 
-    /// Offers the store, in which all known calls are evaluated, to the other passes, if the call waits for all objects and the last offer was
-    /// of some calls fewer. It is left out where memory is refused to that.
+    /// Offers the store, in which all known calls are evaluated, to the other passes, if that is of many calls more than its last offer.
+    /// `AllocError` where memory is refused to that; then it has not offered it.
     pub(crate) fn offer(
         &mut self,
         records: &Records,
         reader: &mut Reader,
         state: &State,
-        call: &Call,
-    )
+    ) -> Result<(), AllocError>
         requires of { All (IsOf records.now) reader.old.shown }
         requires all { state.now.store ≡ store_of (known reader.old) }
         ensures same { reader.new ≡ reader.old }
     {
         let known = reader.known() as usize;
-        if !is_materialize(call) || known < self.offered.saturating_add(BEHIND) {
-            return;
+        if known < self.offered.saturating_add(BEHIND) {
+            return Ok(());
         }
+        let calls = lent_calls(records, reader)?;
+        let copy = state.try_clone(0)?;
+        self.versions.offer(calls.as_slice(), copy)?;
         self.offered = known;
-        let Ok(calls) = lent_calls(records, reader) else {
-            return;
-        };
-        let Ok(copy) = state.try_clone(0) else {
-            return;
-        };
-        let _ = self.versions.offer(calls.as_slice(), copy);
+        Ok(())
     }
 }

@@ -1,3 +1,4 @@
+mod accumulators;
 mod answers;
 mod asked;
 mod drawn;
@@ -6,6 +7,7 @@ mod lists;
 mod meeting;
 mod memory;
 mod operations;
+mod operators;
 mod order;
 mod products;
 mod races;

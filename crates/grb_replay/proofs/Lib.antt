@@ -1,7 +1,7 @@
 mod Accepted
 mod Applied
-mod Cloned
 mod Dispatched
+mod Folded
 mod Lent
 mod LentProducts
 mod Objects

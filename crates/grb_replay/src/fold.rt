@@ -6,8 +6,8 @@ use grb_call::Call;
 use std::alloc::AllocError;
 
 /// The store that these calls leave of the state, which stays as it is: each of them is made, one after another, and one that is refused at
-/// its place changes nothing. Objects that no call changes are the state's own. `AllocError` where memory is refused, or where calls and
-/// twice the objects are together 2^32 or more.
+/// its place changes nothing. Objects that no call changes are the state's own. `AllocError` where memory is refused, or where the calls and
+/// the objects of a sort are together 2^32 or more (own).
 ///
 /// Source: GraphBLAS C API 2.0, "Execution modes": what the methods give in blocking mode; the form is own.
 pub fn replay(state: &State, calls: &[&Call]) -> Result<State, AllocError>

@@ -1,4 +1,4 @@
-ghost use Rattle.std.specs.Prelude.{◌≡◌, IfOk};
+ghost use Rattle.std.specs.Prelude.{◌≡◌, ◌+◌, ◌<◌, ◌≤◌, ◌^◌, IfOk, length, vec_capacity};
 
 use std::alloc::{AllocError, Global};
 use std::marker::Model;
@@ -46,4 +46,34 @@ impl<T> Shared<T> {
     {
         &self.object
     }
+}
+
+/// The object of a place for one more store, if it has one; nothing of it is copied, and no memory is taken. `AllocError` where 2^63 - 1
+/// hold it.
+fn share_place<T>(place: &Option<Shared<T>>) -> Result<Option<Shared<T>>, AllocError>
+    ensures { IfOk result (λ shared. shared ≡ place.now) }
+{
+    match place {
+        Some(shared) => Ok(Some(shared.share()?)),
+        None => Ok(None),
+    }
+}
+
+/// The same objects for one more store, at the same places, with places reserved for so many more. `AllocError` where memory is refused, or
+/// where 2^63 - 1 hold one of them.
+pub(crate) fn share_all<T>(
+    places: &Vec<Option<Shared<T>>>,
+    room: u32,
+) -> Result<Vec<Option<Shared<T>>>, AllocError>
+where
+    T: Drop,
+    requires { length places.now.items + room < 2 ^ 32 }
+    ensures same { IfOk result (λ all. all.items ≡ places.now.items) }
+    ensures reserved { IfOk result (λ all. length places.now.items + room ≤ vec_capacity all) }
+{
+    let mut all = Vec::with_capacity(*places.allocator(), places.len() + room as usize)?;
+    'places: for at in 0..places.len() {
+        all.push_reserved(share_place(&places[at])?);
+    }
+    Ok(all)
 }

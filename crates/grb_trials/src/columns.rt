@@ -1,7 +1,7 @@
 //! Products of a matrix and a vector, held against plain loops.
 ghost use Rattle.std.specs.Prelude.{◌≡◌, true};
 
-use crate::plain::{Choice, Dims, accum_of, semiring_of, wanted_product};
+use crate::plain::{Choice, Dims, accum_of, semiring_of};
 use crate::tables::{Tables, expect_matrix, expect_vector, matrix_of, vector_of};
 use grb_products::mxv;
 use grb_sparse::{SparseMatrix, SparseVector};
@@ -133,17 +133,4 @@ pub(crate) fn expect_column(
     let output = vector_of(alloc, choice.domain, dims.rows, &tables.output)?;
     let mask = vector_of(alloc, choice.mask_domain, dims.rows, &tables.mask)?;
     expect_column_into(rt, alloc, choice, dims, tables, &output, &mask, want, case)
-}
-
-/// mxv stores what a plain loop does, where the second input has one column.
-pub(crate) fn expect_mxv(
-    rt: &impl Abort,
-    alloc: Global,
-    choice: Choice,
-    dims: Dims,
-    tables: &Tables,
-    case: usize,
-) -> Result<(), AllocError> {
-    let want = wanted_product(choice, dims, tables);
-    expect_column(rt, alloc, choice, dims, tables, &want, case)
 }

@@ -1,10 +1,12 @@
 //! mxv, mxm and the reductions of drawn objects beside plain loops over tables.
+ghost use Rattle.grb_core.specs.Contents.{IsDimension};
+
 use crate::choices::monoid_of;
-use crate::columns::expect_mxv;
+use crate::columns::expect_column;
 use crate::drawn::Draw;
-use crate::folds::{expect_folds, expect_totals};
-use crate::plain::{Choice, Dims};
-use crate::products::expect_mxm;
+use crate::folds::{expect_folds_of, expect_totals};
+use crate::plain::{Choice, Dims, wanted_folds, wanted_product};
+use crate::products::expect_product;
 use crate::tables::Tables;
 use grb_call::Descriptor;
 use std::alloc::{AllocError, Global};
@@ -33,7 +35,7 @@ fn drawn_choice(draw: &mut Draw) -> Choice {
     }
 }
 
-/// Dimensions of at most 5.
+/// How many places the dimensions have, which is at most 5.
 fn drawn_dims(draw: &mut Draw) -> Dims {
     let rows = 1 + draw.below(5);
     let inner = 1 + draw.below(5);
@@ -51,6 +53,27 @@ fn narrow(dims: Dims) -> Dims {
         rows: dims.rows,
         inner: dims.inner,
         columns: 1,
+    }
+}
+
+/// A dimension of this many places, which stand side by side or far apart.
+fn drawn_size(draw: &mut Draw, places: u64) -> u64
+    requires { IsDimension places }
+    ensures { IsDimension result }
+{
+    if draw.truth() && places < 1_000 {
+        return places * 1_000;
+    }
+    places
+}
+
+/// The dimensions of objects with these places, each by a draw of its own. Where the places of a dimension stand far apart, its entries
+/// are too few for a work array as long as it: then columns have ranks, and what a vector stores is searched for.
+fn drawn_sizes(draw: &mut Draw, places: Dims) -> Dims {
+    Dims {
+        rows: drawn_size(draw, places.rows),
+        inner: drawn_size(draw, places.inner),
+        columns: drawn_size(draw, places.columns),
     }
 }
 
@@ -73,7 +96,9 @@ fn expect_drawn_mxm(
     let choice = drawn_choice(draw);
     let dims = drawn_dims(draw);
     let tables = drawn_tables(draw, choice, dims);
-    expect_mxm(rt, alloc, choice, dims, &tables, case)
+    let want = wanted_product(choice, dims, &tables);
+    let sizes = drawn_sizes(draw, dims);
+    expect_product(rt, alloc, choice, sizes, &tables, &want, case)
 }
 
 #[test]
@@ -94,7 +119,9 @@ fn expect_drawn_mxv(
     let choice = drawn_choice(draw);
     let dims = narrow(drawn_dims(draw));
     let tables = drawn_tables(draw, choice, dims);
-    expect_mxv(rt, alloc, choice, dims, &tables, case)
+    let want = wanted_product(choice, dims, &tables);
+    let sizes = drawn_sizes(draw, dims);
+    expect_column(rt, alloc, choice, sizes, &tables, &want, case)
 }
 
 #[test]
@@ -117,7 +144,9 @@ fn expect_drawn_folds(
     let choice = drawn_choice(draw);
     let dims = narrow(drawn_dims(draw));
     let tables = drawn_tables(draw, choice, dims);
-    expect_folds(rt, alloc, choice, dims, &tables, case)
+    let want = wanted_folds(choice, dims, &tables);
+    let sizes = drawn_sizes(draw, dims);
+    expect_folds_of(rt, alloc, choice, sizes, &tables, &want, case)
 }
 
 #[test]
@@ -138,7 +167,8 @@ fn expect_drawn_totals(
     let choice = drawn_choice(draw);
     let dims = narrow(drawn_dims(draw));
     let tables = drawn_tables(draw, choice, dims);
-    expect_totals(rt, alloc, choice, dims, &tables, case)
+    let sizes = drawn_sizes(draw, dims);
+    expect_totals(rt, alloc, choice, sizes, &tables, case)
 }
 
 #[test]

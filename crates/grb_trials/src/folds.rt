@@ -1,7 +1,7 @@
 //! Reductions of rows, and totals, held against plain loops.
 ghost use Rattle.std.specs.Prelude.{◌≡◌, true};
 
-use crate::plain::{Choice, Dims, accum_of, fold_of, wanted_folds};
+use crate::plain::{Choice, Dims, accum_of, fold_of};
 use crate::same::same;
 use crate::tables::{Tables, expect_matrix, expect_vector, matrix_of, value_of, vector_of};
 use grb_products::{reduce_matrix, reduce_rows, reduce_vector};
@@ -92,19 +92,6 @@ pub(crate) fn expect_folds_of(
     let mask = vector_of(alloc, choice.mask_domain, dims.rows, &tables.mask)?;
     let a = matrix_of(alloc, choice.domain, dims.rows, dims.inner, &tables.first)?;
     expect_made_folds(rt, alloc, choice, tables, &output, &mask, &a, want, case)
-}
-
-/// The reduction of rows stores what a plain loop does.
-pub(crate) fn expect_folds(
-    rt: &impl Abort,
-    alloc: Global,
-    choice: Choice,
-    dims: Dims,
-    tables: &Tables,
-    case: usize,
-) -> Result<(), AllocError> {
-    let want = wanted_folds(choice, dims, tables);
-    expect_folds_of(rt, alloc, choice, dims, tables, &want, case)
 }
 
 /// The total of the matrix of a table, by the monoid, is this.

@@ -1,12 +1,16 @@
 //! Each way to call an operation, on one example that has every case: three rows of four places. The mask stores nothing in the first
 //! row, 0 in the second and 1 in the third; in each row the first place is one of neither the output nor the result, the second of the
 //! output alone, the third of the result alone, and the fourth of both.
-ghost use Rattle.std.specs.Prelude.{◌<◌};
+ghost use Rattle.std.specs.Prelude.{◌<◌, ◌≤◌};
 
+use crate::columns::expect_column;
+use crate::folds::expect_folds_of;
 use crate::options::{Operation, Options, expect_combined_matrix, expect_combined_vector};
+use crate::plain::{Choice, Dims};
+use crate::products::expect_product;
 use crate::tables::{Table, Tables, put};
 use grb_call::Descriptor;
-use grb_core::{BinaryOp, Domain};
+use grb_core::{BinaryOp, Domain, Monoid};
 use std::alloc::{AllocError, Global};
 use std::process::Abort;
 
@@ -236,4 +240,67 @@ fn a_multiplication_of_matrices_is_written_as_its_options_say(
     rt: HostRuntime,
 ) -> Result<(), AllocError> {
     expect_matrices(&rt, rt.alloc(), Operation::Mult, Domain::Bool)
+}
+
+/// A product by sums of products, or the sums of rows, called as a case says.
+fn choice_of(mask_domain: Domain, case: usize) -> Choice
+    requires { case < 32 }
+{
+    let options = options_of(Operation::Mult, mask_domain, case);
+    Choice {
+        domain: Domain::Uint64,
+        mask_domain,
+        masked: options.masked,
+        accumulated: options.accumulated,
+        accum: BinaryOp::Minus,
+        monoid: Monoid::Plus,
+        op: BinaryOp::Times,
+        descriptor: options.descriptor,
+    }
+}
+
+/// mxm, mxv and the reduction of rows, of which each has the result of the pictures: a row (u, v) times a column (1, 1), and its sum.
+/// The dimensions are multiples of `scale`, so that at 1,000 the places stand far apart. The last two are told as cases from 100 and from
+/// 200 on.
+fn expect_products(
+    rt: &impl Abort,
+    alloc: Global,
+    mask_domain: Domain,
+    scale: u64,
+    case: usize,
+) -> Result<(), AllocError>
+    requires case { case < 32 }
+    requires least { 0 < scale }
+    requires most { scale ≤ 1000 }
+{
+    let (choice, want) = (choice_of(mask_domain, case), wanted_of(case));
+    let mut tables = tables_for(Operation::Mult);
+    tables.first = table_of(b"uv uv uv");
+    tables.second = table_of(b"..11 ..11");
+    let dims = Dims {
+        rows: 3 * scale,
+        inner: 2 * scale,
+        columns: 4 * scale,
+    };
+    expect_product(rt, alloc, choice, dims, &tables, &want, case)?;
+    tables.first = table_of(b"....uvuv ....uvuv ....uvuv");
+    tables.second = table_of(b"11");
+    let dims = Dims {
+        rows: 12 * scale,
+        inner: 2 * scale,
+        columns: 1,
+    };
+    expect_column(rt, alloc, choice, dims, &tables, &want, 100 + case)?;
+    expect_folds_of(rt, alloc, choice, dims, &tables, &want, 200 + case)
+}
+
+#[test]
+fn products_and_sums_of_rows_are_written_as_their_options_say(
+    rt: HostRuntime,
+) -> Result<(), AllocError> {
+    for case in 0..32 {
+        expect_products(&rt, rt.alloc(), Domain::Bool, 1, case)?;
+        expect_products(&rt, rt.alloc(), Domain::Uint64, 1_000, case)?;
+    }
+    Ok(())
 }

@@ -1,7 +1,7 @@
 //! Products of two matrices, held against plain loops.
 ghost use Rattle.std.specs.Prelude.{◌≡◌, true};
 
-use crate::plain::{Choice, Dims, accum_of, semiring_of, wanted_product};
+use crate::plain::{Choice, Dims, accum_of, semiring_of};
 use crate::tables::{Tables, expect_matrix, matrix_of};
 use grb_multiply::mxm;
 use grb_sparse::SparseMatrix;
@@ -140,17 +140,4 @@ pub(crate) fn expect_product(
     let output = matrix_of(alloc, choice.domain, rows, columns, &tables.output)?;
     let mask = matrix_of(alloc, choice.mask_domain, rows, columns, &tables.mask)?;
     expect_product_into(rt, alloc, choice, dims, tables, &output, &mask, want, case)
-}
-
-/// mxm stores what a plain loop does.
-pub(crate) fn expect_mxm(
-    rt: &impl Abort,
-    alloc: Global,
-    choice: Choice,
-    dims: Dims,
-    tables: &Tables,
-    case: usize,
-) -> Result<(), AllocError> {
-    let want = wanted_product(choice, dims, tables);
-    expect_product(rt, alloc, choice, dims, tables, &want, case)
 }

@@ -1,5 +1,5 @@
 //! Plain tables of what objects store, the objects made of them, and what is expected of an object.
-ghost use Rattle.std.specs.Prelude.{◌≡◌, true, IfOk};
+ghost use Rattle.std.specs.Prelude.{◌≡◌, ◌<◌, true, IfOk};
 ghost use Rattle.grb_core.specs.Value.{value_domain};
 ghost use Rattle.grb_core.specs.Contents.{IsDimension};
 
@@ -11,6 +11,8 @@ use std::process::Abort;
 
 /// What is stored at each place, as a number; a matrix row by row. Of truth values 0 is false and 1 is true. An object of fewer places
 /// stores nothing at those behind its own.
+///
+/// A dimension of 1,000 or more has its places at the multiples of 1,000 alone, so that few entries may stand far apart.
 pub(crate) type Table = [Option<u64>; 25];
 
 /// What the output, the mask and both inputs store.
@@ -88,6 +90,21 @@ fn count(table: &[Option<u64>]) -> u64 {
     n
 }
 
+/// How far apart the places of a dimension are.
+fn stride_of(size: u64) -> u64
+    ensures { 0 < result }
+{
+    if size < 1_000 { 1 } else { 1_000 }
+}
+
+/// The row and the column of a place.
+fn cell_of(dims: (u64, u64), at: u64) -> (u64, u64) {
+    let (down, across) = (stride_of(dims.0), stride_of(dims.1));
+    let columns = (dims.1 / across).max(1);
+    let (i, j) = (at / columns, at % columns);
+    (i.wrapping_mul(down), j.wrapping_mul(across))
+}
+
 fn store_in_vector(
     v: &mut SparseVector,
     domain: Domain,
@@ -99,12 +116,13 @@ fn store_in_vector(
     ensures size { v.new.vector.size ≡ v.old.vector.size }
 {
     let size = v.dims();
+    let index = at.wrapping_mul(stride_of(size));
     let Some(n) = number else {
         return Ok(());
     };
-    if at < size {
+    if index < size {
         v.reserve_pending(1)?;
-        v.set(at, value_of(domain, n));
+        v.set(index, value_of(domain, n));
     }
     Ok(())
 }
@@ -160,13 +178,12 @@ fn store_in_matrix(
     ensures columns { a.new.matrix.ncols ≡ a.old.matrix.ncols }
 {
     let (nrows, ncols) = a.dims();
+    let (i, j) = cell_of((nrows, ncols), at);
     let Some(n) = number else {
         return Ok(());
     };
-    if ncols > 0 {
-        let i = at / ncols;
-        let j = at % ncols;
-        if i < nrows {
+    if i < nrows {
+        if j < ncols {
             a.reserve_pending(1)?;
             a.set(i, j, value_of(domain, n));
         }
@@ -228,9 +245,11 @@ pub(crate) fn expect_vector(
     case: usize,
 ) {
     same(rt, v.nvals(), count(want), case);
+    let stride = stride_of(v.dims());
     let mut at: u64 = 0;
     'places: for number in want {
-        same(rt, v.get(at), value_at(domain, *number), (case, at));
+        let seen = v.get(at.wrapping_mul(stride));
+        same(rt, seen, value_at(domain, *number), (case, at));
         at = at.wrapping_add(1);
     }
 }
@@ -244,12 +263,11 @@ pub(crate) fn expect_matrix(
     case: usize,
 ) {
     same(rt, a.nvals(), count(want), case);
-    let (_, ncols) = a.dims();
-    let ncols = ncols.max(1);
+    let dims = a.dims();
     let mut at: u64 = 0;
     'places: for number in want {
-        let seen = a.get(at / ncols, at % ncols);
-        same(rt, seen, value_at(domain, *number), (case, at));
+        let (i, j) = cell_of(dims, at);
+        same(rt, a.get(i, j), value_at(domain, *number), (case, at));
         at = at.wrapping_add(1);
     }
 }

@@ -6,7 +6,7 @@ use Rattle.grb_call.specs.declared.call.Call.{Call}
 use Rattle.grb_call.specs.declared.ids.Object.{Object}
 use Rattle.grb_call.specs.Shapes.{ObjectShapes}
 use Rattle.grb_call.specs.Refused.{shapes_after}
-use Rattle.grb_call.specs.Store.{Store, empty_store, shapes_of}
+use Rattle.grb_call.specs.Store.{Store, shapes_of}
 use Rattle.grb_call.specs.After.{after}
 use Rattle.grb_call.specs.History.{after_all}
 use Rattle.grb_call.proofs.ShapesAfter.{shapes_of-after}
@@ -32,7 +32,7 @@ targets_behind s cs zero = refl
 targets_behind s [] (suc k) = refl
 targets_behind s (c ∷ cs) (suc k) = ap (λ (u : ObjectShapes). drop k (targets_of u cs)) (sym (shapes_of-after s c)) ∙ targets_behind (after s c) cs k
 
-module _ (old new : WalkedCalls) (cs : List Call) (at : ℕ) (c : Call) (was : AreTargetsOf old cs) (here : length old.targets ≡ at) (less : at < length cs) (is : get_or cs at c ≡ c)
+module _ (s : Store) (old new : WalkedCalls) (cs : List Call) (at : ℕ) (c : Call) (was : AreTargetsOf s old cs) (here : length old.targets ≡ at) (less : at < length cs) (is : get_or cs at c ≡ c)
     (pushed : new.targets ≡ old.targets ++ effective_target old.shapes.objects c ∷ []) (shaped : new.shapes.objects ≡ shapes_after old.shapes.objects c) where
   first : List Call
   first = take at cs
@@ -43,49 +43,49 @@ module _ (old new : WalkedCalls) (cs : List Call) (at : ℕ) (c : Call) (was : A
   count : length new.targets ≡ at + 1
   count = ap length pushed ∙ (length_push old.targets _ ∙ ap (λ n. n + 1) here)
 
-  shapes-were : old.shapes.objects ≡ shapes_of (after_all empty_store (take at cs))
-  shapes-were = was.shapes_are ∙ ap (λ n. shapes_of (after_all empty_store (take n cs))) here
+  shapes-were : old.shapes.objects ≡ shapes_of (after_all s (take at cs))
+  shapes-were = was.shapes_are ∙ ap (λ n. shapes_of (after_all s (take n cs))) here
 
-  targets-were : old.targets ≡ targets_of (shapes_of empty_store) (take at cs)
-  targets-were = was.targets_are ∙ ap (λ n. targets_of (shapes_of empty_store) (take n cs)) here
+  targets-were : old.targets ≡ targets_of (shapes_of s) (take at cs)
+  targets-were = was.targets_are ∙ ap (λ n. targets_of (shapes_of s) (take n cs)) here
 
-  next-targets : new.targets ≡ targets_of (shapes_of empty_store) (take (at + 1) cs)
+  next-targets : new.targets ≡ targets_of (shapes_of s) (take (at + 1) cs)
   next-targets = pushed ∙ (ap (λ (ts : List (Option Object)). ts ++ effective_target old.shapes.objects c ∷ []) targets-were
-      ∙ (ap (λ (u : ObjectShapes). targets_of (shapes_of empty_store) (take at cs) ++ effective_target u c ∷ []) shapes-were
-      ∙ (sym (targets_push empty_store (take at cs) c) ∙ ap (targets_of (shapes_of empty_store)) (sym one-more))))
+      ∙ (ap (λ (u : ObjectShapes). targets_of (shapes_of s) (take at cs) ++ effective_target u c ∷ []) shapes-were
+      ∙ (sym (targets_push s (take at cs) c) ∙ ap (targets_of (shapes_of s)) (sym one-more))))
 
-  pushed-after : (s : Store) (ds : List Call) → after_all s (ds ++ c ∷ []) ≡ after (after_all s ds) c
-  pushed-after s [] = refl
-  pushed-after s (d ∷ ds) = pushed-after (after s d) ds
+  pushed-after : (r : Store) (ds : List Call) → after_all r (ds ++ c ∷ []) ≡ after (after_all r ds) c
+  pushed-after r [] = refl
+  pushed-after r (d ∷ ds) = pushed-after (after r d) ds
 
-  next-shapes : new.shapes.objects ≡ shapes_of (after_all empty_store (take (at + 1) cs))
-  next-shapes = shaped ∙ (ap (λ (u : ObjectShapes). shapes_after u c) shapes-were ∙ (sym (shapes_of-after (after_all empty_store (take at cs)) c)
-      ∙ ap shapes_of (sym (ap (after_all empty_store) one-more ∙ pushed-after empty_store (take at cs)))))
+  next-shapes : new.shapes.objects ≡ shapes_of (after_all s (take (at + 1) cs))
+  next-shapes = shaped ∙ (ap (λ (u : ObjectShapes). shapes_after u c) shapes-were ∙ (sym (shapes_of-after (after_all s (take at cs)) c)
+      ∙ ap shapes_of (sym (ap (after_all s) one-more ∙ pushed-after s (take at cs)))))
 
   -- one more call walked over
-  pub walked_next : AreTargetsOf new cs
+  pub walked_next : AreTargetsOf s new cs
   walked_next = record {
     within = omega (arith, count, less);
-    targets_are = next-targets ∙ ap (λ n. targets_of (shapes_of empty_store) (take n cs)) (sym count);
-    shapes_are = next-shapes ∙ ap (λ n. shapes_of (after_all empty_store (take n cs))) (sym count);
+    targets_are = next-targets ∙ ap (λ n. targets_of (shapes_of s) (take n cs)) (sym count);
+    shapes_are = next-shapes ∙ ap (λ n. shapes_of (after_all s (take n cs))) (sym count);
   }
 
 -- one more call walked over, of calls that come behind those walked over at first
-pub walked_further : (first old new : WalkedCalls) (known bs : List Call) (at : ℕ) (c : Call) → AreTargetsOf first known → bs ≡ drop (length first.targets) known → AreTargetsOf old known →
+pub walked_further : (s : Store) (first old new : WalkedCalls) (known bs : List Call) (at : ℕ) (c : Call) → AreTargetsOf s first known → bs ≡ drop (length first.targets) known → AreTargetsOf s old known →
     length old.targets ≡ length first.targets + at → at < length bs → get_or bs at c ≡ c →
-    new.targets ≡ old.targets ++ effective_target old.shapes.objects c ∷ [] → new.shapes.objects ≡ shapes_after old.shapes.objects c → AreTargetsOf new known
-walked_further first old new known bs at c begun lent was here less is pushed shaped =
+    new.targets ≡ old.targets ++ effective_target old.shapes.objects c ∷ [] → new.shapes.objects ≡ shapes_after old.shapes.objects c → AreTargetsOf s new known
+walked_further s first old new known bs at c begun lent was here less is pushed shaped =
     let n = length first.targets in
     let count : length bs ≡ length known - n = ap length lent ∙ length-drop n known in
     let same : get_or known (n + at) c ≡ c = sym (get_or-drop n known at c) ∙ (ap (λ (cs : List Call). get_or cs at c) (sym lent) ∙ is) in
-    walked_next old new known (n + at) c was here (omega (arith, less, count)) same pushed shaped
+    walked_next s old new known (n + at) c was here (omega (arith, less, count)) same pushed shaped
 
 -- the walk stands where more calls come
-pub walked_more : (t : WalkedCalls) (cs ds : List Call) → AreTargetsOf t cs → AreTargetsOf t (cs ++ ds)
-walked_more t cs ds was = record {
+pub walked_more : (s : Store) (t : WalkedCalls) (cs ds : List Call) → AreTargetsOf s t cs → AreTargetsOf s t (cs ++ ds)
+walked_more s t cs ds was = record {
   within = more cs ds (length t.targets) was.within;
-  targets_are = was.targets_are ∙ ap (targets_of (shapes_of empty_store)) (sym (take-append-le (length t.targets) cs ds was.within));
-  shapes_are = was.shapes_are ∙ ap (λ (xs : List Call). shapes_of (after_all empty_store xs)) (sym (take-append-le (length t.targets) cs ds was.within));
+  targets_are = was.targets_are ∙ ap (targets_of (shapes_of s)) (sym (take-append-le (length t.targets) cs ds was.within));
+  shapes_are = was.shapes_are ∙ ap (λ (xs : List Call). shapes_of (after_all s xs)) (sym (take-append-le (length t.targets) cs ds was.within));
 } where
   more : (xs ys : List Call) (n : ℕ) → n ≤ length xs → n ≤ length (xs ++ ys)
   more [] ys n le = omega (arith, le)
@@ -93,21 +93,21 @@ walked_more t cs ds was = record {
   more (x ∷ xs) ys (suc n) le = let rest : n ≤ length (xs ++ ys) = more xs ys n (omega (arith, le)) in omega (arith, rest)
 
 -- the walk over all calls
-pub walk_ends : (t : WalkedCalls) (cs : List Call) → AreTargetsOf t cs → length t.targets ≡ length cs → (t.targets ≡ targets_of (shapes_of empty_store) cs) × (t.shapes.objects ≡ shapes_of (after_all empty_store cs))
-walk_ends t cs was all =
+pub walk_ends : (s : Store) (t : WalkedCalls) (cs : List Call) → AreTargetsOf s t cs → length t.targets ≡ length cs → (t.targets ≡ targets_of (shapes_of s) cs) × (t.shapes.objects ≡ shapes_of (after_all s cs))
+walk_ends s t cs was all =
     let same : take (length t.targets) cs ≡ cs = take_all cs (length t.targets) all in
-    (was.targets_are ∙ ap (targets_of (shapes_of empty_store)) same, was.shapes_are ∙ ap (λ (xs : List Call). shapes_of (after_all empty_store xs)) same)
+    (was.targets_are ∙ ap (targets_of (shapes_of s)) same, was.shapes_are ∙ ap (λ (xs : List Call). shapes_of (after_all s xs)) same)
 
 -- the walk over all calls, from the first
-pub walked_all : (old new : WalkedCalls) (cs : List Call) → old.targets ≡ [] → old.shapes.objects ≡ shapes_of empty_store →
-    ((known : List Call) → AreTargetsOf old known → cs ≡ drop (length old.targets) known → AreTargetsOf new known × (length new.targets ≡ length known)) →
-    (new.targets ≡ targets_of (shapes_of empty_store) cs) × (new.shapes.objects ≡ shapes_of (after_all empty_store cs))
-walked_all old new cs none shapes goes =
+pub walked_all : (s : Store) (old new : WalkedCalls) (cs : List Call) → old.targets ≡ [] → old.shapes.objects ≡ shapes_of s →
+    ((known : List Call) → AreTargetsOf s old known → cs ≡ drop (length old.targets) known → AreTargetsOf s new known × (length new.targets ≡ length known)) →
+    (new.targets ≡ targets_of (shapes_of s) cs) × (new.shapes.objects ≡ shapes_of (after_all s cs))
+walked_all s old new cs none shapes goes =
     let count : length old.targets ≡ 0 = ap length none in
-    let begun : AreTargetsOf old cs = record {
+    let begun : AreTargetsOf s old cs = record {
       within = omega (arith, count);
-      targets_are = none ∙ ap (λ n. targets_of (shapes_of empty_store) (take n cs)) (sym count);
-      shapes_are = shapes ∙ ap (λ n. shapes_of (after_all empty_store (take n cs))) (sym count);
+      targets_are = none ∙ ap (λ n. targets_of (shapes_of s) (take n cs)) (sym count);
+      shapes_are = shapes ∙ ap (λ n. shapes_of (after_all s (take n cs))) (sym count);
     } in
     let end = goes cs begun (ap (λ n. drop n cs) (sym count)) in
-    walk_ends new cs end.0 end.1
+    walk_ends s new cs end.0 end.1

@@ -95,16 +95,16 @@ module _ (v w : Wants) (cs : List Call) (ts : List (Option Object)) (bs : List B
   })
 
 -- how many calls were made
-pub tasks_none : (o : Object) (cs : List Call) (u : ObjectShapes) → u ≡ shapes_of (after_all empty_store cs) → is_live u o ≡ false → 0 ≡ tasks_of o cs
-tasks_none o cs u is gone = by (is_live (shapes_of (after_all empty_store cs)) o) (ap (λ (t : ObjectShapes). is_live t o) (sym is) ∙ gone)
+pub tasks_none : (s : Store) (o : Object) (cs : List Call) (u : ObjectShapes) → u ≡ shapes_of (after_all s cs) → is_live u o ≡ false → 0 ≡ tasks_of s o cs
+tasks_none s o cs u is gone = by (is_live (shapes_of (after_all s cs)) o) (ap (λ (t : ObjectShapes). is_live t o) (sym is) ∙ gone)
   where
-    by : (b : Bool) → b ≡ false → 0 ≡ (if b then length (sliced (is_same_object o) (steps_of (shapes_of empty_store) cs)).tasks else 0)
+    by : (b : Bool) → b ≡ false → 0 ≡ (if b then length (sliced (is_same_object o) (steps_of (shapes_of s) cs)).tasks else 0)
     by true e = cc
     by false e = refl
 
-pub tasks_all : (o : Object) (cs : List Call) (u : ObjectShapes) (n : ℕ) → u ≡ shapes_of (after_all empty_store cs) → is_live u o ≡ true → n ≡ length (sliced (is_same_object o) (steps_of (shapes_of empty_store) cs)).tasks → n ≡ tasks_of o cs
-tasks_all o cs u n is live count = by (is_live (shapes_of (after_all empty_store cs)) o) (ap (λ (t : ObjectShapes). is_live t o) (sym is) ∙ live)
+pub tasks_all : (s : Store) (o : Object) (cs : List Call) (u : ObjectShapes) (n : ℕ) → u ≡ shapes_of (after_all s cs) → is_live u o ≡ true → n ≡ length (sliced (is_same_object o) (steps_of (shapes_of s) cs)).tasks → n ≡ tasks_of s o cs
+tasks_all s o cs u n is live count = by (is_live (shapes_of (after_all s cs)) o) (ap (λ (t : ObjectShapes). is_live t o) (sym is) ∙ live)
   where
-    by : (b : Bool) → b ≡ true → n ≡ (if b then length (sliced (is_same_object o) (steps_of (shapes_of empty_store) cs)).tasks else 0)
+    by : (b : Bool) → b ≡ true → n ≡ (if b then length (sliced (is_same_object o) (steps_of (shapes_of s) cs)).tasks else 0)
     by true e = count
     by false e = cc

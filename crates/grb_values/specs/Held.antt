@@ -1,11 +1,13 @@
 -- What a contract sees of an object that was evaluated (own): which it is, the part of the store that it was had from, and how many calls
 -- were made for it.
-use Rattle.std.specs.Prelude.{ℕ, if◌then◌else◌, List, length}
+use Rattle.std.specs.Prelude.{ℕ, if◌then◌else◌, List, length, Option, None}
+use Rattle.grb_core.specs.Contents.{Matrix, Vector}
 use Rattle.grb_call.specs.declared.call.Call.{Call}
 use Rattle.grb_call.specs.declared.ids.Object.{Object}
+use Rattle.grb_call.specs.declared.ids.Object.TheVariants as object
 use Rattle.grb_call.specs.Shapes.{is_live}
 use Rattle.grb_call.specs.Status.{is_same_object}
-use Rattle.grb_call.specs.Store.{empty_store, shapes_of}
+use Rattle.grb_call.specs.Store.{Store, matrix_at, shapes_of, vector_at}
 use Rattle.grb_call.specs.History.{after_all}
 use Rattle.grb_replay.specs.State.{RoomyStore}
 use Rattle.grb_slices.specs.Slice.{sliced}
@@ -16,7 +18,16 @@ pub record HeldObject : Type 0 where
   pub part : RoomyStore
   pub evaluated : ℕ
 
--- how many calls the slice of the object has, after calls on the empty store; none where the object is not there after them
-abbrev pub tasks_of : Object → List Call → ℕ
-tasks_of o cs =
-    if is_live (shapes_of (after_all empty_store cs)) o then length (sliced (is_same_object o) (steps_of (shapes_of empty_store) cs)).tasks else 0
+-- how many calls the slice of the object has, after calls on a store; none where the object is not there after them
+abbrev pub tasks_of : Store → Object → List Call → ℕ
+tasks_of s o cs = if is_live (shapes_of (after_all s cs)) o then length (sliced (is_same_object o) (steps_of (shapes_of s) cs)).tasks else 0
+
+-- what the store has of an object that is a matrix
+abbrev pub held_matrix : Store → Object → Option Matrix
+held_matrix s (object.Matrix a) = matrix_at s a
+held_matrix s (object.Vector v) = None
+
+-- what it has of one that is a vector
+abbrev pub held_vector : Store → Object → Option Vector
+held_vector s (object.Matrix a) = None
+held_vector s (object.Vector v) = vector_at s v

@@ -3,7 +3,7 @@ use Rattle.std.specs.Prelude.{◌≡◌, ◌≤◌, List, length, take, Option}
 use Rattle.grb_call.specs.declared.call.Call.{Call}
 use Rattle.grb_call.specs.declared.ids.Object.{Object}
 use Rattle.grb_call.specs.Shapes.{RoomyShapes}
-use Rattle.grb_call.specs.Store.{empty_store, shapes_of}
+use Rattle.grb_call.specs.Store.{Store, shapes_of}
 use Rattle.grb_call.specs.History.{after_all}
 use Rattle.grb_slices.specs.Followed.{targets_of}
 
@@ -11,8 +11,8 @@ pub record WalkedCalls : Type 0 where
   pub targets : List (Option Object)
   pub shapes : RoomyShapes
 
--- the targets are those of the first of these calls, and the shapes those behind them
-pub record AreTargetsOf (t : WalkedCalls) (cs : List Call) : Type 0 where
+-- the targets are those of the first of these calls on a store, and the shapes those behind them
+pub record AreTargetsOf (s : Store) (t : WalkedCalls) (cs : List Call) : Type 0 where
   pub within : length t.targets ≤ length cs
-  pub targets_are : t.targets ≡ targets_of (shapes_of empty_store) (take (length t.targets) cs)
-  pub shapes_are : t.shapes.objects ≡ shapes_of (after_all empty_store (take (length t.targets) cs))
+  pub targets_are : t.targets ≡ targets_of (shapes_of s) (take (length t.targets) cs)
+  pub shapes_are : t.shapes.objects ≡ shapes_of (after_all s (take (length t.targets) cs))

@@ -1,9 +1,9 @@
-ghost use Rattle.std.specs.Prelude.{◌≡◌, ◌+◌, ◌<◌, ◌≤◌, ◌++◌, ◌∷◌, [], List, None, length, drop, map, IfOk};
+ghost use Rattle.std.specs.Prelude.{◌≡◌, ◌+◌, ◌<◌, ◌≤◌, ◌^◌, ◌++◌, ◌∷◌, [], List, None, length, drop, map, IfOk};
 ghost use Rattle.grb_call.specs.declared.call.Call.{Call};
 ghost use Rattle.grb_call.specs.Refused.{refused_by_shapes, shapes_after};
 ghost use Rattle.grb_slices.specs.Content.{effective_target};
 ghost use Rattle.grb_call.specs.Shapes.{is_live};
-ghost use Rattle.grb_call.specs.Store.{empty_store, shapes_of};
+ghost use Rattle.grb_call.specs.Store.{Store, empty_store, shapes_of};
 ghost use Rattle.grb_values.specs.Targets.{AreTargetsOf};
 
 use grb_call::{Call, Object, Shapes};
@@ -43,6 +43,21 @@ impl Targets {
         })
     }
 
+    /// Of no calls yet on objects of these shapes, with memory for so many. `AllocError` where memory is refused.
+    pub fn of(alloc: Global, shapes: &Shapes, room: u32) -> Result<Targets, AllocError>
+        requires matrices { length shapes.now.objects.matrices + room < 2 ^ 32 }
+        requires vectors { length shapes.now.objects.vectors + room < 2 ^ 32 }
+        ensures targets { IfOk result (λ t. t.targets ≡ []) }
+        ensures shapes { IfOk result (λ t. t.shapes.objects ≡ shapes.now.objects) }
+        ensures room { IfOk result (λ t. t.shapes.room ≡ room) }
+    {
+        let targets = Vec::with_capacity(alloc, room as usize)?;
+        Ok(Targets {
+            targets,
+            shapes: shapes.try_clone(room)?,
+        })
+    }
+
     /// Takes in the call behind those walked over. Takes no memory.
     pub fn go_over(&mut self, call: &Call)
         requires { 0 < self.old.shapes.room }
@@ -63,13 +78,13 @@ impl Targets {
         ensures room { self.new.shapes.room + 1 ≡ self.old.shapes.room }
     {
         self.targets.push_reserved(target_of(&self.shapes, call));
-        self.shapes.absorb(call);
+        self.shapes.absorb_accepted(call);
     }
 
     /// Goes on over these calls, which come behind those walked over. Takes no memory.
     pub fn go_on(&mut self, calls: &[&Call])
         requires room { length calls.now ≤ self.old.shapes.room }
-        ensures walked { (known : List Call) → AreTargetsOf self.old known → map (λ c. c.now) calls.now ≡ drop (length self.old.targets) known → AreTargetsOf self.new known × (length self.new.targets ≡ length known) }
+        ensures walked { (s : Store) (known : List Call) → AreTargetsOf s self.old known → map (λ c. c.now) calls.now ≡ drop (length self.old.targets) known → AreTargetsOf s self.new known × (length self.new.targets ≡ length known) }
         ensures all { length self.new.targets ≡ length self.old.targets + length calls.now }
         ensures room { length self.new.targets + self.new.shapes.room ≡ length self.old.targets + self.old.shapes.room }
     {

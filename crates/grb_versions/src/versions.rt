@@ -1,4 +1,4 @@
-ghost use Rattle.std.specs.Prelude.{◌≡◌, ◌+◌, ◌≤◌, IfSome, length, map, take};
+ghost use Rattle.std.specs.Prelude.{◌≡◌, ◌+◌, ◌*◌, ◌<◌, ◌≤◌, Ok, IfOk, IfSome, length, map, take};
 ghost use Rattle.grb_replay.specs.Evaluated.{IsEvaluated};
 ghost use Rattle.grb_versions.specs.Versions.{IsFold, Serves};
 
@@ -7,6 +7,7 @@ use grb_call::Call;
 use grb_replay::State;
 use once_cell::race::OnceBox;
 use std::alloc::{AllocError, Global};
+use std::marker::Model;
 
 /// How many lengths of versions share a cell.
 const LENGTHS: usize = 64;
@@ -19,21 +20,33 @@ pub struct Versions {
     cells: Vec<OnceBox<Version>>,
 }
 
+impl Model for Versions {
+    ghost use Rattle.std.specs.Prelude.{ℕ, length};
+
+    ghost Value = { ℕ };
+
+    ghost view = { λ v. length v.cells.items };
+}
+
 impl Versions {
     /// Places for the versions of histories of up to `room` calls. `AllocError` where memory is refused.
-    pub fn open(alloc: Global, room: u32) -> Result<Versions, AllocError> {
+    pub fn open(alloc: Global, room: u32) -> Result<Versions, AllocError>
+        ensures places { IfOk result (λ versions. (room ≤ 64 * versions) × (64 * versions < room + 64)) }
+    {
         let count = (room as usize).div_ceil(LENGTHS);
         let mut cells = Vec::with_capacity(alloc, count)?;
         for _ in 0..count {
-            cells.push(OnceBox::new(alloc))?;
+            cells.push_reserved(OnceBox::new(alloc));
         }
         Ok(Versions { alloc, cells })
     }
 
-    /// Keeps the state of these calls, unless its cell has one, or there is none. `AllocError` where memory is refused; then nothing is
-    /// kept.
+    /// Keeps the state of these calls, unless its cell has one, or there is none, as of no calls and of more than there are places for.
+    /// `AllocError` where memory is refused; then nothing is kept.
     pub fn offer(&self, calls: &[&Call], state: State) -> Result<(), AllocError>
         requires { IsFold (map (λ c. c.now) calls.now) state.store }
+        ensures none { length calls.now ≡ 0 → result ≡ Ok tt }
+        ensures beyond { 64 * self.now < length calls.now → result ≡ Ok tt }
     {
         if calls.is_empty() {
             return Ok(());

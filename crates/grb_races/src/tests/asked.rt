@@ -13,7 +13,8 @@ pub(super) const SECOND: VectorId = VectorId(1);
 
 pub(super) const DONE: Answer = Ok(Reply::Done);
 
-/// A call, without a list of its own: a build adds up numbers by their places.
+/// A call, without a list of its own: a build adds up numbers by their places, and one of truth values, which are true where the numbers
+/// are odd, combines them by exclusive or.
 #[derive(Clone, Copy)]
 pub(super) enum Asked {
     NewMatrix(Domain, u64, u64),
@@ -38,6 +39,8 @@ pub(super) enum Asked {
     DupVector(VectorId),
     BuildMatrix(MatrixId, &'static [(u64, u64, u64)]),
     BuildVector(VectorId, &'static [(u64, u64)]),
+    BuildMatrixOfTruths(MatrixId, &'static [(u64, u64, u64)]),
+    BuildVectorOfTruths(VectorId, &'static [(u64, u64)]),
     WaitMatrix(MatrixId, WaitMode),
     WaitVector(VectorId, WaitMode),
     Operation(Operation),
@@ -86,23 +89,64 @@ pub(super) enum Operation {
     Mxv(VectorId, Monoid, BinaryOp, MatrixId, VectorId, Descriptor),
     Mxm(MatrixId, Monoid, BinaryOp, MatrixId, MatrixId, Descriptor),
     ReduceRows(VectorId, Monoid, MatrixId, Descriptor),
+    /// With a mask and an accumulator, or without, as the two below.
+    MaskedMxv(
+        VectorId,
+        Option<VectorId>,
+        Option<BinaryOp>,
+        Monoid,
+        BinaryOp,
+        MatrixId,
+        VectorId,
+        Descriptor,
+    ),
+    MaskedMxm(
+        MatrixId,
+        Option<MatrixId>,
+        Option<BinaryOp>,
+        Monoid,
+        BinaryOp,
+        MatrixId,
+        MatrixId,
+        Descriptor,
+    ),
+    MaskedReduceRows(VectorId, Option<VectorId>, Option<BinaryOp>, Monoid, MatrixId, Descriptor),
     /// Of all values of a matrix.
     Total(MatrixId, Monoid),
     TotalOfVector(VectorId, Monoid),
 }
 
-fn numbers(alloc: Global, list: &[(u64, u64)]) -> Result<VectorTuples, AllocError> {
+/// The number, or whether it is odd.
+pub(super) fn value_of(domain: Domain, number: u64) -> Value {
+    match domain {
+        Domain::Bool => Value::Bool(number % 2 == 1),
+        Domain::Uint64 => Value::Uint64(number),
+    }
+}
+
+fn sum_of(domain: Domain) -> Monoid {
+    match domain {
+        Domain::Bool => Monoid::Lxor,
+        Domain::Uint64 => Monoid::Plus,
+    }
+}
+
+fn values(alloc: Global, domain: Domain, list: &[(u64, u64)]) -> Result<VectorTuples, AllocError> {
     let mut tuples = Vec::new(alloc);
     for (i, number) in list {
-        tuples.push((*i, Value::Uint64(*number)))?;
+        tuples.push((*i, value_of(domain, *number)))?;
     }
     Ok(VectorTuples::from_vec(tuples))
 }
 
-fn cells(alloc: Global, list: &[(u64, u64, u64)]) -> Result<MatrixTuples, AllocError> {
+fn cells(
+    alloc: Global,
+    domain: Domain,
+    list: &[(u64, u64, u64)],
+) -> Result<MatrixTuples, AllocError> {
     let mut tuples = Vec::new(alloc);
     for (i, j, number) in list {
-        tuples.push((*i, *j, Value::Uint64(*number)))?;
+        tuples.push((*i, *j, value_of(domain, *number)))?;
     }
     Ok(MatrixTuples::from_vec(tuples))
 }
@@ -111,14 +155,15 @@ fn build_matrix(
     alloc: Global,
     context: &Context,
     pass: &mut Pass,
+    domain: Domain,
     a: MatrixId,
     list: &[(u64, u64, u64)],
 ) -> Answer
     requires { IsPassOf context.now pass.old }
     ensures { IsPassOf context.now pass.new }
 {
-    match cells(alloc, list) {
-        Ok(tuples) => context.build_matrix(pass, a, tuples, Monoid::Plus),
+    match cells(alloc, domain, list) {
+        Ok(tuples) => context.build_matrix(pass, a, tuples, sum_of(domain)),
         Err(_) => Err(Refusal::OutOfMemory),
     }
 }
@@ -139,7 +184,12 @@ fn ask_matrix(alloc: Global, context: &Context, pass: &mut Pass, asked: Asked) -
         Asked::ClearMatrix(a) => context.clear_matrix(pass, a),
         Asked::ResizeMatrix(a, nrows, ncols) => context.resize_matrix(pass, a, nrows, ncols),
         Asked::DupMatrix(a) => context.dup_matrix(pass, a),
-        Asked::BuildMatrix(a, list) => build_matrix(alloc, context, pass, a, list),
+        Asked::BuildMatrix(a, list) => {
+            build_matrix(alloc, context, pass, Domain::Uint64, a, list)
+        }
+        Asked::BuildMatrixOfTruths(a, list) => {
+            build_matrix(alloc, context, pass, Domain::Bool, a, list)
+        }
         Asked::WaitMatrix(a, mode) => context.wait_matrix(pass, a, mode),
         _ => Err(Refusal::Panic),
     }
@@ -149,14 +199,15 @@ fn build_vector(
     alloc: Global,
     context: &Context,
     pass: &mut Pass,
+    domain: Domain,
     v: VectorId,
     list: &[(u64, u64)],
 ) -> Answer
     requires { IsPassOf context.now pass.old }
     ensures { IsPassOf context.now pass.new }
 {
-    match numbers(alloc, list) {
-        Ok(tuples) => context.build_vector(pass, v, tuples, Monoid::Plus),
+    match values(alloc, domain, list) {
+        Ok(tuples) => context.build_vector(pass, v, tuples, sum_of(domain)),
         Err(_) => Err(Refusal::OutOfMemory),
     }
 }
@@ -177,9 +228,56 @@ fn ask_vector(alloc: Global, context: &Context, pass: &mut Pass, asked: Asked) -
         Asked::ClearVector(v) => context.clear_vector(pass, v),
         Asked::ResizeVector(v, size) => context.resize_vector(pass, v, size),
         Asked::DupVector(v) => context.dup_vector(pass, v),
-        Asked::BuildVector(v, list) => build_vector(alloc, context, pass, v, list),
+        Asked::BuildVector(v, list) => {
+            build_vector(alloc, context, pass, Domain::Uint64, v, list)
+        }
+        Asked::BuildVectorOfTruths(v, list) => {
+            build_vector(alloc, context, pass, Domain::Bool, v, list)
+        }
         Asked::WaitVector(v, mode) => context.wait_vector(pass, v, mode),
         _ => Err(Refusal::Panic),
+    }
+}
+
+fn mxv(
+    context: &Context,
+    pass: &mut Pass,
+    w: VectorId,
+    mask: Option<VectorId>,
+    accum: Option<BinaryOp>,
+    monoid: Monoid,
+    op: BinaryOp,
+    a: MatrixId,
+    u: VectorId,
+    d: Descriptor,
+) -> Answer
+    requires { IsPassOf context.now pass.old }
+    ensures { IsPassOf context.now pass.new }
+{
+    match Semiring::new(monoid, op) {
+        Ok(semiring) => context.mxv(pass, w, mask, accum, semiring, a, u, d),
+        Err(refusal) => Err(refusal),
+    }
+}
+
+fn mxm(
+    context: &Context,
+    pass: &mut Pass,
+    c: MatrixId,
+    mask: Option<MatrixId>,
+    accum: Option<BinaryOp>,
+    monoid: Monoid,
+    op: BinaryOp,
+    a: MatrixId,
+    b: MatrixId,
+    d: Descriptor,
+) -> Answer
+    requires { IsPassOf context.now pass.old }
+    ensures { IsPassOf context.now pass.new }
+{
+    match Semiring::new(monoid, op) {
+        Ok(semiring) => context.mxm(pass, c, mask, accum, semiring, a, b, d),
+        Err(refusal) => Err(refusal),
     }
 }
 
@@ -201,16 +299,23 @@ fn operate(context: &Context, pass: &mut Pass, operation: Operation) -> Answer
         Operation::EwiseMultVector(w, mask, accum, op, u, v, d) => {
             context.ewise_mult_vector(pass, w, mask, accum, op, u, v, d)
         }
-        Operation::Mxv(w, monoid, op, a, u, d) => match Semiring::new(monoid, op) {
-            Ok(semiring) => context.mxv(pass, w, None, None, semiring, a, u, d),
-            Err(refusal) => Err(refusal),
-        },
-        Operation::Mxm(c, monoid, op, a, b, d) => match Semiring::new(monoid, op) {
-            Ok(semiring) => context.mxm(pass, c, None, None, semiring, a, b, d),
-            Err(refusal) => Err(refusal),
-        },
+        Operation::Mxv(w, monoid, op, a, u, d) => {
+            mxv(context, pass, w, None, None, monoid, op, a, u, d)
+        }
+        Operation::Mxm(c, monoid, op, a, b, d) => {
+            mxm(context, pass, c, None, None, monoid, op, a, b, d)
+        }
         Operation::ReduceRows(w, monoid, a, d) => {
             context.reduce_rows(pass, w, None, None, monoid, a, d)
+        }
+        Operation::MaskedMxv(w, mask, accum, monoid, op, a, u, d) => {
+            mxv(context, pass, w, mask, accum, monoid, op, a, u, d)
+        }
+        Operation::MaskedMxm(c, mask, accum, monoid, op, a, b, d) => {
+            mxm(context, pass, c, mask, accum, monoid, op, a, b, d)
+        }
+        Operation::MaskedReduceRows(w, mask, accum, monoid, a, d) => {
+            context.reduce_rows(pass, w, mask, accum, monoid, a, d)
         }
         Operation::Total(a, monoid) => context.reduce_matrix(pass, a, monoid),
         Operation::TotalOfVector(v, monoid) => context.reduce_vector(pass, v, monoid),
@@ -231,6 +336,7 @@ fn is_of_a_vector(asked: Asked) -> bool {
             | Asked::ResizeVector(..)
             | Asked::DupVector(_)
             | Asked::BuildVector(..)
+            | Asked::BuildVectorOfTruths(..)
             | Asked::WaitVector(..)
     )
 }

@@ -1,22 +1,28 @@
 //! Drawn histories: two passes of a store ask in turn, and a pass alone, in a store of its own, is asked the same. That one has all changes
-//! done before each call, so it reads what all calls together left.
+//! done before each call, so it reads what all calls together left. At the end they read all that each object holds.
 ghost use Rattle.grb_context.specs.Known.{IsPassOf};
 
-use crate::tests::asked::{Asked, FIRST, Operation, ask};
+use crate::tests::asked::{Answer, Asked, FIRST, Operation, ask, value_of};
 use crate::tests::rows::open_two;
 use crate::tests::same::same;
 use crate::tests::trials::{Trial, try_in_new};
-use grb_call::{Descriptor, MatrixId, VectorId, WaitMode};
+use grb_call::{Descriptor, MatrixId, Reply, VectorId, WaitMode};
 use grb_context::{Context, Pass};
 use grb_core::{BinaryOp, Domain, Monoid, Value};
 use std::alloc::{AllocError, Global};
 use std::process::Abort;
 
-/// How many calls a history has.
-const CALLS: u32 = 200;
+/// How many calls a history has before its end.
+const CALLS: u32 = 240;
 
 /// How many of them one pass makes, at the least.
-const TURN: u32 = 24;
+const TURN: u32 = 8;
+
+/// How many calls at its end read the matrix and the vector of one number whole.
+const READS: u32 = 24;
+
+/// Calls are on this many objects of a sort, those that were made last; so many are made first.
+const LAST: u32 = 8;
 
 const HISTORIES: u64 = 2_000;
 
@@ -24,6 +30,15 @@ const HISTORIES: u64 = 2_000;
 #[derive(Drop)]
 struct Draw {
     state: u64,
+    /// The domain of all operators, and of most objects and values.
+    domain: Domain,
+    /// How many vectors were made.
+    vectors: u32,
+    /// How many matrices were made.
+    matrices: u32,
+    /// What an operation wrote last.
+    vector_written: VectorId,
+    matrix_written: MatrixId,
 }
 
 impl Draw {
@@ -39,27 +54,51 @@ impl Draw {
         (self.state >> 33) % n
     }
 
-    /// The number of an object, from 0 to 4.
-    fn number(&mut self) -> u32 {
-        match self.below(5) {
-            0 => 0,
-            1 => 1,
-            2 => 2,
-            3 => 3,
-            _ => 4,
-        }
+    /// The number of one of the objects that were made last, of `made` objects.
+    fn number(&mut self, made: u32) -> u32 {
+        let behind = (self.below(8) & 7) as u32;
+        made.saturating_sub(LAST).saturating_add(behind)
     }
 
     fn vector(&mut self) -> VectorId {
-        VectorId(self.number())
+        let made = self.vectors;
+        VectorId(self.number(made))
     }
 
     fn matrix(&mut self) -> MatrixId {
-        MatrixId(self.number())
+        let made = self.matrices;
+        MatrixId(self.number(made))
+    }
+
+    /// Now and then the other domain than that of the operators.
+    fn any_domain(&mut self) -> Domain {
+        let is_other = self.below(8) == 0;
+        match self.domain {
+            Domain::Bool if is_other => Domain::Uint64,
+            Domain::Uint64 if is_other => Domain::Bool,
+            domain => domain,
+        }
     }
 
     fn value(&mut self) -> Value {
-        Value::Uint64(self.below(4))
+        let domain = self.any_domain();
+        value_of(domain, self.below(4))
+    }
+
+    fn new_vector(&mut self) -> Asked {
+        Asked::NewVector(self.any_domain(), 4)
+    }
+
+    fn new_matrix(&mut self) -> Asked {
+        Asked::NewMatrix(self.any_domain(), 4, 4)
+    }
+
+    /// A size, which is most often that of a new object.
+    fn size(&mut self) -> u64 {
+        if self.below(2) == 0 {
+            return 4;
+        }
+        self.below(5)
     }
 
     fn mode(&mut self) -> WaitMode {
@@ -85,13 +124,20 @@ impl Draw {
     }
 
     fn op(&mut self) -> BinaryOp {
-        match self.below(6) {
-            0 => BinaryOp::Plus,
-            1 => BinaryOp::Times,
-            2 => BinaryOp::Min,
-            3 => BinaryOp::Minus,
-            4 => BinaryOp::First,
-            _ => BinaryOp::Second,
+        match (self.domain, self.below(7)) {
+            (Domain::Bool, 0) => BinaryOp::Lor,
+            (Domain::Bool, 1) => BinaryOp::Land,
+            (Domain::Bool, 2) => BinaryOp::Lxor,
+            (Domain::Bool, 3) => BinaryOp::Lxnor,
+            (Domain::Bool, 4) => BinaryOp::FirstBool,
+            (Domain::Bool, _) => BinaryOp::SecondBool,
+            (Domain::Uint64, 0) => BinaryOp::Plus,
+            (Domain::Uint64, 1) => BinaryOp::Times,
+            (Domain::Uint64, 2) => BinaryOp::Min,
+            (Domain::Uint64, 3) => BinaryOp::Max,
+            (Domain::Uint64, 4) => BinaryOp::Minus,
+            (Domain::Uint64, 5) => BinaryOp::First,
+            (Domain::Uint64, _) => BinaryOp::Second,
         }
     }
 
@@ -103,11 +149,15 @@ impl Draw {
     }
 
     fn monoid(&mut self) -> Monoid {
-        match self.below(4) {
-            0 => Monoid::Plus,
-            1 => Monoid::Times,
-            2 => Monoid::Min,
-            _ => Monoid::Max,
+        match (self.domain, self.below(4)) {
+            (Domain::Bool, 0) => Monoid::Lor,
+            (Domain::Bool, 1) => Monoid::Land,
+            (Domain::Bool, 2) => Monoid::Lxor,
+            (Domain::Bool, _) => Monoid::Lxnor,
+            (Domain::Uint64, 0) => Monoid::Plus,
+            (Domain::Uint64, 1) => Monoid::Times,
+            (Domain::Uint64, 2) => Monoid::Min,
+            (Domain::Uint64, _) => Monoid::Max,
         }
     }
 
@@ -119,41 +169,70 @@ impl Draw {
         }
     }
 
-    /// A call on a vector; the first one is never freed.
-    fn of_a_vector(&mut self) -> Asked {
+    fn build_vector(&self, v: VectorId) -> Asked {
+        match self.domain {
+            Domain::Bool => Asked::BuildVectorOfTruths(v, &[(2, 7), (0, 4), (2, 1)]),
+            Domain::Uint64 => Asked::BuildVector(v, &[(2, 7), (0, 5), (2, 1)]),
+        }
+    }
+
+    fn build_matrix(&self, a: MatrixId) -> Asked {
+        match self.domain {
+            Domain::Bool => Asked::BuildMatrixOfTruths(a, &[(2, 1, 7), (0, 3, 5), (2, 1, 1)]),
+            Domain::Uint64 => Asked::BuildMatrix(a, &[(2, 1, 7), (0, 3, 5), (2, 1, 1)]),
+        }
+    }
+
+    /// A change of a vector; the first one is never freed.
+    fn change_of_a_vector(&mut self) -> Asked {
         let v = self.vector();
         let i = self.below(5);
-        match self.below(14) {
-            0 => Asked::NewVector(Domain::Uint64, 4),
-            1 => Asked::FreeVector(VectorId(v.0.saturating_add(1))),
-            2 => Asked::RemoveVector(v, i),
-            3 => Asked::NvalsVector(v),
-            4 => Asked::ClearVector(v),
-            5 => Asked::ResizeVector(v, i),
-            6 => Asked::DupVector(v),
-            7 => Asked::BuildVector(v, &[(2, 7), (0, 5), (2, 1)]),
-            8 => Asked::WaitVector(v, self.mode()),
-            9 | 10 => Asked::GetVector(v, i),
+        match self.below(128) {
+            0..=3 => self.new_vector(),
+            4..=7 => Asked::FreeVector(VectorId(v.0.saturating_add(1))),
+            8..=11 => Asked::ClearVector(v),
+            12..=15 => Asked::ResizeVector(v, self.size()),
+            16..=19 => Asked::DupVector(v),
+            20 => self.build_vector(v),
+            21..=40 => Asked::RemoveVector(v, i),
             _ => Asked::SetVector(v, i, self.value()),
         }
     }
 
-    fn of_a_matrix(&mut self) -> Asked {
+    fn change_of_a_matrix(&mut self) -> Asked {
         let a = self.matrix();
-        let i = self.below(5);
-        let j = self.below(5);
-        match self.below(14) {
-            0 => Asked::NewMatrix(Domain::Uint64, 4, 4),
-            1 => Asked::FreeMatrix(a),
-            2 => Asked::RemoveMatrix(a, i, j),
-            3 => Asked::NvalsMatrix(a),
-            4 => Asked::ClearMatrix(a),
-            5 => Asked::ResizeMatrix(a, 4, i),
-            6 => Asked::DupMatrix(a),
-            7 => Asked::BuildMatrix(a, &[(2, 1, 7), (0, 3, 5), (2, 1, 1)]),
-            8 => Asked::WaitMatrix(a, self.mode()),
-            9 | 10 => Asked::GetMatrix(a, i, j),
+        let (i, j) = (self.below(5), self.below(5));
+        match self.below(128) {
+            0..=3 => self.new_matrix(),
+            4..=7 => Asked::FreeMatrix(a),
+            8..=11 => Asked::ClearMatrix(a),
+            12..=15 => Asked::ResizeMatrix(a, self.size(), self.size()),
+            16..=19 => Asked::DupMatrix(a),
+            20 => self.build_matrix(a),
+            21..=40 => Asked::RemoveMatrix(a, i, j),
             _ => Asked::SetMatrix(a, i, j, self.value()),
+        }
+    }
+
+    /// A call that changes nothing, now and then of what an operation wrote last.
+    fn read(&mut self) -> Asked {
+        let (v, a) = if self.below(2) == 0 {
+            (self.vector_written, self.matrix_written)
+        } else {
+            (self.vector(), self.matrix())
+        };
+        let (i, j) = (self.below(5), self.below(5));
+        match self.below(16) {
+            0 => Asked::WaitVector(v, self.mode()),
+            1 => Asked::WaitMatrix(a, self.mode()),
+            2 => Asked::SizeVector(v),
+            3 => Asked::SizeMatrix(a),
+            4 | 5 => Asked::NvalsVector(v),
+            6 | 7 => Asked::NvalsMatrix(a),
+            8 => Asked::Operation(Operation::TotalOfVector(v, self.monoid())),
+            9 => Asked::Operation(Operation::Total(a, self.monoid())),
+            10..=12 => Asked::GetVector(v, i),
+            _ => Asked::GetMatrix(a, i, j),
         }
     }
 
@@ -173,23 +252,78 @@ impl Draw {
     fn product(&mut self) -> Operation {
         let (w, u) = (self.vector(), self.vector());
         let (c, a, b) = (self.matrix(), self.matrix(), self.matrix());
-        let (monoid, op, d) = (self.monoid(), self.op(), self.descriptor());
-        match self.below(5) {
-            0 => Operation::Mxv(w, monoid, op, a, u, d),
-            1 => Operation::Mxm(c, monoid, op, a, b, d),
-            2 => Operation::ReduceRows(w, monoid, a, d),
-            3 => Operation::Total(a, monoid),
-            _ => Operation::TotalOfVector(u, monoid),
+        let (of_vectors, of_matrices) = (self.mask_of_a_vector(), self.mask_of_a_matrix());
+        let (accum, monoid, op, d) = (self.accum(), self.monoid(), self.op(), self.descriptor());
+        match self.below(3) {
+            0 => Operation::MaskedMxv(w, of_vectors, accum, monoid, op, a, u, d),
+            1 => Operation::MaskedMxm(c, of_matrices, accum, monoid, op, a, b, d),
+            _ => Operation::MaskedReduceRows(w, of_vectors, accum, monoid, a, d),
         }
     }
 
-    fn call(&mut self) -> Asked {
+    /// The call at this place. Between two that read much is left to be done in some histories, so that a read does a part of it.
+    fn call(&mut self, turn: u32, pace: u64) -> Asked {
+        if self.vectors < LAST {
+            return self.new_vector();
+        }
+        if self.matrices < LAST {
+            return self.new_matrix();
+        }
+        let is_read = match pace {
+            0 => turn % 4 == 0,
+            1 => turn % 12 == 0,
+            _ => turn % 24 == 0,
+        };
+        if is_read {
+            return self.read();
+        }
         match self.below(6) {
-            0 | 1 => self.of_a_vector(),
-            2 | 3 => self.of_a_matrix(),
+            0 | 1 => self.change_of_a_vector(),
+            2 | 3 => self.change_of_a_matrix(),
             4 => Asked::Operation(self.ewise()),
             _ => Asked::Operation(self.product()),
         }
+    }
+
+    /// Notes an object that was made, or written by an operation.
+    fn note(&mut self, asked: Asked, answer: Answer) {
+        match (asked, answer) {
+            (_, Ok(Reply::MadeVector(v))) => self.vectors = v.0.saturating_add(1),
+            (_, Ok(Reply::MadeMatrix(a))) => self.matrices = a.0.saturating_add(1),
+            (
+                Asked::Operation(
+                    Operation::EwiseAddMatrix(c, ..)
+                    | Operation::EwiseMultMatrix(c, ..)
+                    | Operation::MaskedMxm(c, ..),
+                ),
+                Ok(Reply::Done),
+            ) => self.matrix_written = c,
+            (
+                Asked::Operation(
+                    Operation::EwiseAddVector(w, ..)
+                    | Operation::EwiseMultVector(w, ..)
+                    | Operation::MaskedMxv(w, ..)
+                    | Operation::MaskedReduceRows(w, ..),
+                ),
+                Ok(Reply::Done),
+            ) => self.vector_written = w,
+            _ => {}
+        }
+    }
+}
+
+/// Of the calls that read all objects, the one at this place: for each number they ask for the entries of the matrix and of the vector,
+/// whose indices are below 4, and for their counts and sizes.
+fn read_at(at: u32) -> Asked {
+    let (a, v) = (MatrixId(at / READS), VectorId(at / READS));
+    let place = u64::from(at % READS);
+    match place {
+        0..=15 => Asked::GetMatrix(a, place / 4, place % 4),
+        16 => Asked::NvalsMatrix(a),
+        17 => Asked::SizeMatrix(a),
+        18 => Asked::NvalsVector(v),
+        19 => Asked::SizeVector(v),
+        _ => Asked::GetVector(v, place % 4),
     }
 }
 
@@ -202,7 +336,7 @@ fn expect_alike(
     alone: &Context,
     only: &mut Pass,
     asked: Asked,
-)
+) -> Answer
     requires pass { IsPassOf context.now pass.old }
     requires only { IsPassOf alone.now only.old }
     ensures pass { IsPassOf context.now pass.new }
@@ -211,6 +345,7 @@ fn expect_alike(
     let _ = alone.wait_vector(only, FIRST, WaitMode::Materialize);
     let wanted = ask(alloc, alone, only, asked);
     same(rt, ask(alloc, context, pass, asked), wanted, "a drawn call");
+    wanted
 }
 
 /// A drawn history: one of the passes makes some calls, and which of them is drawn anew then.
@@ -227,20 +362,52 @@ fn expect_history(
     requires first { IsPassOf context.now p.old }
     requires second { IsPassOf context.now q.old }
     requires only { IsPassOf alone.now only.old }
+    ensures first { IsPassOf context.now p.new }
+    ensures second { IsPassOf context.now q.new }
+    ensures only { IsPassOf alone.now only.new }
 {
-    let made = Asked::NewVector(Domain::Uint64, 4);
-    expect_alike(rt, alloc, context, p, alone, only, made);
+    let pace = draw.below(3);
     let mut is_first = true;
     'calls: for turn in 0..CALLS {
         if turn % TURN == 0 {
             is_first = draw.below(2) == 0;
         }
-        let asked = draw.call();
-        if is_first {
-            expect_alike(rt, alloc, context, p, alone, only, asked);
+        let asked = draw.call(turn, pace);
+        let answer = if is_first {
+            expect_alike(rt, alloc, context, p, alone, only, asked)
         } else {
-            expect_alike(rt, alloc, context, q, alone, only, asked);
+            expect_alike(rt, alloc, context, q, alone, only, asked)
+        };
+        draw.note(asked, answer);
+    }
+}
+
+/// Each object is read whole, by one of the passes.
+fn expect_objects(
+    rt: &impl Abort,
+    alloc: Global,
+    context: &Context,
+    p: &mut Pass,
+    q: &mut Pass,
+    alone: &Context,
+    only: &mut Pass,
+    draw: &mut Draw,
+)
+    requires first { IsPassOf context.now p.old }
+    requires second { IsPassOf context.now q.old }
+    requires only { IsPassOf alone.now only.old }
+{
+    let made = draw.vectors.max(draw.matrices);
+    let mut is_first = true;
+    'reads: for at in 0..made.saturating_mul(READS) {
+        if at % READS == 0 {
+            is_first = draw.below(2) == 0;
         }
+        let _ = if is_first {
+            expect_alike(rt, alloc, context, p, alone, only, read_at(at))
+        } else {
+            expect_alike(rt, alloc, context, q, alone, only, read_at(at))
+        };
     }
 }
 
@@ -256,8 +423,29 @@ pub(super) fn expect_drawn(
     requires second { IsPassOf context.now q.old }
 {
     let mut alone = open_two(rt, alloc, 256)?;
-    let mut draw = Draw { state: seed };
+    let mut draw = Draw {
+        state: seed,
+        domain: if seed % 4 == 0 {
+            Domain::Bool
+        } else {
+            Domain::Uint64
+        },
+        vectors: 0,
+        matrices: 0,
+        vector_written: FIRST,
+        matrix_written: MatrixId(0),
+    };
     expect_history(
+        rt,
+        alloc,
+        context,
+        p,
+        q,
+        &alone.context,
+        &mut alone.first,
+        &mut draw,
+    );
+    expect_objects(
         rt,
         alloc,
         context,

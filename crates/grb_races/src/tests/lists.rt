@@ -11,7 +11,7 @@ use std::process::Abort;
 
 /// A call of a list, without a list of its own: a build has one tuple.
 #[derive(Clone, Copy)]
-enum Listed {
+pub(super) enum Listed {
     New(u64),
     Set(u64, u64),
     Get(u64),
@@ -20,7 +20,7 @@ enum Listed {
 }
 
 /// A call and its answer.
-type Row = (Listed, Answer);
+pub(super) type Row = (Listed, Answer);
 
 fn call_of(alloc: Global, listed: Listed) -> Result<Call, AllocError> {
     Ok(match listed {
@@ -70,6 +70,7 @@ fn expect_answers_to<R: Abort>(
     rows: &[Row],
 )
     requires { IsPassOf context.now pass.old }
+    ensures { IsPassOf context.now pass.new }
 {
     match context.run(pass, calls) {
         Ok(answers) => expect_answers(rt, &answers, rows),
@@ -78,7 +79,7 @@ fn expect_answers_to<R: Abort>(
 }
 
 /// Makes the calls of the rows by one list.
-fn expect_rows_by_list<R: Abort>(
+pub(super) fn expect_rows_by_list<R: Abort>(
     rt: &R,
     alloc: Global,
     context: &Context,
@@ -86,6 +87,7 @@ fn expect_rows_by_list<R: Abort>(
     rows: &[Row],
 ) -> Result<(), AllocError>
     requires { IsPassOf context.now pass.old }
+    ensures { IsPassOf context.now pass.new }
 {
     let calls = calls_of(alloc, rows)?;
     expect_answers_to(rt, context, pass, &calls, rows);

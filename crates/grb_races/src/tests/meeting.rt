@@ -31,14 +31,15 @@ pub(super) fn expect_told(rt: &impl Abort, context: &Context, p: &mut Pass, q: &
     requires second { IsPassOf context.now q.old }
 {
     expect_answer(rt, context.new_vector(p, Domain::Uint64, 4), MADE);
+    expect_point(rt, p, 1, 1, 2);
     expect_answer(rt, context.set_vector(q, FIRST, 1, NINE), DONE);
-    same(rt, p.known(), 1, "before the meeting");
-    same(rt, q.known(), 2, "before the meeting");
+    expect_point(rt, q, 2, 2, 3);
+    expect_point(rt, p, 1, 1, 2);
     same(rt, context.meet(p, q), Ok(()), "the meeting");
     expect_point(rt, p, 2, 2, 1);
     expect_point(rt, q, 2, 2, 3);
     expect_answer(rt, context.get_vector(p, FIRST, 1), Ok(Reply::Value(NINE)));
-    same(rt, p.known(), 2, "behind the meeting");
+    expect_point(rt, p, 2, 2, 1);
 }
 
 #[test]

@@ -99,7 +99,7 @@ fn a_mask_by_value_selects_no_stored_zero(rt: HostRuntime) -> Result<(), AllocEr
     run(&rt, 16, Counted::Known, &BY_VALUE)
 }
 
-static WITHOUT_MASK: [Row; 8] = [
+static WITHOUT_MASK: [Row; 13] = [
     (
         0,
         Asked::NewVector(Domain::Uint64, 2),
@@ -144,6 +144,37 @@ static WITHOUT_MASK: [Row; 8] = [
         6,
     ),
     (1, Asked::NvalsVector(FIRST), Ok(Reply::Count(0)), 6),
+    (0, Asked::SetVector(FIRST, 1, Value::Uint64(4)), DONE, 7),
+    (
+        0,
+        Asked::Operation(Operation::EwiseAddVector(
+            FIRST,
+            None,
+            None,
+            BinaryOp::First,
+            SECOND,
+            SECOND,
+            COMP,
+        )),
+        DONE,
+        8,
+    ),
+    (1, Asked::NvalsVector(FIRST), Ok(Reply::Count(1)), 8),
+    (
+        0,
+        Asked::Operation(Operation::EwiseAddVector(
+            FIRST,
+            None,
+            None,
+            BinaryOp::First,
+            SECOND,
+            SECOND,
+            COMP_REPLACE,
+        )),
+        DONE,
+        9,
+    ),
+    (1, Asked::NvalsVector(FIRST), Ok(Reply::Count(0)), 9),
 ];
 
 #[test]
@@ -171,7 +202,7 @@ const SQUARED: Operation = Operation::EwiseMultMatrix(
     PLAIN,
 );
 
-static ONE_MATRIX: [Row; 7] = [
+static ONE_MATRIX: [Row; 11] = [
     (
         0,
         Asked::NewMatrix(Domain::Uint64, 1, 1),
@@ -181,19 +212,33 @@ static ONE_MATRIX: [Row; 7] = [
     (0, Asked::SetMatrix(MATRIX, 0, 0, Value::Uint64(3)), DONE, 2),
     (0, Asked::Operation(DOUBLED), DONE, 3),
     (1, Asked::DupMatrix(MATRIX), Ok(Reply::MadeMatrix(COPY)), 4),
-    (0, Asked::Operation(SQUARED), DONE, 5),
+    (0, Asked::SetMatrix(MATRIX, 0, 0, Value::Uint64(1)), DONE, 5),
+    (
+        0,
+        Asked::GetMatrix(COPY, 0, 0),
+        Ok(Reply::Value(Value::Uint64(6))),
+        5,
+    ),
+    (
+        0,
+        Asked::GetMatrix(MATRIX, 0, 0),
+        Ok(Reply::Value(Value::Uint64(1))),
+        5,
+    ),
+    (0, Asked::SetMatrix(MATRIX, 0, 0, Value::Uint64(6)), DONE, 6),
+    (0, Asked::Operation(SQUARED), DONE, 7),
     (
         1,
         Asked::GetMatrix(COPY, 0, 0),
         Ok(Reply::Value(Value::Uint64(6))),
-        5,
+        7,
     ),
     // 6 - 6 * 6, modulo 2^64
     (
         1,
         Asked::GetMatrix(MATRIX, 0, 0),
         Ok(Reply::Value(Value::Uint64(18_446_744_073_709_551_586))),
-        5,
+        7,
     ),
 ];
 

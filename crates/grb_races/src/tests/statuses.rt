@@ -1,10 +1,11 @@
 ghost use Rattle.grb_context.specs.Known.{IsPassOf};
 
-use crate::tests::asked::{Asked, FIRST, Operation, SECOND};
+use crate::tests::asked::{Asked, DONE, FIRST, Operation, SECOND};
+use crate::tests::lists::{self, Listed, expect_rows_by_list};
 use crate::tests::rows::answer_of;
 use crate::tests::same::same;
 use crate::tests::trials::{Trial, try_in_new};
-use grb_call::{Call, Descriptor, MatrixId, Object, VectorId, WaitMode};
+use grb_call::{Descriptor, MatrixId, Object, Reply, VectorId, WaitMode};
 use grb_context::{Context, Pass};
 use grb_core::{BinaryOp, Domain, Info, Monoid, Refusal, Value};
 use std::alloc::{AllocError, Global};
@@ -31,6 +32,8 @@ const BAD_VALUE: Status = Some(Info::Refused(Refusal::InvalidValue));
 const BAD_INDEX: Status = Some(Info::Refused(Refusal::InvalidIndex));
 
 const BAD_DOMAIN: Status = Some(Info::Refused(Refusal::DomainMismatch));
+
+const BAD_DIMENSION: Status = Some(Info::Refused(Refusal::DimensionMismatch));
 
 const NOT_EMPTY: Status = Some(Info::Refused(Refusal::OutputNotEmpty));
 
@@ -128,7 +131,7 @@ pub(super) fn expect_statuses<R: Abort>(
 }
 
 /// In a store of 8 calls: the vector that the call changes or reads, and another object.
-static ON_VECTORS: [Row; 22] = [
+static ON_VECTORS: [Row; 23] = [
     (Asked::GetVector(FIRST, 0), V, UNINITIALIZED, A, None),
     (
         Asked::NewVector(Domain::Uint64, 0),
@@ -207,6 +210,21 @@ static ON_VECTORS: [Row; 22] = [
         Object::Vector(VectorId(7)),
         UNINITIALIZED,
     ),
+    (
+        Asked::Operation(Operation::EwiseMultVector(
+            SECOND,
+            None,
+            None,
+            BinaryOp::Times,
+            SECOND,
+            SECOND,
+            PLAIN,
+        )),
+        W,
+        SUCCESS,
+        Object::Vector(VectorId(7)),
+        UNINITIALIZED,
+    ),
 ];
 
 #[test]
@@ -254,8 +272,9 @@ fn a_matrix_has_the_status_of_the_last_call_on_it(rt: HostRuntime) -> Result<(),
     try_in_new(&rt, rt.alloc(), 4, Trial::Statuses(&ON_MATRICES))
 }
 
-/// In a store of 16 calls: operations on matrices, products and totals, each refused by what is not there, and then done.
-static ON_OPERATIONS: [Row; 15] = [
+/// In a store of 16 calls: operations on matrices, products and totals, each refused by what is not there, and then done; and a product
+/// that its inputs do not fit, and a build of its output.
+static ON_OPERATIONS: [Row; 18] = [
     (Asked::NewMatrix(Domain::Uint64, 2, 2), A, SUCCESS, V, None),
     (Asked::Operation(MXV), V, UNINITIALIZED, A, SUCCESS),
     (Asked::Operation(REDUCED_ROWS), V, UNINITIALIZED, A, SUCCESS),
@@ -289,6 +308,21 @@ static ON_OPERATIONS: [Row; 15] = [
         B,
         SUCCESS,
     ),
+    (
+        Asked::ResizeMatrix(MatrixId(0), 2, 3),
+        A,
+        SUCCESS,
+        B,
+        SUCCESS,
+    ),
+    (Asked::Operation(MXM), B, BAD_DIMENSION, A, SUCCESS),
+    (
+        Asked::BuildMatrix(MatrixId(1), &[(0, 1, 1), (1, 1, 2), (0, 0, 3)]),
+        B,
+        SUCCESS,
+        A,
+        SUCCESS,
+    ),
 ];
 
 #[test]
@@ -296,12 +330,19 @@ fn an_operation_leaves_a_status_of_its_output_alone(rt: HostRuntime) -> Result<(
     try_in_new(&rt, rt.alloc(), 16, Trial::Statuses(&ON_OPERATIONS))
 }
 
-/// In a store of 4 calls: waits and a total, and the first vector and the first matrix.
-static WAITS: [Row; 4] = [
+/// In a store of 4 calls: waits, a total and a get, and the first vector and the first matrix.
+static WAITS: [Row; 7] = [
     (
         Asked::WaitMatrix(MatrixId(0), WaitMode::Materialize),
         V,
         None,
+        A,
+        UNINITIALIZED,
+    ),
+    (
+        Asked::WaitVector(FIRST, WaitMode::Complete),
+        V,
+        UNINITIALIZED,
         A,
         UNINITIALIZED,
     ),
@@ -321,6 +362,14 @@ static WAITS: [Row; 4] = [
     ),
     (
         Asked::WaitVector(FIRST, WaitMode::Materialize),
+        V,
+        SUCCESS,
+        A,
+        UNINITIALIZED,
+    ),
+    (Asked::GetVector(FIRST, 1), V, NO_VALUE, A, UNINITIALIZED),
+    (
+        Asked::WaitVector(FIRST, WaitMode::Complete),
         V,
         SUCCESS,
         A,
@@ -360,38 +409,36 @@ fn a_meeting_changes_no_status(rt: HostRuntime) -> Result<(), AllocError> {
     try_in_new(&rt, rt.alloc(), 8, Trial::Met)
 }
 
-/// The statuses of two vectors behind a list of calls.
-fn statuses_of_list(context: &Context, pass: &mut Pass) -> (Status, Status)
-    requires { IsPassOf context.now pass.old }
-{
-    let v = FIRST;
-    let calls = [
-        Call::NewVector {
-            domain: Domain::Uint64,
-            size: 2,
-        },
-        Call::SetVector {
-            v,
-            i: 0,
-            value: SEVEN,
-        },
-        Call::GetVector { v, i: 0 },
-        Call::SetVector {
-            v,
-            i: 2,
-            value: SEVEN,
-        },
-    ];
-    let _answers = context.run(pass, &calls);
-    (pass.last_info(V), pass.last_info(W))
-}
+/// A list whose last call sets an entry out of range.
+static LIST: [lists::Row; 4] = [
+    (Listed::New(2), Ok(Reply::MadeVector(FIRST))),
+    (Listed::Set(0, 1), DONE),
+    (Listed::Get(0), Ok(Reply::Value(Value::Uint64(1)))),
+    (Listed::Set(2, 1), Err(Refusal::InvalidIndex)),
+];
 
-pub(super) fn expect_last_of_list(rt: &impl Abort, context: &Context, pass: &mut Pass)
-    requires { IsPassOf context.now pass.old }
+/// The statuses behind the list, and those behind a call of a pass that another met then.
+pub(super) fn expect_last_of_list<R: Abort>(
+    rt: &R,
+    alloc: Global,
+    context: &Context,
+    p: &mut Pass,
+    q: &mut Pass,
+) -> Result<(), AllocError>
+    requires first { IsPassOf context.now p.old }
+    requires second { IsPassOf context.now q.old }
 {
-    let (first, second) = statuses_of_list(context, pass);
-    same(rt, first, BAD_INDEX, V);
-    same(rt, second, None, W);
+    expect_rows_by_list(rt, alloc, context, p, &LIST)?;
+    same(rt, p.known(), 2, "the calls");
+    expect_both(rt, p, q, BAD_INDEX, None);
+    same(rt, p.last_info(W), None, W);
+    same(rt, context.meet(q, p), Ok(()), "the meeting");
+    same(rt, q.known(), 2, "the calls that were met");
+    let value = context.get_vector(p, FIRST, 1);
+    same(rt, value, Ok(Reply::NoValue), "what is not stored");
+    same(rt, p.known(), 2, "the calls");
+    expect_both(rt, p, q, NO_VALUE, None);
+    Ok(())
 }
 
 #[test]

@@ -3,14 +3,16 @@ ghost use Rattle.grb_context.specs.Known.{IsPassOf};
 
 use crate::tests::answers::expect_called;
 use crate::tests::drawn::expect_drawn;
-use crate::tests::lazy::{expect_offered, expect_read};
+use crate::tests::lazy::expect_read;
 use crate::tests::lists::{expect_each, expect_list, expect_no_list};
 use crate::tests::meeting::{expect_no_change, expect_told};
 use crate::tests::memory::expect_filled;
+use crate::tests::operators::expect_operator;
 use crate::tests::rows::{self, Counted, open_two, refusals_by};
 use crate::tests::settled::expect_kept;
 use crate::tests::statuses::{self, expect_last_of_list, expect_met, expect_statuses};
 use grb_context::{Context, Pass};
+use grb_core::BinaryOp;
 use std::alloc::{AllocError, Global};
 use std::process::Abort;
 
@@ -18,6 +20,7 @@ use std::process::Abort;
 #[derive(Clone, Copy)]
 pub(super) enum Trial {
     Rows(Counted, &'static [rows::Row]),
+    Operator(BinaryOp, [u64; 4]),
     Called,
     List,
     Each,
@@ -26,8 +29,7 @@ pub(super) enum Trial {
     NoChange,
     Filled,
     Kept,
-    Lazy,
-    Offered,
+    Lazy(u32),
     Drawn(u64),
     Statuses(&'static [statuses::Row]),
     Met,
@@ -51,6 +53,9 @@ fn expect_of<R: Abort>(
         Trial::Rows(counted, rows) => {
             return Ok(refusals_by(rt, alloc, context, p, q, room, counted, rows));
         }
+        Trial::Operator(op, results) => {
+            return Ok(expect_operator(rt, alloc, context, p, q, op, results));
+        }
         Trial::Called => expect_called(rt, context, p)?,
         Trial::List => expect_list(rt, alloc, context, p)?,
         Trial::Each => expect_each(rt, alloc, context, p)?,
@@ -59,12 +64,11 @@ fn expect_of<R: Abort>(
         Trial::NoChange => expect_no_change(rt, context, p, q),
         Trial::Filled => expect_filled(rt, alloc, context, p),
         Trial::Kept => expect_kept(rt, context, p, q),
-        Trial::Lazy => expect_read(rt, context, p, q),
-        Trial::Offered => expect_offered(rt, context, p, q),
+        Trial::Lazy(times) => expect_read(rt, alloc, context, p, q, times),
         Trial::Drawn(seed) => expect_drawn(rt, alloc, context, p, q, seed)?,
         Trial::Statuses(rows) => expect_statuses(rt, alloc, context, p, rows),
         Trial::Met => expect_met(rt, context, p, q),
-        Trial::LastOfList => expect_last_of_list(rt, context, p),
+        Trial::LastOfList => expect_last_of_list(rt, alloc, context, p, q)?,
     }
     Ok(0)
 }

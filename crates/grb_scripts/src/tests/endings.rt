@@ -22,7 +22,7 @@ const FIRST_LINES_REFUSED: [&str; 5] = [
 ];
 
 /// Scripts with a fault, its line and what it is.
-static FAULTY: [(&str, u64, FaultKind); 13] = [
+static FAULTY: [(&str, u64, FaultKind); 14] = [
     ("get x 1\n", 1, FaultKind::UnknownName),
     ("vector v uint64 5", 1, FaultKind::UnendedLine),
     ("vector v uint64 5\nset v 2 7", 2, FaultKind::UnendedLine),
@@ -54,6 +54,11 @@ static FAULTY: [(&str, u64, FaultKind); 13] = [
     (
         "matrix A uint64 2 2\nvector w uint64 2\nmxv w A w plus.lor\n",
         3,
+        FaultKind::Semiring,
+    ),
+    (
+        "matrix A bool 1 1\nmxm A A A lor.plus\n",
+        2,
         FaultKind::Semiring,
     ),
 ];

@@ -4,7 +4,7 @@ use crate::tests::same::same;
 use crate::tests::sources::NamedFile;
 use grb_driver::{OpenGate, RunFault, SourceFault, run_script};
 use grb_market::{FaultKind, MarketFault};
-use std::alloc::Global;
+use std::alloc::{AllocError, Global};
 use std::process::Abort;
 use std::sync::Wait;
 use std::sync::atomic::Ordering;
@@ -95,14 +95,15 @@ fn load(line: u64, file_line: u64, kind: FaultKind) -> RunFault {
     }
 }
 
-/// A script ends with this fault, before its first statement.
+/// A script that runs with these files ends with this fault, before its first statement.
 fn expect_fault<R: Abort + Threads + Wait + Sync>(
     rt: &R,
     alloc: Global,
     script: &str,
+    files: &[NamedFile<'_>],
     fault: &RunFault,
 ) {
-    let mut source = source_with(alloc, script, &FILES);
+    let mut source = source_with(alloc, script, files);
     let mut sink = sink_of(alloc, 1000, 1000);
     let gate = CountingGate::new();
     let result = run_script(rt, alloc, 4096, &mut source, &mut sink, &gate);
@@ -161,8 +162,30 @@ fn the_first_fault_of_the_script_or_else_of_its_loads_is_answered(rt: HostRuntim
         ),
     ];
     for (script, fault) in &rows {
-        expect_fault(&rt, rt.alloc(), *script, fault);
+        expect_fault(&rt, rt.alloc(), *script, &FILES, fault);
     }
+}
+
+/// A script whose load names a file of so many bytes, one comment without an end, ends with this fault.
+fn expect_fault_of_file<R: Abort + Threads + Wait + Sync>(
+    rt: &R,
+    alloc: Global,
+    length: usize,
+    fault: &RunFault,
+) -> Result<(), AllocError> {
+    let text = vec![in alloc; b'%'; length]?;
+    let files = [("long.mtx", Ok(text.as_slice()))];
+    expect_fault(rt, alloc, "load A long.mtx\n", &files, fault);
+    Ok(())
+}
+
+#[test]
+fn a_file_is_at_most_sixty_four_mebibytes(rt: HostRuntime) -> Result<(), Fail> {
+    let unended = load(1, 1, FaultKind::UnendedLine);
+    expect_fault_of_file(&rt, rt.alloc(), 67_108_864, &unended)?;
+    let too_long = RunFault::FileTooLong { line: 1 };
+    expect_fault_of_file(&rt, rt.alloc(), 67_108_865, &too_long)?;
+    Ok(())
 }
 
 /// A script meets so many faults of its files, of each kind.

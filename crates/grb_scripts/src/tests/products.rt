@@ -1,7 +1,7 @@
 use crate::tests::runs::{ScriptRow, expect_each};
 use std::test::Fail;
 
-static PRODUCTS: [ScriptRow; 9] = [
+static PRODUCTS: [ScriptRow; 11] = [
     (
         4096,
         "matrix A uint64 2 3\nvector u uint64 3\nvector w uint64 2\nset A 0 1 2\nset A 0 2 5\nset u 1 10\nset u 2 1\nmxv w A u min.plus\nget w 0\nget w 1\nnvals w\n",
@@ -17,6 +17,17 @@ static PRODUCTS: [ScriptRow; 9] = [
         4096,
         "matrix E uint64 2 2\ntotal E min\nmatrix F bool 2 2\ntotal F land\n",
         "ok\nvalue 18446744073709551615\nok\nvalue true\n",
+    ),
+    (
+        4096,
+        "matrix F bool 2 2\ntotal F lxnor\ntotal F lxor\n",
+        "ok\nvalue true\nvalue false\n",
+    ),
+    // 2^63 twice is 2^64, which is 0
+    (
+        4096,
+        "vector v uint64 2\ntotal v times\nbuild v plus 0 9223372036854775808 1 2\ntotal v times\ntotal v plus\n",
+        "ok\nvalue 1\nok\nvalue 0\nvalue 9223372036854775810\n",
     ),
     (
         4096,

@@ -38,8 +38,8 @@ row-preserved g c =
     let inside : i < length cs = c.row-test.true in
     let in_sums : q < length ss = omega (arith, c.requires.in_range i 0 inside) in
     let in_marks : q < length ms = omega (arith, in_sums, long) in
-    let bits = c.mark.ensures ms in_marks c.row.invariant.bits in
-    let marked : marks_of (length (set ss q new)) c.mark.new.words ≡ set ms q true = same_marks (set ms q true) c.mark.new.words (length (set ss q new)) (length-set ms q true ∙ long ∙ sym (length-set ss q new)) bits in
+    let bits = c.mark-count.ensures.marked ms in_marks c.row.invariant.bits in
+    let marked : marks_of (length (set ss q new)) c.mark-count.new.words ≡ set ms q true = same_marks (set ms q true) c.mark-count.new.words (length (set ss q new)) (length-set ms q true ∙ long ∙ sym (length-set ss q new)) bits in
     let front : entries_from tv i cs vs ≡ (q, tv y) ∷ rest = from-read tv cs vs i y inside c.requires.same c.index-values-i.is in
     let ordered : IsTrue (is_sorted nat_cmp ((q, tv y) ∷ rest)) = subst (λ m. IsTrue (is_sorted nat_cmp m)) front c.row.invariant.ordered in
     let product : tv c.read-product.result ≡ mul xv (tv y) = ap tv c.read-product.ensures.same ∙ c.apply-made.ensures in
@@ -54,9 +54,10 @@ row-preserved g c =
           in_marks long c.index-sums-at.is made (first_sum tv m ms ss q old (mul xv (tv y)) in_sums c.index-sums-at.is c.row.invariant.clear of_monoid)
           (below_rest q (tv y) rest ordered)
           (λ p. ap (λ m. either_value add (marked_at tv ms ss p) (both_values mul (Some xv) (find nat_cmp p m))) (sym front) ∙ c.row.invariant.added p) p;
-      bits = subst (λ (m : List Bool). AreMarks m c.mark.new.words) (sym marked) bits;
+      bits = subst (λ (m : List Bool). AreMarks m c.mark-count.new.words) (sym marked) bits;
       clear = subst (λ (m : List Bool). HoldUnmarked tv (identity_of g.M.MonoidOver.monoid) m (set ss q new)) (sym marked)
           (hold_marked tv (identity_of m) ms ss q new in_marks (length-set ss q new) c.row.invariant.clear);
+      listed = c.mark-count.ensures.listed;
       ordered = rest_ordered q (tv y) rest ordered;
       of_domain = subst (AllByRecursion (λ e. IsValueOf g.T.Scalar.domain (mul xv e.1))) (sym (first-read tv cs vs i y inside c.requires.same c.index-values-i.is))
           (all_and (λ e. IsValueOf g.T.Scalar.domain (mul xv e.1)) (first_entries tv i cs vs) (q, tv y) c.row.invariant.of_domain of);

@@ -22,12 +22,14 @@ use Rattle.grb_multiply.specs.Bits.{marks_of}
 use Rattle.grb_multiply.proofs.MarksOf.{none_of_zeros, zeros_are_marks}
 use Rattle.grb_multiply.proofs.Renamed.{find-renamed}
 use Rattle.grb_multiply.proofs.RowSums.{summed, summed_of, found_product}
+use Rattle.grb_multiply.proofs.Touched.{none_touched}
 use Rattle.grb_multiply.proofs.gustavson.sum_row.Goals as goal
 
 pub entries-init : goal.entries-init
 entries-init g c = record {
   bits = zeros_are_marks c.args.words.now c.requires.none (length c.args.sums.now);
   clear = λ p l n. c.requires.clear p l;
+  listed = none_touched c.args.words.now c.args.touched.now c.requires.none;
   sums = λ p l. none_marked g.T.Scalar.value (marks_of (length c.args.sums.now) c.args.words.now) c.args.sums.now (none_of_zeros c.args.words.now c.requires.none (length c.args.sums.now)) p;
   of_domain = λ p l. tt;
 }
@@ -56,13 +58,14 @@ entries-preserved g c =
     let is_of : (p : ℕ) → p < length names → AllByRecursion (IsValueOf (monoid_domain m)) (list_of (both_values (value_of_op op) (Some (tv v)) (y p k))) =
     λ p l. subst (λ w. AllByRecursion (IsValueOf (monoid_domain m)) (list_of (both_values (value_of_op op) (Some (tv v)) w))) (at p l)
     (found_product (IsValueOf (monoid_domain m)) op (tv v) (entries_of tv row.indices.now row.values.now) p
-    (subst (λ d. AllByRecursion (λ e. IsValueOf d (value_of_op op (tv v) e.1)) (entries_of tv row.indices.now row.values.now)) (sym g.met.M.MonoidOver.same_domain) c.add_row.ensures.of_domain)) in
+    (subst (λ d. AllByRecursion (λ e. IsValueOf d (value_of_op op (tv v) e.1)) (entries_of tv row.indices.now row.values.now)) (sym g.met.M.MonoidOver.same_domain) c.add_row-count.ensures.of_domain)) in
     record {
-      bits = c.add_row.ensures.bits;
-      clear = c.add_row.ensures.clear;
+      bits = c.add_row-count.ensures.bits;
+      clear = c.add_row-count.ensures.clear;
+      listed = c.add_row-count.ensures.listed;
       sums = λ p l.
-          summed m op (y p) x k (tv v) (held.of_domain p l) (is_of p l) (marked_at tv (marks_of (length c.entries.sums) c.entries.words) c.entries.sums p) (marked_at tv (marks_of (length c.add_row.new.sums) c.add_row.new.words) c.add_row.new.sums p) (held.sums p l)
-          (c.add_row.ensures.added p ∙ ap (λ w. either_value (value_of_op (monoid_op m)) (marked_at tv (marks_of (length c.entries.sums) c.entries.words) c.entries.sums p) (both_values (value_of_op op) (Some (tv v)) w)) (at p l))
+          summed m op (y p) x k (tv v) (held.of_domain p l) (is_of p l) (marked_at tv (marks_of (length c.entries.sums) c.entries.words) c.entries.sums p) (marked_at tv (marks_of (length c.add_row-count.new.sums) c.add_row-count.new.words) c.add_row-count.new.sums p) (held.sums p l)
+          (c.add_row-count.ensures.added p ∙ ap (λ w. either_value (value_of_op (monoid_op m)) (marked_at tv (marks_of (length c.entries.sums) c.entries.words) c.entries.sums p) (both_values (value_of_op op) (Some (tv v)) w)) (at p l))
           ∙ ap (λ z. fold_of_some m (products op (y p) z)) (sym more);
       of_domain = λ p l. subst (λ z. AllByRecursion (IsValueOf (monoid_domain m)) (products op (y p) z)) (sym more) (summed_of m op (y p) x k (tv v) (held.of_domain p l) (is_of p l));
     }

@@ -11,7 +11,7 @@ use Rattle.grb_rows.specs.Cells.{decoded}
 use Rattle.grb_products.specs.Open.{marked_at}
 use Rattle.grb_products.specs.Products.{products}
 use Rattle.grb_multiply.specs.Rows.{name_in}
-use Rattle.grb_multiply.specs.Bits.{marks_of, AreMarks, HoldUnmarked}
+use Rattle.grb_multiply.specs.Bits.{marks_of, AreMarks, HoldUnmarked, AreTouched}
 use Rattle.grb_multiply.proofs.gustavson.sum_row.Given as goal
 
 -- the sums of the entries so far
@@ -22,6 +22,7 @@ invariant-entries g l =
     record {
       bits : AreMarks (marks_of (length l.sums) l.words) l.words;
       clear : HoldUnmarked tv (identity_of m) (marks_of (length l.sums) l.words) l.sums;
+      listed : AreTouched l.words l.touched l.count;
       sums : (p : ℕ) → p < length l.b.names.now → marked_at tv (marks_of (length l.sums) l.words) l.sums p
           ≡ fold_of_some m (products g.O.Operator.op (λ k. find nat_cmp (name_in l.b.names.now p) (row_of k (decoded l.b.lists.now.entries))) (first_entries tv l.i l.columns l.values));
       of_domain : (p : ℕ) → p < length l.b.names.now

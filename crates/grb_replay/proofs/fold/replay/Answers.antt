@@ -1,6 +1,6 @@
 use Rattle.std.proofs.Common.{arith, map, sym, ap, ◌∙◌}
 use lib.ListN.{length-map, get_or-map}
-use Rattle.grb_replay.proofs.Cloned.{next_call}
+use Rattle.grb_replay.proofs.Folded.{next_call}
 use Rattle.grb_replay.proofs.fold.replay.Goals as goal
 
 pub calls-preserved : goal.calls-preserved

@@ -1,6 +1,7 @@
 use crate::tests::same::same;
 use grb_command::{Options, options, status_of_run, status_of_words};
 use grb_driver::RunFault;
+use grb_market::MarketFault;
 use grb_script::FaultKind;
 use std::alloc::{AllocError, Global};
 use std::process::Abort;
@@ -8,7 +9,11 @@ use std::test::Fail;
 
 const HELP: &str = "Runs a script of GraphBLAS calls on one shared store\n\n\
     Usage: grbrun [OPTIONS] <SCRIPT>\n\n\
-    Arguments:\n  <SCRIPT>  The script to run; the paths of its loads begin in the working folder\n\n\
+    Arguments:\n  <SCRIPT>  The script to run, of at most 1,048,576 bytes; the paths of its loads\n            \
+    begin in the working folder. A load reads a Matrix Market coordinate\n            \
+    file of at most 67,108,864 bytes, integer or pattern, general or\n            \
+    symmetric. All files are read and checked after the script, and before\n            \
+    anything runs.\n\n\
     Options:\n      --room <N>  How many calls may change the store, two of each load, from 1 to 4096 [default: 4096]\n  \
     -h, --help      Print help\n";
 
@@ -123,9 +128,20 @@ fn every_fault_of_a_run_has_the_status_1(rt: HostRuntime) {
             line: 1,
             kind: FaultKind::Statement,
         },
+        RunFault::Load {
+            line: 2,
+            fault: MarketFault {
+                line: 1,
+                kind: grb_market::FaultKind::Header,
+            },
+        },
         RunFault::CannotReadScript,
+        RunFault::CannotReadFile { line: 2 },
         RunFault::ScriptTooLong,
+        RunFault::FileTooLong { line: 2 },
         RunFault::OutOfMemory,
+        RunFault::NoThread,
+        RunFault::Panic,
         RunFault::CannotWrite,
     ];
     for fault in faults {

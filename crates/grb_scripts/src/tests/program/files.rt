@@ -4,10 +4,11 @@ ghost use Rattle.grb_command.specs.Files.{counts_of};
 use crate::tests::same::same;
 use grb_command::{FileSource, read_all};
 use grb_driver::{Source, SourceFault};
-use std::io;
 use std::io::{ErrorKind, Read};
 use std::process::Abort;
 use std::rt::Files;
+use std::test::Fail;
+use std::{fs, io};
 
 /// What was read, or why nothing was.
 fn lent(read: &Result<Vec<u8>, SourceFault>) -> Result<&[u8], SourceFault> {
@@ -125,4 +126,25 @@ fn faults_are_counted_one_by_one(rt: HostRuntime) {
     same(&rt, read, Err(SourceFault::TooLong), "an endless file");
     let met = (endless.cannot_read, endless.too_long, endless.out_of_memory);
     same(&rt, met, (0, 1, 0), "faults of the endless file");
+}
+
+#[test]
+fn a_file_of_more_than_sixty_four_mebibytes_is_too_long(rt: HostRuntime) -> Result<(), Fail> {
+    let mut source = FileSource::new(&rt, "/dev/null");
+    let written = fs::create(&rt, "zeros.mtx")?;
+    for (length, read) in [
+        (1_048_577, Ok(1_048_577)),
+        (67_108_864, Ok(67_108_864)),
+        (67_108_865, Err(SourceFault::TooLong)),
+    ] {
+        written.set_len(length)?;
+        let met = length_of_file(&rt, &mut source, "zeros.mtx");
+        same(&rt, met, read, length);
+    }
+    fs::remove_file(&rt, "zeros.mtx")?;
+    let endless = length_of_file(&rt, &mut source, "/dev/zero");
+    same(&rt, endless, Err(SourceFault::TooLong), "an endless file");
+    let met = (source.cannot_read, source.too_long, source.out_of_memory);
+    same(&rt, met, (0, 2, 0), "faults");
+    Ok(())
 }

@@ -4,6 +4,7 @@ use Rattle.std.proofs.lemmas.Result.{err_from_is_err_and}
 use Rattle.grb_pass.specs.Known.{Knowing, known}
 use Rattle.grb_pass.specs.Laws.{Begins}
 use Rattle.grb_pass.specs.Meeting.{Met}
+use Rattle.grb_pass.proofs.Answering.{length_known}
 use Rattle.grb_pass.proofs.Meeting.{met}
 use Rattle.grb_pass.proofs.shared.Shared.meet_reader.Goals as goal
 
@@ -18,4 +19,4 @@ returns-clause-met c =
     let t = c.tell.ensures in let k = c.catch_up.ensures in
     let begins : Begins (known c.args.other.now) (known c.catch_up.new.reader) = subst (λ (q : Knowing). Begins (known q) (known c.catch_up.new.reader)) t.other c.agree.ensures.begins in
     subst (λ (p : Knowing). Met c.args.self.now c.args.reader.now p c.args.other.now (Ok tt)) (sym c.agree.ensures.same)
-    (met c.args.self.now c.args.reader.now c.tell.new.self c.catch_up.new.reader c.args.other.now (Ok tt) t.few t.shown t.statuses t.settled t.told t.steps k.learns k.view k.steps k.pass k.steady begins)
+    (met c.args.self.now c.args.reader.now c.tell.new.self c.catch_up.new.reader c.args.other.now (Ok tt) t.few t.shown t.statuses t.settled t.told t.steps k.learns k.view k.steps k.pass k.steady (begins, length_known c.catch_up.new.reader c.in_ok-catch_up.ensures.all))

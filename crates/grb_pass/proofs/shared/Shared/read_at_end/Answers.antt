@@ -3,13 +3,13 @@ use Rattle.std.specs.Prelude.{Err}
 use Rattle.std.proofs.lemmas.Result.{err_from_is_err_and}
 use Rattle.grb_order.specs.Order.{room_of}
 use Rattle.grb_pass.specs.Known.{Knowing, known}
-use Rattle.grb_pass.specs.Counting.{CountsCall}
+use Rattle.grb_pass.specs.Counting.{CountsCall, LooksOnce}
 use Rattle.grb_pass.specs.Explains.{Answer, ExplainsCall, IsCaughtUp, ground_of}
 use Rattle.grb_pass.specs.Learning.{IsRefused, IsSteady}
 use Rattle.grb_pass.specs.Settled.{settled_after}
 use Rattle.grb_pass.proofs.Alike.{counts_alike, steady_alike}
 use Rattle.grb_pass.proofs.Answering.{refused_by_check, explains_refused, explains_evaluated, known_evaluated}
-use Rattle.grb_pass.proofs.Counted.{counts_looked}
+use Rattle.grb_pass.proofs.Counted.{counts_looked, looks_once}
 use Rattle.grb_pass.proofs.Evaluated.{pass_learns}
 use Rattle.grb_pass.proofs.Learnt.{pass_same}
 use Rattle.grb_pass.proofs.Lately.{recent_learns}
@@ -50,6 +50,15 @@ returns-in_err-check-clause-counts c = (subst (λ (old : Knowing). CountsCall ol
 
 pub returns-clause-counts : goal.returns-clause-counts
 returns-clause-counts c = subst (λ (p : Knowing). CountsCall c.args.pass.now p) (sym c.reply.ensures.same) (counts_alike c.args.pass.now c.learn.new.reader c.learn.new.reader.statuses c.reply.new.self.settled (subst (λ (old : Knowing). CountsCall old c.learn.new.reader) c.pass.view_is (counts_looked c.pass.inside.reader c.learn.new.reader c.learn.ensures.learns c.learn.ensures.counts (ap (λ (p : Knowing). p.steps) c.pass.view_is ∙ c.requires.begun) c.learn.ensures.few)))
+
+pub returns-in_err-learn-clause-looks : goal.returns-in_err-learn-clause-looks
+returns-in_err-learn-clause-looks c = subst (λ (old : Knowing). LooksOnce old c.learn.new.reader) c.pass.view_is (looks_once c.pass.inside.reader c.learn.new.reader c.learn.ensures.counts (ap (λ (p : Knowing). p.steps) c.pass.view_is ∙ c.requires.begun) c.learn.ensures.few)
+
+pub returns-in_err-check-clause-looks : goal.returns-in_err-check-clause-looks
+returns-in_err-check-clause-looks c = subst (λ (old : Knowing). LooksOnce old c.learn.new.reader) c.pass.view_is (looks_once c.pass.inside.reader c.learn.new.reader c.learn.ensures.counts (ap (λ (p : Knowing). p.steps) c.pass.view_is ∙ c.requires.begun) c.learn.ensures.few)
+
+pub returns-clause-looks : goal.returns-clause-looks
+returns-clause-looks c = subst (λ (p : Knowing). LooksOnce c.args.pass.now p) (sym c.reply.ensures.same) (subst (λ (old : Knowing). LooksOnce old c.learn.new.reader) c.pass.view_is (looks_once c.pass.inside.reader c.learn.new.reader c.learn.ensures.counts (ap (λ (p : Knowing). p.steps) c.pass.view_is ∙ c.requires.begun) c.learn.ensures.few))
 
 pub returns-clause-pass : goal.returns-clause-pass
 returns-clause-pass c = pass_same c.args.self.now c.learn.new.reader c.reply.new.self (ap (λ (p : Knowing). p.order) c.reply.ensures.same) (ap (λ (p : Knowing). p.shown) c.reply.ensures.same) c.learn.ensures.pass

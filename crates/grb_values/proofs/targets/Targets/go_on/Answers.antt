@@ -14,13 +14,13 @@ calls-preserved c =
     let lent : get_or bs at c.index-calls-at.result.now ≡ c.index-calls-at.result.now = lent_call (λ a. a.now) c.args.calls.now at c.index-calls-at.result c.index-calls-at.is in
     let count : length c.go_over.new.self.targets ≡ length c.calls.self.targets + 1 = ap length c.go_over.ensures.targets ∙ length_push c.calls.self.targets _ in
     record {
-      walked = λ known begun is. walked_further c.args.self.now c.calls.self c.go_over.new.self known bs at c.index-calls-at.result.now begun is (c.calls.invariant.walked known begun is) c.calls.invariant.count within lent c.go_over.ensures.targets c.go_over.ensures.shapes;
+      walked = λ s known begun is. walked_further s c.args.self.now c.calls.self c.go_over.new.self known bs at c.index-calls-at.result.now begun is (c.calls.invariant.walked s known begun is) c.calls.invariant.count within lent c.go_over.ensures.targets c.go_over.ensures.shapes;
       count = omega (arith, count, c.calls.invariant.count);
       room = omega (arith, c.calls.invariant.room, c.go_over.ensures.room, count);
     }
 
 pub returns-clause-walked : goal.returns-clause-walked
-returns-clause-walked c known begun is =
+returns-clause-walked c s known begun is =
     let few = length-map c.args.calls.now (λ a. a.now) in
     let n : length c.args.calls.now ≡ length known - length c.args.self.now.targets = sym few ∙ (ap length is ∙ length-drop (length c.args.self.now.targets) known) in
-    (c.calls.invariant.walked known begun is, omega (arith, n, begun.within, c.calls.invariant.count, c.calls-test.false, c.calls.auto.at-end))
+    (c.calls.invariant.walked s known begun is, omega (arith, n, begun.within, c.calls.invariant.count, c.calls-test.false, c.calls.auto.at-end))
