@@ -1,4 +1,4 @@
--- What a user relies on of products and reductions, over all matrices. `laws.rt` promises each.
+-- believed: What a user relies on of products and reductions, over all matrices. `laws.rt` promises each.
 use Rattle.std.specs.Prelude.{◌≡◌, ℕ, zero, suc, ◌+◌, [], ◌∷◌, map, IsTrue, All}
 use Rattle.std.specs.Ordering.{nat_cmp}
 use Rattle.std.specs.FinMap.{is_sorted}

@@ -1,6 +1,6 @@
--- The object that a call changes, its output, and what the call makes of it: GraphBLAS C API 2.0, the methods of "Matrix methods"
--- and "Vector methods", and "Operations". Inputs, mask and old output are those of the store before the call, so that one object may
--- be all of them.
+-- believed: The object that a call changes, its output, and what the call makes of it: GraphBLAS C API 2.0, the methods of "Matrix
+-- methods" and "Vector methods", and "Operations". Inputs, mask and old output are those of the store before the call, so that one
+-- object may be all of them.
 use Rattle.std.specs.Prelude.{[], Option, Some, None}
 use Rattle.std.specs.Option.{option_map}
 use Rattle.std.specs.Ordering.{nat_cmp}

@@ -1,5 +1,5 @@
--- The status that a call leaves on its object: GraphBLAS C API 2.0, "Error model", where an object tells of the last method that was
--- called on it. Which object that is, and that a pass keeps the statuses of its own calls, are own.
+-- believed: The status that a call leaves on its object: GraphBLAS C API 2.0, "Error model", where an object tells of the last
+-- method that was called on it. Which object that is, and that a pass keeps the statuses of its own calls, are own.
 use Rattle.std.specs.Prelude.{ℕ, ◌==◌, nat_lt, Bool, false, ◌&&◌, if◌then◌else◌, Option, Some, None, Result, Ok, Err}
 use Rattle.std.specs.Option.{option_or}
 use Rattle.grb_core.specs.declared.refusal.Info.{Info}
@@ -80,10 +80,6 @@ info_of (Err refusal) = info.Refused refusal
 -- the status of each object, None where there is none
 abbrev pub Statuses : Type 0
 Statuses = Object → Option Info
-
--- no object has a status
-abbrev pub no_statuses : Statuses
-no_statuses x = None
 
 abbrev pub is_same_object : Object → Object → Bool
 is_same_object (object.Matrix a) (object.Matrix b) = a.0 == b.0

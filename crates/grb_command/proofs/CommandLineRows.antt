@@ -1,7 +1,7 @@
 -- Worked rows of the command line.
 use Rattle.std.proofs.Common.{◌≡◌, ℕ, List, [], ◌∷◌, Some, codes, option_map, refl}
 use Rattle.clap.specs.Words.{Text, first_of, matches_of, one_of}
-use Rattle.clap.specs.declared.error.kind.ErrorKind.TheVariants.{ArgumentConflict, DisplayHelp, MissingRequiredArgument, UnknownArgument, ValueValidation}
+use Rattle.clap.specs.declared.error.kind.ErrorKind.TheVariants.{ArgumentConflict, DisplayHelp, DisplayVersion, MissingRequiredArgument, UnknownArgument, ValueValidation}
 use Rattle.clap.proofs.OnLiterals.{clap_on_literals}
 use Rattle.grb_command.specs.CommandLine.{command_line, faults_of, number_spelled}
 
@@ -55,3 +55,7 @@ other_option = refl
 help : faults_of (codes "--help" ∷ []) ≡ DisplayHelp ∷ []
 unfolding command_line clap_on_literals
 help = refl
+
+version : faults_of (codes "--version" ∷ []) ≡ DisplayVersion ∷ []
+unfolding command_line clap_on_literals
+version = refl

@@ -1,4 +1,4 @@
--- The command line '[--room N] SCRIPT' (own), as the words of the crate clap say it.
+-- believed: The command line '[--room N] SCRIPT' (own), as the words of the crate clap say it.
 use Rattle.std.specs.Prelude.{◌≡◌, ℕ, List, [], ◌∷◌, Some, true, pos, codes}
 use Rattle.std.specs.Option.{option_map}
 use Rattle.std.specs.declared.io.ErrorKind.{ErrorKind as IoErrorKind}
@@ -9,7 +9,7 @@ use Rattle.clap.specs.Simple.{on_top}
 use Rattle.clap.specs.declared.builder.action.ArgAction.TheVariants.{Set}
 use Rattle.clap.specs.declared.builder.value_parser.ValueParser.TheVariants as parser
 use Rattle.clap.specs.declared.error.kind.ErrorKind.{ErrorKind}
-use Rattle.clap.specs.declared.error.kind.ErrorKind.TheVariants.{DisplayHelp}
+use Rattle.clap.specs.declared.error.kind.ErrorKind.TheVariants.{DisplayHelp, DisplayVersion}
 use Rattle.grb_command.specs.declared.arguments.Options.{Options}
 
 -- '--room N', with N from 1 to 4096, and 4096 where it is not given
@@ -26,10 +26,13 @@ room_option = record (new_rule (codes "room")) {
 abbrev pub script_argument : Rule
 script_argument = record (new_rule (codes "script")) { action = Some Set; value_names = 1; required = true }
 
--- the whole command line, which does not begin with the program's name
+-- the command without its arguments: it has a version, and its words do not begin with the program's name
+abbrev pub named_command : App
+named_command = on_top (λ s. record s { no_binary_name = true; has_version = true }) (new_app (codes "grbrun"))
+
+-- the whole command line
 unfoldable pub command_line : App
-command_line =
-    with_rule (with_rule (on_top (λ s. record s { no_binary_name = true }) (new_app (codes "grbrun"))) room_option) script_argument
+command_line = with_rule (with_rule named_command room_option) script_argument
 
 -- the number that a text of digits spells, where a plus may stand before them
 abbrev pub number_spelled : Text → ℕ
@@ -40,13 +43,14 @@ abbrev pub GivesOptions : List Text → Options → Type 0
 GivesOptions words o = (option_map number_spelled (one_of (codes "room") (matches_of command_line words)) ≡ Some o.room)
     × (first_of (codes "script") (matches_of command_line words) ≡ Some o.path.now)
 
--- what is wrong with the words, or that they ask for help: one kind of error, or none
+-- what is wrong with the words, or that they ask for help or the version: one kind of error, or none
 abbrev pub faults_of : List Text → Kinds
 faults_of words = fault_of command_line words
 
 -- the exit status where the words give no options
 abbrev pub status_of_kind : ErrorKind → ℕ
 status_of_kind DisplayHelp = 0
+status_of_kind DisplayVersion = 0
 status_of_kind _ = 2
 
 -- the exit status where the words could not be read

@@ -1,4 +1,4 @@
--- What the source of the program counts, and the fault that an error of a file is (own).
+-- believed: What the source of the program counts, and the fault that an error of a file is (own).
 use Rattle.std.specs.declared.io.ErrorKind.{ErrorKind}
 use Rattle.std.specs.declared.io.ErrorKind.TheVariants as kind
 use Rattle.grb_command.specs.declared.files.FileSource.{FileSource}

@@ -1,12 +1,25 @@
 ghost use Rattle.std.specs.Prelude.{◌≡◌, ◌<◌, ◌≤◌, IfOk, is_ok, map, if◌then◌else◌};
 ghost use Rattle.clap.specs.Words.{FailsBy, app_of, kind_of};
-ghost use Rattle.grb_command.specs.CommandLine.{GivesOptions, command_line, faults_of, status_of_kind};
+ghost use Rattle.grb_command.specs.CommandLine.{GivesOptions, command_line, faults_of, named_command, status_of_kind};
 
 use crate::arguments::Options;
 use clap::error::ErrorKind;
 use clap::{Arg, ArgAction, Command, Error, value_parser};
 use grb_driver::RunFault;
 use std::alloc::{AllocError, Global};
+
+/// The version of the program, of which `--version` prints `grbrun 1.0.0`.
+const VERSION: &str = "1.0.0";
+
+/// The command without its arguments: its name, what it does, and its version. The words begin after the name.
+fn named<'a>(alloc: Global) -> Command<'a>
+    ensures { app_of result ≡ named_command }
+{
+    Command::new(alloc, "grbrun")
+        .about("Runs a script of GraphBLAS calls on one shared store")
+        .version(VERSION)
+        .no_binary_name(true)
+}
 
 /// The command `[--room N] SCRIPT`.
 fn command<'a>(alloc: Global) -> Result<Command<'a>, AllocError>
@@ -30,18 +43,14 @@ fn command<'a>(alloc: Global) -> Result<Command<'a>, AllocError>
             symmetric. All files are read and checked after the script, and before\n\
             anything runs.",
         );
-    Command::new(alloc, "grbrun")
-        .about("Runs a script of GraphBLAS calls on one shared store")
-        .no_binary_name(true)
-        .arg(room)?
-        .arg(script)
+    named(alloc).arg(room)?.arg(script)
 }
 
 /// The options that these words give, which are the words after the program's name: `[--room N] SCRIPT`, with N from 1 to 4096, and
 /// 4096 where it is not given (own).
 ///
-/// An error of the kind `DisplayHelp` is a request for help, and holds its text. Any other error says what is wrong with the words, or
-/// that memory was refused.
+/// An error of the kind `DisplayHelp` is a request for help, and one of the kind `DisplayVersion` for the version; each holds its text.
+/// Any other error says what is wrong with the words, or that memory was refused.
 pub fn options<'a>(alloc: Global, words: &'a [&'a str]) -> Result<Options<'a>, Error>
     ensures room { IfOk result (λ o. (0 < o.room) × (o.room ≤ 4096)) }
     ensures given { IfOk result (GivesOptions (map (λ w. w.now) words.entry.now)) }
@@ -60,12 +69,12 @@ pub fn status_of_run(outcome: &Result<(), RunFault>) -> u8
     if outcome.is_ok() { 0 } else { 1 }
 }
 
-/// The exit status where the words give no options: 0 for help, and else 2.
+/// The exit status where the words give no options: 0 for help and for the version, and else 2.
 pub fn status_of_words(error: &Error) -> u8
     ensures { result ≡ status_of_kind (kind_of error.now) }
 {
     match error.kind() {
-        ErrorKind::DisplayHelp => 0,
+        ErrorKind::DisplayHelp | ErrorKind::DisplayVersion => 0,
         _ => 2,
     }
 }

@@ -4,7 +4,6 @@ ghost use Rattle.clap.specs.Words.{kind_of};
 ghost use Rattle.grb_command.specs.CommandLine.{status_of_kind, status_of_unread};
 
 use crate::command_line::{status_of_run, status_of_words};
-use clap::error::ErrorKind;
 use grb_driver::RunFault;
 use std::io;
 
@@ -18,15 +17,16 @@ pub fn report_run(rt: &impl Eprint, outcome: &Result<(), RunFault>) -> u8
     status_of_run(outcome)
 }
 
-/// Prints help, or says on standard error what is wrong with the words, and answers the exit status. Help that cannot be printed ends as
-/// a run whose output cannot be written.
+/// Prints help or the version, or says on standard error what is wrong with the words, and answers the exit status. Where help or the
+/// version cannot be printed, it ends as a run whose output cannot be written.
 pub fn report_words<R: Print + Eprint>(rt: &R, error: &clap::Error) -> u8
-    ensures { (result ≡ status_of_kind (kind_of error.now)) ⊎ ((kind_of error.now ≡ ErrorKind.DisplayHelp) × (result ≡ 1)) }
+    ensures { (result ≡ status_of_kind (kind_of error.now)) ⊎ ((status_of_kind (kind_of error.now) ≡ 0) × (result ≡ 1)) }
 {
-    if error.print(rt).is_err() && error.kind() == ErrorKind::DisplayHelp {
+    let status = status_of_words(error);
+    if error.print(rt).is_err() && status == 0 {
         return report_run(rt, &Err(RunFault::CannotWrite));
     }
-    status_of_words(error)
+    status
 }
 
 /// Says on standard error why the words of the command line could not be read, and answers the exit status: want of memory ends a run,

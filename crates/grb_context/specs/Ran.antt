@@ -1,4 +1,5 @@
--- What the calls of a list promise together (own): each its own promise, one after another, and all of them one explanation.
+-- believed: What the calls of a list promise together (own): each its own promise, one after another, and all of them one
+-- explanation.
 use Rattle.std.specs.Prelude.{◌≡◌, ℕ, List, [], ◌∷◌, ◌++◌}
 use Rattle.grb_order.specs.Order.{room_of}
 use Rattle.grb_call.specs.declared.call.Call.{Call}

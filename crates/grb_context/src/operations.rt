@@ -7,9 +7,12 @@ use grb_core::{BinaryOp, Refusal};
 use grb_pass::Pass;
 
 impl Context {
-    /// Writes into `c`, by accumulator, mask and descriptor, `op` of the values of `a` and `b` where both store one, else the one value.
-    /// `UninitializedObject`, `DomainMismatch` or `DimensionMismatch` where one of the objects, the mask among them, is not there,
-    /// output, inputs, operator and accumulator are not of one domain, or the inputs and the mask have not the output's dimensions.
+    /// `C<M> = accum(C, A + B)`: `op` of the values of `a` and `b` where both store one, else the one value, written into `c`.
+    ///
+    /// - `UninitializedObject`: an object of the call, the mask too, is not there.
+    /// - `DomainMismatch`: output, inputs, operator and accumulator are not of one domain.
+    /// - `DimensionMismatch`: inputs and mask have not the dimensions of `c`.
+    ///
     /// The mask may be of either domain, and one object may be output, input and mask at once. (`GrB_eWiseAdd`.)
     pub fn ewise_add_matrix(
         &self,
@@ -40,9 +43,12 @@ impl Context {
         )
     }
 
-    /// Writes into `w`, by accumulator, mask and descriptor, `op` of the values of `u` and `v` where both store one, else the one value.
-    /// `UninitializedObject`, `DomainMismatch` or `DimensionMismatch` where one of the objects, the mask among them, is not there,
-    /// output, inputs, operator and accumulator are not of one domain, or the inputs and the mask have not the output's size.
+    /// `w<m> = accum(w, u + v)`: `op` of the values of `u` and `v` where both store one, else the one value, written into `w`.
+    ///
+    /// - `UninitializedObject`: an object of the call, the mask too, is not there.
+    /// - `DomainMismatch`: output, inputs, operator and accumulator are not of one domain.
+    /// - `DimensionMismatch`: inputs and mask have not the size of `w`.
+    ///
     /// The mask may be of either domain, and one object may be output, input and mask at once. (`GrB_eWiseAdd`.)
     pub fn ewise_add_vector(
         &self,
@@ -73,9 +79,12 @@ impl Context {
         )
     }
 
-    /// Writes into `c`, by accumulator, mask and descriptor, `op` of the values of `a` and `b` where both store one.
-    /// `UninitializedObject`, `DomainMismatch` or `DimensionMismatch` where one of the objects, the mask among them, is not there,
-    /// output, inputs, operator and accumulator are not of one domain, or the inputs and the mask have not the output's dimensions.
+    /// `C<M> = accum(C, A .* B)`: `op` of the values of `a` and `b` where both store one, written into `c`.
+    ///
+    /// - `UninitializedObject`: an object of the call, the mask too, is not there.
+    /// - `DomainMismatch`: output, inputs, operator and accumulator are not of one domain.
+    /// - `DimensionMismatch`: inputs and mask have not the dimensions of `c`.
+    ///
     /// The mask may be of either domain, and one object may be output, input and mask at once. (`GrB_eWiseMult`.)
     pub fn ewise_mult_matrix(
         &self,
@@ -106,9 +115,12 @@ impl Context {
         )
     }
 
-    /// Writes into `w`, by accumulator, mask and descriptor, `op` of the values of `u` and `v` where both store one.
-    /// `UninitializedObject`, `DomainMismatch` or `DimensionMismatch` where one of the objects, the mask among them, is not there,
-    /// output, inputs, operator and accumulator are not of one domain, or the inputs and the mask have not the output's size.
+    /// `w<m> = accum(w, u .* v)`: `op` of the values of `u` and `v` where both store one, written into `w`.
+    ///
+    /// - `UninitializedObject`: an object of the call, the mask too, is not there.
+    /// - `DomainMismatch`: output, inputs, operator and accumulator are not of one domain.
+    /// - `DimensionMismatch`: inputs and mask have not the size of `w`.
+    ///
     /// The mask may be of either domain, and one object may be output, input and mask at once. (`GrB_eWiseMult`.)
     pub fn ewise_mult_vector(
         &self,

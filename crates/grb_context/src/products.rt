@@ -7,11 +7,14 @@ use grb_core::{BinaryOp, Monoid, Refusal, Semiring};
 use grb_pass::Pass;
 
 impl Context {
-    /// Writes into `w`, by accumulator, mask and descriptor, the product of `a` and `u` by the semiring: at row `i` the monoid's fold of
-    /// the products of row `i` and `u` where both store a value, and nothing where there is no such place. `UninitializedObject`,
-    /// `DomainMismatch` or `DimensionMismatch` where one of the objects, the mask among them, is not there, output, inputs, semiring and
-    /// accumulator are not of one domain, or `a` has not a row for each index of `w` and a column for each of `u`, or the mask is not of
-    /// the size of `w`. The mask may be of either domain, and one vector may be output, input and mask at once. (`GrB_mxv`.)
+    /// `w<m> = accum(w, A * u)`: at row `i` the monoid's fold of the products of row `i` of `a` and `u` where both store a value, and
+    /// nothing where there is no such place; written into `w`.
+    ///
+    /// - `UninitializedObject`: an object of the call, the mask too, is not there.
+    /// - `DomainMismatch`: output, inputs, semiring and accumulator are not of one domain.
+    /// - `DimensionMismatch`: `a` has not a row for each index of `w` and a column for each of `u`, or the mask has not the size of `w`.
+    ///
+    /// The mask may be of either domain, and one object may be output, input and mask at once. (`GrB_mxv`.)
     pub fn mxv(
         &self,
         pass: &mut Pass,
@@ -41,12 +44,15 @@ impl Context {
         )
     }
 
-    /// Writes into `c`, by accumulator, mask and descriptor, the product of `a` and `b` by the semiring: at row `i` and column `j` the
-    /// monoid's fold of the products of row `i` of `a` and column `j` of `b` where both store a value, and nothing where there is no such
-    /// place. `UninitializedObject`, `DomainMismatch` or `DimensionMismatch` where one of the objects, the mask among them, is not there,
-    /// output, inputs, semiring and accumulator are not of one domain, or `a` has not the rows of `c`, `b` not its columns, or `a` not as
-    /// many columns as `b` has rows, or the mask has not the dimensions of `c`. The mask may be of either domain, and one matrix may be
-    /// output, input and mask at once. (`GrB_mxm`.)
+    /// `C<M> = accum(C, A * B)`: at row `i` and column `j` the monoid's fold of the products of row `i` of `a` and column `j` of `b` where
+    /// both store a value, and nothing where there is no such place; written into `c`.
+    ///
+    /// - `UninitializedObject`: an object of the call, the mask too, is not there.
+    /// - `DomainMismatch`: output, inputs, semiring and accumulator are not of one domain.
+    /// - `DimensionMismatch`: `a` has not the rows of `c`, `b` not its columns, or `a` not as many columns as `b` has rows; or the mask has not the
+    ///   dimensions of `c`.
+    ///
+    /// The mask may be of either domain, and one object may be output, input and mask at once. (`GrB_mxm`.)
     pub fn mxm(
         &self,
         pass: &mut Pass,
@@ -76,10 +82,14 @@ impl Context {
         )
     }
 
-    /// Writes into `w`, by accumulator, mask and descriptor, the monoid's fold of each row of `a` that stores a value, and nothing for any
-    /// other row. `UninitializedObject`, `DomainMismatch` or `DimensionMismatch` where one of the objects, the mask among them, is not
-    /// there, output, input, monoid and accumulator are not of one domain, or `a` has not a row for each index of `w`, or the mask is not
-    /// of the size of `w`. The mask may be of either domain. (`GrB_reduce`, to a vector.)
+    /// `w<m> = accum(w, fold of each row of A)`: the monoid's fold of each row of `a` that stores a value, and nothing for any other row;
+    /// written into `w`.
+    ///
+    /// - `UninitializedObject`: an object of the call, the mask too, is not there.
+    /// - `DomainMismatch`: output, input, monoid and accumulator are not of one domain.
+    /// - `DimensionMismatch`: `a` has not a row for each index of `w`, or the mask has not the size of `w`.
+    ///
+    /// The mask may be of either domain. (`GrB_reduce`, to a vector.)
     pub fn reduce_rows(
         &self,
         pass: &mut Pass,

@@ -1,4 +1,4 @@
--- What a monoid makes of several values: GraphBLAS C API 2.0, "Monoids", and the `dup` of "build".
+-- believed: What a monoid makes of several values: GraphBLAS C API 2.0, "Monoids", and the `dup` of "build".
 use Rattle.std.specs.Prelude.{List, [], ◌∷◌, Option, Some, None}
 use Rattle.grb_core.specs.declared.value.Value.{Value}
 use Rattle.grb_core.specs.declared.monoid.Monoid.{Monoid}

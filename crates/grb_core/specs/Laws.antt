@@ -1,5 +1,5 @@
--- What a user relies on: laws of the operations on stored entries, over all maps, places and values. `laws.rt` promises each. In a
--- vector `R` is `nat_cmp`, and in a matrix `cell_cmp`.
+-- believed: What a user relies on: laws of the operations on stored entries, over all maps, places and values. `laws.rt` promises
+-- each. In a vector `R` is `nat_cmp`, and in a matrix `cell_cmp`.
 use Rattle.std.specs.Prelude.{◌≡◌, ◌≢◌, ℕ, ◌<◌, ◌≤◌, List, [], ◌∷◌, ◌++◌, Some, None, All, AllPairs}
 use Rattle.std.specs.declared.cmp.Ordering.{Ordering}
 use Rattle.std.specs.Ordering.{nat_cmp}

@@ -1,5 +1,5 @@
--- Where an operation may write: GraphBLAS C API 2.0, "Masks", and `GrB_STRUCTURE` and `GrB_COMP` of "Descriptors". That the
--- complement of no mask has no place inside is our own, and so is that a mask of either domain fits each output.
+-- believed: Where an operation may write: GraphBLAS C API 2.0, "Masks", and `GrB_STRUCTURE` and `GrB_COMP` of "Descriptors". That
+-- the complement of no mask has no place inside is our own, and so is that a mask of either domain fits each output.
 use Rattle.std.specs.Prelude.{Bool, true, false, not, ◌||◌, ◌==◌, if◌then◌else◌, List, Option, Some, None}
 use Rattle.std.specs.declared.cmp.Ordering.{Ordering}
 use Rattle.std.specs.FinMap.{find}

@@ -1,4 +1,4 @@
--- Monoids: GraphBLAS C API 2.0, "Monoids", and its table of predefined ones. All that are used here are commutative too.
+-- believed: Monoids: GraphBLAS C API 2.0, "Monoids", and its table of predefined ones. All that are used here are commutative too.
 use Rattle.std.specs.Prelude.{◌≡◌, ◌-◌, ◌^◌, true, false}
 use Rattle.grb_core.specs.declared.domain.Domain.{Domain}
 use Rattle.grb_core.specs.declared.value.Value.{Value}

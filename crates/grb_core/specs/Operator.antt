@@ -1,5 +1,5 @@
--- Operators: GraphBLAS C API 2.0, "Binary operators", and its table of predefined ones. Arithmetic modulo 2^64 is that of C's
--- unsigned numbers (own).
+-- believed: Operators: GraphBLAS C API 2.0, "Binary operators", and its table of predefined ones. Arithmetic modulo 2^64 is that of
+-- C's unsigned numbers (own).
 use Rattle.std.specs.Prelude.{ℕ, ◌+◌, ◌-◌, ◌*◌, ◌%◌, ◌^◌, min, max, Bool, not, ◌&&◌, ◌||◌}
 use Rattle.std.specs.Bool.{beq}
 use Rattle.grb_core.specs.declared.domain.Domain.{Domain}

@@ -1,4 +1,4 @@
--- The printed names of refusals: GraphBLAS C API 2.0, "Error model", and our own name for a full order.
+-- believed: The printed names of refusals: GraphBLAS C API 2.0, "Error model", and our own name for a full order.
 use Rattle.std.specs.Prelude.{ℕ, List, codes}
 use Rattle.grb_core.specs.declared.refusal.Refusal.{Refusal}
 use Rattle.grb_core.specs.declared.refusal.Refusal.TheVariants as refusal
@@ -15,3 +15,16 @@ refusal_name refusal.IndexOutOfBounds = codes "GrB_INDEX_OUT_OF_BOUNDS"
 refusal_name refusal.OrderFull = codes "OrderFull"
 refusal_name refusal.OutOfMemory = codes "GrB_OUT_OF_MEMORY"
 refusal_name refusal.Panic = codes "GrB_PANIC"
+
+-- the bytes of the hint (own)
+abbrev pub refusal_hint : Refusal → List ℕ
+refusal_hint refusal.UninitializedObject = codes "Use the number of an object that was made and not freed."
+refusal_hint refusal.InvalidValue = codes "Give dimensions from 1 to 4,294,967,295."
+refusal_hint refusal.InvalidIndex = codes "Give an index below the dimension; the first is 0."
+refusal_hint refusal.DomainMismatch = codes "Give values, objects and operators of one domain."
+refusal_hint refusal.DimensionMismatch = codes "Give objects whose dimensions fit together."
+refusal_hint refusal.OutputNotEmpty = codes "Clear the object, or build a new one."
+refusal_hint refusal.IndexOutOfBounds = codes "Give a list whose indices are below the dimensions."
+refusal_hint refusal.OrderFull = codes "Open a store with more room; this one still answers reads."
+refusal_hint refusal.OutOfMemory = codes "Nothing has changed: free memory, and make the call again."
+refusal_hint refusal.Panic = codes "The call did nothing: make it again."

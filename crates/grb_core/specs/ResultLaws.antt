@@ -1,5 +1,5 @@
--- What a user relies on of masks, written outputs and results, over all maps, places and values. `laws.rt` promises each. In a vector
--- `R` is `nat_cmp`, and in a matrix `cell_cmp`.
+-- believed: What a user relies on of masks, written outputs and results, over all maps, places and values. `laws.rt` promises each.
+-- In a vector `R` is `nat_cmp`, and in a matrix `cell_cmp`.
 use Rattle.std.specs.Prelude.{◌≡◌, ◌<◌, ℕ, Bool, true, false, not, IsTrue, List, Option, None, All}
 use Rattle.std.specs.declared.cmp.Ordering.{Ordering}
 use Rattle.std.specs.Ordering.{nat_cmp}

@@ -1,5 +1,5 @@
--- What the operations compute, before it is written: GraphBLAS C API 2.0, "eWiseAdd", "eWiseMult", "mxv", "mxm" and "reduce". An
--- entry that is not stored takes no part: it is not 0.
+-- believed: What the operations compute, before it is written: GraphBLAS C API 2.0, "eWiseAdd", "eWiseMult", "mxv", "mxm" and
+-- "reduce". An entry that is not stored takes no part: it is not 0.
 use Rattle.std.specs.Prelude.{ℕ, nat_eq, List, [], ◌∷◌, ◌++◌, map, filter, Option}
 use Rattle.std.specs.Ordering.{nat_cmp}
 use Rattle.std.specs.declared.cmp.Ordering.{Ordering}

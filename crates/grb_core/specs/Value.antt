@@ -1,4 +1,4 @@
--- Values and their domains: GraphBLAS C API 2.0, "Types (domains)".
+-- believed: Values and their domains: GraphBLAS C API 2.0, "Types (domains)".
 use Rattle.std.specs.Prelude.{◌^◌, ◌<◌, ⊤}
 use Rattle.grb_core.specs.declared.domain.Domain.{Domain}
 use Rattle.grb_core.specs.declared.domain.Domain.TheVariants as domain

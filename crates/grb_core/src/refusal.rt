@@ -1,5 +1,5 @@
 ghost use Rattle.std.specs.Prelude.{◌≡◌};
-ghost use Rattle.grb_core.specs.Refusal.{refusal_name};
+ghost use Rattle.grb_core.specs.Refusal.{refusal_hint, refusal_name};
 
 /// Why a call is refused. Where several of the first seven apply, the first of them in this order is answered (own).
 ///
@@ -44,6 +44,25 @@ impl Refusal {
             Refusal::OrderFull => "OrderFull",
             Refusal::OutOfMemory => "GrB_OUT_OF_MEMORY",
             Refusal::Panic => "GrB_PANIC",
+        }
+    }
+
+    /// What to do about it, in one sentence for a person (own). Programs go by the refusal itself.
+    pub fn hint(self) -> &'static str
+        ensures { result.now ≡ refusal_hint self }
+    {
+        match self {
+            Refusal::UninitializedObject =>
+                "Use the number of an object that was made and not freed.",
+            Refusal::InvalidValue => "Give dimensions from 1 to 4,294,967,295.",
+            Refusal::InvalidIndex => "Give an index below the dimension; the first is 0.",
+            Refusal::DomainMismatch => "Give values, objects and operators of one domain.",
+            Refusal::DimensionMismatch => "Give objects whose dimensions fit together.",
+            Refusal::OutputNotEmpty => "Clear the object, or build a new one.",
+            Refusal::IndexOutOfBounds => "Give a list whose indices are below the dimensions.",
+            Refusal::OrderFull => "Open a store with more room; this one still answers reads.",
+            Refusal::OutOfMemory => "Nothing has changed: free memory, and make the call again.",
+            Refusal::Panic => "The call did nothing: make it again.",
         }
     }
 }

@@ -1,4 +1,5 @@
--- What the loads of a script give (own): the file of each is read and checked, in the order of the script, before anything runs.
+-- believed: What the loads of a script give (own): the file of each is read and checked, in the order of the script, before
+-- anything runs.
 use Rattle.std.specs.Prelude.{◌≡◌, ℕ, List, [], ◌∷◌, ◌++◌, map, Option, Some}
 use Rattle.std.specs.List.{flat_map}
 use Rattle.grb_market.specs.declared.fault.MarketFault.{MarketFault}

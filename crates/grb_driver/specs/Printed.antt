@@ -1,4 +1,4 @@
--- What a script prints (own): a line for each of its statements, loads too, in their order.
+-- believed: What a script prints (own): a line for each of its statements, loads too, in their order.
 use Rattle.std.specs.Prelude.{◌≡◌, ◌≢◌, ℕ, ◌<◌, Bool, true, false, IsTrue, ◌==◌, ◌&&◌, if◌then◌else◌, List, [], ◌∷◌, ◌++◌, length, is_none, All, Option, None, Ok, Err, codes}
 use Rattle.std.specs.List.{flat_map}
 use Rattle.grb_core.specs.declared.refusal.Refusal.TheVariants.{OrderFull, OutOfMemory, Panic}

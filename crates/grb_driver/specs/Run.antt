@@ -1,4 +1,5 @@
--- What a run of a script leaves (own): what was written by how the run ended, and which faults of the source and the sink it met.
+-- believed: What a run of a script leaves (own): what was written by how the run ended, and which faults of the source and the sink
+-- it met.
 use Rattle.std.specs.Prelude.{◌≡◌, ◌≢◌, ℕ, ◌+◌, ◌⊎◌, List, [], ◌++◌, All, Option, Some, None, Result, Ok, Err}
 use Rattle.std.specs.List.{flat_map}
 use Rattle.std.specs.Io.KnownBytes.{Appends}

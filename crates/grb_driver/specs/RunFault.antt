@@ -1,4 +1,4 @@
--- The fault of a run by what made it end.
+-- believed: The fault of a run by what made it end.
 use Rattle.std.specs.Prelude.{ℕ}
 use Rattle.grb_market.specs.declared.fault.ReadError.{ReadError}
 use Rattle.grb_market.specs.declared.fault.ReadError.TheVariants as market

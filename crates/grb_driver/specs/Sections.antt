@@ -1,5 +1,5 @@
--- What the sections of a script are answered (own). Each has a pass of its own, and each of its calls keeps the promise of a call. A thread
--- section begins with what main's names stand for, and with what main's pass knew when main had ended.
+-- believed: What the sections of a script are answered (own). Each has a pass of its own, and each of its calls keeps the promise
+-- of a call. A thread section begins with what main's names stand for, and with what main's pass knew when main had ended.
 use Rattle.std.specs.Prelude.{◌≡◌, ℕ, ◌+◌, List, [], ◌∷◌, ◌++◌, length, Ok, Err}
 use Rattle.std.specs.List.{flat_map}
 use Rattle.grb_call.specs.declared.ids.Object.{Object}

@@ -1,4 +1,4 @@
--- What a source gives, and how often each of its faults came (own).
+-- believed: What a source gives, and how often each of its faults came (own).
 use Rattle.std.specs.Prelude.{◌≡◌, ℕ, ◌+◌, ◌<◌, ◌≤◌, ◌-◌, ◌^◌, List, length, Option, IfSome, Result, Ok, Err}
 use Rattle.grb_driver.specs.declared.source.SourceFault.{SourceFault}
 use Rattle.grb_driver.specs.declared.source.SourceFault.TheVariants.{CannotRead, TooLong, OutOfMemory}

@@ -1,4 +1,4 @@
--- Thread sections as they are run (own): the job of each, what it came to, and how main's pass gathers that.
+-- believed: Thread sections as they are run (own): the job of each, what it came to, and how main's pass gathers that.
 use Rattle.std.specs.Prelude.{◌≡◌, ◌≢◌, List, [], ◌∷◌, ◌++◌, IfOk, Result, Ok, Err}
 use Rattle.std.specs.declared.alloc.AllocError.{AllocError}
 use Rattle.std.specs.declared.thread.PromisedHandle.{PromisedHandle}

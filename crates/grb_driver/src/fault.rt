@@ -47,7 +47,8 @@ pub enum RunFault {
     /// Memory was refused outside of the calls: for the texts, the store or the answers. Nothing was written.
     #[error("out of memory")]
     OutOfMemory,
-    /// A thread of a thread section was not started. Those that were started ended first. Nothing was written.
+    /// A thread of a thread section was not started, for whatever reason, memory too. Those that were started ended first. Nothing was
+    /// written.
     #[error("cannot start a thread")]
     NoThread,
     /// A pass could not learn what another knows, since a record is not shown. Nothing was written.

@@ -1,4 +1,5 @@
--- What two lists of entries are combined to: over the union of their indices, or over the intersection.
+-- inside: no public contract names it. What two lists of entries are combined to: over the union of their indices, or over the
+-- intersection.
 use Rattle.std.specs.Prelude.{Option}
 use Rattle.grb_core.specs.declared.value.Value.{Value}
 use Rattle.grb_core.specs.Written.{either_value, both_values}

@@ -1,4 +1,4 @@
--- The call that a statement makes (own), where the names of its script stand for these objects.
+-- believed: The call that a statement makes (own), where the names of its script stand for these objects.
 use Rattle.std.specs.Prelude.{ℕ, List, Option}
 use Rattle.std.specs.Option.{option_map}
 use Rattle.grb_core.specs.declared.monoid.Monoid.{Monoid}

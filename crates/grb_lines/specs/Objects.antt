@@ -1,5 +1,5 @@
--- The objects that the names of a script stand for (own). The n-th name that a script makes stands
--- for the object that its statement made.
+-- believed: The objects that the names of a script stand for (own). The n-th name that a script makes stands for the object that
+-- its statement made.
 use Rattle.std.specs.Prelude.{ℕ, List, [], ◌∷◌, ◌++◌, slice_get, Option, Some, None, Ok}
 use Rattle.std.specs.Option.{option_map, option_map_or}
 use Rattle.grb_call.specs.declared.ids.MatrixId.{MatrixId}

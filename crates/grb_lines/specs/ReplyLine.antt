@@ -1,4 +1,4 @@
--- The line that an answer prints (own).
+-- believed: The line that an answer prints (own).
 use Rattle.std.specs.Prelude.{ℕ, true, false, List, [], ◌∷◌, ◌++◌, Result, Ok, Err, codes}
 use Rattle.std.specs.Fmt.{decimal}
 use Rattle.grb_core.specs.declared.refusal.Refusal.{Refusal}

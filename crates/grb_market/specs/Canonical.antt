@@ -1,5 +1,5 @@
--- The canonical text of a matrix (own): the first line of its domain, the size line, and a line for each stored entry in rising order of
--- row and then column; one space between numbers, no leading zeros, no comments.
+-- believed: The canonical text of a matrix (own): the first line of its domain, the size line, and a line for each stored entry in
+-- rising order of row and then column; one space between numbers, no leading zeros, no comments.
 use Rattle.std.specs.Prelude.{ℕ, Bool, not, false, List, [], ◌∷◌, ◌++◌, length, map, codes, decimal}
 use Rattle.std.specs.List.{flat_map, list_any, join_with_byte}
 use Rattle.grb_core.specs.declared.domain.Domain.{Domain}

@@ -1,7 +1,7 @@
--- The first fault of a Matrix Market text (own): of the lines in order the first that is faulty, and of its faults the first of
--- this order: an unended line; the header; the size line; a dimension; not square; an entry line that is missing; an entry line; an
--- index; a value; the upper triangle; a repeated pair; a line after the last entry line. A missing line has the number of the last
--- line plus 1.
+-- believed: The first fault of a Matrix Market text (own): of the lines in order the first that is faulty, and of its faults the
+-- first of this order: an unended line; the header; the size line; a dimension; not square; an entry line that is missing; an entry
+-- line; an index; a value; the upper triangle; a repeated pair; a line after the last entry line. A missing line has the number of
+-- the last line plus 1.
 use Rattle.std.specs.Prelude.{◌≡◌, ℕ, ◌+◌, Bool, nat_lt, if◌then◌else◌, List, [], ◌∷◌, ◌++◌, length, Option, Some, None}
 use Rattle.std.specs.declared.result.Result.{Result}
 use Rattle.std.specs.declared.result.Result.TheVariants.{Ok, Err}

@@ -1,4 +1,4 @@
--- The numbers of a line, one behind another.
+-- inside: no public contract names it. The numbers of a line, one behind another.
 use Rattle.std.specs.Prelude.{◌≡◌, ℕ, ◌<◌, Bool, true, false, if◌then◌else◌, List, [], ◌∷◌, ◌++◌, length, Option, Some, None}
 use Rattle.std.specs.List.{list_all}
 use Rattle.std.specs.Option.{option_map}

@@ -1,4 +1,4 @@
--- What a reader of these definitions relies on: `laws.rt` promises each, of all texts and matrices.
+-- believed: What a reader of these definitions relies on: `laws.rt` promises each, of all texts and matrices.
 use Rattle.std.specs.Prelude.{◌≡◌, ℕ, List, false, None}
 use Rattle.grb_core.specs.Contents.{Matrix, IsMatrix}
 use Rattle.grb_market.specs.Fault.{market_fault}

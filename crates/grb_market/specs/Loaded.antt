@@ -1,4 +1,4 @@
--- What was loaded, as a matrix.
+-- believed: What was loaded, as a matrix.
 use Rattle.grb_core.specs.Contents.{Matrix}
 use Rattle.grb_core.specs.Entries.{cells_of}
 use Rattle.grb_market.specs.declared.loaded.Loaded.{Loaded}

@@ -1,5 +1,5 @@
--- What a sink takes, and how often it failed (own). `Appends` and `WriteAppends` are std's: where the bytes that a sink took so far
--- are told they grow by those, and nothing is claimed where they are not.
+-- believed: What a sink takes, and how often it failed (own). `Appends` and `WriteAppends` are std's: where the bytes that a sink
+-- took so far are told they grow by those, and nothing is claimed where they are not.
 use Rattle.std.specs.Prelude.{ℕ, ◌+◌, ◌<◌, ◌==◌, ◌&&◌, not, true, Bool, if◌then◌else◌, List, length, take, Option, Result, Ok, Err}
 use Rattle.std.specs.Io.KnownBytes.{Appends}
 use Rattle.grb_market.specs.declared.sink.SinkFault.{SinkFault}

@@ -1,6 +1,6 @@
--- Which matrix a Matrix Market text spells: the coordinate format of "The Matrix Market Exchange Formats: Initial Design" (Boisvert,
--- Pozo and Remington), with whole numbers below 2^64 or a pattern for its values, general or symmetric. That each line is ended, and
--- that nothing else may stand anywhere, are rules of our own.
+-- believed: Which matrix a Matrix Market text spells: the coordinate format of "The Matrix Market Exchange Formats: Initial Design"
+-- (Boisvert, Pozo and Remington), with whole numbers below 2^64 or a pattern for its values, general or symmetric. That each line
+-- is ended, and that nothing else may stand anywhere, are rules of our own.
 use Rattle.std.specs.Prelude.{◌≡◌, ℕ, ◌+◌, ◌<◌, ◌≤◌, true, false, if◌then◌else◌, List, [], ◌∷◌, ◌++◌, length, map, All, Some, ⊤}
 use Rattle.std.specs.List.{AllZip}
 use Rattle.grb_core.specs.declared.domain.Domain.{Domain}

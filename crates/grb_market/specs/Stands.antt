@@ -1,4 +1,4 @@
--- How far a text is read.
+-- inside: no public contract names it. How far a text is read.
 use Rattle.std.specs.Prelude.{◌≡◌, ℕ, ◌+◌, List, ◌++◌, length, None}
 use Rattle.grb_core.specs.Entries.{MatrixEntries, cell_cmp, map_from}
 use Rattle.grb_market.specs.declared.head.Head.{Head}

@@ -1,4 +1,4 @@
--- What is left where a matrix was not written (own).
+-- believed: What is left where a matrix was not written (own).
 use Rattle.std.specs.Prelude.{◌≡◌, ℕ, ◌+◌, Bool, true, false, List, ◌++◌, take, Option, Result, Err}
 use Rattle.std.specs.Io.KnownBytes.{Appends}
 use Rattle.grb_market.specs.declared.fault.WriteFault.{WriteFault}

@@ -1,4 +1,4 @@
--- Values picked by the bits of a word (own): bit t of the word stands for the place base + t.
+-- inside: no public contract names it. Values picked by the bits of a word (own): bit t of the word stands for the place base + t.
 use Rattle.std.specs.Prelude.{ℕ, zero, suc, ◌+◌, ◌*◌, ◌/◌, ◌%◌, ◌<◌, ◌≤◌, ◌≡◌, Bool, true, false, slice_index, slice_index_or, length, take, nat_eq, if◌then◌else◌, List, [], ◌∷◌, Option, Some, None, All}
 use Rattle.std.specs.List.{Contains}
 use Rattle.std.specs.Int.{bit_at}

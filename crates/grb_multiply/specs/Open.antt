@@ -1,4 +1,4 @@
--- Values with marks as a list of entries (own): what a row of sums lays open.
+-- inside: no public contract names it. Values with marks as a list of entries (own): what a row of sums lays open.
 use Rattle.std.specs.Prelude.{ℕ, ◌+◌, Bool, List, [], ◌∷◌}
 use Rattle.grb_core.specs.declared.value.Value.{Value}
 use Rattle.grb_core.specs.Entries.{VectorEntries, before_entries}

@@ -1,4 +1,5 @@
--- Rows of the product of two matrices, rows whose columns have other names, and what a mask leaves of a product (own).
+-- inside: no public contract names it. Rows of the product of two matrices, rows whose columns have other names, and what a mask
+-- leaves of a product (own).
 use Rattle.std.specs.Prelude.{◌≡◌, ℕ, ◌<◌, Bool, if◌then◌else◌, Some, None, List, [], ◌∷◌, Option, length, map, slice_index}
 use Rattle.grb_core.specs.declared.value.Value.{Value}
 use Rattle.grb_core.specs.Entries.{VectorEntries, MatrixEntries, cell_cmp, before_entries, map_on, restricted}

@@ -368,7 +368,7 @@ fn wanted_product(
 /// All are of one domain, the mask aside; `b` has one row for each column of `a`, and the output and the mask have the rows of `a` and the
 /// columns of `b`. A mask that is given and not complemented bounds the work: sums are made at the cells that it selects alone, for the
 /// rows in which it stores something, in time in proportion to the products that are looked at and to the mask's entries. Else time is in
-/// proportion to the products that there are, and for each row of `a` one step for 64 columns.
+/// proportion to the products that there are; for a row of `a` with many of them, one step for 64 columns is added.
 ///
 /// Work arrays of one place for each column are made where that is no more than 8 times the entries of `a` and `b`; else the columns in
 /// which `b` or the mask stores something are numbered first, by a sort and a binary search for each entry. A row is found by a table that

@@ -1,4 +1,4 @@
--- Flat lists of a matrix whose values are of one Rust type (own).
+-- inside: no public contract names it. Flat lists of a matrix whose values are of one Rust type (own).
 use Rattle.std.specs.Prelude.{ℕ, List}
 use Rattle.grb_core.specs.declared.value.Value.{Value}
 use Rattle.grb_core.specs.Entries.{MatrixEntries}

@@ -1,4 +1,4 @@
--- What the rule of the row says, in a reader's words. It holds between any two steps.
+-- believed: What the rule of the row says, in a reader's words. It holds between any two steps.
 use Rattle.std.specs.Prelude.{◌≡◌, ◌≢◌, ℕ, ◌<◌, ◌≤◌, ◌++◌, length, slice_index, replicate, Contains}
 use mathlib.Core.Option.{some}
 use lib.ListN.{get_elem?}

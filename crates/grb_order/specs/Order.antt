@@ -1,4 +1,4 @@
--- What an order is opened with.
+-- believed: What an order is opened with.
 use Rattle.std.specs.Prelude.{◌≡◌, ℕ, ◌<◌, List, length, Some, slice_get}
 use Rattle.atomic_table.specs.Seated.{TableId}
 use Rattle.grb_order.specs.View.{fresh}

@@ -1,4 +1,4 @@
--- What ties the parts of a place.
+-- believed: What ties the parts of a place.
 use Rattle.std.specs.Prelude.{◌≡◌, ℕ, ◌≤◌, List, vec_capacity}
 use Rattle.grb_order.specs.View.{IsSound}
 use Rattle.grb_order.specs.Holding.{Holding}

@@ -1,4 +1,4 @@
--- What holds of the row and of all views between any two steps.
+-- believed: What holds of the row and of all views between any two steps.
 use Rattle.std.specs.Prelude.{◌≡◌, ℕ, ◌<◌, ◌≤◌, List, ◌++◌, length, All, replicate}
 use mathlib.Core.Option.{some}
 use lib.ListN.{get_elem?}

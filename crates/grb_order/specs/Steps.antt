@@ -1,6 +1,6 @@
--- The steps on the row: a look and a try, both on the first word that the place has not learnt, and the loads by which a place is
--- told what another has learnt: what each tells, of the step, the seat before, the number found and the seat after; and what the calls
--- that make them answer.
+-- believed: The steps on the row: a look and a try, both on the first word that the place has not learnt, and the loads by which a
+-- place is told what another has learnt: what each tells, of the step, the seat before, the number found and the seat after; and
+-- what the calls that make them answer.
 use Rattle.std.specs.Prelude.{◌≡◌, ◌≢◌, ℕ, ◌<◌, ◌≤◌, [], length, slice_index}
 use Rattle.atomic_table.specs.Table.{Me, Step}
 use Rattle.grb_order.specs.Word.{order_word, StartsWith}

@@ -1,4 +1,4 @@
--- How one step changes the view of a place.
+-- believed: How one step changes the view of a place.
 use Rattle.std.specs.Prelude.{◌≡◌, ◌≢◌, ℕ, ◌<◌, ◌≤◌, List, [], ◌∷◌, ◌++◌, length, All, drop}
 use Rattle.grb_order.specs.Word.{number_of, IsWord, positions}
 use Rattle.grb_order.specs.declared.view.View.{View}

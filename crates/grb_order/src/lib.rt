@@ -3,7 +3,8 @@
 //! The row has a fixed number of words, its room. A word is 0 until one place enters a word of its own there, the first vacant one
 //! first, and it never changes again. A place is one pass's seat at the row: it learns the words from the first one on. It makes
 //! atomic steps on the first word that it has not learnt: a load, and a compare-and-swap from 0; and it is told what another place has
-//! learnt by a note of that place's seat and a load of each word. Nothing here waits, and no call after `Order::open` takes memory. What a word stands for is its user's: it has the pass's number and the index of a record.
+//! learnt by a note of that place's seat and a load of each word. Nothing here waits for another thread, and no call after `Order::open`
+//! takes memory. What a word stands for is its user's: it has the pass's number and the index of a record.
 //!
 //! Source: Herlihy, "Wait-free synchronization", 1991, the agreement on each next operation in the universal construction.
 #![tactic(auto)]

@@ -1,4 +1,4 @@
--- All that a call promises (own): one record, under one name, which each method of the store cites with its call.
+-- believed: All that a call promises (own): one record, under one name, which each method of the store cites with its call.
 use Rattle.std.specs.Prelude.{◌≡◌, ◌++◌, false, length, Err}
 use Rattle.grb_core.specs.declared.refusal.Refusal.TheVariants.{OutOfMemory}
 use Rattle.grb_order.specs.Order.{room_of}

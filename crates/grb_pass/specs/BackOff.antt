@@ -1,5 +1,5 @@
--- How long a pass holds back after a lost try (own), in turns of a loop that does nothing. Herlihy, "A methodology for implementing
--- highly concurrent data objects", 1993: exponential back-off.
+-- believed: How long a pass holds back after a lost try (own), in turns of a loop that does nothing. Herlihy, "A methodology for
+-- implementing highly concurrent data objects", 1993: exponential back-off.
 use Rattle.std.specs.Prelude.{ℕ, ◌*◌, ◌-◌, ◌≤◌, min, max, Bool, if◌then◌else◌}
 
 -- a wait has so many turns

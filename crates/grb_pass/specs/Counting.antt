@@ -1,4 +1,4 @@
--- How many atomic steps a call makes on the order (own). They are read off the view of the pass before and after it.
+-- believed: How many atomic steps a call makes on the order (own). They are read off the view of the pass before and after it.
 use Rattle.std.specs.Prelude.{◌≡◌, ℕ, ◌+◌, ◌*◌, ◌≤◌, length}
 use Rattle.grb_order.specs.declared.view.View.{View}
 use Rattle.grb_order.specs.declared.step.Look.{Look}

@@ -1,4 +1,4 @@
--- When a history explains the answers of a pass. Herlihy, "Wait-free synchronization", 1991: each answer is that of the
+-- believed: When a history explains the answers of a pass. Herlihy, "Wait-free synchronization", 1991: each answer is that of the
 -- sequential object at one point of the one order. The answers for want of room, of memory and of a record are our own.
 use Rattle.std.specs.Prelude.{◌≡◌, ℕ, ◌<◌, Bool, false, if◌then◌else◌, IsTrue, List, [], ◌∷◌, ◌++◌, length, None, Result, Ok, Err, ◌⊎◌}
 use Rattle.grb_core.specs.declared.refusal.Refusal.{Refusal}

@@ -1,4 +1,4 @@
--- What holds of any two passes of one context (own).
+-- believed: What holds of any two passes of one context (own).
 use Rattle.std.specs.Prelude.{◌≡◌, ℕ, List, ◌++◌, ◌⊎◌, Contains}
 use Rattle.grb_order.specs.Laws.{HasPlace, Row}
 use Rattle.grb_order.specs.Rule.{Orderly}

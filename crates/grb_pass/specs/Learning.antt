@@ -1,4 +1,4 @@
--- What the steps inside a call leave (own).
+-- believed: What the steps inside a call leave (own).
 use Rattle.std.specs.Prelude.{◌≡◌, ℕ, ◌<◌, ◌≤◌, [], ◌∷◌, ◌++◌, length, slice_index, drop, All, Option, Some, None, Result, Ok, Err}
 use Rattle.grb_core.specs.declared.refusal.Refusal.{Refusal}
 use Rattle.grb_core.specs.declared.refusal.Refusal.TheVariants.{Panic}

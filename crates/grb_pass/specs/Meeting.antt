@@ -1,4 +1,4 @@
--- What a meeting of two passes of one context leaves (own).
+-- believed: What a meeting of two passes of one context leaves (own).
 use Rattle.std.specs.Prelude.{◌≡◌, ℕ, ◌+◌, List, length, Result, Ok, Err, Some, slice_get}
 use Rattle.grb_core.specs.declared.refusal.Refusal.{Refusal}
 use Rattle.grb_core.specs.declared.refusal.Refusal.TheVariants.{Panic}

@@ -1,5 +1,5 @@
--- The point of a call. Herlihy and Wing, "Linearizability", 1990: each operation takes effect at one step between its call and its
--- return.
+-- believed: The point of a call. Herlihy and Wing, "Linearizability", 1990: each operation takes effect at one step between its
+-- call and its return.
 use Rattle.std.specs.Prelude.{◌≡◌, ℕ, ◌+◌, List, [], ◌∷◌, ◌++◌, length, ◌⊎◌}
 use Rattle.grb_order.specs.Word.{StartsWith}
 use Rattle.grb_order.specs.declared.view.View.{View}

@@ -1,4 +1,4 @@
--- Which cell of its row a pass puts its next record into (own).
+-- inside: no public contract names it. Which cell of its row a pass puts its next record into (own).
 use Rattle.std.specs.Prelude.{ℕ, ◌+◌, nat_lt, if◌then◌else◌, Result, Err}
 use Rattle.grb_core.specs.declared.refusal.Refusal.{Refusal}
 use Rattle.grb_core.specs.declared.refusal.Refusal.TheVariants.{OutOfMemory}

@@ -1,4 +1,4 @@
--- What a pass keeps of the objects that it read, each evaluated apart from the others (own).
+-- believed: What a pass keeps of the objects that it read, each evaluated apart from the others (own).
 use Rattle.std.specs.Prelude.{◌≡◌, ℕ, List}
 use Rattle.grb_call.specs.declared.call.Call.{Call}
 use Rattle.grb_values.specs.Keeping.{AreKept, KeptObjects}

@@ -1,5 +1,5 @@
--- How many calls a pass has settled (own; `GrB_MATERIALIZE` of GraphBLAS C API 2.0): those that it knew when it last had all objects
--- materialized.
+-- believed: How many calls a pass has settled (own; `GrB_MATERIALIZE` of GraphBLAS C API 2.0): those that it knew when it last had
+-- all objects materialized.
 use Rattle.std.specs.Prelude.{ℕ, Bool, true, false, if◌then◌else◌, Ok, Err}
 use Rattle.grb_call.specs.declared.call.Call.{Call}
 use Rattle.grb_call.specs.declared.call.Call.TheVariants as call

@@ -1,5 +1,6 @@
--- Records and their tokens, as contracts see them (own). Each pass has a row of cells; a record is a call in a cell. Which cell that
--- is has a name, and above this crate a token is its pass, its index and its call; `IsOf` says of which records it is.
+-- believed: Records and their tokens, as contracts see them (own). Each pass has a row of cells; a record is a call in a cell.
+-- Which cell that is has a name, and above this crate a token is its pass, its index and its call; `IsOf` says of which records it
+-- is.
 use Rattle.std.specs.Prelude.{◌≡◌, ℕ, List, length, All, Option, None, Some, slice_get}
 use Rattle.once_cell.specs.Once.{cell_name}
 use Rattle.std.specs.declared.alloc.Global.{Global}

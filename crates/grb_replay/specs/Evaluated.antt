@@ -1,4 +1,4 @@
--- How far a list of calls was evaluated (own).
+-- believed: How far a list of calls was evaluated (own).
 use Rattle.std.specs.Prelude.{◌≡◌, ℕ, ◌≤◌, List, length, take}
 use Rattle.grb_call.specs.declared.call.Call.{Call}
 use Rattle.grb_call.specs.Store.{Store, empty_store}

@@ -1,4 +1,5 @@
--- When a call may change an object (own; what the methods of the sparse matrices and vectors ask for).
+-- inside: no public contract names it. When a call may change an object (own; what the methods of the sparse matrices and vectors
+-- ask for).
 use Rattle.std.specs.Prelude.{◌≡◌, ◌<◌, [], All}
 use Rattle.grb_core.specs.Value.{value_domain}
 use Rattle.grb_core.specs.Monoid.{monoid_domain}

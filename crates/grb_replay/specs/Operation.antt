@@ -1,4 +1,4 @@
--- When an operation on several objects may be evaluated (own; what the kernels ask for).
+-- inside: no public contract names it. When an operation on several objects may be evaluated (own; what the kernels ask for).
 use Rattle.std.specs.Prelude.{◌≡◌, ℕ, Bool, true, false, List, ◌++◌, Option, IfSome}
 use Rattle.std.specs.List.{AllByRecursion}
 use Rattle.grb_sparse.specs.Matrix.{SparseMatrixView}

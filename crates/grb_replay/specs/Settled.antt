@@ -1,4 +1,5 @@
--- What a reading call asks of the objects before it is answered (own; `GrB_wait` of GraphBLAS C API 2.0, and what the totals ask for).
+-- believed: What a reading call asks of the objects before it is answered (own; `GrB_wait` of GraphBLAS C API 2.0, and what the
+-- totals ask for).
 use Rattle.std.specs.Prelude.{◌≡◌, Bool, true, false}
 use Rattle.grb_call.specs.declared.call.Call.{Call}
 use Rattle.grb_call.specs.declared.call.Call.TheVariants as call

@@ -1,4 +1,4 @@
--- Flat lists with deleted marks and pending changes, and the map that they stand for (own).
+-- believed: Flat lists with deleted marks and pending changes, and the map that they stand for (own).
 use Rattle.std.specs.Prelude.{◌≡◌, ℕ, ◌+◌, ◌<◌, ◌≤◌, Bool, List, length, slice_index_or, None, IsTrue, All}
 use Rattle.std.specs.Ordering.{nat_cmp}
 use Rattle.std.specs.FinMap.{is_sorted}

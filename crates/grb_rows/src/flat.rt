@@ -178,7 +178,7 @@ impl FlatRows {
         self.values.push_reserved(value);
     }
 
-    /// Gives back the memory that no entry takes.
+    /// Gives back the memory of the lists of rows, starts and columns that no entry takes; the values keep theirs.
     pub(crate) fn shrink(&mut self)
         ensures entries { self.new.entries ≡ self.old.entries }
         ensures domain { self.new.domain ≡ self.old.domain }

@@ -1,4 +1,4 @@
--- What a line of a script asks for where some names stand (own): a load, or what a statement of one call says.
+-- believed: What a line of a script asks for where some names stand (own): a load, or what a statement of one call says.
 use Rattle.std.specs.Prelude.{◌≡◌, if◌then◌else◌, List, [], ◌∷◌, ◌++◌, Option, Result, Ok, Err}
 use Rattle.std.specs.Option.{option_map_or, option_to_list}
 use Rattle.std.specs.Result.{result_ok}

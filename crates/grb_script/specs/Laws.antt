@@ -1,4 +1,4 @@
--- What a reader of the definitions of scripts relies on, as laws about these.
+-- believed: What a reader of the definitions of scripts relies on, as laws about these.
 use Rattle.std.specs.Prelude.{◌≡◌, ℕ, ◌+◌, List, [], ◌∷◌, ◌++◌, None, length}
 use Rattle.std.specs.List.{flat_map}
 use Rattle.grb_script.specs.declared.command.Numbered.{Numbered}

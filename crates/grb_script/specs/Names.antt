@@ -1,5 +1,5 @@
--- The names that stand in a section of a script (own): each stands for a matrix or a vector, and has as its number how many stand
--- before it.
+-- believed: The names that stand in a section of a script (own): each stands for a matrix or a vector, and has as its number how
+-- many stand before it.
 use Rattle.std.specs.Prelude.{ℕ, Bool, true, false, List, Option, is_some}
 use Rattle.std.specs.List.{position_or_len}
 use Rattle.std.specs.Map.{lookup}

@@ -1,6 +1,6 @@
--- What a statement says where some names stand (own): the call that it makes, or the first of what is wrong with it: it has no form,
--- it makes a name that stands, it uses one that does not, or one of another sort than its form asks for, or the two parts of its
--- semiring differ in domain.
+-- believed: What a statement says where some names stand (own): the call that it makes, or the first of what is wrong with it: it
+-- has no form, it makes a name that stands, it uses one that does not, or one of another sort than its form asks for, or the two
+-- parts of its semiring differ in domain.
 use Rattle.std.specs.Prelude.{◌≡◌, ℕ, Bool, true, ◌&&◌, if◌then◌else◌, List, [], ◌∷◌, ◌++◌, Option, Some, None, Result, Ok, Err}
 use Rattle.std.specs.Option.{option_map, option_map_or}
 use Rattle.grb_core.specs.declared.monoid.Monoid.{Monoid}

@@ -1,4 +1,5 @@
--- What the words of a line say that is not faulty (own): that a section begins, a command, or nothing.
+-- inside: no public contract names it. What the words of a line say that is not faulty (own): that a section begins, a command, or
+-- nothing.
 use Rattle.std.specs.Prelude.{◌≡◌, ℕ, true, List, [], ◌∷◌, ◌++◌, Option, Some, None}
 use Rattle.grb_script.specs.declared.command.Numbered.{Numbered}
 use Rattle.grb_words.specs.declared.section.Section.{Section}

@@ -1,5 +1,5 @@
--- Where a line of a script stands (own): in which section, and which names stand there. What stands before the first line that begins a
--- section is main. The names of main stand in all sections, and the names that a section makes in it alone.
+-- believed: Where a line of a script stands (own): in which section, and which names stand there. What stands before the first line
+-- that begins a section is main. The names of main stand in all sections, and the names that a section makes in it alone.
 use Rattle.std.specs.Prelude.{ℕ, ◌+◌, ◌≤◌, Bool, true, false, ◌==◌, ◌&&◌, nat_lt, List, [], ◌∷◌, length, take, Option, Some, None}
 use Rattle.std.specs.Option.{option_map_or}
 use Rattle.grb_words.specs.declared.section.Section.{Section}

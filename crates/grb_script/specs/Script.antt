@@ -1,5 +1,5 @@
--- What a script asks for (own): one command for each line that is not skipped and begins no section, with the number of the line and
--- the numbers of its names; the commands of main, of each thread section and of 'finally'.
+-- believed: What a script asks for (own): one command for each line that is not skipped and begins no section, with the number of
+-- the line and the numbers of its names; the commands of main, of each thread section and of 'finally'.
 use Rattle.std.specs.Prelude.{ℕ, ◌+◌, not, List, [], ◌∷◌, ◌++◌, Option, Some, None, length, map, is_some}
 use Rattle.std.specs.List.{flat_map, take_while}
 use Rattle.grb_script.specs.declared.command.Numbered.{Numbered}

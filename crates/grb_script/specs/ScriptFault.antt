@@ -1,5 +1,5 @@
--- The first fault of a script (own): of the lines in order the first that is faulty, and of its faults the first of this order:
--- an unended line, a bad byte, a section, a statement, a name taken, an unknown name, a wrong kind, a semiring.
+-- believed: The first fault of a script (own): of the lines in order the first that is faulty, and of its faults the first of this
+-- order: an unended line, a bad byte, a section, a statement, a name taken, an unknown name, a wrong kind, a semiring.
 use Rattle.std.specs.Prelude.{◌≡◌, ℕ, ◌+◌, not, if◌then◌else◌, List, [], ◌∷◌, Option, Some, None}
 use Rattle.std.specs.Option.{option_map_or}
 use Rattle.std.specs.Result.{result_err}

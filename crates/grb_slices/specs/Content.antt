@@ -1,5 +1,5 @@
--- What one object holds, and what a call makes of its target, from what the objects hold that it names: GraphBLAS C API 2.0,
--- "Execution modes": a sequence of methods is ordered by which of them writes what another reads.
+-- believed: What one object holds, and what a call makes of its target, from what the objects hold that it names: GraphBLAS C API
+-- 2.0, "Execution modes": a sequence of methods is ordered by which of them writes what another reads.
 use Rattle.std.specs.Prelude.{ℕ, Bool, ◌&&◌, ◌==◌, nat_lt, if◌then◌else◌, List, [], ◌++◌, length, Option, Some, None}
 use Rattle.std.specs.List.{list_all}
 use Rattle.std.specs.Option.{option_map, option_map_or}

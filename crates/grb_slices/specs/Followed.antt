@@ -1,5 +1,5 @@
--- A store that holds of another what is wanted, and has a place for each object that the other has (own): what evaluating a slice in place
--- of all calls leaves.
+-- believed: A store that holds of another what is wanted, and has a place for each object that the other has (own): what evaluating
+-- a slice in place of all calls leaves.
 use Rattle.std.specs.Prelude.{◌≡◌, ◌<◌, ◌≤◌, List, [], ◌∷◌, length, Bool, true, false, Option, Some, None}
 use Rattle.std.specs.Option.{option_map_or}
 use Rattle.grb_core.specs.declared.domain.Domain.TheVariants as domain

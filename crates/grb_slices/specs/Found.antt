@@ -1,4 +1,4 @@
--- The slice that a walk back over calls finds, for what is wanted behind them (own).
+-- believed: The slice that a walk back over calls finds, for what is wanted behind them (own).
 use Rattle.std.specs.Prelude.{◌≡◌, ◌≤◌, List, length, Option}
 use Rattle.grb_call.specs.declared.call.Call.{Call}
 use Rattle.grb_call.specs.declared.ids.Object.{Object}

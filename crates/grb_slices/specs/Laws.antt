@@ -1,4 +1,4 @@
--- What a reader relies on that evaluates what an object depends on, and nothing else (own).
+-- believed: What a reader relies on that evaluates what an object depends on, and nothing else (own).
 use Rattle.std.specs.Prelude.{◌≡◌, ◌≢◌, List, ◌++◌, Some, None}
 use Rattle.grb_call.specs.declared.call.Call.{Call}
 use Rattle.grb_call.specs.declared.ids.Object.{Object}

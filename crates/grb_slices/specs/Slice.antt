@@ -1,5 +1,6 @@
--- The slice of a list of entries for some wanted objects: going back from the last entry, each whose target is wanted, and then what
--- it reads is wanted (own; a backward slice, Weiser, "Program slicing", 1981). And what evaluating the slice alone gives.
+-- believed: The slice of a list of entries for some wanted objects: going back from the last entry, each whose target is wanted,
+-- and then what it reads is wanted (own; a backward slice, Weiser, "Program slicing", 1981). And what evaluating the slice alone
+-- gives.
 use Rattle.std.specs.Prelude.{Bool, false, ◌||◌, if◌then◌else◌, List, [], ◌∷◌, Option, Some}
 use Rattle.std.specs.List.{list_any}
 use Rattle.std.specs.Option.{option_map_or}

@@ -1,4 +1,4 @@
--- The entries of a list of calls, each with its target at its place, and what is known between them (own).
+-- believed: The entries of a list of calls, each with its target at its place, and what is known between them (own).
 use Rattle.std.specs.Prelude.{◌≡◌, true, List, [], ◌∷◌, Some}
 use Rattle.grb_call.specs.declared.call.Call.{Call}
 use Rattle.grb_call.specs.declared.ids.Object.{Object}

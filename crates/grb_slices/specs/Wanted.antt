@@ -1,5 +1,5 @@
--- What a contract sees of the objects that are wanted: for each sort a mark by number, and none of a number of which there is no place
--- (own).
+-- believed: What a contract sees of the objects that are wanted: for each sort a mark by number, and none of a number of which
+-- there is no place (own).
 use Rattle.std.specs.Prelude.{ℕ, ◌≡◌, ◌<◌, ◌≤◌, Bool, true, false, if◌then◌else◌, List, [], ◌∷◌, length, Option, Some, None, slice_get}
 use Rattle.std.specs.Option.{option_map_or}
 use Rattle.grb_call.specs.declared.call.Call.{Call}

@@ -1,5 +1,5 @@
--- What a vector or a matrix holds, as flat lists and as a map (own): the entries as they were last assembled, which of them are marked as
--- deleted, and the changes since then.
+-- believed: What a vector or a matrix holds, as flat lists and as a map (own): the entries as they were last assembled, which of
+-- them are marked as deleted, and the changes since then.
 use Rattle.std.specs.Prelude.{◌≡◌, ℕ, ◌*◌, ◌^◌, Bool, true, false, List, [], length}
 use Rattle.std.specs.List.{AllByRecursion}
 use Rattle.grb_core.specs.Contents.{IsVector, IsMatrix}

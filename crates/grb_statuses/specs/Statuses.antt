@@ -1,4 +1,4 @@
--- The statuses of a pass, in a row for each sort of object (own).
+-- believed: The statuses of a pass, in a row for each sort of object (own).
 use Rattle.std.specs.Prelude.{◌≡◌, ℕ, List, length, replicate, Option, None}
 use Rattle.grb_core.specs.declared.refusal.Info.{Info}
 use Rattle.grb_call.specs.declared.ids.Object.TheVariants as object

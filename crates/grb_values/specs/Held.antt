@@ -1,5 +1,5 @@
--- What a contract sees of an object that was evaluated (own): which it is, the part of the store that it was had from, and how many calls
--- were made for it.
+-- believed: What a contract sees of an object that was evaluated (own): which it is, the part of the store that it was had from,
+-- and how many calls were made for it.
 use Rattle.std.specs.Prelude.{ℕ, if◌then◌else◌, List, length, Option, None}
 use Rattle.grb_core.specs.Contents.{Matrix, Vector}
 use Rattle.grb_call.specs.declared.call.Call.{Call}

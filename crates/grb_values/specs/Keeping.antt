@@ -1,4 +1,4 @@
--- What a contract sees of objects that were read, each evaluated apart from the others (own).
+-- believed: What a contract sees of objects that were read, each evaluated apart from the others (own).
 use Rattle.std.specs.Prelude.{◌≡◌, ℕ, ◌+◌, ◌≤◌, true, List, length, take, All}
 use Rattle.grb_call.specs.declared.call.Call.{Call}
 use Rattle.grb_call.specs.declared.ids.Object.{Object}

@@ -1,4 +1,5 @@
--- What a contract sees of a walk over calls by their shapes (own): the targets of the calls walked over, and the shapes behind them.
+-- believed: What a contract sees of a walk over calls by their shapes (own): the targets of the calls walked over, and the shapes
+-- behind them.
 use Rattle.std.specs.Prelude.{◌≡◌, ◌≤◌, List, length, take, Option}
 use Rattle.grb_call.specs.declared.call.Call.{Call}
 use Rattle.grb_call.specs.declared.ids.Object.{Object}

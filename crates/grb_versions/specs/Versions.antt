@@ -1,4 +1,4 @@
--- Versions: calls, and the store that they leave (own).
+-- believed: Versions: calls, and the store that they leave (own).
 use Rattle.std.specs.Prelude.{◌≡◌, ◌≤◌, ℕ, List, length, take}
 use Rattle.grb_call.specs.declared.call.Call.{Call}
 use Rattle.grb_call.specs.Store.{Store, empty_store}

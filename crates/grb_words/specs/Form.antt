@@ -1,4 +1,4 @@
--- The forms of statements (own): what the words of a line say, whatever its names stand for.
+-- believed: The forms of statements (own): what the words of a line say, whatever its names stand for.
 use Rattle.std.specs.Prelude.{ℕ, ◌&&◌, if◌then◌else◌, List, [], ◌∷◌, Option, Some, None}
 use Rattle.std.specs.Option.{option_and_then, option_map}
 use Rattle.std.specs.Str.{is_utf8}

@@ -1,4 +1,4 @@
--- What a reader of these definitions relies on: `laws.rt` promises each.
+-- believed: What a reader of these definitions relies on: `laws.rt` promises each.
 use Rattle.std.specs.Prelude.{◌≡◌, List, Some}
 use Rattle.grb_core.specs.declared.monoid.Monoid.{Monoid}
 use Rattle.grb_core.specs.declared.operator.BinaryOp.{BinaryOp}

@@ -1,5 +1,5 @@
--- The options behind a statement that writes an output (own): 'mask NAME', 'structure', 'comp', 'accum OP' and 'replace', in this
--- order, each at most once.
+-- believed: The options behind a statement that writes an output (own): 'mask NAME', 'structure', 'comp', 'accum OP' and 'replace',
+-- in this order, each at most once.
 use Rattle.std.specs.Prelude.{◌≡◌, Bool, true, false, if◌then◌else◌, List, [], ◌∷◌, ◌++◌, Option, Some, None, codes}
 use Rattle.std.specs.Option.{option_and_then, option_map}
 use Rattle.std.specs.Str.{bytes_eq}

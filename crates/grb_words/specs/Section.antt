@@ -1,4 +1,4 @@
--- The lines that begin the sections of a script (own): 'thread K' and 'finally'.
+-- believed: The lines that begin the sections of a script (own): 'thread K' and 'finally'.
 use Rattle.std.specs.Prelude.{if◌then◌else◌, List, [], ◌∷◌, Option, Some, None, codes}
 use Rattle.std.specs.Option.{option_map}
 use Rattle.std.specs.Str.{bytes_eq}

@@ -1,4 +1,4 @@
--- The tuples of a build, and why a list was not read (own).
+-- believed: The tuples of a build, and why a list was not read (own).
 use Rattle.std.specs.Prelude.{◌≡◌, ℕ, List, [], ◌∷◌, Option, Some, None}
 use Rattle.std.specs.Option.{option_map}
 use Rattle.grb_core.specs.declared.value.Value.{Value}

@@ -1,4 +1,5 @@
--- The classes of words: keywords, names, numbers, values, domains, monoids, operators, semirings and modes of a wait (own).
+-- believed: The classes of words: keywords, names, numbers, values, domains, monoids, operators, semirings and modes of a wait
+-- (own).
 use Rattle.std.specs.Prelude.{ℕ, ◌^◌, Bool, true, false, not, ◌==◌, ◌&&◌, ◌||◌, nat_le, nat_lt, if◌then◌else◌, List, [], ◌∷◌, ◌++◌, length, Option, Some, None, codes}
 use Rattle.std.specs.List.{list_all}
 use Rattle.std.specs.Map.{lookup}

@@ -1,16 +1,11 @@
 use Rattle.std.proofs.Common.{◌≡◌, ◌∙◌, ap, ap₂, codes, rules, true}
 use Rattle.std.specs.Prelude.{Some, pos}
 use Rattle.std.proofs.lemmas.Result.{IfOk-weaker}
-use Rattle.clap.specs.Words.{Shape, app_of, new_app, rule_of, with_rule}
-use Rattle.clap.specs.Simple.{app_of_fields, on_top}
+use Rattle.clap.specs.Words.{app_of, rule_of, with_rule}
 use Rattle.clap.specs.declared.builder.value_parser.ValueParser.{ValueParser}
 use Rattle.clap.specs.declared.builder.value_parser.ValueParser.TheVariants as parser
 use Rattle.grb_command.specs.CommandLine.{command_line, room_option, script_argument}
 use Rattle.grb_command.proofs.command_line.command.Goals as goal
-
--- no word names the program
-abbrev unnamed : Shape → Shape
-unnamed s = record s { no_binary_name = true }
 
 pub returns : goal.returns
 unfolding command_line
@@ -22,9 +17,6 @@ returns c =
     let is_parser : c.value_parser-2.result.value_parser ≡ Some (parser.Signed (pos 1) (pos 4096)) = given.1 ∙ ap (λ (q : ValueParser). Some q) is_q in
     let room_is : rule_of c.help-room.result ≡ room_option = search (rules, is_parser) in
     let script_is : rule_of c.help-script.result ≡ script_argument = search rules in
-    let bare : app_of c.new-4.result ≡ new_app (codes "grbrun") = c.new-4.ensures.app in
-    let shown : app_of c.about.result ≡ new_app (codes "grbrun") = ap app_of_fields c.about.ensures ∙ bare in
-    let start : app_of c.no_binary_name.result ≡ on_top unnamed (new_app (codes "grbrun")) =
-    ap app_of_fields c.no_binary_name.ensures ∙ ap (on_top unnamed) shown in
+    let start = c.named.ensures in
     let first = c.in_ok-arg.ensures.shape (search rules) ∙ ap₂ with_rule start room_is in
     IfOk-weaker c.arg-2.result _ _ (λ x added. added.shape (search rules) ∙ ap₂ with_rule first script_is) c.arg-2.ensures

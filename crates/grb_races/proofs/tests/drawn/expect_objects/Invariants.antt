@@ -1,9 +1,0 @@
-use Rattle.grb_context.specs.Known.{IsPassOf}
-use Rattle.grb_races.proofs.tests.drawn.expect_objects.Given as goal
-
-abbrev pub invariant-reads : goal.invariant-reads
-invariant-reads g l = record {
-  first : IsPassOf l.context l.p;
-  second : IsPassOf l.context l.q;
-  only : IsPassOf l.alone l.only;
-}

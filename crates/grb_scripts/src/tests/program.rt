@@ -1,4 +1,0 @@
-mod command_line;
-mod files;
-mod output;
-mod report;

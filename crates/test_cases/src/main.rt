@@ -1,0 +1,91 @@
+//! The program `test_cases`: it runs each script of `data/` on a store, and compares what it prints with the file next to it.
+//!
+//! A case is two text files, `NAME.grb` and `NAME.out`, in one of the folders below, and no code. The output is what the script prints;
+//! where a run ends early, it has why in one line, as `line 2: semiring`. The paths of loads begin in `data/`. Comment lines say the rest:
+//!
+//! - `# room 2`: the room is 2. Else it is 4,096.
+//! - `# runs 100`: the script is run 100 times. Else it is run once, and 1,000 times where it has several lawful outputs.
+//! - `# each`: each line below it is the last line of a script of its own, which begins with the lines above. The output has what these
+//!   scripts print, one after another.
+//!
+//! Where sections race, `NAME.2.out`, `NAME.3.out` and so on are lawful outputs too. Who adds a case counts it in the file `stdout`.
+#![tactic(auto)]
+
+mod case;
+mod difference;
+mod folder;
+mod source;
+
+use crate::case::Case;
+use crate::folder::scripts_in;
+use std::io;
+use std::process::ExitCode;
+use std::rt::Files;
+use std::sync::Wait;
+use std::thread::Threads;
+
+/// The folders of the cases.
+static FOLDERS: [&str; 9] = [
+    "examples",
+    "methods",
+    "masks",
+    "operators",
+    "products",
+    "refusals",
+    "faults",
+    "loads",
+    "sections",
+];
+
+/// How many cases were as expected, and how many were not.
+#[derive(Clone, Copy)]
+struct Counts {
+    expected: u64,
+    others: u64,
+}
+
+impl Counts {
+    fn add(&mut self, is_expected: bool) {
+        if is_expected {
+            self.expected = self.expected.saturating_add(1);
+        } else {
+            self.others = self.others.saturating_add(1);
+        }
+    }
+}
+
+/// Runs the cases of a folder, and says of each that is not as expected how it differs.
+fn run_folder<R>(rt: &R, folder: &str, counts: &mut Counts) -> io::Result<()>
+where
+    R: Files + Print + AllocGlobal + Threads + Wait + Sync + Clone + Drop,
+{
+    for script in scripts_in(rt, folder)? {
+        let case = Case::read(rt, script.as_str())?;
+        counts.add(case.is_as_expected(rt)?);
+    }
+    Ok(())
+}
+
+/// Runs the cases of all folders.
+fn run_folders<R>(rt: &R) -> io::Result<Counts>
+where
+    R: Files + Print + AllocGlobal + Threads + Wait + Sync + Clone + Drop,
+{
+    let mut counts = Counts {
+        expected: 0,
+        others: 0,
+    };
+    for folder in FOLDERS {
+        run_folder(rt, folder, &mut counts)?;
+    }
+    Ok(counts)
+}
+
+fn main(rt: HostRuntime) -> io::Result<ExitCode> {
+    let counts = run_folders(&rt)?;
+    println!(rt; "cases as expected: {}", counts.expected)?;
+    if counts.others > 0 {
+        return Ok(ExitCode::FAILURE);
+    }
+    Ok(ExitCode::SUCCESS)
+}

@@ -1,0 +1,99 @@
+//! What the tests of this crate draw by chance, the same in each run.
+ghost use Rattle.std.specs.Prelude.{◌<◌};
+
+use grb_call::Descriptor;
+use grb_core::{BinaryOp, Domain, Monoid};
+
+/// Numbers that look drawn by chance (Knuth's linear congruential generator).
+#[derive(Drop)]
+pub(crate) struct Draw {
+    pub(crate) state: u64,
+}
+
+/// One of the four monoids of the domain.
+pub(crate) fn monoid_of(domain: Domain, n: u64) -> Monoid {
+    match (domain, n % 4) {
+        (Domain::Bool, 0) => Monoid::Lor,
+        (Domain::Bool, 1) => Monoid::Land,
+        (Domain::Bool, 2) => Monoid::Lxor,
+        (Domain::Bool, _) => Monoid::Lxnor,
+        (Domain::Uint64, 0) => Monoid::Plus,
+        (Domain::Uint64, 1) => Monoid::Times,
+        (Domain::Uint64, 2) => Monoid::Min,
+        (Domain::Uint64, _) => Monoid::Max,
+    }
+}
+
+/// One of the operators of the domain, which are 6 of truth values and 7 of numbers.
+pub(crate) fn op_of(domain: Domain, n: u64) -> BinaryOp {
+    match (domain, n % 6, n % 7) {
+        (Domain::Bool, 4, _) => BinaryOp::FirstBool,
+        (Domain::Bool, 5, _) => BinaryOp::SecondBool,
+        (Domain::Bool, k, _) => monoid_of(domain, k).op(),
+        (Domain::Uint64, _, 4) => BinaryOp::Minus,
+        (Domain::Uint64, _, 5) => BinaryOp::First,
+        (Domain::Uint64, _, 6) => BinaryOp::Second,
+        (Domain::Uint64, _, k) => monoid_of(domain, k).op(),
+    }
+}
+
+impl Draw {
+    /// The next number below `n`.
+    pub(crate) fn below(&mut self, n: u64) -> u64
+        requires { 0 < n }
+        ensures { result < n }
+    {
+        self.state = self
+            .state
+            .wrapping_mul(6_364_136_223_846_793_005)
+            .wrapping_add(1_442_695_040_888_963_407);
+        (self.state >> 33) % n
+    }
+
+    /// True as often as false.
+    pub(crate) fn truth(&mut self) -> bool {
+        self.below(2) == 1
+    }
+
+    pub(crate) fn domain(&mut self) -> Domain {
+        if self.truth() {
+            Domain::Bool
+        } else {
+            Domain::Uint64
+        }
+    }
+
+    /// A number that stands for a value of the domain; among those of 64 bits are small ones and the two largest.
+    pub(crate) fn number(&mut self, domain: Domain) -> u64 {
+        match domain {
+            Domain::Bool => self.below(2),
+            Domain::Uint64 => self.below(6).wrapping_sub(2),
+        }
+    }
+
+    /// A monoid of the domain.
+    pub(crate) fn monoid(&mut self, domain: Domain) -> Monoid {
+        monoid_of(domain, self.below(4))
+    }
+
+    /// An operator of the domain.
+    pub(crate) fn op(&mut self, domain: Domain) -> BinaryOp {
+        op_of(domain, self.below(42))
+    }
+
+    /// An operator of the domain, or none.
+    pub(crate) fn accum(&mut self, domain: Domain) -> Option<BinaryOp> {
+        if self.truth() {
+            return None;
+        }
+        Some(self.op(domain))
+    }
+
+    pub(crate) fn descriptor(&mut self) -> Descriptor {
+        Descriptor {
+            structure: self.truth(),
+            comp: self.truth(),
+            replace: self.truth(),
+        }
+    }
+}

@@ -1,0 +1,34 @@
+//! Tests of the crates from the values to the store that calls leave, of what no contract and no script says. Each module begins with why
+//! none does. What a contract says is proved and not tried here, and what a script says stands in `test_cases`.
+//!
+//! Nothing stands on this crate, and it has nothing but tests, so that the crates that it tries are not proved a second time for them.
+#![tactic(auto)]
+
+#[cfg(test)]
+mod calls;
+#[cfg(test)]
+mod draw;
+#[cfg(test)]
+mod histories;
+#[cfg(test)]
+mod kept;
+#[cfg(test)]
+mod listed;
+#[cfg(test)]
+mod memory;
+#[cfg(test)]
+mod objects;
+#[cfg(test)]
+mod operations;
+#[cfg(test)]
+mod plain;
+#[cfg(test)]
+mod same;
+#[cfg(test)]
+mod texts_read;
+#[cfg(test)]
+mod texts_written;
+#[cfg(test)]
+mod values;
+#[cfg(test)]
+mod versions;

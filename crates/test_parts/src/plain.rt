@@ -1,0 +1,189 @@
+//! The operations of the standard by plain loops over tables: at each place the definition in words, with operators of its own.
+use crate::calls::{Choice, Operation};
+use grb_core::{BinaryOp, Monoid};
+use std::alloc::{AllocError, Global};
+
+/// What an object stores at each place, as a number; a matrix row by row. Of truth values 0 is false and 1 is true.
+pub(crate) type Table = Vec<Option<u64>>;
+
+/// How many places the objects have down and across: the output `rows` and `columns`, the first input of a product `rows` and `inner`,
+/// and the second `inner` and `columns`. A vector has one column.
+#[derive(Clone, Copy, Debug)]
+pub(crate) struct Dims {
+    pub(crate) rows: u64,
+    pub(crate) inner: u64,
+    pub(crate) columns: u64,
+}
+
+/// What the objects of an operation store. Without a mask each place is as of a mask that stores 1 everywhere.
+#[derive(Drop)]
+pub(crate) struct Tables {
+    pub(crate) output: Table,
+    pub(crate) mask: Option<Table>,
+    pub(crate) first: Table,
+    pub(crate) second: Table,
+}
+
+/// What the table stores at a place.
+pub(crate) fn stored(table: &[Option<u64>], at: u64) -> Option<u64> {
+    match table.get(at as usize) {
+        Some(number) => *number,
+        None => None,
+    }
+}
+
+/// How many places of the table store something.
+pub(crate) fn count(table: &[Option<u64>]) -> u64 {
+    let mut n: u64 = 0;
+    for number in table {
+        n = n.wrapping_add(u64::from(number.is_some()));
+    }
+    n
+}
+
+/// What an operator of truth values, 0 and 1, makes of two.
+fn logical(op: BinaryOp, x: u64, y: u64) -> u64 {
+    match op {
+        BinaryOp::Lor => x.max(y),
+        BinaryOp::Land => x.min(y),
+        BinaryOp::Lxor => u64::from(x != y),
+        BinaryOp::Lxnor => u64::from(x == y),
+        BinaryOp::FirstBool => x,
+        _ => y,
+    }
+}
+
+/// What an operator makes of two numbers.
+fn applied(op: BinaryOp, x: u64, y: u64) -> u64 {
+    match op {
+        BinaryOp::Plus => x.wrapping_add(y),
+        BinaryOp::Times => x.wrapping_mul(y),
+        BinaryOp::Min => x.min(y),
+        BinaryOp::Max => x.max(y),
+        BinaryOp::Minus => x.wrapping_sub(y),
+        BinaryOp::First => x,
+        BinaryOp::Second => y,
+        _ => logical(op, x, y),
+    }
+}
+
+/// What a monoid makes of two numbers.
+fn added(monoid: Monoid, x: u64, y: u64) -> u64 {
+    match monoid {
+        Monoid::Lor | Monoid::Max => x.max(y),
+        Monoid::Land | Monoid::Min => x.min(y),
+        Monoid::Lxor => u64::from(x != y),
+        Monoid::Lxnor => u64::from(x == y),
+        Monoid::Plus => x.wrapping_add(y),
+        Monoid::Times => x.wrapping_mul(y),
+    }
+}
+
+/// The number that a monoid has for no values.
+fn neutral(monoid: Monoid) -> u64 {
+    match monoid {
+        Monoid::Lor | Monoid::Lxor | Monoid::Plus | Monoid::Max => 0,
+        Monoid::Land | Monoid::Lxnor | Monoid::Times => 1,
+        Monoid::Min => u64::MAX,
+    }
+}
+
+/// Both numbers combined, else the one that there is.
+fn either(op: BinaryOp, x: Option<u64>, y: Option<u64>) -> Option<u64> {
+    match (x, y) {
+        (Some(x), Some(y)) => Some(applied(op, x, y)),
+        _ => x.or(y),
+    }
+}
+
+/// Both numbers combined, where there are both.
+fn both(op: BinaryOp, x: Option<u64>, y: Option<u64>) -> Option<u64> {
+    match (x, y) {
+        (Some(x), Some(y)) => Some(applied(op, x, y)),
+        _ => None,
+    }
+}
+
+/// A sum with one number more, if there is one.
+fn summed(monoid: Monoid, sum: Option<u64>, number: Option<u64>) -> Option<u64> {
+    match (sum, number) {
+        (Some(x), Some(y)) => Some(added(monoid, x, y)),
+        _ => sum.or(number),
+    }
+}
+
+/// The fold of all that a table stores.
+pub(crate) fn total(monoid: Monoid, table: &[Option<u64>]) -> u64 {
+    let mut sum = None;
+    for number in table {
+        sum = summed(monoid, sum, *number);
+    }
+    sum.unwrap_or(neutral(monoid))
+}
+
+/// What a product stores at a row and a column, or the fold of the row.
+fn summed_at(choice: Choice, dims: Dims, tables: &Tables, i: u64, j: u64) -> Option<u64> {
+    let mut sum = None;
+    for k in 0..dims.inner {
+        let x = stored(&tables.first, i.wrapping_mul(dims.inner).wrapping_add(k));
+        let y = stored(&tables.second, k.wrapping_mul(dims.columns).wrapping_add(j));
+        let number = match choice.operation {
+            Operation::ReduceRows => x,
+            _ => both(choice.op, x, y),
+        };
+        sum = summed(choice.monoid, sum, number);
+    }
+    sum
+}
+
+/// What the operation computes at a place of the output.
+fn computed(choice: Choice, dims: Dims, tables: &Tables, at: u64) -> Option<u64> {
+    let (x, y) = (stored(&tables.first, at), stored(&tables.second, at));
+    match choice.operation {
+        Operation::AddVector | Operation::AddMatrix => either(choice.op, x, y),
+        Operation::MultVector | Operation::MultMatrix => both(choice.op, x, y),
+        _ => {
+            let columns = dims.columns.max(1);
+            summed_at(choice, dims, tables, at / columns, at % columns)
+        }
+    }
+}
+
+/// Whether a place is inside, by what the mask stores there.
+fn is_inside(choice: Choice, tables: &Tables, at: u64) -> bool {
+    let selected = match &tables.mask {
+        None => true,
+        Some(mask) => match stored(mask, at) {
+            Some(number) => choice.descriptor.structure || number != 0,
+            None => false,
+        },
+    };
+    selected != choice.descriptor.comp
+}
+
+/// What the output stores at a place after the operation.
+fn wanted_at(choice: Choice, dims: Dims, tables: &Tables, at: u64) -> Option<u64> {
+    let old = stored(&tables.output, at);
+    if !is_inside(choice, tables, at) {
+        return if choice.descriptor.replace { None } else { old };
+    }
+    let computed = computed(choice, dims, tables, at);
+    match choice.accum {
+        None => computed,
+        Some(accum) => either(accum, old, computed),
+    }
+}
+
+/// What the output stores after the operation.
+pub(crate) fn wanted(
+    alloc: Global,
+    choice: Choice,
+    dims: Dims,
+    tables: &Tables,
+) -> Result<Table, AllocError> {
+    let mut wanted = Vec::new(alloc);
+    for at in 0..tables.output.len() {
+        wanted.push(wanted_at(choice, dims, tables, at as u64))?;
+    }
+    Ok(wanted)
+}

@@ -1,0 +1,251 @@
+//! Versions: which of them serve which calls, and which are kept.
+//!
+//! The contracts of `newest` and `advance` say that what is found is the store of the first of the calls. That a version is found where one
+//! serves, the longest that does, and which offers are kept, no contract says.
+ghost use Rattle.std.specs.Prelude.{◌≡◌, ◌≤◌, length, map, IfOk};
+ghost use Rattle.grb_call.specs.Store.{empty_store};
+ghost use Rattle.grb_call.specs.History.{after_all};
+
+use crate::calls::lent;
+use crate::same::same;
+use grb_call::{Call, VectorId};
+use grb_core::{Domain, Value};
+use grb_replay::{State, replay};
+use grb_versions::Versions;
+use std::alloc::{AllocError, Global};
+use std::process::Abort;
+
+/// A history by numbers: 0 and 1 make a vector of size 2 or 3, and any other sets the first one's index 0 to the number less one.
+#[derive(Clone, Copy)]
+enum History {
+    These(&'static [u64]),
+    /// A vector, and sets by the numbers from 2 to this one: as many calls as the number.
+    Until(u64),
+}
+
+use History::{These, Until};
+
+fn call_of(number: u64) -> Call {
+    if number < 2 {
+        return Call::NewVector {
+            domain: Domain::Uint64,
+            size: number.wrapping_add(2),
+        };
+    }
+    Call::SetVector {
+        v: VectorId(0),
+        i: 0,
+        value: Value::Uint64(number.wrapping_sub(1)),
+    }
+}
+
+fn calls_of(alloc: Global, history: History) -> Result<Vec<Call>, AllocError> {
+    let mut calls = Vec::new(alloc);
+    match history {
+        These(numbers) => {
+            for number in numbers {
+                calls.push(call_of(*number))?;
+            }
+        }
+        Until(last) => {
+            calls.push(call_of(0))?;
+            for number in 2..=last {
+                calls.push(call_of(number))?;
+            }
+        }
+    }
+    Ok(calls)
+}
+
+/// The store that the calls leave.
+fn state_of(alloc: Global, calls: &[&Call]) -> Result<State, AllocError>
+    requires { length calls.now ≤ 4096 }
+    ensures { IfOk result (λ state. state.store ≡ after_all empty_store (map (λ c. c.now) calls.now)) }
+{
+    let empty = State::open(alloc, 0)?;
+    replay(&empty, calls)
+}
+
+/// Offers the store that the calls leave, and the calls.
+fn offer(
+    rt: &impl Abort,
+    alloc: Global,
+    versions: &Versions,
+    history: History,
+) -> Result<(), AllocError> {
+    let calls = calls_of(alloc, history)?;
+    let lent = lent(alloc, &calls)?;
+    if lent.len() > 4096 {
+        panic!(rt; "{calls} calls", calls = lent.len());
+    }
+    let state = state_of(alloc, &lent)?;
+    versions.offer(&lent, state)
+}
+
+/// What the vector stores at index 0, none where it stores nothing or is not there.
+fn stored(state: &State) -> Option<u64> {
+    match state.vector(VectorId(0))?.get(0) {
+        Some(Value::Uint64(n)) => Some(n),
+        _ => None,
+    }
+}
+
+/// How many calls the version has that serves the calls, and what the vector stores in it.
+fn found(versions: &Versions, calls: &[&Call]) -> Option<(usize, Option<u64>)> {
+    let (length, state) = versions.newest(calls)?;
+    Some((length, stored(state)))
+}
+
+/// Of how many calls a state is that goes on from a version, and what the vector stores in it; none where it stays the empty one.
+fn advanced(
+    alloc: Global,
+    versions: &Versions,
+    calls: &[&Call],
+) -> Result<Option<(usize, Option<u64>)>, AllocError> {
+    let mut state = State::open(alloc, 128)?;
+    let length = versions.advance(calls, &mut state, 0, 128);
+    if length == 0 {
+        return Ok(None);
+    }
+    Ok(Some((length, stored(&state))))
+}
+
+/// Versions of a room: those offered in turn, how many calls the longest has that is kept, the calls that are asked for, and what is found
+/// for them.
+#[derive(Clone, Copy)]
+struct Row {
+    name: &'static str,
+    room: u32,
+    offered: &'static [History],
+    longest: usize,
+    asked: History,
+    found: Option<(usize, Option<u64>)>,
+}
+
+static ROWS: [Row; 13] = [
+    Row {
+        name: "nothing was offered",
+        room: 128,
+        offered: &[],
+        longest: 0,
+        asked: These(&[0, 5]),
+        found: None,
+    },
+    Row {
+        name: "the calls themselves",
+        room: 128,
+        offered: &[These(&[0, 5])],
+        longest: 2,
+        asked: These(&[0, 5]),
+        found: Some((2, Some(4))),
+    },
+    Row {
+        name: "the same calls, and another between them",
+        room: 128,
+        offered: &[These(&[0, 1])],
+        longest: 2,
+        asked: These(&[0, 2, 1]),
+        found: None,
+    },
+    Row {
+        name: "the same calls, and another after them",
+        room: 128,
+        offered: &[These(&[0, 1])],
+        longest: 2,
+        asked: These(&[0, 1, 2]),
+        found: Some((2, None)),
+    },
+    Row {
+        name: "as many other calls",
+        room: 128,
+        offered: &[These(&[0, 5])],
+        longest: 2,
+        asked: These(&[0, 6]),
+        found: None,
+    },
+    Row {
+        name: "fewer calls",
+        room: 128,
+        offered: &[These(&[0, 5])],
+        longest: 2,
+        asked: These(&[0]),
+        found: None,
+    },
+    Row {
+        name: "a cell is set once",
+        room: 128,
+        offered: &[These(&[0, 5]), These(&[0, 6])],
+        longest: 2,
+        asked: These(&[0, 6]),
+        found: None,
+    },
+    Row {
+        name: "no calls are no version",
+        room: 128,
+        offered: &[These(&[])],
+        longest: 0,
+        asked: These(&[]),
+        found: None,
+    },
+    Row {
+        name: "the longer of two",
+        room: 128,
+        offered: &[These(&[0, 2]), Until(65)],
+        longest: 65,
+        asked: Until(66),
+        found: Some((65, Some(64))),
+    },
+    Row {
+        name: "the shorter of two, where the longer has other calls",
+        room: 128,
+        offered: &[These(&[0, 2]), Until(65)],
+        longest: 65,
+        asked: These(&[0, 2, 9]),
+        found: Some((2, Some(1))),
+    },
+    Row {
+        name: "64 calls and 65 in cells of their own",
+        room: 128,
+        offered: &[Until(64), Until(65)],
+        longest: 65,
+        asked: Until(64),
+        found: Some((64, Some(63))),
+    },
+    Row {
+        name: "the last in the room",
+        room: 64,
+        offered: &[Until(64)],
+        longest: 64,
+        asked: Until(66),
+        found: Some((64, Some(63))),
+    },
+    Row {
+        name: "beyond the room",
+        room: 64,
+        offered: &[Until(65)],
+        longest: 0,
+        asked: Until(66),
+        found: None,
+    },
+];
+
+fn expect_row(rt: &impl Abort, alloc: Global, row: &Row) -> Result<(), AllocError> {
+    let versions = Versions::open(alloc, row.room)?;
+    for history in row.offered {
+        offer(rt, alloc, &versions, *history)?;
+    }
+    same(rt, versions.longest(), row.longest, row.name);
+    let calls = calls_of(alloc, row.asked)?;
+    let lent = lent(alloc, &calls)?;
+    same(rt, found(&versions, &lent), row.found, row.name);
+    same(rt, advanced(alloc, &versions, &lent)?, row.found, row.name);
+    Ok(())
+}
+
+#[test]
+fn a_version_serves_the_calls_that_begin_with_its_own(rt: HostRuntime) -> Result<(), AllocError> {
+    for row in &ROWS {
+        expect_row(&rt, rt.alloc(), row)?;
+    }
+    Ok(())
+}

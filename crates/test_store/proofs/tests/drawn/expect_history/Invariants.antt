@@ -1,0 +1,9 @@
+use Rattle.grb_context.specs.Known.{IsPassOf}
+use Rattle.test_store.proofs.tests.drawn.expect_history.Given as goal
+
+abbrev pub invariant-calls : goal.invariant-calls
+invariant-calls g l = record {
+  first : IsPassOf l.context l.p;
+  second : IsPassOf l.context l.q;
+  only : IsPassOf l.alone l.only;
+}

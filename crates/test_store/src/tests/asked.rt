@@ -1,0 +1,193 @@
+//! Calls as tables hold them, each made by its method.
+ghost use Rattle.grb_context.specs.Known.{IsPassOf};
+
+use grb_call::{Descriptor, MatrixId, MatrixTuples, Reply, VectorId, VectorTuples, WaitMode};
+use grb_context::{Context, Pass};
+use grb_core::{BinaryOp, Domain, Monoid, Refusal, Semiring, Value};
+use std::alloc::{AllocError, Global};
+
+pub(super) type Answer = Result<Reply, Refusal>;
+
+pub(super) const FIRST: VectorId = VectorId(0);
+
+pub(super) const SECOND: VectorId = VectorId(1);
+
+pub(super) const MADE: Answer = Ok(Reply::MadeVector(FIRST));
+
+pub(super) const DONE: Answer = Ok(Reply::Done);
+
+pub(super) const NO_VALUE: Answer = Ok(Reply::NoValue);
+
+pub(super) const GONE: Answer = Err(Refusal::UninitializedObject);
+
+pub(super) const BAD_INDEX: Answer = Err(Refusal::InvalidIndex);
+
+pub(super) const PLAIN: Descriptor = Descriptor {
+    structure: false,
+    comp: false,
+    replace: false,
+};
+
+/// What an operation writes, its mask, its accumulator and its descriptor.
+pub(super) type IntoMatrix = (MatrixId, Option<MatrixId>, Option<BinaryOp>, Descriptor);
+
+pub(super) type IntoVector = (VectorId, Option<VectorId>, Option<BinaryOp>, Descriptor);
+
+/// A call without a list of its own. A build adds up numbers by their places; one of truth values, which are true where the numbers are
+/// odd, combines them by exclusive or.
+#[derive(Clone, Copy)]
+pub(super) enum Asked {
+    NewMatrix(Domain, u64, u64),
+    NewVector(Domain, u64),
+    FreeMatrix(MatrixId),
+    FreeVector(VectorId),
+    SetMatrix(MatrixId, u64, u64, Value),
+    SetVector(VectorId, u64, Value),
+    RemoveMatrix(MatrixId, u64, u64),
+    RemoveVector(VectorId, u64),
+    GetMatrix(MatrixId, u64, u64),
+    GetVector(VectorId, u64),
+    NvalsMatrix(MatrixId),
+    NvalsVector(VectorId),
+    SizeMatrix(MatrixId),
+    SizeVector(VectorId),
+    ClearMatrix(MatrixId),
+    ClearVector(VectorId),
+    ResizeMatrix(MatrixId, u64, u64),
+    ResizeVector(VectorId, u64),
+    DupMatrix(MatrixId),
+    DupVector(VectorId),
+    BuildMatrix(MatrixId, Domain, &'static [(u64, u64, u64)]),
+    BuildVector(VectorId, Domain, &'static [(u64, u64)]),
+    EwiseAddMatrix(IntoMatrix, BinaryOp, MatrixId, MatrixId),
+    EwiseAddVector(IntoVector, BinaryOp, VectorId, VectorId),
+    EwiseMultMatrix(IntoMatrix, BinaryOp, MatrixId, MatrixId),
+    EwiseMultVector(IntoVector, BinaryOp, VectorId, VectorId),
+    Mxv(IntoVector, Monoid, BinaryOp, MatrixId, VectorId),
+    Mxm(IntoMatrix, Monoid, BinaryOp, MatrixId, MatrixId),
+    ReduceRows(IntoVector, Monoid, MatrixId),
+    ReduceMatrix(MatrixId, Monoid),
+    ReduceVector(VectorId, Monoid),
+    WaitMatrix(MatrixId, WaitMode),
+    WaitVector(VectorId, WaitMode),
+}
+
+/// The number, or whether it is odd.
+pub(super) fn value_of(domain: Domain, number: u64) -> Value {
+    match domain {
+        Domain::Bool => Value::Bool(number % 2 == 1),
+        Domain::Uint64 => Value::Uint64(number),
+    }
+}
+
+fn sum_of(domain: Domain) -> Monoid {
+    match domain {
+        Domain::Bool => Monoid::Lxor,
+        Domain::Uint64 => Monoid::Plus,
+    }
+}
+
+fn values(alloc: Global, domain: Domain, list: &[(u64, u64)]) -> Result<VectorTuples, AllocError> {
+    let mut tuples = Vec::new(alloc);
+    for (i, number) in list {
+        tuples.push((*i, value_of(domain, *number)))?;
+    }
+    Ok(VectorTuples::from_vec(tuples))
+}
+
+fn cells(
+    alloc: Global,
+    domain: Domain,
+    list: &[(u64, u64, u64)],
+) -> Result<MatrixTuples, AllocError> {
+    let mut tuples = Vec::new(alloc);
+    for (i, j, number) in list {
+        tuples.push((*i, *j, value_of(domain, *number)))?;
+    }
+    Ok(MatrixTuples::from_vec(tuples))
+}
+
+/// Makes an operation on several objects, or a total.
+fn operate(context: &Context, pass: &mut Pass, asked: Asked) -> Answer
+    requires { IsPassOf context.now pass.old }
+    ensures { IsPassOf context.now pass.new }
+{
+    match asked {
+        Asked::EwiseAddMatrix((c, mask, accum, d), op, a, b) => {
+            context.ewise_add_matrix(pass, c, mask, accum, op, a, b, d)
+        }
+        Asked::EwiseAddVector((w, mask, accum, d), op, u, v) => {
+            context.ewise_add_vector(pass, w, mask, accum, op, u, v, d)
+        }
+        Asked::EwiseMultMatrix((c, mask, accum, d), op, a, b) => {
+            context.ewise_mult_matrix(pass, c, mask, accum, op, a, b, d)
+        }
+        Asked::EwiseMultVector((w, mask, accum, d), op, u, v) => {
+            context.ewise_mult_vector(pass, w, mask, accum, op, u, v, d)
+        }
+        Asked::Mxv((w, mask, accum, d), monoid, op, a, u) => match Semiring::new(monoid, op) {
+            Ok(semiring) => context.mxv(pass, w, mask, accum, semiring, a, u, d),
+            Err(refusal) => Err(refusal),
+        },
+        Asked::Mxm((c, mask, accum, d), monoid, op, a, b) => match Semiring::new(monoid, op) {
+            Ok(semiring) => context.mxm(pass, c, mask, accum, semiring, a, b, d),
+            Err(refusal) => Err(refusal),
+        },
+        Asked::ReduceRows((w, mask, accum, d), monoid, a) => {
+            context.reduce_rows(pass, w, mask, accum, monoid, a, d)
+        }
+        Asked::ReduceMatrix(a, monoid) => context.reduce_matrix(pass, a, monoid),
+        Asked::ReduceVector(v, monoid) => context.reduce_vector(pass, v, monoid),
+        _ => Err(Refusal::Panic),
+    }
+}
+
+/// Makes a call on a matrix, or an operation.
+fn ask_matrix(alloc: Global, context: &Context, pass: &mut Pass, asked: Asked) -> Answer
+    requires { IsPassOf context.now pass.old }
+    ensures { IsPassOf context.now pass.new }
+{
+    match asked {
+        Asked::NewMatrix(domain, nrows, ncols) => context.new_matrix(pass, domain, nrows, ncols),
+        Asked::FreeMatrix(a) => context.free_matrix(pass, a),
+        Asked::SetMatrix(a, i, j, value) => context.set_matrix(pass, a, i, j, value),
+        Asked::RemoveMatrix(a, i, j) => context.remove_matrix(pass, a, i, j),
+        Asked::GetMatrix(a, i, j) => context.get_matrix(pass, a, i, j),
+        Asked::NvalsMatrix(a) => context.nvals_matrix(pass, a),
+        Asked::SizeMatrix(a) => context.size_matrix(pass, a),
+        Asked::ClearMatrix(a) => context.clear_matrix(pass, a),
+        Asked::ResizeMatrix(a, nrows, ncols) => context.resize_matrix(pass, a, nrows, ncols),
+        Asked::DupMatrix(a) => context.dup_matrix(pass, a),
+        Asked::BuildMatrix(a, domain, list) => match cells(alloc, domain, list) {
+            Ok(tuples) => context.build_matrix(pass, a, tuples, sum_of(domain)),
+            Err(_) => Err(Refusal::OutOfMemory),
+        },
+        Asked::WaitMatrix(a, mode) => context.wait_matrix(pass, a, mode),
+        _ => operate(context, pass, asked),
+    }
+}
+
+/// Makes a call by its method. `OutOfMemory` also where memory is refused to the list of a build.
+pub(super) fn ask(alloc: Global, context: &Context, pass: &mut Pass, asked: Asked) -> Answer
+    requires { IsPassOf context.now pass.old }
+    ensures { IsPassOf context.now pass.new }
+{
+    match asked {
+        Asked::NewVector(domain, size) => context.new_vector(pass, domain, size),
+        Asked::FreeVector(v) => context.free_vector(pass, v),
+        Asked::SetVector(v, i, value) => context.set_vector(pass, v, i, value),
+        Asked::RemoveVector(v, i) => context.remove_vector(pass, v, i),
+        Asked::GetVector(v, i) => context.get_vector(pass, v, i),
+        Asked::NvalsVector(v) => context.nvals_vector(pass, v),
+        Asked::SizeVector(v) => context.size_vector(pass, v),
+        Asked::ClearVector(v) => context.clear_vector(pass, v),
+        Asked::ResizeVector(v, size) => context.resize_vector(pass, v, size),
+        Asked::DupVector(v) => context.dup_vector(pass, v),
+        Asked::BuildVector(v, domain, list) => match values(alloc, domain, list) {
+            Ok(tuples) => context.build_vector(pass, v, tuples, sum_of(domain)),
+            Err(_) => Err(Refusal::OutOfMemory),
+        },
+        Asked::WaitVector(v, mode) => context.wait_vector(pass, v, mode),
+        _ => ask_matrix(alloc, context, pass, asked),
+    }
+}

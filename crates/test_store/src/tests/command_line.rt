@@ -1,0 +1,122 @@
+//! What the words of a command line ask for. What they are is tested word by word, and what is told of them, which no contract says; a script
+//! has no command line.
+use crate::tests::same::same;
+use grb_command::{Options, options, status_of_words};
+use std::alloc::{AllocError, Global};
+use std::process::Abort;
+use std::test::Fail;
+
+const HELP: &str = "Runs a script of GraphBLAS calls on one shared store\n\n\
+    Usage: grbrun [OPTIONS] <SCRIPT>\n\n\
+    Arguments:\n  <SCRIPT>  The script to run, of at most 1,048,576 bytes; the paths of its loads\n            \
+    begin in the working folder. A load reads a Matrix Market coordinate\n            \
+    file of at most 67,108,864 bytes, integer or pattern, general or\n            \
+    symmetric. All files are read and checked after the script, and before\n            \
+    anything runs.\n\n\
+    Options:\n      --room <N>  How many calls may change the store, two of each load, from 1 to 4096 [default: 4096]\n  \
+    -h, --help      Print help\n  -V, --version   Print version\n";
+
+const MISSING_SCRIPT: &str =
+    "error: the following required arguments were not provided:\n  <SCRIPT>\n\n\
+    Usage: grbrun <SCRIPT>\n\nFor more information, try '--help'.\n";
+
+const ROOM_OF_0: &str = "error: invalid value '0' for '--room <N>': 0 is not in 1..=4096\n\n\
+    For more information, try '--help'.\n";
+
+const ROOM_OF_X: &str =
+    "error: invalid value 'x' for '--room <N>': invalid digit found in string\n\n\
+    For more information, try '--help'.\n";
+
+const UNEXPECTED_Y: &str = "error: unexpected argument 'y' found\n\n\
+    Usage: grbrun [OPTIONS] <SCRIPT>\n\nFor more information, try '--help'.\n";
+
+#[test]
+fn words_give_a_room_and_a_path(rt: HostRuntime) -> Result<(), Fail> {
+    let rows: [(&[&str], u32, &str); 8] = [
+        (&["first.grb"], 4096, "first.grb"),
+        (&["--room", "1", "x"], 1, "x"),
+        (&["--room", "4096", "x"], 4096, "x"),
+        (&["--room=7", "x"], 7, "x"),
+        (&["x", "--room", "7"], 7, "x"),
+        (
+            &["--room", "2", "folder/with a space.grb"],
+            2,
+            "folder/with a space.grb",
+        ),
+        (&["--", "--room"], 4096, "--room"),
+        (&["-"], 4096, "-"),
+    ];
+    for (words, room, path) in &rows {
+        let given = options(rt.alloc(), *words)?;
+        let (room, path) = (*room, *path);
+        same(&rt, given, Options { room, path }, *words);
+    }
+    Ok(())
+}
+
+/// The words of a line are no options, and end the program with this status.
+fn expect_status(rt: &impl Abort, alloc: Global, line: &str, status: u8) -> Result<(), AllocError> {
+    let words: Vec<&str> = line.split_whitespace().collect(alloc)?;
+    let met = match options(alloc, &words) {
+        Ok(_) => None,
+        Err(error) => Some(status_of_words(&error)),
+    };
+    same(rt, met, Some(status), line);
+    Ok(())
+}
+
+#[test]
+fn other_words_are_faulty_or_ask_for_help(rt: HostRuntime) -> Result<(), Fail> {
+    let rows = [
+        ("--room 0 x", 2),
+        ("--room 4097 x", 2),
+        ("--room 18446744073709551616 x", 2),
+        ("--room -1 x", 2),
+        ("--room many x", 2),
+        ("--room= x", 2),
+        ("--room x", 2),
+        ("--room 1 --room 2 x", 2),
+        ("", 2),
+        ("x y", 2),
+        ("--rooms 3 x", 2),
+        ("--help", 0),
+        ("-h", 0),
+        ("--version", 0),
+        ("-V", 0),
+    ];
+    for (line, status) in &rows {
+        expect_status(&rt, rt.alloc(), *line, *status)?;
+    }
+    Ok(())
+}
+
+/// What is told of the words of a line, which are no options.
+fn told_of(alloc: Global, line: &str) -> Result<Option<String>, AllocError> {
+    let words: Vec<&str> = line.split_whitespace().collect(alloc)?;
+    match options(alloc, &words) {
+        Ok(_) => Ok(None),
+        Err(error) => Ok(Some(format!(in alloc; "{error}")?)),
+    }
+}
+
+fn expect_told(rt: &impl Abort, alloc: Global, line: &str, text: &str) -> Result<(), AllocError> {
+    let told = told_of(alloc, line)?;
+    same(rt, told.as_deref(), Some(text), line);
+    Ok(())
+}
+
+#[test]
+fn help_and_what_is_wrong_are_told_in_words(rt: HostRuntime) -> Result<(), Fail> {
+    let rows = [
+        ("--help", HELP),
+        ("--version", "grbrun 1.0.0\n"),
+        ("", MISSING_SCRIPT),
+        ("--room 0 x", ROOM_OF_0),
+        ("--room x x", ROOM_OF_X),
+        ("x y", UNEXPECTED_Y),
+    ];
+    for (line, text) in &rows {
+        expect_told(&rt, rt.alloc(), *line, *text)?;
+    }
+    Ok(())
+}

@@ -1,0 +1,97 @@
+//! Reads in histories that are long for other objects. Which calls a read evaluates, and what another pass left for it, no contract says:
+//! each of its three ways to a value is taken here. No script has a pass that meets another.
+use crate::tests::asked::Asked::{EwiseAddVector, GetVector, NewVector, SetVector, WaitVector};
+use crate::tests::asked::{Answer, Asked, DONE, FIRST, MADE, PLAIN, SECOND};
+use crate::tests::rows::Step::{Asks, Knows, Meets, Repeats, Settled};
+use crate::tests::rows::{P, Q, R, Row, run};
+use grb_call::{Reply, WaitMode};
+use grb_core::{BinaryOp, Domain, Value};
+use std::alloc::AllocError;
+
+/// Adds the first vector to the second.
+const ADDED: Asked = EwiseAddVector((SECOND, None, None, PLAIN), BinaryOp::Plus, SECOND, FIRST);
+
+const SETTLE: Asked = WaitVector(SECOND, WaitMode::Materialize);
+
+const MADE_SECOND: Answer = Ok(Reply::MadeVector(SECOND));
+
+const ONE: Value = Value::Uint64(1);
+
+const FIVE: Value = Value::Uint64(5);
+
+const SIX: Value = Value::Uint64(6);
+
+const IS_1: Answer = Ok(Reply::Value(ONE));
+
+const IS_5: Answer = Ok(Reply::Value(FIVE));
+
+const IS_6: Answer = Ok(Reply::Value(SIX));
+
+const IS_401: Answer = Ok(Reply::Value(Value::Uint64(401)));
+
+const IS_801: Answer = Ok(Reply::Value(Value::Uint64(801)));
+
+/// One pass fills the second vector from the first, and another changes and reads the first. Then each changes what the other reads.
+static CHANGED: [Row; 22] = [
+    (P, Asks(NewVector(Domain::Uint64, 2), MADE)),
+    (P, Asks(NewVector(Domain::Uint64, 2), MADE_SECOND)),
+    (P, Asks(SetVector(FIRST, 0, ONE), DONE)),
+    (P, Asks(SetVector(SECOND, 0, ONE), DONE)),
+    (P, Repeats(400, ADDED, DONE)),
+    (Q, Meets(P)),
+    (Q, Asks(SetVector(FIRST, 1, FIVE), DONE)),
+    (Q, Asks(GetVector(FIRST, 0), IS_1)),
+    (Q, Asks(GetVector(FIRST, 1), IS_5)),
+    (P, Asks(SetVector(FIRST, 1, SIX), DONE)),
+    (Q, Asks(GetVector(FIRST, 1), IS_6)),
+    (Q, Asks(GetVector(SECOND, 0), IS_401)),
+    (Q, Asks(GetVector(FIRST, 1), IS_6)),
+    (P, Asks(GetVector(FIRST, 0), IS_1)),
+    (P, Repeats(400, ADDED, DONE)),
+    (P, Asks(SetVector(FIRST, 0, FIVE), DONE)),
+    (Q, Asks(GetVector(FIRST, 0), IS_5)),
+    (Q, Asks(GetVector(FIRST, 1), IS_6)),
+    (Q, Asks(GetVector(SECOND, 0), IS_801)),
+    (Q, Asks(GetVector(FIRST, 1), IS_6)),
+    (P, Knows(807)),
+    (Q, Knows(807)),
+];
+
+#[test]
+fn a_read_of_one_object_is_right_amid_calls_on_another(rt: HostRuntime) -> Result<(), AllocError> {
+    run(&rt, 1024, &CHANGED)
+}
+
+/// The same until the first read. Then one pass settles all, others read what it left, and two of them change it for all.
+static SHARED: [Row; 25] = [
+    (P, Asks(NewVector(Domain::Uint64, 2), MADE)),
+    (P, Asks(NewVector(Domain::Uint64, 2), MADE_SECOND)),
+    (P, Asks(SetVector(FIRST, 0, ONE), DONE)),
+    (P, Asks(SetVector(SECOND, 0, ONE), DONE)),
+    (P, Repeats(400, ADDED, DONE)),
+    (Q, Meets(P)),
+    (Q, Asks(SetVector(FIRST, 1, FIVE), DONE)),
+    (Q, Asks(GetVector(FIRST, 0), IS_1)),
+    (P, Asks(SETTLE, DONE)),
+    (P, Settled(405)),
+    (R, Meets(P)),
+    (R, Asks(GetVector(SECOND, 0), IS_401)),
+    (R, Knows(405)),
+    (Q, Asks(GetVector(SECOND, 0), IS_401)),
+    (Q, Knows(405)),
+    (Q, Asks(SetVector(SECOND, 0, SIX), DONE)),
+    (P, Asks(GetVector(SECOND, 0), IS_6)),
+    (P, Asks(SetVector(SECOND, 1, FIVE), DONE)),
+    (Q, Asks(GetVector(SECOND, 1), IS_5)),
+    (Q, Asks(GetVector(SECOND, 0), IS_6)),
+    (P, Asks(GetVector(FIRST, 1), IS_5)),
+    (P, Asks(GetVector(SECOND, 1), IS_5)),
+    (R, Asks(GetVector(FIRST, 1), IS_5)),
+    (R, Asks(GetVector(SECOND, 1), IS_5)),
+    (R, Knows(407)),
+];
+
+#[test]
+fn a_read_goes_on_from_what_another_pass_settled(rt: HostRuntime) -> Result<(), AllocError> {
+    run(&rt, 512, &SHARED)
+}

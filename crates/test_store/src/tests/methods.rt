@@ -1,0 +1,120 @@
+//! Each method of a context once, with memory at hand. A contract lets any call be refused memory, so none says that one of them is ever
+//! done; scripts make their calls as values, and by no method.
+use crate::tests::asked::Asked::*;
+use crate::tests::asked::{Answer, DONE, IntoMatrix, IntoVector, MADE, PLAIN};
+use crate::tests::rows::Step::Asks;
+use crate::tests::rows::{P, Row, run};
+use grb_call::{MatrixId, Reply, VectorId, WaitMode};
+use grb_core::{BinaryOp, Domain, Monoid, Value};
+use std::alloc::AllocError;
+
+const A: MatrixId = MatrixId(0);
+
+const B: MatrixId = MatrixId(1);
+
+const U: VectorId = VectorId(0);
+
+const W: VectorId = VectorId(1);
+
+const INTO_A: IntoMatrix = (A, None, None, PLAIN);
+
+const INTO_U: IntoVector = (U, None, None, PLAIN);
+
+const INTO_W: IntoVector = (W, None, None, PLAIN);
+
+const NUMBERS: Domain = Domain::Uint64;
+
+const FOUR: Value = Value::Uint64(4);
+
+const IS_0: Answer = Ok(Reply::Value(Value::Uint64(0)));
+
+const IS_3: Answer = Ok(Reply::Value(Value::Uint64(3)));
+
+const IS_4: Answer = Ok(Reply::Value(FOUR));
+
+const IS_6: Answer = Ok(Reply::Value(Value::Uint64(6)));
+
+const IS_8: Answer = Ok(Reply::Value(Value::Uint64(8)));
+
+const IS_10: Answer = Ok(Reply::Value(Value::Uint64(10)));
+
+const IS_12: Answer = Ok(Reply::Value(Value::Uint64(12)));
+
+const IS_20: Answer = Ok(Reply::Value(Value::Uint64(20)));
+
+const IS_24: Answer = Ok(Reply::Value(Value::Uint64(24)));
+
+const TWO: Answer = Ok(Reply::Count(2));
+
+static METHODS: [Row; 42] = [
+    (P, Asks(NewMatrix(NUMBERS, 2, 3), Ok(Reply::MadeMatrix(A)))),
+    (P, Asks(SizeMatrix(A), Ok(Reply::Dims(2, 3)))),
+    (
+        P,
+        Asks(
+            BuildMatrix(A, NUMBERS, &[(0, 1, 2), (0, 2, 5), (0, 1, 1)]),
+            DONE,
+        ),
+    ),
+    (P, Asks(GetMatrix(A, 0, 1), IS_3)),
+    (P, Asks(SetMatrix(A, 1, 0, FOUR), DONE)),
+    (P, Asks(RemoveMatrix(A, 1, 0), DONE)),
+    (P, Asks(NvalsMatrix(A), TWO)),
+    (P, Asks(ReduceMatrix(A, Monoid::Plus), IS_8)),
+    (P, Asks(DupMatrix(A), Ok(Reply::MadeMatrix(B)))),
+    (P, Asks(ResizeMatrix(B, 3, 3), DONE)),
+    (P, Asks(NewVector(NUMBERS, 3), MADE)),
+    (P, Asks(SizeVector(U), Ok(Reply::Size(3)))),
+    (
+        P,
+        Asks(BuildVector(U, NUMBERS, &[(1, 9), (2, 1), (1, 1)]), DONE),
+    ),
+    (P, Asks(GetVector(U, 1), IS_10)),
+    (P, Asks(SetVector(U, 0, FOUR), DONE)),
+    (P, Asks(RemoveVector(U, 0), DONE)),
+    (P, Asks(NvalsVector(U), TWO)),
+    (P, Asks(ReduceVector(U, Monoid::Max), IS_10)),
+    (P, Asks(DupVector(U), Ok(Reply::MadeVector(W)))),
+    (P, Asks(ResizeVector(W, 2), DONE)),
+    // the least of 3 + 10 and 5 + 1
+    (
+        P,
+        Asks(Mxv(INTO_W, Monoid::Min, BinaryOp::Plus, A, U), DONE),
+    ),
+    (P, Asks(GetVector(W, 0), IS_6)),
+    (P, Asks(ReduceRows(INTO_W, Monoid::Plus, A), DONE)),
+    (P, Asks(GetVector(W, 0), IS_8)),
+    (P, Asks(SetMatrix(B, 1, 0, FOUR), DONE)),
+    // 3 times 4 in the first column
+    (
+        P,
+        Asks(Mxm(INTO_A, Monoid::Plus, BinaryOp::Times, A, B), DONE),
+    ),
+    (P, Asks(GetMatrix(A, 0, 0), IS_12)),
+    (P, Asks(EwiseAddMatrix(INTO_A, BinaryOp::Plus, A, A), DONE)),
+    (P, Asks(GetMatrix(A, 0, 0), IS_24)),
+    (
+        P,
+        Asks(EwiseMultMatrix(INTO_A, BinaryOp::Minus, A, A), DONE),
+    ),
+    (P, Asks(GetMatrix(A, 0, 0), IS_0)),
+    (P, Asks(EwiseAddVector(INTO_U, BinaryOp::Plus, U, U), DONE)),
+    (P, Asks(GetVector(U, 1), IS_20)),
+    (
+        P,
+        Asks(EwiseMultVector(INTO_U, BinaryOp::Times, U, U), DONE),
+    ),
+    (P, Asks(GetVector(U, 2), IS_4)),
+    (P, Asks(WaitMatrix(A, WaitMode::Complete), DONE)),
+    (P, Asks(WaitVector(U, WaitMode::Materialize), DONE)),
+    (P, Asks(ClearMatrix(B), DONE)),
+    (P, Asks(ClearVector(W), DONE)),
+    (P, Asks(FreeMatrix(B), DONE)),
+    (P, Asks(FreeVector(W), DONE)),
+    (P, Asks(GetVector(U, 2), IS_4)),
+];
+
+#[test]
+fn each_method_is_done(rt: HostRuntime) -> Result<(), AllocError> {
+    run(&rt, 32, &METHODS)
+}
