@@ -1,20 +1,28 @@
 //! A tour of the store, to read from the top: open it, make calls with one pass, share it between two threads, catch up with another
-//! pass, make a list of calls, have pending work done, and deal with refusals. It prints the same lines in every schedule.
+//! pass, multiply, make a list of calls, have pending work done, and deal with refusals. It prints the same lines in every schedule.
 //! `docs/GUIDE.md` quotes it.
 #![tactic(auto)]
 
 ghost use Rattle.std.specs.Prelude.{IfOk};
 ghost use Rattle.grb_context.specs.Known.{IsPassOf};
 
-use grb_call::{Call, Object, Reply, VectorId, WaitMode};
+use grb_call::{Call, Descriptor, MatrixTuples, Object, Reply, VectorId, WaitMode};
 use grb_context::{Context, Pass};
-use grb_core::{Domain, Monoid, Refusal, Value};
+use grb_core::{BinaryOp, Domain, Monoid, Refusal, Semiring, Value};
+use std::alloc::Global;
 use std::io;
 use std::test::Fail;
 use std::thread::{Threads, join};
 
-/// How many calls may change the store. The tour makes twelve such calls, and one that finds no room.
-const ROOM: u32 = 12;
+/// How many calls may change the store. The tour makes sixteen such calls, and one that finds no room.
+const ROOM: u32 = 16;
+
+/// An operation that is told nothing else: without a mask it writes all of its output.
+const PLAIN: Descriptor = Descriptor {
+    structure: false,
+    comp: false,
+    replace: false,
+};
 
 /// Prints what a call answered: its reply, or its refusal with what to do about it.
 fn show(rt: &impl Print, what: &str, answer: Result<Reply, Refusal>) -> io::Result<()> {
@@ -46,6 +54,28 @@ fn fill(context: &Context, mut pass: Pass, v: VectorId) -> Result<Pass, Refusal>
         context.set_vector(&mut pass, v, 3 * number + k, Value::Uint64(10 * number + k))?;
     }
     Ok(pass)
+}
+
+/// A matrix of two rows times the vector: the sum of its entries at 0 and 3, and the entry at 6.
+fn multiply(
+    alloc: Global,
+    context: &Context,
+    pass: &mut Pass,
+    v: VectorId,
+) -> Result<VectorId, Fail>
+    requires { IsPassOf context.now pass.old }
+    ensures { IsPassOf context.now pass.new }
+{
+    let one = Value::Uint64(1);
+    let entries = vec![in alloc; (0, 0, one), (0, 3, one), (1, 6, one)]?;
+    let made = context.new_matrix(pass, Domain::Uint64, 2, 10)?;
+    let a = made.matrix().unwrap();
+    context.build_matrix(pass, a, MatrixTuples::from_vec(entries), Monoid::Plus)?;
+    let made = context.new_vector(pass, Domain::Uint64, 2)?;
+    let w = made.vector().unwrap();
+    let semiring = Semiring::new(Monoid::Plus, BinaryOp::Times)?;
+    context.mxv(pass, w, None, None, semiring, a, v, PLAIN)?;
+    Ok(w)
 }
 
 /// Stores a value, and first makes the vector longer where it has no such index.
@@ -96,6 +126,11 @@ fn tour<R: Threads + Sync + Print + AllocGlobal>(rt: &R) -> Result<(), Fail> {
     show(rt, "nvals", context.nvals_vector(&mut own, v))?;
     let total = context.reduce_vector(&mut own, v, Monoid::Plus);
     show(rt, "total", total)?;
+
+    // An operation. It enters four calls, and its work is done when the result is read.
+    let w = multiply(rt.alloc(), &context, &mut own, v)?;
+    show(rt, "row 0", context.get_vector(&mut own, w, 0))?;
+    show(rt, "row 1", context.get_vector(&mut own, w, 1))?;
 
     // A list of calls. A refused one does not keep the next from being made.
     let calls = [

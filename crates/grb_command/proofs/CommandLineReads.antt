@@ -56,9 +56,9 @@ record IsCommandLine (c : Command) : Type 0 where
   plain : IsPlain c
   negates : (out-Command c).subcommand_negates_reqs ≡ false
 
-is_command_line : (c : Command) → app_of c ≡ command_line → IsCommandLine c
+is_command_line : (program : Text) (c : Command) → app_of c ≡ command_line program → IsCommandLine c
 unfolding command_line
-is_command_line c e =
+is_command_line program c e =
     let rules : map rule_of (args_of c) ≡ room_option ∷ script_argument ∷ [] = ap (λ a. a.top.rules) e in
     let simple : IsSimple c = ready_simple c (ap (λ a. is_ready a.top) e) (ap (λ a. list_all is_ready_leaf a.subs) e) in
     let free = each_free (args_of c) (ap (list_all (λ r. r.is_free)) rules) in
@@ -91,10 +91,10 @@ one_place c is j k e d low high same =
 one_value : (range : Option ValueRange) → range ≡ None → 1 ≤ (unwrap_or_range range).start_inclusive
 one_value range e = rw e (omega arith)
 
-room_reads : (c : Command) (m : ArgMatches) → app_of c ≡ command_line → IsParsedFrom c m
+room_reads : (program : Text) (c : Command) (m : ArgMatches) → app_of c ≡ command_line program → IsParsedFrom c m
     → (t : List ℕ) × (one_text (found_of m) (codes "room") ≡ Some (without_minus t)) × IsSignedIn (pos 1) (pos 4096) t
-room_reads c m e p =
-    let is = is_command_line c e in
+room_reads program c m e p =
+    let is = is_command_line program c e in
     let lt : 0 < length (args_of c) = rw is.count (omega arith) in
     let d = first_arg (args_of c) lt in
     let room : rule_of (slice_index_or (args_of c) 0 d) ≡ room_option = rule_at (args_of c) arguments is.rules 0 d lt in
@@ -114,10 +114,10 @@ room_reads c m e p =
     (parser.Signed (pos 1) (pos 4096)) (ap (λ (r : Rule). r.parser) room) in
     (got.0, subst (λ (w : List ℕ). one_text (found_of m) w ≡ Some (without_minus got.0)) is_id got.1, got.2)
 
-script_has_value : (c : Command) (m : ArgMatches) → app_of c ≡ command_line → IsParsedFrom c m
+script_has_value : (program : Text) (c : Command) (m : ArgMatches) → app_of c ≡ command_line program → IsParsedFrom c m
     → is_some (first_value (found_of m) (codes "script")) ≡ true
-script_has_value c m e p =
-    let is = is_command_line c e in
+script_has_value program c m e p =
+    let is = is_command_line program c e in
     let lt : 1 < length (args_of c) = rw is.count (omega arith) in
     let d = first_arg (args_of c) (omega arith) in
     let script : rule_of (slice_index_or (args_of c) 1 d) ≡ script_argument = rule_at (args_of c) arguments is.rules 1 d lt in
@@ -135,34 +135,34 @@ script_has_value c m e p =
 
 -- ---- what the getters answer
 
-rows_are : (c : Command) (m : ArgMatches) (words : List Text) → app_of c ≡ command_line → HasMatchesOf (app_of c) words m
-    → rows_of (found_of m) ≡ matches_of command_line words
+rows_are : (program : Text) (c : Command) (m : ArgMatches) (words : List Text) → app_of c ≡ command_line program → HasMatchesOf (app_of c) words m
+    → rows_of (found_of m) ≡ matches_of (command_line program) words
 unfolding command_line
-rows_are c m words e has = (has (ap is_simple e)).0 ∙ ap (λ a. matches_of a words) e
+rows_are program c m words e has = (has (ap is_simple e)).0 ∙ ap (λ a. matches_of a words) e
 
 -- the room is there, in its range, and what the words say
-pub room_given : (c : Command) (m : ArgMatches) (words : List Text) (r : Option ℕ) → app_of c ≡ command_line → IsParsedFrom c m
+pub room_given : (program : Text) (c : Command) (m : ArgMatches) (words : List Text) (r : Option ℕ) → app_of c ≡ command_line program → IsParsedFrom c m
     → HasMatchesOf (app_of c) words m
     → ((t : List ℕ) → one_text (found_of m) (codes "room") ≡ Some t
     → ReadsOne (λ bs x. ParsesUnsigned 32 10 bs x × ExplainsUnsignedError 10 bs x × HasUnsignedDigitsIfOk bs x) t r)
-    → (n : ℕ) × (r ≡ Some n) × (1 ≤ n) × (n ≤ 4096) × (option_map number_spelled (one_of (codes "room") (matches_of command_line words)) ≡ Some n)
-room_given c m words r e p has reads =
-    let text = room_reads c m e p in
+    → (n : ℕ) × (r ≡ Some n) × (1 ≤ n) × (n ≤ 4096) × (option_map number_spelled (one_of (codes "room") (matches_of (command_line program) words)) ≡ Some n)
+room_given program c m words r e p has reads =
+    let text = room_reads program c m e p in
     let read = reads (without_minus text.0) text.1 in
     let got = signed_reads _ (λ bs x. ParsesUnsigned 32 10 bs x × ExplainsUnsignedError 10 bs x × HasUnsignedDigitsIfOk bs x)
     32 1 4096 text.0 r read (λ u x g. g.0) (omega arith) text.2 in
     let numeral = (rw got.1 at read).0 in
-    let given : one_of (codes "room") (matches_of command_line words) ≡ Some (without_minus text.0) =
-    ap (one_of (codes "room")) (sym (rows_are c m words e has)) ∙ (sym (one_text-rows (found_of m) (codes "room")) ∙ text.1) in
+    let given : one_of (codes "room") (matches_of (command_line program) words) ≡ Some (without_minus text.0) =
+    ap (one_of (codes "room")) (sym (rows_are program c m words e has)) ∙ (sym (one_text-rows (found_of m) (codes "room")) ∙ text.1) in
     (got.0, got.1, got.2, got.3, ap (option_map number_spelled) given ∙ ap (λ (n : ℕ). Some n) (sym numeral.1))
 
 -- the path is there, and what the words say
-pub path_given : (c : Command) (m : ArgMatches) (words : List Text) (r : Option (Bor (List ℕ))) → app_of c ≡ command_line → IsParsedFrom c m
+pub path_given : (program : Text) (c : Command) (m : ArgMatches) (words : List Text) (r : Option (Bor (List ℕ))) → app_of c ≡ command_line program → IsParsedFrom c m
     → HasMatchesOf (app_of c) words m → option_map (λ s. s.now) r ≡ first_value (found_of m) (codes "script")
-    → IsSome r × (first_of (codes "script") (matches_of command_line words) ≡ option_map (λ s. s.now) r)
-path_given c m words r e p has is = (
-  go r (ap (λ (o : Option (List ℕ)). is_some o) is ∙ script_has_value c m e p),
-  ap (first_of (codes "script")) (sym (rows_are c m words e has)) ∙ (sym (first_value-rows (found_of m) (codes "script")) ∙ sym is),
+    → IsSome r × (first_of (codes "script") (matches_of (command_line program) words) ≡ option_map (λ s. s.now) r)
+path_given program c m words r e p has is = (
+  go r (ap (λ (o : Option (List ℕ)). is_some o) is ∙ script_has_value program c m e p),
+  ap (first_of (codes "script")) (sym (rows_are program c m words e has)) ∙ (sym (first_value-rows (found_of m) (codes "script")) ∙ sym is),
 )
   where
     go : (o : Option (Bor (List ℕ))) → is_some (option_map (λ (s : Bor (List ℕ)). s.now) o) ≡ true → IsSome o
@@ -170,13 +170,13 @@ path_given c m words r e p has is = (
     go (Some x) h = refl
 
 -- the kinds of error are those of the command line
-pub fails_as : {T : Type 0} (c : Command) (words : List Text) (r : Result T Error) → app_of c ≡ command_line
-    → (is_simple_and_free (app_of c) ≡ true → FailsBy (fault_of (app_of c) words) r) → FailsBy (faults_of words) r
+pub fails_as : {T : Type 0} (program : Text) (c : Command) (words : List Text) (r : Result T Error) → app_of c ≡ command_line program
+    → (is_simple_and_free (app_of c) ≡ true → FailsBy (fault_of (app_of c) words) r) → FailsBy (faults_of program words) r
 unfolding command_line
-fails_as c words r e fails = subst (λ (a : App). FailsBy (fault_of a words) r) e (fails (ap is_simple_and_free e))
+fails_as program c words r e fails = subst (λ (a : App). FailsBy (fault_of a words) r) e (fails (ap is_simple_and_free e))
 
 -- and so where an error is passed up
-pub fails_up : {T : Type 0} (c : Command) (words : List Text) (r : Result T Error) (e : Error) → app_of c ≡ command_line
-    → (is_simple_and_free (app_of c) ≡ true → HasKind (fault_of (app_of c) words) e) → IsErrAnd r (λ y. y ≡ e) → FailsBy (faults_of words) r
-fails_up c words (Ok x) e is fails passed = absurd passed
-fails_up {T} c words (Err y) e is fails passed = subst (HasKind (faults_of words)) (sym passed) (fails_as {T = T} c words (Err e) is fails)
+pub fails_up : {T : Type 0} (program : Text) (c : Command) (words : List Text) (r : Result T Error) (e : Error) → app_of c ≡ command_line program
+    → (is_simple_and_free (app_of c) ≡ true → HasKind (fault_of (app_of c) words) e) → IsErrAnd r (λ y. y ≡ e) → FailsBy (faults_of program words) r
+fails_up program c words (Ok x) e is fails passed = absurd passed
+fails_up {T} program c words (Err y) e is fails passed = subst (HasKind (faults_of program words)) (sym passed) (fails_as {T = T} program c words (Err e) is fails)

@@ -8,22 +8,22 @@ use clap::{Arg, ArgAction, Command, Error, value_parser};
 use grb_driver::RunFault;
 use std::alloc::{AllocError, Global};
 
-/// The version of the program, of which `--version` prints `grbrun 1.0.0`.
+/// The version of the programs, of which `--version` prints `grbrun 1.0.0`.
 const VERSION: &str = "1.0.0";
 
 /// The command without its arguments: its name, what it does, and its version. The words begin after the name.
-fn named<'a>(alloc: Global) -> Command<'a>
-    ensures { app_of result ≡ named_command }
+fn named<'a>(alloc: Global, program: &'a str) -> Command<'a>
+    ensures { app_of result ≡ named_command program.now }
 {
-    Command::new(alloc, "grbrun")
+    Command::new(alloc, program)
         .about("Runs a script of GraphBLAS calls on one shared store")
         .version(VERSION)
         .no_binary_name(true)
 }
 
-/// The command `[--room N] SCRIPT`.
-fn command<'a>(alloc: Global) -> Result<Command<'a>, AllocError>
-    ensures { IfOk result (λ c. app_of c ≡ command_line) }
+/// The command `[--room N] SCRIPT` of the program of this name.
+fn command<'a>(alloc: Global, program: &'a str) -> Result<Command<'a>, AllocError>
+    ensures { IfOk result (λ c. app_of c ≡ command_line program.now) }
 {
     let room = Arg::new(alloc, "room")
         .long("room")
@@ -43,7 +43,7 @@ fn command<'a>(alloc: Global) -> Result<Command<'a>, AllocError>
             symmetric. All files are read and checked after the script, and before\n\
             anything runs.",
         );
-    named(alloc).arg(room)?.arg(script)
+    named(alloc, program).arg(room)?.arg(script)
 }
 
 /// The options that these words give, which are the words after the program's name: `[--room N] SCRIPT`, with N from 1 to 4096, and
@@ -51,12 +51,16 @@ fn command<'a>(alloc: Global) -> Result<Command<'a>, AllocError>
 ///
 /// An error of the kind `DisplayHelp` is a request for help, and one of the kind `DisplayVersion` for the version; each holds its text.
 /// Any other error says what is wrong with the words, or that memory was refused.
-pub fn options<'a>(alloc: Global, words: &'a [&'a str]) -> Result<Options<'a>, Error>
+pub fn options<'a>(
+    alloc: Global,
+    program: &'a str,
+    words: &'a [&'a str],
+) -> Result<Options<'a>, Error>
     ensures room { IfOk result (λ o. (0 < o.room) × (o.room ≤ 4096)) }
-    ensures given { IfOk result (GivesOptions (map (λ w. w.now) words.entry.now)) }
-    ensures faults { FailsBy (faults_of (map (λ w. w.now) words.entry.now)) result }
+    ensures given { IfOk result (GivesOptions program.now (map (λ w. w.now) words.entry.now)) }
+    ensures faults { FailsBy (faults_of program.now (map (λ w. w.now) words.entry.now)) result }
 {
-    let matches = command(alloc)?.try_get_matches_from(words)?;
+    let matches = command(alloc, program)?.try_get_matches_from(words)?;
     let room = matches.get_one::<u32>("room").unwrap();
     let path = matches.get_str("script").unwrap();
     Ok(Options { room, path })

@@ -1,7 +1,7 @@
 ghost use Rattle.std.specs.Prelude.{◌≡◌, ◌-◌, ◌<◌, ◌≤◌, ◌^◌, None, IfOk, IfSome, IsErrOf, length};
 ghost use Rattle.std.specs.IoError.{error_kind};
 ghost use Rattle.grb_driver.specs.Source.{AreCountable, IsGiven, counts_after};
-ghost use Rattle.grb_command.specs.Files.{counts_of, fault_of_kind};
+ghost use Rattle.grb_command.specs.Files.{IsOverLimit, counts_of, fault_of_kind};
 
 use grb_driver::{MAX_FILE, MAX_SCRIPT, Source, SourceFault};
 use std::alloc::Global;
@@ -44,6 +44,7 @@ impl<'a, R: Files + AllocGlobal> FileSource<'a, R> {
         requires within { limit < 2 ^ 64 - 1 }
         requires countable { AreCountable (counts_of self.old) }
         ensures within { IfOk result (λ bytes. length bytes.items ≤ limit) }
+        ensures too_long { IsErrOf result SourceFault.TooLong → IsOverLimit R.File.remaining limit }
         ensures faults { counts_of self.new ≡ counts_after (counts_of self.old) result }
     {
         let outcome = read_file(self.rt, path, limit);
@@ -90,14 +91,16 @@ pub fn read_all<F: Read + Drop>(
     Ok(bytes)
 }
 
-/// The whole file of a path. Which bytes it has, and when it cannot be read, no clause says.
+/// The whole file of a path; `TooLong` where it is longer than the limit, and nowhere else. Which bytes it has, and when it cannot be
+/// read, no clause says.
 fn read_file<R: Files + AllocGlobal>(
     rt: &R,
     path: &str,
     limit: usize,
 ) -> Result<Vec<u8>, SourceFault>
     requires { limit < 2 ^ 64 - 1 }
-    ensures { IfOk result (λ bytes. length bytes.items ≤ limit) }
+    ensures within { IfOk result (λ bytes. length bytes.items ≤ limit) }
+    ensures too_long { IsErrOf result SourceFault.TooLong → IsOverLimit R.File.remaining limit }
 {
     let file = fs::open(rt, path).map_err(fault_of)?;
     read_all(rt.alloc(), file, limit)
@@ -110,11 +113,21 @@ impl<R: Files + AllocGlobal> Source for FileSource<'_, R> {
 
     ghost faults = { counts_of };
 
-    fn script(&mut self) -> Result<Vec<u8>, SourceFault> {
+    fn script(&mut self) -> Result<Vec<u8>, SourceFault>
+        requires { AreCountable (counts_of self.old) }
+        ensures given { IfOk result (λ bytes. IsGiven None MAX_SCRIPT bytes.items) }
+        ensures too_long { IsErrOf result SourceFault.TooLong → IsOverLimit R.File.remaining MAX_SCRIPT }
+        ensures faults { counts_of self.new ≡ counts_after (counts_of self.old) result }
+    {
         self.read(self.script, MAX_SCRIPT)
     }
 
-    fn file(&mut self, path: &str) -> Result<Vec<u8>, SourceFault> {
+    fn file(&mut self, path: &str) -> Result<Vec<u8>, SourceFault>
+        requires { AreCountable (counts_of self.old) }
+        ensures given { IfOk result (λ bytes. IsGiven None MAX_FILE bytes.items) }
+        ensures too_long { IsErrOf result SourceFault.TooLong → IsOverLimit R.File.remaining MAX_FILE }
+        ensures faults { counts_of self.new ≡ counts_after (counts_of self.old) result }
+    {
         self.read(path, MAX_FILE)
     }
 }

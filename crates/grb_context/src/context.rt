@@ -1,5 +1,6 @@
 ghost use Rattle.std.specs.Prelude.{◌≡◌, ◌<◌, ◌≤◌, All, IfOk};
 ghost use Rattle.grb_order.specs.Order.{room_of};
+ghost use Rattle.grb_records.specs.Token.{HasRows};
 ghost use Rattle.grb_context.specs.Known.{AreNew, HasNoStatus, IsPassOf};
 ghost use Rattle.grb_context.specs.Answered.{Answered};
 ghost use Rattle.grb_context.specs.Meeting.{Met};
@@ -29,12 +30,13 @@ impl Model for Context {
 impl Context {
     /// A context whose history takes `room` calls, from 1 to 4,096, and its passes, from 1 to 64, which know no call and have no status: the one
     /// at index k has the number k. After this memory is taken for the records of entered calls, for the evaluation of reads and builds, by
-    /// a wait for all objects for what it offers to the other passes, and by `run` for its answers and for its copies of builds' lists.
+    /// a wait for all objects for what it keeps for other passes, and by `run` for its answers and for its copies of builds' lists.
     /// `AllocError` where memory is refused.
     pub fn open(alloc: Global, room: u32, passes: u32) -> Result<(Context, Vec<Pass>), AllocError>
         requires room { (0 < room) × (room ≤ 4096) }
         requires passes { (0 < passes) × (passes ≤ 64) }
         ensures room { IfOk result (λ opened. room_of opened.0.order ≡ room) }
+        ensures records { IfOk result (λ opened. HasRows passes room opened.0.records) }
         ensures passes { IfOk result (λ opened. AreNew opened.0.order passes opened.1.items passes) }
         ensures ours { IfOk result (λ opened. All (IsPassOf opened.0) opened.1.items) }
         ensures statuses { IfOk result (λ opened. All HasNoStatus opened.1.items) }
@@ -46,7 +48,7 @@ impl Context {
     /// Makes one call, by whichever thread has the pass, and does not wait. A refusal says why the call was not made: by shapes (the
     /// lowest of those that apply, at the end of the history), by a build's object, `OrderFull` where the history has no room for a call
     /// that would be entered, `OutOfMemory` where the record of an entered call, the evaluation of a read or of a build's object, or what
-    /// a wait for all objects offers to the other passes is refused memory, and `Panic` where a record could not be put, or the record of an earlier call is not shown yet; the next call
+    /// a wait for all objects keeps for other passes is refused memory, and `Panic` where a record could not be put, or the record of an earlier call is not shown yet; the next call
     /// asks for it again. The answer is kept as the status of the call's object, as [`Pass::last_info`] says.
     ///
     /// Source: GraphBLAS C API 2.0, "Execution modes"; Herlihy, "Wait-free synchronization", 1991.

@@ -9,7 +9,7 @@ use grb_pass::Pass;
 impl Context {
     /// Has the pending work on the matrix done for this pass, or with `Materialize` that on all objects, up to the point of the call, and
     /// answers `Done`. It enters nothing, waits for no other thread, and changes no value. `UninitializedObject` where there is no such
-    /// matrix; `OutOfMemory` where memory is refused to the work, or to what `Materialize` offers to the other passes, and then a later
+    /// matrix; `OutOfMemory` where memory is refused to the work, or to what `Materialize` keeps for other passes, and then a later
     /// call does what is left. After `Done` of `Materialize` all calls that the pass knows are settled, as [`Pass::settled`] says.
     /// (`GrB_wait`; that it enters nothing and what `Materialize` does for other objects are own.)
     pub fn wait_matrix(
@@ -27,7 +27,7 @@ impl Context {
 
     /// Has the pending work on the vector done for this pass, or with `Materialize` that on all objects, up to the point of the call, and
     /// answers `Done`. It enters nothing, waits for no other thread, and changes no value. `UninitializedObject` where there is no such
-    /// vector; `OutOfMemory` where memory is refused to the work, or to what `Materialize` offers to the other passes, and then a later
+    /// vector; `OutOfMemory` where memory is refused to the work, or to what `Materialize` keeps for other passes, and then a later
     /// call does what is left. After `Done` of `Materialize` all calls that the pass knows are settled, as [`Pass::settled`] says.
     /// (`GrB_wait`; that it enters nothing and what `Materialize` does for other objects are own.)
     pub fn wait_vector(

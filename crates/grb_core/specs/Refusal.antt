@@ -1,5 +1,6 @@
--- believed: The printed names of refusals: GraphBLAS C API 2.0, "Error model", and our own name for a full order.
-use Rattle.std.specs.Prelude.{ℕ, List, codes}
+-- believed: The printed names of refusals: GraphBLAS C API 2.0, "Error model", and our own name for a full order. Their numbers, and
+-- which of several is answered, are own.
+use Rattle.std.specs.Prelude.{ℕ, ◌≤◌, List, codes, Option, Some, None}
 use Rattle.grb_core.specs.declared.refusal.Refusal.{Refusal}
 use Rattle.grb_core.specs.declared.refusal.Refusal.TheVariants as refusal
 
@@ -28,3 +29,21 @@ refusal_hint refusal.IndexOutOfBounds = codes "Give a list whose indices are bel
 refusal_hint refusal.OrderFull = codes "Open a store with more room; this one still answers reads."
 refusal_hint refusal.OutOfMemory = codes "Nothing has changed: free memory, and make the call again."
 refusal_hint refusal.Panic = codes "The call did nothing: make it again."
+
+-- the number (own)
+abbrev pub refusal_number : Refusal → ℕ
+refusal_number refusal.UninitializedObject = 1
+refusal_number refusal.InvalidValue = 2
+refusal_number refusal.InvalidIndex = 3
+refusal_number refusal.DomainMismatch = 4
+refusal_number refusal.DimensionMismatch = 5
+refusal_number refusal.OutputNotEmpty = 6
+refusal_number refusal.IndexOutOfBounds = 7
+refusal_number refusal.OrderFull = 8
+refusal_number refusal.OutOfMemory = 9
+refusal_number refusal.Panic = 10
+
+-- an answer is the refusal of the lowest number that applies, or none where none applies (own)
+abbrev pub IsLowest : (Refusal → Type 0) → Option Refusal → Type 0
+IsLowest Applies None = (r : Refusal) → Applies r → ⊥
+IsLowest Applies (Some r) = Applies r × ((q : Refusal) → Applies q → refusal_number r ≤ refusal_number q)

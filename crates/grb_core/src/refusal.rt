@@ -1,7 +1,8 @@
 ghost use Rattle.std.specs.Prelude.{◌≡◌};
-ghost use Rattle.grb_core.specs.Refusal.{refusal_hint, refusal_name};
+ghost use Rattle.grb_core.specs.Refusal.{refusal_hint, refusal_name, refusal_number};
 
-/// Why a call is refused. Where several of the first seven apply, the first of them in this order is answered (own).
+/// Why a call is refused. Where several of the first seven apply, that of the lowest number is answered, which is the first of them in
+/// this order (own).
 ///
 /// Source: GraphBLAS C API 2.0, "Error model". `OrderFull` is our own.
 #[derive(Clone, Copy, Debug, PartialEq, Eq)]
@@ -44,6 +45,24 @@ impl Refusal {
             Refusal::OrderFull => "OrderFull",
             Refusal::OutOfMemory => "GrB_OUT_OF_MEMORY",
             Refusal::Panic => "GrB_PANIC",
+        }
+    }
+
+    /// Its number, from 1 to 10 in the order above (own). It is not printed, and does not change.
+    pub fn number(self) -> u8
+        ensures { result ≡ refusal_number self }
+    {
+        match self {
+            Refusal::UninitializedObject => 1,
+            Refusal::InvalidValue => 2,
+            Refusal::InvalidIndex => 3,
+            Refusal::DomainMismatch => 4,
+            Refusal::DimensionMismatch => 5,
+            Refusal::OutputNotEmpty => 6,
+            Refusal::IndexOutOfBounds => 7,
+            Refusal::OrderFull => 8,
+            Refusal::OutOfMemory => 9,
+            Refusal::Panic => 10,
         }
     }
 

@@ -40,8 +40,15 @@ module _ (mid : Knowing) (statuses : StatusRows) (settled : ℕ) where
   pub steady_alike : IsSteady mid → IsSteady (with_rest mid statuses settled)
   steady_alike is = record { records = is.records; few = is.few; sound = is.sound; others = is.others; small = is.small }
 
-pub counts_alike : (old mid : Knowing) (statuses : StatusRows) (settled : ℕ) → CountsCall old mid → CountsCall old (with_rest mid statuses settled)
-counts_alike old mid statuses settled is = record { count = is.count; few = is.few; alone = is.alone }
+pub counts_alike : (room : ℕ) (old mid : Knowing) (statuses : StatusRows) (settled : ℕ) → CountsCall room old mid → CountsCall room old (with_rest mid statuses settled)
+counts_alike room old mid statuses settled is = let rise = is.rise in record {
+  count = is.count;
+  rise = record { lost = rise.lost; rising = rise.rising; looks = rise.looks };
+  exact = is.exact;
+  full = is.full;
+  few = is.few;
+  alone = is.alone;
+}
 
 pub known_alike : (context : Shared) (mid : Knowing) (statuses : StatusRows) (settled : ℕ) → IsKnown context mid → IsKnown context (with_rest mid statuses settled)
 known_alike context mid statuses settled is = record {

@@ -12,5 +12,6 @@ mod Meeting
 mod Opening
 mod Owning
 pub mod Promised
+mod Rising
 mod Settling
 mod Spelling

@@ -50,6 +50,7 @@ met context old told new other r few shown statuses settled is steps next view s
       knows = is_known context new of steady;
       own = own_learns old new l;
       steps = omega (arith, steps, n, same);
+      looks = ap (λ (v : View). v.looks) view ∙ ap (λ (v : View). v.looks) is;
     }
 
 -- the count of steps before plays no part
@@ -62,4 +63,5 @@ met_begun context old now new other r is m =
       knows = k.knows;
       own = k.own;
       steps = k.steps;
+      looks = k.looks;
     }

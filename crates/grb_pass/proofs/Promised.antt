@@ -32,7 +32,7 @@ pub pass_kept : (context : Shared) (mid new : Knowing) (x : Option Object) (r : 
 pass_kept context mid new x r kept of = pass_same context mid new (ap (λ (p : Knowing). p.order) kept.same) (ap (λ (p : Knowing). p.shown) kept.same) of
 
 -- the parts of a call leave the statuses, and settle calls where they are to; and then its answer is kept
-pub answered : (context : Shared) (old now mid new : Knowing) (x : Option Object) (c : Call) (r : Answer) → now ≡ begun old → IsPassOf context mid → ExplainsCall (room_of context.order) now mid c r → IsSteady mid → IsCaughtUp (ground_of r) mid → CountsCall now mid → (enters c ≡ false → LooksOnce now mid)
+pub answered : (context : Shared) (old now mid new : Knowing) (x : Option Object) (c : Call) (r : Answer) → now ≡ begun old → IsPassOf context mid → ExplainsCall (room_of context.order) now mid c r → IsSteady mid → IsCaughtUp (ground_of r) mid → CountsCall (room_of context.order) now mid → (enters c ≡ false → LooksOnce now mid)
     → mid.statuses ≡ now.statuses → mid.settled ≡ settled_after c r (length (known mid)) now.settled → x ≡ object_of c → IsKeptAs mid x r new → Answered context old new c r
 answered context old now mid new x c r is pass explains steady caught_up steps looks same settled about kept =
     let room : ℕ = room_of context.order in
@@ -48,7 +48,7 @@ answered context old now mid new x c r is pass explains steady caught_up steps l
       own = own_calls room old last c r e;
       caught_up = caught_up_alike mid new.statuses mid.settled (ground_of r) caught_up;
       memory = memory_explained room old last c r e;
-      steps = counts_alike old mid new.statuses mid.settled (counts_begun old now mid is steps);
+      steps = counts_alike room old mid new.statuses mid.settled (counts_begun room old now mid is steps);
       read_steps = λ reads. subst (λ (p : Knowing). LooksOnce p mid) is (looks reads);
       statuses = after;
       settled = settled ∙ ap (λ (p : Knowing). settled_after c r (length (known mid)) p.settled) is;

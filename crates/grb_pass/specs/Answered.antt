@@ -23,7 +23,7 @@ pub record Promise (context : Shared) (old new : Knowing) (c : Call) (r : Answer
   pub own : calls_by old.view.number (known new) ≡ calls_by old.view.number (known old) ++ entered_calls c r
   pub caught_up : IsCaughtUp (ground_of r) new
   pub memory : r ≡ Err OutOfMemory → MayLackMemory (room_of context.order) old.settled (known new) c
-  pub steps : CountsCall old new
+  pub steps : CountsCall (room_of context.order) old new
   pub read_steps : enters c ≡ false → LooksOnce old new
   pub statuses : status_at new.statuses ≡ statuses_after (room_of context.order) c r (status_at old.statuses)
   pub settled : new.settled ≡ settled_after c r (length (known new)) old.settled

@@ -14,6 +14,7 @@ use Rattle.grb_pass.specs.declared.learn.End.TheVariants.{Vacant, Full}
 use Rattle.grb_pass.specs.Known.{Knowing, known, AreRecords, IsOfOthers, IsOfPasses}
 use Rattle.grb_pass.specs.Point.{Grows}
 use Rattle.grb_pass.specs.Explains.{IsGrounded, IsCaughtUp, ground_of}
+use Rattle.grb_pass.specs.Counting.{LooksLast}
 
 -- what each pass keeps: the records shown are those of the first words, the words are what its place has seen, and those whose
 -- record was not shown yet are of others
@@ -46,6 +47,10 @@ abbrev pub Finds : ℕ → Knowing → Result End Refusal → Knowing → Type 0
 Finds room old (Ok Vacant) new = (length new.shown ≡ length new.view.words) × (new.view.looks ≡ old.view.looks ++ length new.view.words ∷ []) × (length new.view.words < room)
 Finds room old (Ok Full) new = (length new.shown ≡ length new.view.words) × (length new.view.words ≡ room)
 Finds room old (Err r) new = (r ≡ Panic) × (length (known new) < length new.view.words)
+
+-- a pass that learns to the end looks there once; not where a record was not shown, or the order is full
+abbrev pub LooksAtEnd : ℕ → Knowing → Knowing → Type 0
+LooksAtEnd room old new = LooksLast room old.view.looks (length new.view.words) new
 
 -- all words are known, the last look found the next one vacant, and the call is not refused
 pub record IsReady (room : ℕ) (p : Knowing) (c : Call) : Type 0 where

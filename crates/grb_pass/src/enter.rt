@@ -7,7 +7,7 @@ ghost use Rattle.grb_pass.specs.Point.{GrewTo};
 ghost use Rattle.grb_pass.specs.Explains.{ExplainsCall, IsCaughtUp, ground_of};
 ghost use Rattle.grb_pass.specs.Answered.{Answered};
 ghost use Rattle.grb_pass.specs.Counting.{Counts, CountsTries, CountsCall};
-ghost use Rattle.grb_pass.specs.Learning.{IsReady, IsRefused, IsSteady, Learns};
+ghost use Rattle.grb_pass.specs.Learning.{IsReady, IsRefused, IsSteady, Learns, LooksAtEnd};
 
 use crate::learn::End;
 use crate::pass::Pass;
@@ -26,7 +26,7 @@ impl Shared {
         requires few { pass.old.steps < 2 ^ 30 }
         ensures pass { IsPassOf self.now pass.new }
         ensures counts { Counts pass.old pass.new }
-        ensures few { length pass.new.view.looks ≤ length pass.old.view.looks + 1 }
+        ensures looks { LooksAtEnd (room_of self.now.order) pass.old pass.new }
         ensures learns { Learns pass.old pass.new }
         ensures steady { IsSteady pass.new }
         ensures ready { OnOk result (IsReady (room_of self.now.order) pass.new call.now) }
@@ -56,7 +56,7 @@ impl Shared {
         ensures pass { IsPassOf self.now pass.new }
         ensures statuses { pass.new.statuses ≡ pass.old.statuses }
         ensures settled { pass.new.settled ≡ pass.old.settled }
-        ensures counts { CountsTries pass.old pass.new }
+        ensures counts { CountsTries (room_of self.now.order) pass.old pass.new }
         ensures explains { ExplainsCall (room_of self.now.order) pass.old pass.new token.call result }
         ensures steady { IsSteady pass.new }
         ensures caught_up { IsCaughtUp (ground_of result) pass.new }
@@ -82,7 +82,7 @@ impl Shared {
         ensures pass { IsPassOf self.now pass.new }
         ensures statuses { pass.new.statuses ≡ pass.old.statuses }
         ensures settled { pass.new.settled ≡ pass.old.settled }
-        ensures counts { CountsCall pass.old pass.new }
+        ensures counts { CountsCall (room_of self.now.order) pass.old pass.new }
         ensures explains { ExplainsCall (room_of self.now.order) pass.old pass.new call result }
         ensures steady { IsSteady pass.new }
         ensures caught_up { IsCaughtUp (ground_of result) pass.new }
@@ -100,7 +100,7 @@ impl Shared {
         ensures pass { IsPassOf self.now pass.new }
         ensures statuses { pass.new.statuses ≡ pass.old.statuses }
         ensures settled { pass.new.settled ≡ pass.old.settled }
-        ensures counts { CountsCall pass.old pass.new }
+        ensures counts { CountsCall (room_of self.now.order) pass.old pass.new }
         ensures explains { ExplainsCall (room_of self.now.order) pass.old pass.new call.now result }
         ensures steady { IsSteady pass.new }
         ensures caught_up { IsCaughtUp (ground_of result) pass.new }

@@ -2,7 +2,7 @@ ghost use Rattle.std.specs.Prelude.{◌≡◌, ◌+◌, ◌<◌, ◌≤◌, ◌^
 ghost use Rattle.grb_order.specs.Order.{room_of};
 ghost use Rattle.grb_pass.specs.Known.{IsPassOf, known};
 ghost use Rattle.grb_pass.specs.Counting.{Counts};
-ghost use Rattle.grb_pass.specs.Learning.{Finds, IsSteady, Learns};
+ghost use Rattle.grb_pass.specs.Learning.{Finds, IsSteady, Learns, LooksAtEnd};
 
 use crate::reader::Reader;
 use crate::shared::Shared;
@@ -47,7 +47,7 @@ impl Shared {
         ensures learns { Learns reader.old reader.new }
         ensures steady { IsSteady reader.new }
         ensures counts { Counts reader.old reader.new }
-        ensures few { length reader.new.view.looks ≤ length reader.old.view.looks + 1 }
+        ensures looks { LooksAtEnd (room_of self.now.order) reader.old reader.new }
         ensures finds { Finds (room_of self.now.order) reader.old result reader.new }
     {
         'words: loop {

@@ -51,6 +51,8 @@ pub struct Pass {
     row: Row,
     // How long it holds back after a lost try.
     back_off: BackOff,
+    // How many calls its last call made in the store, apart from those that it made of the objects that it read.
+    made: u32,
 }
 
 impl Model for Pass {
@@ -78,12 +80,14 @@ fn open_store(alloc: Global, room: u32) -> Result<(State, Kept), AllocError>
     Ok((state, Kept::open(alloc, room)?))
 }
 
-/// Applies the calls of the records that were not yet evaluated. Where memory is refused, those before stay evaluated.
+/// Applies the calls of the records that were not yet evaluated, and counts each among those made. Where memory is refused, those before
+/// stay evaluated.
 fn evaluate(
     records: &Records,
     reader: &mut Reader,
     state: &mut State,
     evaluated: &mut usize,
+    made: &mut u32,
 ) -> Result<(), AllocError>
     requires kept { IsPass reader.old state.old evaluated.old }
     requires of { All (IsOf records.now) reader.old.shown }
@@ -94,6 +98,7 @@ fn evaluate(
     ensures memory { OnErr result (reader.old.settled < length (known reader.old)) }
 {
     'calls: while *evaluated < reader.known() as usize {
+        *made = made.saturating_add(1);
         state.apply(reader.call_at(records, *evaluated))?;
         *evaluated += 1;
     }
@@ -119,7 +124,7 @@ fn settle(
     records: &Records,
     reader: &mut Reader,
     state: &mut State,
-    sharing: &mut Sharing,
+    sharing: &Sharing,
     call: &Call,
 ) -> Result<(), AllocError>
     requires of { All (IsOf records.now) reader.old.shown }
@@ -170,6 +175,7 @@ impl Pass {
             sharing: Sharing::new(versions),
             row: Row::open(room),
             back_off: BackOff::new(),
+            made: 0,
         })
     }
 
@@ -195,11 +201,20 @@ impl Pass {
     }
 
     /// How many atomic steps the pass's last call made on the order, or its last meeting with it as the first pass, if that came later; 0
-    /// before either. Takes no memory.
+    /// before either. A call that learns d words, its own included, makes d + 1, and one more for each try that it loses; where it finds
+    /// the order full or a record not shown, one less. A meeting that learns d words makes d. Takes no memory.
     pub fn steps(&self) -> u32
         ensures { result ≡ self.now.steps }
     {
         self.reader.steps()
+    }
+
+    /// How many calls of the history the pass's last call made to answer: each that it applied to its store, or to what it keeps of the
+    /// objects that it reads. A call that is made twice counts twice, and one that was refused memory counts; those that the pass has of
+    /// another's wait, as a version, do not. 0 before the first call and after a meeting. It is for tests and for services that watch what
+    /// reads cost; no contract says the number (own). Takes no memory.
+    pub fn made(&self) -> u32 {
+        self.made.saturating_add(self.recent.made())
     }
 
     /// How many calls of the history the pass knew at its last wait with `Materialize` that was answered `Done`; 0 before the first. As long
@@ -232,11 +247,13 @@ impl Pass {
         self.reader.keep(object, answer);
     }
 
-    /// Begins to count the steps of a call or a meeting.
+    /// Begins to count the steps of a call or a meeting, and the calls that it makes.
     pub(crate) fn begin(&mut self)
         ensures { self.new ≡ record self.old { steps = 0 } }
     {
         self.reader.begin();
+        self.recent.begin();
+        self.made = 0;
     }
 
     /// How many more calls the history takes, as far as the pass has learnt. Takes no memory.
@@ -259,7 +276,7 @@ impl Pass {
         self.row.put(records, number, call)
     }
 
-    /// Goes on from what another pass evaluated, where this one is far behind and the other offered it. No memory is missed by that.
+    /// Goes on from what another pass evaluated and offered, where it is time to ask for that. No memory is missed by that.
     fn go_on(&mut self, records: &Records)
         requires records { All (IsOf records.now) self.old.shown }
         ensures same { self.new ≡ self.old }
@@ -285,11 +302,18 @@ impl Pass {
         ensures same { self.new ≡ self.old }
     {
         self.recent.release();
+        self.sharing.go_on_to_all(
+            records,
+            &mut self.reader,
+            &mut self.state,
+            &mut self.evaluated,
+        );
         let evaluated = evaluate(
             records,
             &mut self.reader,
             &mut self.state,
             &mut self.evaluated,
+            &mut self.made,
         );
         match evaluated {
             Err(_refused) => Err(Refusal::OutOfMemory),
@@ -375,17 +399,24 @@ impl Pass {
         ensures err { OnErr result (self.new.settled ≡ self.old.settled) }
     {
         self.recent.release();
+        self.sharing.go_on_to_all(
+            records,
+            &mut self.reader,
+            &mut self.state,
+            &mut self.evaluated,
+        );
         evaluate(
             records,
             &mut self.reader,
             &mut self.state,
             &mut self.evaluated,
+            &mut self.made,
         )?;
         settle(
             records,
             &mut self.reader,
             &mut self.state,
-            &mut self.sharing,
+            &self.sharing,
             call,
         )?;
         Ok(self.state.reply(call))

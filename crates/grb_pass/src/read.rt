@@ -22,7 +22,7 @@ impl Shared {
         ensures pass { IsPassOf self.now pass.new }
         ensures statuses { pass.new.statuses ≡ pass.old.statuses }
         ensures settled { pass.new.settled ≡ settled_after call.now result (length (known pass.new)) pass.old.settled }
-        ensures counts { CountsCall pass.old pass.new }
+        ensures counts { CountsCall (room_of self.now.order) pass.old pass.new }
         ensures looks { LooksOnce pass.old pass.new }
         ensures explains { ExplainsCall (room_of self.now.order) pass.old pass.new call.now result }
         ensures steady { IsSteady pass.new }

@@ -1,5 +1,6 @@
 ghost use Rattle.std.specs.Prelude.{◌≡◌, ◌<◌, ◌≤◌, All, IfOk};
 ghost use Rattle.grb_order.specs.Order.{room_of, AreFresh};
+ghost use Rattle.grb_records.specs.Token.{HasRows};
 ghost use Rattle.grb_pass.specs.Known.{AreNew, HasNoStatus, IsPassOf};
 
 use crate::pass::Pass;
@@ -25,9 +26,9 @@ impl Model for Shared {
     ghost view = { λ s. record { order = s.order; records = s.records } };
 }
 
-/// Places for the stores that so many passes may share; none for one pass alone. `AllocError` where memory is refused.
-fn versions_for(alloc: Global, room: u32, passes: u32) -> Result<Arc<Versions>, AllocError> {
-    let versions = Versions::open(alloc, if passes > 1 { room } else { 0 })?;
+/// Places for the evaluated stores that passes share. `AllocError` where memory is refused.
+fn versions_for(alloc: Global, room: u32) -> Result<Arc<Versions>, AllocError> {
+    let versions = Versions::open(alloc, room)?;
     match Arc::new(alloc, versions) {
         Ok(versions) => Ok(versions),
         Err(_refused) => Err(AllocError),
@@ -59,18 +60,19 @@ fn passes_of(
 
 impl Shared {
     /// What passes share whose history takes `room` calls, from 1 to 4,096, and those passes, from 1 to 64, which know no call: the one
-    /// at index k has the number k. `AllocError` where memory is refused.
+    /// at index k has the number k. Each has `room` cells for its records. `AllocError` where memory is refused.
     pub fn open(alloc: Global, room: u32, passes: u32) -> Result<(Shared, Vec<Pass>), AllocError>
         requires room { (0 < room) × (room ≤ 4096) }
         requires passes { (0 < passes) × (passes ≤ 64) }
         ensures room { IfOk result (λ opened. room_of opened.0.order ≡ room) }
+        ensures records { IfOk result (λ opened. HasRows passes room opened.0.records) }
         ensures passes { IfOk result (λ opened. AreNew opened.0.order passes opened.1.items passes) }
         ensures ours { IfOk result (λ opened. All (IsPassOf opened.0) opened.1.items) }
         ensures statuses { IfOk result (λ opened. All HasNoStatus opened.1.items) }
     {
         let (order, places) = Order::open(alloc, room, passes)?;
         let records = Records::open(alloc, passes, room)?;
-        let versions = versions_for(alloc, room, passes)?;
+        let versions = versions_for(alloc, room)?;
         let opened = passes_of(alloc, &order, places, room, passes, &versions)?;
         Ok((Shared { order, records }, opened))
     }

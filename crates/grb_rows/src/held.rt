@@ -80,7 +80,7 @@ pub fn store(
     }
 }
 
-/// Takes away the entry at `index`; whether there was one.
+/// Takes away the entry at `index`; whether there was one. Where there was none, no change is added.
 pub fn erase(
     row: &FlatRows,
     deleted: &mut Vec<bool>,
@@ -95,6 +95,7 @@ pub fn erase(
     ensures laid { IsLaid size row.now deleted.new.items pending.new.changes }
     ensures found { (q : ℕ) → find nat_cmp q (stored row.now deleted.new.items pending.new.changes) ≡ cond (nat_eq q index) None (find nat_cmp q (stored row.now deleted.old.items pending.old.changes)) }
     ensures stood { result ≡ is_some (find nat_cmp index (stored row.now deleted.old.items pending.old.changes)) }
+    ensures absent { find nat_cmp index (stored row.now deleted.old.items pending.old.changes) ≡ None → pending.new.changes ≡ pending.old.changes }
     ensures reserved { pending.new.reserved + 1 ≡ pending.old.reserved }
     ensures marked { length row.now.entries ≤ length deleted.new.items }
     ensures not_fewer { length pending.old.changes ≤ length pending.new.changes }
@@ -107,15 +108,7 @@ pub fn erase(
             pending.spend();
             return !was_deleted;
         }
-        None => {
-            let stood = pending.leaves_value(index);
-            if stood {
-                pending.push(index, None);
-                return stood;
-            }
-            pending.spend();
-            return stood;
-        }
+        None => return pending.remove(index),
     }
 }
 

@@ -1,5 +1,5 @@
 //! Changes that wait to be assembled: a row of them, oldest first, and the last one of each index in a table.
-ghost use Rattle.std.specs.Prelude.{◌≡◌, ◌+◌, ◌<◌, ◌≤◌, ◌^◌, ◌++◌, ℕ, [], ◌∷◌, length, All, IfOk, OnOk, OnErr, IfSome, IsTrue, is_some};
+ghost use Rattle.std.specs.Prelude.{◌≡◌, ◌+◌, ◌<◌, ◌≤◌, ◌^◌, ◌++◌, ℕ, [], ◌∷◌, None, true, false, length, All, IfOk, OnOk, OnErr, IfSome, IsTrue, is_some};
 ghost use Rattle.std.specs.Ordering.{nat_cmp};
 ghost use Rattle.std.specs.FinMap.{find, put, is_sorted};
 ghost use Rattle.std.specs.Vec.{vec_len, vec_capacity};
@@ -116,6 +116,24 @@ impl Pending {
         self.changes.push_reserved((index, change));
         let _room_was_reserved = self.latest.insert(index, change);
         self.reserved -= 1;
+    }
+
+    /// Takes away the value that the last change of an index leaves, if it leaves one; whether it did. Where it did not, no change is
+    /// added. Takes no memory, and uses up a place.
+    pub(crate) fn remove(&mut self, index: u64) -> bool
+        requires { 0 < self.old.reserved }
+        ensures stood { result ≡ is_some (value_left (last_at index self.old.changes)) }
+        ensures removed { result ≡ true → self.new.changes ≡ self.old.changes ++ (index, None) ∷ [] }
+        ensures absent { result ≡ false → self.new.changes ≡ self.old.changes }
+        ensures reserved { self.new.reserved + 1 ≡ self.old.reserved }
+    {
+        let stood = self.leaves_value(index);
+        if stood {
+            self.push(index, None);
+            return stood;
+        }
+        self.spend();
+        stood
     }
 
     /// The last change of each index, in rising order of the indices.

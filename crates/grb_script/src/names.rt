@@ -2,7 +2,9 @@ ghost use Rattle.std.specs.Prelude.{◌≡◌, [], ◌∷◌, ◌++◌, OnOk, On
 ghost use Rattle.grb_script.specs.Names.{stands, name_found};
 
 use indexmap::IndexMap;
+use sha2::{Digest, Sha256};
 use std::alloc::{AllocError, Global};
+use std::hash::{BuildHasher, DefaultHasher, Hasher};
 use std::marker::Model;
 
 /// The sort of an object.
@@ -14,11 +16,37 @@ pub enum Sort {
     Vector,
 }
 
+/// Hashes the names of one script: the digest of the script, and then the name. The digest depends on each name, so nobody can write a
+/// script whose names were chosen to collide (own).
+#[derive(Clone, Copy)]
+struct NameHashing {
+    seeded: DefaultHasher,
+}
+
+impl NameHashing {
+    /// The hashing of the names of this script.
+    fn of(text: &[u8]) -> NameHashing {
+        let mut seeded = DefaultHasher::new();
+        seeded.write(&Sha256::digest(text));
+        NameHashing { seeded }
+    }
+}
+
+impl BuildHasher for NameHashing {
+    type Hasher = DefaultHasher;
+
+    ghost build_hasher = { λ hashing. hashing.seeded };
+
+    fn build_hasher(&self) -> DefaultHasher {
+        self.seeded
+    }
+}
+
 /// The names that stand in a section of a script, in the order of making, each with the sort of the object that it stands for: those of
 /// main, and then those of the section. A name's number is its place, from 0.
 #[derive(Drop)]
 pub(crate) struct Names {
-    sorts: IndexMap<Vec<u8>, Sort>,
+    sorts: IndexMap<Vec<u8>, Sort, NameHashing>,
 }
 
 impl Model for Names {
@@ -31,12 +59,12 @@ impl Model for Names {
 }
 
 impl Names {
-    /// No names.
-    pub(crate) fn new(alloc: Global) -> Names
+    /// No names of this script yet.
+    pub(crate) fn new(alloc: Global, text: &[u8]) -> Names
         ensures { result ≡ [] }
     {
         Names {
-            sorts: IndexMap::new(alloc),
+            sorts: IndexMap::with_hasher(alloc, NameHashing::of(text)),
         }
     }
 

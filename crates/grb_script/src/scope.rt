@@ -32,15 +32,15 @@ pub(crate) fn may_follow(here: Option<Section>, next: Section) -> bool
 }
 
 impl Scope {
-    /// Where the first line of a script stands.
-    pub(crate) fn new(alloc: Global) -> Scope
+    /// Where the first line of this script stands.
+    pub(crate) fn new(alloc: Global, text: &[u8]) -> Scope
         ensures start { seen result ≡ at_start }
         ensures kept { IsKept result }
     {
         Scope {
             section: None,
             main: 0,
-            names: Names::new(alloc),
+            names: Names::new(alloc, text),
         }
     }
 

@@ -126,7 +126,7 @@ pub fn read_script(alloc: Global, text: &[u8]) -> Result<Script, ReadFault>
     ensures few { IfOk result (λ script. length script.threads.items ≤ 63) }
     ensures fault { IfErr result (IsWhyTextUnread text.now) }
 {
-    let mut scope = Scope::new(alloc);
+    let mut scope = Scope::new(alloc, text);
     let mut script = Script {
         main: Vec::new(alloc),
         threads: Vec::new(alloc),

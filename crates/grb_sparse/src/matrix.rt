@@ -194,7 +194,8 @@ impl SparseMatrix {
         self.assembled = false;
     }
 
-    /// Takes away the entry in row `i` and column `j`, if there is one. Takes no memory, and uses up one reserved place.
+    /// Takes away the entry in row `i` and column `j`, if there is one. Where there is none, no pending removal is added.
+    /// Takes no memory, and uses up one reserved place.
     ///
     /// Source: GraphBLAS C API 2.0, `GrB_Matrix_removeElement`.
     pub fn remove(&mut self, i: u64, j: u64)
@@ -202,6 +203,7 @@ impl SparseMatrix {
         requires column { j < self.old.matrix.ncols }
         requires reserved { 0 < self.old.reserved }
         ensures matrix { self.new.matrix ≡ edited_matrix (without_entry cell_cmp (i, j)) self.old.matrix }
+        ensures absent { find cell_cmp (i, j) self.old.matrix.entries ≡ None → self.new.pending ≡ self.old.pending }
         ensures assembled { self.new.assembled ≡ false }
         ensures reserved { self.new.reserved + 1 ≡ self.old.reserved }
         ensures not_fewer { self.old.pending ≤ self.new.pending }

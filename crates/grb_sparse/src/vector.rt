@@ -213,13 +213,15 @@ impl SparseVector {
         self.assembled = false;
     }
 
-    /// Takes away the entry at `index`, if there is one. Takes no memory, and uses up one reserved place.
+    /// Takes away the entry at `index`, if there is one. Where there is none, no pending removal is added.
+    /// Takes no memory, and uses up one reserved place.
     ///
     /// Source: GraphBLAS C API 2.0, `GrB_Vector_removeElement`.
     pub fn remove(&mut self, index: u64)
         requires in_range { index < self.old.vector.size }
         requires reserved { 0 < self.old.reserved }
         ensures vector { self.new.vector ≡ edited_vector (without_entry nat_cmp index) self.old.vector }
+        ensures absent { find nat_cmp index self.old.vector.entries ≡ None → self.new.pending ≡ self.old.pending }
         ensures assembled { self.new.assembled ≡ false }
         ensures reserved { self.new.reserved + 1 ≡ self.old.reserved }
         ensures not_fewer { self.old.pending ≤ self.new.pending }

@@ -59,8 +59,8 @@ pub(crate) fn answer_of(
 
 impl Part {
     /// The wanted objects after the calls from a place on, which come on the store, by only the calls of the slice, with room for so many
-    /// calls on the store. No entry is copied but of objects that these calls change. `AllocError` where memory is refused, or where objects
-    /// and calls are together 2^32 or more; the store is as it was (own).
+    /// calls on the store. No entry is copied but of objects that these calls change. Each call of the slice is counted among those made.
+    /// `AllocError` where memory is refused, or where objects and calls are together 2^32 or more; the store is as it was (own).
     pub fn of<S, C: CallList<S>>(
         whole: &State,
         calls: &mut C,
@@ -69,6 +69,7 @@ impl Part {
         slice: &Slice,
         wanted: Wanted,
         room: u32,
+        made: &mut u32,
     ) -> Result<Part, AllocError>
         requires held { C.is_in source.now calls.old }
         requires count { length (C.target_list calls.old) ≡ length (C.calls source.now calls.old) }
@@ -82,7 +83,14 @@ impl Part {
         ensures room { IfOk result (λ part. room + from ≤ part.part.room + length (C.calls source.now calls.old)) }
     {
         let mut state = whole.try_clone(room)?;
-        make_chosen(&mut state, calls, source, from, slice.chosen.as_slice())?;
+        make_chosen(
+            &mut state,
+            calls,
+            source,
+            from,
+            slice.chosen.as_slice(),
+            made,
+        )?;
         Ok(Part {
             state,
             held: wanted,
@@ -90,7 +98,8 @@ impl Part {
     }
 
     /// Goes on by the calls from a place on, those of the slice alone: it holds the wanted objects then, where it held what is wanted before
-    /// the calls. `AllocError` where memory is refused; what it holds then is not said (own).
+    /// the calls. Each call of the slice is counted among those made. `AllocError` where memory is refused; what it holds then is not said
+    /// (own).
     pub fn go_on<S, C: CallList<S>>(
         &mut self,
         calls: &mut C,
@@ -98,6 +107,7 @@ impl Part {
         from: usize,
         slice: &Slice,
         wanted: Wanted,
+        made: &mut u32,
     ) -> Result<(), AllocError>
         requires held { C.is_in source.now calls.old }
         requires count { length (C.target_list calls.old) ≡ length (C.calls source.now calls.old) }
@@ -117,6 +127,7 @@ impl Part {
             source,
             from,
             slice.chosen.as_slice(),
+            made,
         )?;
         self.held = wanted;
         Ok(())

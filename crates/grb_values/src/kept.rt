@@ -30,6 +30,8 @@ pub struct Kept {
     parts: Vec<KeptPart>,
     // What was spent since all calls were made, as a number of calls that are made.
     spent: usize,
+    // How many calls were made since it last began to count them.
+    made: u32,
 }
 
 impl Model for Kept {
@@ -93,7 +95,21 @@ impl Kept {
             room,
             parts: Vec::with_capacity(alloc, MOST)?,
             spent: 0,
+            made: 0,
         })
+    }
+
+    /// Begins to count the calls that are made. Takes no memory.
+    pub fn begin(&mut self)
+        ensures { self.new ≡ self.old }
+    {
+        self.made = 0;
+    }
+
+    /// How many calls were made for what is read since [`Kept::begin`], each as often as it was made; those that memory was refused to count
+    /// too. No contract says the number (own). Takes no memory.
+    pub fn made(&self) -> u32 {
+        self.made
     }
 
     /// Keeps no object any more: for one who makes all calls. Takes no memory.
@@ -179,7 +195,8 @@ impl Kept {
             wanted,
             cost,
         } = found;
-        kept.part.go_on(calls, source, at, &slice, wanted)?;
+        kept.part
+            .go_on(calls, source, at, &slice, wanted, &mut self.made)?;
         kept.upto = known;
         self.spent = self.spent.saturating_add(cost);
         Ok(Some(kept))
@@ -215,7 +232,16 @@ impl Kept {
             wanted,
             cost,
         } = found;
-        let part = Part::of(state, calls, source, evaluated, &slice, wanted, room)?;
+        let part = Part::of(
+            state,
+            calls,
+            source,
+            evaluated,
+            &slice,
+            wanted,
+            room,
+            &mut self.made,
+        )?;
         self.spent = self.spent.saturating_add(cost);
         Ok(Some(KeptPart {
             object,

@@ -66,7 +66,15 @@ pub fn value_of(
     let source = LentCalls { calls };
     let slice = slice_of(alloc, &mut walk, &source, object)?;
     let mut state = whole.try_clone(room)?;
-    make_chosen(&mut state, &mut walk, &source, 0, slice.chosen.as_slice())?;
+    let mut made = 0;
+    make_chosen(
+        &mut state,
+        &mut walk,
+        &source,
+        0,
+        slice.chosen.as_slice(),
+        &mut made,
+    )?;
     Ok(Held {
         object,
         state,

@@ -1,4 +1,4 @@
-ghost use Rattle.std.specs.Prelude.{◌≡◌, ◌+◌, ◌*◌, ◌<◌, ◌≤◌, Ok, IfOk, IfSome, length, map, take};
+ghost use Rattle.std.specs.Prelude.{◌≡◌, ◌+◌, ◌*◌, ◌<◌, ◌≤◌, true, Ok, IfOk, IfSome, length, map, take};
 ghost use Rattle.grb_replay.specs.Evaluated.{IsEvaluated};
 ghost use Rattle.grb_versions.specs.Versions.{IsFold, Serves};
 
@@ -41,17 +41,34 @@ impl Versions {
         Ok(Versions { alloc, cells })
     }
 
-    /// Keeps the state of these calls, unless its cell has one, or there is none, as of no calls and of more than there are places for.
-    /// `AllocError` where memory is refused; then nothing is kept.
+    /// The cell for a version of so many calls; none for no calls, and for more than there are places for.
+    fn cell_for(&self, count: usize) -> Option<&OnceBox<Version>>
+        ensures { IfSome result (λ cell. (0 < count) × (count ≤ 64 * self.now)) }
+    {
+        if count == 0 {
+            return None;
+        }
+        self.cells.get((count - 1) / LENGTHS)
+    }
+
+    /// Whether a version of so many calls would be kept: there is a cell for it, and the cell is empty. Takes no memory.
+    pub fn takes(&self, count: usize) -> bool
+        ensures { result ≡ true → (0 < count) × (count ≤ 64 * self.now) }
+    {
+        match self.cell_for(count) {
+            Some(cell) => cell.get().is_none(),
+            None => false,
+        }
+    }
+
+    /// Keeps the state of these calls, unless its cell has one, or there is none, as of no calls and of more than there are places for:
+    /// then it takes no memory. `AllocError` where memory is refused; then nothing is kept.
     pub fn offer(&self, calls: &[&Call], state: State) -> Result<(), AllocError>
         requires { IsFold (map (λ c. c.now) calls.now) state.store }
         ensures none { length calls.now ≡ 0 → result ≡ Ok tt }
         ensures beyond { 64 * self.now < length calls.now → result ≡ Ok tt }
     {
-        if calls.is_empty() {
-            return Ok(());
-        }
-        let Some(cell) = self.cells.get((calls.len() - 1) / LENGTHS) else {
+        let Some(cell) = self.cell_for(calls.len()) else {
             return Ok(());
         };
         if cell.get().is_some() {

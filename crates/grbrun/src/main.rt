@@ -8,15 +8,16 @@
 
 ghost use Rattle.std.specs.Prelude.{◌<◌, ◌≤◌};
 
-use grb_command::{
-    FileSource, Options, OutputSink, options, report_run, report_unread_words, report_words,
-};
+use grb_command::{FileSource, Options, OutputSink, report_unread_words, run_words};
 use grb_driver::{OpenGate, RunFault, run_script};
 use std::process::ExitCode;
 use std::rt::{Env, Files};
 use std::sync::Wait;
 use std::thread::Threads;
 use std::{env, io};
+
+/// The name that the program gives itself in what it tells.
+const PROGRAM: &str = "grbrun";
 
 /// Runs the script that the options name, and writes its lines to standard output.
 fn run<R: Files + Print + AllocGlobal + Threads + Wait + Sync>(
@@ -37,17 +38,6 @@ fn run<R: Files + Print + AllocGlobal + Threads + Wait + Sync>(
     )
 }
 
-/// Does what the words after the program's name ask for, and answers the exit status.
-fn run_words<R>(rt: &R, words: &[&str]) -> u8
-where
-    R: Files + Print + Eprint + AllocGlobal + Threads + Wait + Sync,
-{
-    match options(rt.alloc(), words) {
-        Ok(options) => report_run(rt, &run(rt, options)),
-        Err(error) => report_words(rt, &error),
-    }
-}
-
 /// Runs the program on its arguments, of which the first is its name.
 fn run_arguments<R>(rt: &R) -> io::Result<u8>
 where
@@ -58,13 +48,16 @@ where
         .iter()
         .map(|word| word.as_str())
         .collect(rt.alloc())?;
-    Ok(run_words(rt, &words))
+    let run_with = |options: Options<'_>|
+        requires room { (0 < options.room) × (options.room ≤ 4096) }
+    { run(rt, options) };
+    Ok(run_words(rt, PROGRAM, &words, run_with))
 }
 
 fn main(rt: HostRuntime) -> ExitCode {
     let status = match run_arguments(&rt) {
         Ok(status) => status,
-        Err(error) => report_unread_words(&rt, &error),
+        Err(error) => report_unread_words(&rt, PROGRAM, &error),
     };
     ExitCode::from(status)
 }

@@ -9,15 +9,16 @@ ghost use Rattle.std.specs.Prelude.{◌<◌, ◌≤◌};
 mod gate;
 
 use crate::gate::TraceGate;
-use grb_command::{
-    FileSource, Options, OutputSink, options, report_run, report_unread_words, report_words,
-};
+use grb_command::{FileSource, Options, OutputSink, report_unread_words, run_words};
 use grb_driver::{RunFault, run_script};
 use std::process::ExitCode;
 use std::rt::{Clock, Env, Files};
 use std::sync::Wait;
 use std::thread::Threads;
 use std::{env, io};
+
+/// The name that the program gives itself in what it tells.
+const PROGRAM: &str = "grbtrace";
 
 /// Runs the script that the options name, and traces it.
 fn run<R>(rt: &R, options: Options<'_>) -> Result<(), RunFault>
@@ -41,16 +42,16 @@ where
         .iter()
         .map(|word| word.as_str())
         .collect(rt.alloc())?;
-    Ok(match options(rt.alloc(), &words) {
-        Ok(options) => report_run(rt, &run(rt, options)),
-        Err(error) => report_words(rt, &error),
-    })
+    let run_with = |options: Options<'_>|
+        requires room { (0 < options.room) × (options.room ≤ 4096) }
+    { run(rt, options) };
+    Ok(run_words(rt, PROGRAM, &words, run_with))
 }
 
 fn main(rt: HostRuntime) -> ExitCode {
     let status = match run_arguments(&rt) {
         Ok(status) => status,
-        Err(error) => report_unread_words(&rt, &error),
+        Err(error) => report_unread_words(&rt, PROGRAM, &error),
     };
     ExitCode::from(status)
 }

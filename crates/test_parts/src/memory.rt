@@ -12,53 +12,7 @@ use grb_sparse::{SparseMatrix, SparseVector};
 use std::alloc::{AllocError, Global};
 use std::process::Abort;
 
-const A: MatrixId = MatrixId(3);
-
 const V: VectorId = VectorId(0);
-
-/// The calls that only read. Those that enter are copied in the drawn histories.
-const READS: [Call; 12] = [
-    Call::GetMatrix { a: A, i: 1, j: 2 },
-    Call::GetVector { v: V, i: 1 },
-    Call::NvalsMatrix { a: A },
-    Call::NvalsVector { v: V },
-    Call::SizeMatrix { a: A },
-    Call::SizeVector { v: V },
-    Call::ReduceMatrix {
-        a: A,
-        monoid: Monoid::Max,
-    },
-    Call::ReduceVector {
-        v: V,
-        monoid: Monoid::Lor,
-    },
-    Call::WaitMatrix {
-        a: A,
-        mode: WaitMode::Complete,
-    },
-    Call::WaitMatrix {
-        a: A,
-        mode: WaitMode::Materialize,
-    },
-    Call::WaitVector {
-        v: V,
-        mode: WaitMode::Complete,
-    },
-    Call::WaitVector {
-        v: V,
-        mode: WaitMode::Materialize,
-    },
-];
-
-#[test]
-fn a_call_that_reads_has_an_equal_copy(rt: HostRuntime) -> Result<(), AllocError> {
-    let reads = READS;
-    for call in &reads {
-        let copy = call.try_clone()?;
-        same(&rt, &copy, call, "the copy");
-    }
-    Ok(())
-}
 
 #[test]
 fn shapes_are_made_of_lists_and_copied(rt: HostRuntime) -> Result<(), AllocError> {

@@ -1,7 +1,7 @@
 //! Versions: which of them serve which calls, and which are kept.
 //!
 //! The contracts of `newest` and `advance` say that what is found is the store of the first of the calls. That a version is found where one
-//! serves, the longest that does, and which offers are kept, no contract says.
+//! serves, the longest that does, which offers are kept, whether one would be, and that one which is not is no refusal, no contract says.
 ghost use Rattle.std.specs.Prelude.{◌≡◌, ◌≤◌, length, map, IfOk};
 ghost use Rattle.grb_call.specs.Store.{empty_store};
 ghost use Rattle.grb_call.specs.History.{after_all};
@@ -246,6 +246,32 @@ fn expect_row(rt: &impl Abort, alloc: Global, row: &Row) -> Result<(), AllocErro
 fn a_version_serves_the_calls_that_begin_with_its_own(rt: HostRuntime) -> Result<(), AllocError> {
     for row in &ROWS {
         expect_row(&rt, rt.alloc(), row)?;
+    }
+    Ok(())
+}
+
+/// The room, what was offered in turn, and whether a version of so many calls would be kept then.
+static TAKEN: [(u32, &[History], usize, bool); 10] = [
+    (128, &[], 1, true),
+    (128, &[], 64, true),
+    (128, &[], 65, true),
+    (128, &[], 128, true),
+    (65, &[], 128, true),
+    (128, &[These(&[0, 5])], 1, false),
+    (128, &[These(&[0, 5])], 64, false),
+    (128, &[These(&[0, 5])], 65, true),
+    (128, &[Until(65)], 64, true),
+    (128, &[Until(65)], 128, false),
+];
+
+#[test]
+fn a_version_is_kept_where_its_cell_is_empty(rt: HostRuntime) -> Result<(), AllocError> {
+    for (at, (room, offered, count, takes)) in TAKEN.iter().enumerate() {
+        let versions = Versions::open(rt.alloc(), *room)?;
+        for history in *offered {
+            offer(&rt, rt.alloc(), &versions, *history)?;
+        }
+        same(&rt, versions.takes(*count), *takes, ("row from 0", at));
     }
     Ok(())
 }

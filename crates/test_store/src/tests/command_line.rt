@@ -6,9 +6,10 @@ use std::alloc::{AllocError, Global};
 use std::process::Abort;
 use std::test::Fail;
 
-const HELP: &str = "Runs a script of GraphBLAS calls on one shared store\n\n\
-    Usage: grbrun [OPTIONS] <SCRIPT>\n\n\
-    Arguments:\n  <SCRIPT>  The script to run, of at most 1,048,576 bytes; the paths of its loads\n            \
+const ABOUT: &str = "Runs a script of GraphBLAS calls on one shared store\n\n";
+
+const ARGUMENTS: &str =
+    "Arguments:\n  <SCRIPT>  The script to run, of at most 1,048,576 bytes; the paths of its loads\n            \
     begin in the working folder. A load reads a Matrix Market coordinate\n            \
     file of at most 67,108,864 bytes, integer or pattern, general or\n            \
     symmetric. All files are read and checked after the script, and before\n            \
@@ -47,7 +48,7 @@ fn words_give_a_room_and_a_path(rt: HostRuntime) -> Result<(), Fail> {
         (&["-"], 4096, "-"),
     ];
     for (words, room, path) in &rows {
-        let given = options(rt.alloc(), *words)?;
+        let given = options(rt.alloc(), "grbrun", *words)?;
         let (room, path) = (*room, *path);
         same(&rt, given, Options { room, path }, *words);
     }
@@ -57,7 +58,7 @@ fn words_give_a_room_and_a_path(rt: HostRuntime) -> Result<(), Fail> {
 /// The words of a line are no options, and end the program with this status.
 fn expect_status(rt: &impl Abort, alloc: Global, line: &str, status: u8) -> Result<(), AllocError> {
     let words: Vec<&str> = line.split_whitespace().collect(alloc)?;
-    let met = match options(alloc, &words) {
+    let met = match options(alloc, "grbrun", &words) {
         Ok(_) => None,
         Err(error) => Some(status_of_words(&error)),
     };
@@ -90,33 +91,50 @@ fn other_words_are_faulty_or_ask_for_help(rt: HostRuntime) -> Result<(), Fail> {
     Ok(())
 }
 
-/// What is told of the words of a line, which are no options.
-fn told_of(alloc: Global, line: &str) -> Result<Option<String>, AllocError> {
+/// What a program is told of the words of a line, which are no options.
+fn told_of(alloc: Global, program: &str, line: &str) -> Result<Option<String>, AllocError> {
     let words: Vec<&str> = line.split_whitespace().collect(alloc)?;
-    match options(alloc, &words) {
+    match options(alloc, program, &words) {
         Ok(_) => Ok(None),
         Err(error) => Ok(Some(format!(in alloc; "{error}")?)),
     }
 }
 
-fn expect_told(rt: &impl Abort, alloc: Global, line: &str, text: &str) -> Result<(), AllocError> {
-    let told = told_of(alloc, line)?;
-    same(rt, told.as_deref(), Some(text), line);
+fn expect_told(
+    rt: &impl Abort,
+    alloc: Global,
+    program: &str,
+    line: &str,
+    text: &str,
+) -> Result<(), AllocError> {
+    let told = told_of(alloc, program, line)?;
+    same(rt, told.as_deref(), Some(text), (program, line));
     Ok(())
 }
 
 #[test]
-fn help_and_what_is_wrong_are_told_in_words(rt: HostRuntime) -> Result<(), Fail> {
+fn what_is_wrong_is_told_in_words(rt: HostRuntime) -> Result<(), Fail> {
     let rows = [
-        ("--help", HELP),
-        ("--version", "grbrun 1.0.0\n"),
         ("", MISSING_SCRIPT),
         ("--room 0 x", ROOM_OF_0),
         ("--room x x", ROOM_OF_X),
         ("x y", UNEXPECTED_Y),
     ];
     for (line, text) in &rows {
-        expect_told(&rt, rt.alloc(), *line, *text)?;
+        expect_told(&rt, rt.alloc(), "grbrun", *line, *text)?;
+    }
+    Ok(())
+}
+
+#[test]
+fn help_and_the_version_have_the_name_of_the_program(rt: HostRuntime) -> Result<(), Fail> {
+    let alloc = rt.alloc();
+    for program in ["grbrun", "grbtrace"] {
+        let usage = format!(in alloc; "Usage: {program} [OPTIONS] <SCRIPT>")?;
+        let help = format!(in alloc; "{ABOUT}{usage}\n\n{ARGUMENTS}")?;
+        let version = format!(in alloc; "{program} 1.0.0\n")?;
+        expect_told(&rt, alloc, program, "--help", &help)?;
+        expect_told(&rt, alloc, program, "--version", &version)?;
     }
     Ok(())
 }

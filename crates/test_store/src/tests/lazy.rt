@@ -1,8 +1,9 @@
-//! Reads in histories that are long for other objects. Which calls a read evaluates, and what another pass left for it, no contract says:
-//! each of its three ways to a value is taken here. No script has a pass that meets another.
+//! Reads in histories that are long for other objects. Which calls a read makes, and what another pass left for it, no contract says: each
+//! of its three ways to a value is taken here, and the calls that it makes are counted. They are those that the object depends on and that
+//! were not made yet, and none of those that a version has. No script has a pass that meets another.
 use crate::tests::asked::Asked::{EwiseAddVector, GetVector, NewVector, SetVector, WaitVector};
 use crate::tests::asked::{Answer, Asked, DONE, FIRST, MADE, PLAIN, SECOND};
-use crate::tests::rows::Step::{Asks, Knows, Meets, Repeats, Settled};
+use crate::tests::rows::Step::{Asks, Knows, Made, Meets, Repeats, Settled};
 use crate::tests::rows::{P, Q, R, Row, run};
 use grb_call::{Reply, WaitMode};
 use grb_core::{BinaryOp, Domain, Value};
@@ -31,28 +32,37 @@ const IS_401: Answer = Ok(Reply::Value(Value::Uint64(401)));
 
 const IS_801: Answer = Ok(Reply::Value(Value::Uint64(801)));
 
-/// One pass fills the second vector from the first, and another changes and reads the first. Then each changes what the other reads.
-static CHANGED: [Row; 22] = [
+/// One pass fills the second vector from the first, and another changes and reads the first. Then each changes what the other reads. A read
+/// of the first vector alone makes its own calls: the new one, and those sets that were not made yet.
+static CHANGED: [Row; 30] = [
     (P, Asks(NewVector(Domain::Uint64, 2), MADE)),
     (P, Asks(NewVector(Domain::Uint64, 2), MADE_SECOND)),
     (P, Asks(SetVector(FIRST, 0, ONE), DONE)),
     (P, Asks(SetVector(SECOND, 0, ONE), DONE)),
     (P, Repeats(400, ADDED, DONE)),
+    (P, Made(0)),
     (Q, Meets(P)),
     (Q, Asks(SetVector(FIRST, 1, FIVE), DONE)),
     (Q, Asks(GetVector(FIRST, 0), IS_1)),
+    (Q, Made(3)),
     (Q, Asks(GetVector(FIRST, 1), IS_5)),
+    (Q, Made(0)),
     (P, Asks(SetVector(FIRST, 1, SIX), DONE)),
     (Q, Asks(GetVector(FIRST, 1), IS_6)),
+    (Q, Made(1)),
     (Q, Asks(GetVector(SECOND, 0), IS_401)),
     (Q, Asks(GetVector(FIRST, 1), IS_6)),
+    (Q, Made(0)),
     (P, Asks(GetVector(FIRST, 0), IS_1)),
+    (P, Made(4)),
     (P, Repeats(400, ADDED, DONE)),
     (P, Asks(SetVector(FIRST, 0, FIVE), DONE)),
     (Q, Asks(GetVector(FIRST, 0), IS_5)),
+    (Q, Made(1)),
     (Q, Asks(GetVector(FIRST, 1), IS_6)),
     (Q, Asks(GetVector(SECOND, 0), IS_801)),
     (Q, Asks(GetVector(FIRST, 1), IS_6)),
+    (Q, Made(0)),
     (P, Knows(807)),
     (Q, Knows(807)),
 ];
@@ -62,27 +72,37 @@ fn a_read_of_one_object_is_right_amid_calls_on_another(rt: HostRuntime) -> Resul
     run(&rt, 1024, &CHANGED)
 }
 
-/// The same until the first read. Then one pass settles all, others read what it left, and two of them change it for all.
-static SHARED: [Row; 25] = [
+/// The same until the first read. Then one pass settles all, others read what it left, and two of them change it for all. What is left for
+/// them is the whole store, so their reads make nothing.
+static SHARED: [Row; 34] = [
     (P, Asks(NewVector(Domain::Uint64, 2), MADE)),
     (P, Asks(NewVector(Domain::Uint64, 2), MADE_SECOND)),
     (P, Asks(SetVector(FIRST, 0, ONE), DONE)),
     (P, Asks(SetVector(SECOND, 0, ONE), DONE)),
     (P, Repeats(400, ADDED, DONE)),
     (Q, Meets(P)),
+    (Q, Made(0)),
     (Q, Asks(SetVector(FIRST, 1, FIVE), DONE)),
+    (Q, Made(0)),
     (Q, Asks(GetVector(FIRST, 0), IS_1)),
+    (Q, Made(3)),
     (P, Asks(SETTLE, DONE)),
+    (P, Made(405)),
     (P, Settled(405)),
     (R, Meets(P)),
+    (R, Made(0)),
     (R, Asks(GetVector(SECOND, 0), IS_401)),
+    (R, Made(0)),
     (R, Knows(405)),
     (Q, Asks(GetVector(SECOND, 0), IS_401)),
+    (Q, Made(0)),
     (Q, Knows(405)),
     (Q, Asks(SetVector(SECOND, 0, SIX), DONE)),
     (P, Asks(GetVector(SECOND, 0), IS_6)),
+    (P, Made(1)),
     (P, Asks(SetVector(SECOND, 1, FIVE), DONE)),
     (Q, Asks(GetVector(SECOND, 1), IS_5)),
+    (Q, Made(2)),
     (Q, Asks(GetVector(SECOND, 0), IS_6)),
     (P, Asks(GetVector(FIRST, 1), IS_5)),
     (P, Asks(GetVector(SECOND, 1), IS_5)),
@@ -94,4 +114,41 @@ static SHARED: [Row; 25] = [
 #[test]
 fn a_read_goes_on_from_what_another_pass_settled(rt: HostRuntime) -> Result<(), AllocError> {
     run(&rt, 512, &SHARED)
+}
+
+/// One pass settles two calls, and each other pass begins with what it left. A wait where all is settled makes nothing. A later wait finds the
+/// cell for so few calls full, and leaves nothing more: a first read after it makes the one call that came between.
+static FEW: [Row; 25] = [
+    (P, Asks(NewVector(Domain::Uint64, 2), MADE)),
+    (P, Asks(SetVector(FIRST, 0, FIVE), DONE)),
+    (P, Asks(WaitVector(FIRST, WaitMode::Materialize), DONE)),
+    (P, Made(2)),
+    (P, Settled(2)),
+    (P, Asks(WaitVector(FIRST, WaitMode::Materialize), DONE)),
+    (P, Made(0)),
+    (P, Settled(2)),
+    (Q, Meets(P)),
+    (Q, Asks(GetVector(FIRST, 0), IS_5)),
+    (Q, Made(0)),
+    (Q, Asks(WaitVector(FIRST, WaitMode::Materialize), DONE)),
+    (Q, Made(0)),
+    (Q, Settled(2)),
+    (Q, Knows(2)),
+    (P, Asks(SetVector(FIRST, 1, SIX), DONE)),
+    (P, Asks(WaitVector(FIRST, WaitMode::Materialize), DONE)),
+    (P, Made(1)),
+    (P, Settled(3)),
+    (R, Meets(P)),
+    (R, Asks(GetVector(FIRST, 1), IS_6)),
+    (R, Made(1)),
+    (R, Asks(GetVector(FIRST, 0), IS_5)),
+    (R, Made(0)),
+    (R, Knows(3)),
+];
+
+#[test]
+fn a_wait_after_few_calls_leaves_its_store_to_the_other_passes(
+    rt: HostRuntime,
+) -> Result<(), AllocError> {
+    run(&rt, 512, &FEW)
 }

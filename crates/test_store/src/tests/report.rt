@@ -4,6 +4,7 @@ use grb_command::{options, report_run, report_unread_words, report_words};
 use grb_driver::RunFault;
 use grb_market::MarketFault;
 use grb_script::FaultKind;
+use std::alloc::Global;
 use std::cell::Cell;
 use std::fmt::Display;
 use std::io;
@@ -57,6 +58,24 @@ impl Eprint for Streams {
     }
 }
 
+/// Standard error that keeps the last line that it was given.
+#[derive(Drop)]
+struct LastLine {
+    alloc: Global,
+    line: Cell<String>,
+}
+
+impl Eprint for LastLine {
+    fn eprint<D: Display + Drop>(&self, value: D) -> io::Result<()> {
+        self.eprintln(value)
+    }
+
+    fn eprintln<D: Display + Drop>(&self, value: D) -> io::Result<()> {
+        self.line.set(format!(in self.alloc; "{value}")?);
+        Ok(())
+    }
+}
+
 #[test]
 fn help_goes_to_output_and_a_fault_to_standard_error(rt: HostRuntime) -> Result<(), Fail> {
     let rows = [
@@ -69,10 +88,10 @@ fn help_goes_to_output_and_a_fault_to_standard_error(rt: HostRuntime) -> Result<
     ];
     for (word, is_full, expected) in rows {
         let screen = Streams::new(is_full);
-        match options(rt.alloc(), &[word]) {
+        match options(rt.alloc(), "grbrun", &[word]) {
             Ok(given) => assert!(rt; false, "{word} gives {given:?}"),
             Err(error) => {
-                let status = report_words(&screen, &error);
+                let status = report_words(&screen, "grbrun", &error);
                 let met = (status, screen.printed.get(), screen.explained.get());
                 same(&rt, met, expected, (word, "full", is_full));
             }
@@ -84,12 +103,17 @@ fn help_goes_to_output_and_a_fault_to_standard_error(rt: HostRuntime) -> Result<
 #[test]
 fn a_run_that_is_done_says_nothing(rt: HostRuntime) {
     let screen = Streams::new(true);
-    same(&rt, report_run(&screen, &Ok(())), 0, "a run that is done");
+    same(
+        &rt,
+        report_run(&screen, "grbrun", &Ok(())),
+        0,
+        "a run that is done",
+    );
     same(&rt, screen.explained.get(), 0, "what is then explained");
     let fault = Err(RunFault::CannotWrite);
     same(
         &rt,
-        report_run(&screen, &fault),
+        report_run(&screen, "grbrun", &fault),
         1,
         "a run that cannot write",
     );
@@ -100,7 +124,7 @@ fn a_run_that_is_done_says_nothing(rt: HostRuntime) {
 fn words_that_are_no_text_are_a_fault_of_the_command_line(rt: HostRuntime) {
     let screen = Streams::new(false);
     for (kind, status) in [(ErrorKind::InvalidData, 2), (ErrorKind::OutOfMemory, 1)] {
-        let met = report_unread_words(&screen, &io::Error::from(kind));
+        let met = report_unread_words(&screen, "grbrun", &io::Error::from(kind));
         same(&rt, met, status, kind);
     }
     let met = (screen.printed.get(), screen.explained.get());
@@ -138,9 +162,22 @@ fn a_fault_is_told_after_the_name_of_the_program(rt: HostRuntime) -> Result<(), 
         (RunFault::Panic, "grbrun: GrB_PANIC"),
         (RunFault::CannotWrite, "grbrun: cannot write"),
     ];
+    let screen = LastLine {
+        alloc: rt.alloc(),
+        line: Cell::new(String::new(rt.alloc())),
+    };
     for (fault, text) in rows {
-        let printed = format!(in rt.alloc(); "grbrun: {fault}")?;
-        same(&rt, printed.as_str(), text, "a fault");
+        let _ = report_run(&screen, "grbrun", &Err(fault));
+        let told = screen.line.replace(String::new(rt.alloc()));
+        same(&rt, told.as_str(), text, "a fault");
     }
+    let _ = report_run(&screen, "grbtrace", &Err(RunFault::Panic));
+    let told = screen.line.replace(String::new(rt.alloc()));
+    same(
+        &rt,
+        told.as_str(),
+        "grbtrace: GrB_PANIC",
+        "a fault of another program",
+    );
     Ok(())
 }

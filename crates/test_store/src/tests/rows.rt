@@ -30,6 +30,8 @@ pub(super) enum Step {
     Knows(u32),
     /// So many steps on the order were made by its last call or meeting.
     Steps(u32),
+    /// So many calls of the history were made by its last call, to its end; a meeting makes none.
+    Made(u32),
     /// So many calls are settled.
     Settled(u32),
     /// The status that its last call on the object left.
@@ -91,6 +93,7 @@ fn expect_step<A: Abort>(
         }
         Step::Knows(calls) => same(rt, (pass.known(), pass.words()), (calls, calls), row),
         Step::Steps(steps) => same(rt, pass.steps(), steps, row),
+        Step::Made(calls) => same(rt, pass.made(), calls, row),
         Step::Settled(calls) => same(rt, pass.settled(), calls, row),
         Step::Status(object, status) => same(rt, pass.last_info(object), status, row),
         Step::Meets(_) => {}

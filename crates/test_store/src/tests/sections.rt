@@ -1,5 +1,5 @@
-//! Two sections that hold each other: neither can end unless both run at the same time. No contract says that they do, and no script can wait
-//! for another section.
+//! Two sections that hold each other: neither can end unless both run at the same time, and their gate is told of a statement before it is
+//! made and once it is answered. No contract says so, and no script can wait for another section.
 use crate::tests::same::same;
 use crate::tests::sinks::sink_of;
 use crate::tests::sources::source_of;
@@ -73,6 +73,79 @@ fn two_sections_meet(rt: HostRuntime) -> Result<(), Fail> {
         same(&rt, answered.load(Ordering::SeqCst), 1, "first statements");
     }
     same(&rt, gate.held.load(Ordering::SeqCst), 2, "held");
+    same(&rt, gate.given_up.load(Ordering::SeqCst), 0, "given up");
+    Ok(())
+}
+
+/// The second section reads what the first sets.
+const READ: &str =
+    "vector v uint64 2\nthread 1\nnvals v\nset v 0 7\nthread 2\nsize v\nget v 0\nsize v\n";
+
+const READ_LINES: &str = "ok\ncount 0\nok\nsize 2\nvalue 7\nsize 2\n";
+
+/// Holds the set until the read is about to be made, the read until the set was answered, and the first section after its set until the
+/// read was answered. A set that comes too late, or a read that comes too soon, finds nothing.
+#[derive(Drop)]
+struct OrderingGate {
+    reads: AtomicU64,
+    has_set: AtomicU64,
+    has_read: AtomicU64,
+    given_up: AtomicU64,
+}
+
+impl OrderingGate {
+    /// Says that this has come.
+    fn tell(&self, event: &AtomicU64) {
+        event.fetch_add(1, Ordering::SeqCst);
+    }
+
+    /// Waits until this has come, or for so many turns.
+    fn hold(&self, event: &AtomicU64) {
+        for _ in 0..TURNS {
+            if event.load(Ordering::SeqCst) > 0 {
+                return;
+            }
+        }
+        self.given_up.fetch_add(1, Ordering::SeqCst);
+    }
+}
+
+impl Gate for OrderingGate {
+    fn before(&self, section: u32, statement: u32) {
+        match (section, statement) {
+            (2, 2) => {
+                self.tell(&self.reads);
+                self.hold(&self.has_set);
+            }
+            (2, 3) => self.tell(&self.has_read),
+            _ => {}
+        }
+    }
+
+    fn after(&self, section: u32, statement: u32) {
+        match (section, statement) {
+            (1, 1) => self.hold(&self.reads),
+            (1, 2) => {
+                self.tell(&self.has_set);
+                self.hold(&self.has_read);
+            }
+            _ => {}
+        }
+    }
+}
+
+#[test]
+fn a_gate_is_told_before_a_statement_and_once_it_is_answered(rt: HostRuntime) -> Result<(), Fail> {
+    let gate = OrderingGate {
+        reads: AtomicU64::new(0),
+        has_set: AtomicU64::new(0),
+        has_read: AtomicU64::new(0),
+        given_up: AtomicU64::new(0),
+    };
+    let mut source = source_of(rt.alloc(), READ, &[]);
+    let mut sink = sink_of(rt.alloc(), 1000, 1000);
+    run_script(&rt, rt.alloc(), 16, &mut source, &mut sink, &gate)?;
+    same(&rt, sink.taken.as_slice(), READ_LINES.as_bytes(), "lines");
     same(&rt, gate.given_up.load(Ordering::SeqCst), 0, "given up");
     Ok(())
 }

@@ -1,4 +1,6 @@
-use Rattle.std.proofs.Common.{◌≡◌, ◌∙◌, ap, sym, subst, ℕ, List, Some, None, set, get_or, length, ◌<◌, arith, Bool, true, false, refl, cond, nat_eq, Option}
+use Rattle.std.proofs.Common.{inl, inr, ◌≡◌, ◌∙◌, ap, sym, subst, ℕ, List, Some, None, set, get_or, length, ◌<◌, arith, Bool, true, false, refl, cond, nat_eq, Option}
+use Rattle.std.specs.Prelude.{is_some}
+use Rattle.std.proofs.lemmas.Bool.{cases_Bool}
 use Rattle.std.specs.Ordering.{nat_cmp}
 use Rattle.std.specs.FinMap.{find}
 use Rattle.grb_core.specs.declared.value.Value.{Value}
@@ -24,17 +26,15 @@ pub returns-in-Some-clause-stood : goal.returns-in-Some-clause-stood
 returns-in-Some-clause-stood c =
     stands-marked c.args.size c.args.row.now c.args.deleted.now.items c.args.pending.now.changes c.requires.laid c.args.index c.in-Some.at c.in-Some.ensures.found.0 c.in-Some.ensures.found.1 c.is_marked-was_deleted.result (c.is_marked-was_deleted.ensures ∙ ap (λ (x : List Bool). get_or x c.in-Some.at false) c.deref.ensures.value)
 
-pub returns-then-stood-clause-laid : goal.returns-then-stood-clause-laid
-returns-then-stood-clause-laid c =
-    laid-pushed c.args.size c.args.row.now c.args.deleted.now.items c.args.pending.now.changes c.requires.laid c.args.index c.in-None.ensures.absent None c.push.new.self.changes c.push.ensures.changes c.requires.in_range tt
-
-pub returns-then-stood-clause-found : goal.returns-then-stood-clause-found
-returns-then-stood-clause-found c =
-    find-pushed c.args.size c.args.row.now c.args.deleted.now.items c.args.pending.now.changes c.requires.laid c.args.index c.in-None.ensures.absent None c.push.new.self.changes c.push.ensures.changes
-
-pub returns-then-stood-clause-stood : goal.returns-then-stood-clause-stood
-returns-then-stood-clause-stood c =
-    c.leaves_value-stood.ensures ∙ stands-left c.args.size c.args.row.now c.args.deleted.now.items c.args.pending.now.changes c.requires.laid c.args.index c.in-None.ensures.absent
+pub returns-in-None-clause-laid : goal.returns-in-None-clause-laid
+returns-in-None-clause-laid c =
+    let row = c.args.row.now in
+    let ds = c.args.deleted.now.items in
+    let cs = c.args.pending.now.changes in
+    elim (cases_Bool c.remove.result) [
+      | inl stands ↦ laid-pushed c.args.size row ds cs c.requires.laid c.args.index c.in-None.ensures.absent None c.remove.new.self.changes (c.remove.ensures.removed stands) c.requires.in_range tt
+      | inr none ↦ subst (λ (fs : List Change). IsLaid c.args.size row ds fs) (sym (c.remove.ensures.absent none)) c.requires.laid
+    ]
 
 pub returns-in-None-clause-found : goal.returns-in-None-clause-found
 returns-in-None-clause-found c =
@@ -42,10 +42,19 @@ returns-in-None-clause-found c =
     let ds = c.args.deleted.now.items in
     let cs = c.args.pending.now.changes in
     let left = stands-left c.args.size row ds cs c.requires.laid c.args.index c.in-None.ensures.absent in
-    let none : find nat_cmp c.args.index (stored row ds cs) ≡ None = nothing_there (find nat_cmp c.args.index (stored row ds cs)) (sym left ∙ sym c.leaves_value-stood.ensures ∙ c.if-stood.false) in
-    λ q. ap (λ (fs : List Change). find nat_cmp q (stored row ds fs)) c.spend-in-None.ensures.changes
-    ∙ find-same c.args.size row ds cs c.requires.laid c.args.index none q
+    elim (cases_Bool c.remove.result) [
+      | inl stands ↦ find-pushed c.args.size row ds cs c.requires.laid c.args.index c.in-None.ensures.absent None c.remove.new.self.changes (c.remove.ensures.removed stands)
+      | inr unset ↦
+          let none : find nat_cmp c.args.index (stored row ds cs) ≡ None = nothing_there (find nat_cmp c.args.index (stored row ds cs)) (sym left ∙ sym c.remove.ensures.stood ∙ unset) in
+          λ q. ap (λ (fs : List Change). find nat_cmp q (stored row ds fs)) (c.remove.ensures.absent unset)
+          ∙ find-same c.args.size row ds cs c.requires.laid c.args.index none q
+    ]
 
 pub returns-in-None-clause-stood : goal.returns-in-None-clause-stood
 returns-in-None-clause-stood c =
-    c.leaves_value-stood.ensures ∙ stands-left c.args.size c.args.row.now c.args.deleted.now.items c.args.pending.now.changes c.requires.laid c.args.index c.in-None.ensures.absent
+    c.remove.ensures.stood ∙ stands-left c.args.size c.args.row.now c.args.deleted.now.items c.args.pending.now.changes c.requires.laid c.args.index c.in-None.ensures.absent
+
+pub returns-in-None-clause-absent : goal.returns-in-None-clause-absent
+returns-in-None-clause-absent c =
+    let left = stands-left c.args.size c.args.row.now c.args.deleted.now.items c.args.pending.now.changes c.requires.laid c.args.index c.in-None.ensures.absent in
+    λ none. c.remove.ensures.absent (c.remove.ensures.stood ∙ left ∙ ap is_some none)

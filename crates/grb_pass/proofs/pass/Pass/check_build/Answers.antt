@@ -12,13 +12,13 @@ use Rattle.grb_pass.proofs.pass.Pass.check_build.Goals.{in-Err, in-Ok+in-Some, i
 pub refused_build-requires : goal.refused_build-requires
 refused_build-requires c =
     let call = c.args.call.now in
-    let same : c.evaluate-evaluated.new.state.store ≡ store_of (known c.args.self.now) = c.in-Ok.ensures.store ∙ ap (λ (p : Knowing). store_of (known p)) (c.evaluate-evaluated.ensures.same ∙ c.self.view_is) in
+    let same : c.evaluate-evaluated.new.state.store ≡ store_of (known c.args.self.now) = c.in-Ok.ensures.store ∙ ap (λ (p : Knowing). store_of (known p)) (c.evaluate-evaluated.ensures.same ∙ c.go_on_to_all.ensures.same ∙ c.self.view_is) in
     c.requires.in_bounds ∙ sym (ap (λ (s : Store). is_in_bounds (shapes_of s) call) same)
 
 pub returns-clause-checked : goal.returns-clause-checked
 returns-clause-checked c =
     let call = c.args.call.now in let s : Store = store_of (known c.args.self.now) in
-    let now = ap (λ (p : Knowing). store_of (known p)) (c.evaluate-evaluated.ensures.same ∙ c.self.view_is) in
+    let now = ap (λ (p : Knowing). store_of (known p)) (c.evaluate-evaluated.ensures.same ∙ c.go_on_to_all.ensures.same ∙ c.self.view_is) in
     elim c.match-evaluated.branch [
       | in-Err w ↦ subst (IsBuildChecked s call) (sym w.result-is) tt
       | in-Ok+in-Some w ↦

@@ -5,15 +5,29 @@ use Rattle.grb_core.specs.declared.refusal.Refusal.TheVariants.{OutOfMemory}
 use Rattle.grb_order.specs.Order.{room_of}
 use Rattle.grb_call.specs.declared.call.Call.{Call}
 use Rattle.grb_pass.specs.Known.{Knowing}
-use Rattle.grb_pass.specs.Counting.{CountsCall}
+use Rattle.grb_pass.specs.Counting.{CountsCall, CountsTries}
 use Rattle.grb_pass.specs.Explains.{ExplainsCall, IsCaughtUp, ground_of}
 use Rattle.grb_pass.specs.Learning.{IsRefused}
 use Rattle.grb_pass.proofs.Answering.{refused_put, explains_refused, explains_before}
-use Rattle.grb_pass.proofs.Counted.{counts_looked}
+use Rattle.grb_pass.proofs.Counted.{counts_looked, counts_tried}
+use Rattle.grb_pass.proofs.Rising.{looks_ready}
 use Rattle.grb_pass.proofs.shared.Shared.enter_record_of_copy.Goals as goal
 
 pub returns-in_err-ready-clause-counts : goal.returns-in_err-ready-clause-counts
-returns-in_err-ready-clause-counts c = counts_looked c.args.pass.now c.ready.new.pass c.ready.ensures.learns c.ready.ensures.counts c.requires.begun c.ready.ensures.few
+returns-in_err-ready-clause-counts c = counts_looked (room_of c.args.self.now.order) c.args.pass.now c.ready.new.pass c.ready.ensures.learns c.ready.ensures.counts c.requires.begun c.ready.ensures.looks
+
+pub returns-in_err-token-clause-counts : goal.returns-in_err-token-clause-counts
+returns-in_err-token-clause-counts c =
+    subst (λ (k : Knowing). CountsCall (room_of c.args.self.now.order) c.args.pass.now k) (sym c.put.ensures.same) (counts_looked (room_of c.args.self.now.order) c.args.pass.now c.ready.new.pass c.ready.ensures.learns c.ready.ensures.counts c.requires.begun c.ready.ensures.looks)
+
+pub returns-clause-counts : goal.returns-clause-counts
+returns-clause-counts c =
+    let room = room_of c.args.self.now.order in let old = c.args.pass.now in let mid = c.ready.new.pass in let new = c.enter_token.new.pass in
+    let tries : CountsTries room mid new = subst (λ (k : Knowing). CountsTries room k new) c.put.ensures.same c.enter_token.ensures.counts in
+    counts_tried room old mid new c.ready.ensures.learns c.ready.ensures.counts tries c.requires.begun (looks_ready room old mid c.args.call.now c.ready.ensures.looks c.in_ok-ready.ensures.ready)
+
+pub returns-in_default-clause-counts : goal.returns-in_default-clause-counts
+returns-in_default-clause-counts c = counts_looked (room_of c.args.self.now.order) c.args.pass.now c.ready.new.pass c.ready.ensures.learns c.ready.ensures.counts c.requires.begun c.ready.ensures.looks
 
 pub returns-in_err-token-clause-explains : goal.returns-in_err-token-clause-explains
 returns-in_err-token-clause-explains c =
@@ -28,10 +42,6 @@ returns-in_err-token-clause-caught_up c =
     let p = err_from_is_err_and c.from_residual-in_err-token.result c.from_residual-in_err-token.ensures.1 in
     let is = refused_put room old mid call _ c.in_err-token.ensures.refused c.requires.enters c.in_ok-ready.ensures.ready c.in_ok-ready.ensures.looked in
     rw (p.1, p.2) (subst (λ (k : Knowing). IsCaughtUp (ground_of (Err c.in_err-token.field-0.0)) k) (sym c.put.ensures.same) is.caught_up)
-
-pub returns-in_err-token-clause-counts : goal.returns-in_err-token-clause-counts
-returns-in_err-token-clause-counts c =
-    subst (λ (k : Knowing). CountsCall c.args.pass.now k) (sym c.put.ensures.same) (counts_looked c.args.pass.now c.ready.new.pass c.ready.ensures.learns c.ready.ensures.counts c.requires.begun c.ready.ensures.few)
 
 pub returns-clause-explains : goal.returns-clause-explains
 returns-clause-explains c =

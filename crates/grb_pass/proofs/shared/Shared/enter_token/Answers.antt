@@ -14,7 +14,8 @@ use Rattle.grb_pass.specs.Learning.{IsReady, IsRefused, Learns}
 use Rattle.grb_pass.proofs.Checking.{unrefused_by_shapes}
 use Rattle.grb_pass.proofs.Learnt.{learns_refl, learns_then, pass_push}
 use Rattle.grb_pass.proofs.Answering.{explains_refused, explains_won, known_entered, learns_lost, refused_before}
-use Rattle.grb_pass.proofs.Counted.{counts_then, counts_same, counts_won, counts_lost, looks_again, steps_near, steps_lost}
+use Rattle.grb_pass.proofs.Counted.{counts_then, counts_same, counts_won, counts_lost, lost_again, steps_near, steps_lost}
+use Rattle.grb_pass.proofs.Rising.{tried_none}
 use Rattle.grb_pass.proofs.shared.Shared.enter_token.Goals as goal
 
 pub tries-init : goal.tries-init
@@ -29,7 +30,7 @@ tries-init c =
       ready = c.requires.ready;
       small = subst (λ (o : TableId). room_of o ≤ 4096) c.requires.pass.order c.requires.steady.small;
       counts = counts_same pass pass refl refl;
-      looks = omega arith;
+      lost = λ earlier is. tried_none earlier pass.view is;
     }
 
 pub enter-requires-clause-accepted : goal.enter-requires-clause-accepted
@@ -41,13 +42,13 @@ enter-requires-clause-accepted c =
 pub enter-requires-clause-few : goal.enter-requires-clause-few
 enter-requires-clause-few c =
     let now = c.tries.invariant in let room_left = now.ready.room_left in
-    let n : c.tries.pass.steps < 2 ^ 29 = steps_near c.args.pass.now c.tries.pass now.counts c.requires.few now.looks (omega (arith, room_left, now.small)) in omega (arith, n)
+    let n : c.tries.pass.steps < 2 ^ 29 = steps_near c.args.pass.now c.tries.pass now.learns now.counts c.requires.few c.requires.ready.looked now.lost (omega (arith, room_left, now.small)) in omega (arith, n)
 
 pub ready-requires-clause-few : goal.ready-requires-clause-few
 ready-requires-clause-few c =
     let back = c.in-Some.ensures.enters in let now = c.tries.invariant in let room_left = now.ready.room_left in
     steps_lost c.tries.pass c.enter.new.self back.2 c.enter.ensures.counts back.3
-    (steps_near c.args.pass.now c.tries.pass now.counts c.requires.few now.looks (omega (arith, room_left, now.small)))
+    (steps_near c.args.pass.now c.tries.pass now.learns now.counts c.requires.few c.requires.ready.looked now.lost (omega (arith, room_left, now.small)))
 
 pub returns-in_default-clause-pass : goal.returns-in_default-clause-pass
 returns-in_default-clause-pass c =
@@ -70,7 +71,7 @@ returns-in_default-clause-caught_up c =
 pub returns-in_default-clause-counts : goal.returns-in_default-clause-counts
 returns-in_default-clause-counts c =
     let old = c.args.pass.now in let mid = c.tries.pass in let now = c.tries.invariant in
-    counts_won old mid c.enter.new.self (order_word mid.view.number c.call_of-call.new.token.index) now.learns now.counts c.enter.ensures.counts c.in_default.ensures.enters.0 now.looks
+    counts_won (room_of c.args.self.now.order) old mid c.enter.new.self (order_word mid.view.number c.call_of-call.new.token.index) now.learns now.counts c.enter.ensures.counts c.in_default.ensures.enters.0 now.ready.room_left now.lost
 
 pub tries-preserved : goal.tries-preserved
 tries-preserved c =
@@ -80,6 +81,7 @@ tries-preserved c =
     let first : Learns old lost = learns_lost room old mid lost c.args.token.call back.2 now.learns now.ready back.1 c.enter.ensures.statuses c.enter.ensures.settled back.3 in
     let all : Learns old new = learns_then old lost new first c.ready.ensures.learns in
     let token = back.0 ∙ c.call_of-call.ensures.same in
+    let ready : IsReady room new c.args.token.call = subst (λ (x : Call). IsReady room new x) is c.in_ok-ready.ensures.ready in
     record {
       pass = c.ready.ensures.pass;
       learns = all;
@@ -87,10 +89,10 @@ tries-preserved c =
       own = ap (λ (t : Shown). t.pass) token ∙ now.own ∙ now.learns.grown.number ∙ sym all.grown.number;
       index = rw token now.index;
       call = ap (λ (t : Shown). t.call) token ∙ now.call;
-      ready = subst (λ (x : Call). IsReady room new x) is c.in_ok-ready.ensures.ready;
+      ready = ready;
       small = now.small;
       counts = counts_then old lost new (counts_then old mid lost now.counts c.enter.ensures.counts) c.ready.ensures.counts;
-      looks = looks_again old mid lost new back.2 now.looks back.3 c.ready.ensures.learns c.ready.ensures.few;
+      lost = lost_again room old mid lost new back.2 c.args.token.call now.learns now.lost back.3 c.ready.ensures.learns c.ready.ensures.looks ready;
     }
 
 pub returns-in_err-ready-clause-counts : goal.returns-in_err-ready-clause-counts
@@ -99,8 +101,7 @@ returns-in_err-ready-clause-counts c =
     let now = c.tries.invariant in let back = c.in-Some.ensures.enters in
     let first : Learns old lost = learns_lost room old mid lost c.args.token.call back.2 now.learns now.ready back.1 c.enter.ensures.statuses c.enter.ensures.settled back.3 in
     let all : Learns old new = learns_then old lost new first c.ready.ensures.learns in
-    counts_lost old new all (counts_then old lost new (counts_then old mid lost now.counts c.enter.ensures.counts) c.ready.ensures.counts)
-    (looks_again old mid lost new back.2 now.looks back.3 c.ready.ensures.learns c.ready.ensures.few)
+    counts_lost room old mid lost new back.2 now.learns all (counts_then old lost new (counts_then old mid lost now.counts c.enter.ensures.counts) c.ready.ensures.counts) now.lost back.3 c.ready.ensures.learns c.ready.ensures.looks
 
 pub returns-in_err-ready-clause-explains : goal.returns-in_err-ready-clause-explains
 returns-in_err-ready-clause-explains c =

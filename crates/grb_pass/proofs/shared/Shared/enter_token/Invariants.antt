@@ -1,9 +1,10 @@
-use Rattle.std.proofs.Common.{◌≡◌, ◌+◌, ◌<◌, ◌≤◌, ◌-◌, ◌^◌, length}
+use Rattle.std.proofs.Common.{◌≡◌, ◌<◌, ◌≤◌, ◌-◌, ◌^◌, length}
 use Rattle.grb_order.specs.Order.{room_of}
 use Rattle.grb_records.specs.Token.{IsOf}
 use Rattle.grb_pass.specs.Known.{IsPassOf}
 use Rattle.grb_pass.specs.Counting.{Counts}
 use Rattle.grb_pass.specs.Learning.{IsReady, Learns}
+use Rattle.grb_pass.proofs.Counted.{AreLost}
 use Rattle.grb_pass.proofs.shared.Shared.enter_token.Given as goal
 
 abbrev pub invariant-tries : goal.invariant-tries
@@ -17,7 +18,7 @@ invariant-tries l = record {
   ready : IsReady (room_of l.self.order) l.pass l.fn.token.call;
   small : room_of l.self.order ≤ 4096;
   counts : Counts l.fn.pass l.pass;
-  looks : length l.pass.view.looks + length l.fn.pass.view.words ≤ length l.fn.pass.view.looks + length l.pass.view.words;
+  lost : AreLost l.fn.pass l.pass;
 }
 
 abbrev pub decreases-tries : goal.decreases-tries

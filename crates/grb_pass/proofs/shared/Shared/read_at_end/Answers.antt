@@ -43,22 +43,22 @@ returns-clause-caught_up c =
     (known_evaluated room c.pass.inside.reader c.learn.new.reader new c.in_ok-learn.field-0 call c.in_ok-check.field-0 c.in_ok-learn.ensures.finds c.reply.ensures.same c.reply.result)
 
 pub returns-in_err-learn-clause-counts : goal.returns-in_err-learn-clause-counts
-returns-in_err-learn-clause-counts c = (subst (λ (old : Knowing). CountsCall old c.learn.new.reader) c.pass.view_is (counts_looked c.pass.inside.reader c.learn.new.reader c.learn.ensures.learns c.learn.ensures.counts (ap (λ (p : Knowing). p.steps) c.pass.view_is ∙ c.requires.begun) c.learn.ensures.few))
+returns-in_err-learn-clause-counts c = (subst (λ (old : Knowing). CountsCall (room_of c.args.self.now.order) old c.learn.new.reader) c.pass.view_is (counts_looked (room_of c.args.self.now.order) c.pass.inside.reader c.learn.new.reader c.learn.ensures.learns c.learn.ensures.counts (ap (λ (p : Knowing). p.steps) c.pass.view_is ∙ c.requires.begun) c.learn.ensures.looks))
 
 pub returns-in_err-check-clause-counts : goal.returns-in_err-check-clause-counts
-returns-in_err-check-clause-counts c = (subst (λ (old : Knowing). CountsCall old c.learn.new.reader) c.pass.view_is (counts_looked c.pass.inside.reader c.learn.new.reader c.learn.ensures.learns c.learn.ensures.counts (ap (λ (p : Knowing). p.steps) c.pass.view_is ∙ c.requires.begun) c.learn.ensures.few))
+returns-in_err-check-clause-counts c = (subst (λ (old : Knowing). CountsCall (room_of c.args.self.now.order) old c.learn.new.reader) c.pass.view_is (counts_looked (room_of c.args.self.now.order) c.pass.inside.reader c.learn.new.reader c.learn.ensures.learns c.learn.ensures.counts (ap (λ (p : Knowing). p.steps) c.pass.view_is ∙ c.requires.begun) c.learn.ensures.looks))
 
 pub returns-clause-counts : goal.returns-clause-counts
-returns-clause-counts c = subst (λ (p : Knowing). CountsCall c.args.pass.now p) (sym c.reply.ensures.same) (counts_alike c.args.pass.now c.learn.new.reader c.learn.new.reader.statuses c.reply.new.self.settled (subst (λ (old : Knowing). CountsCall old c.learn.new.reader) c.pass.view_is (counts_looked c.pass.inside.reader c.learn.new.reader c.learn.ensures.learns c.learn.ensures.counts (ap (λ (p : Knowing). p.steps) c.pass.view_is ∙ c.requires.begun) c.learn.ensures.few)))
+returns-clause-counts c = subst (λ (p : Knowing). CountsCall (room_of c.args.self.now.order) c.args.pass.now p) (sym c.reply.ensures.same) (counts_alike (room_of c.args.self.now.order) c.args.pass.now c.learn.new.reader c.learn.new.reader.statuses c.reply.new.self.settled (subst (λ (old : Knowing). CountsCall (room_of c.args.self.now.order) old c.learn.new.reader) c.pass.view_is (counts_looked (room_of c.args.self.now.order) c.pass.inside.reader c.learn.new.reader c.learn.ensures.learns c.learn.ensures.counts (ap (λ (p : Knowing). p.steps) c.pass.view_is ∙ c.requires.begun) c.learn.ensures.looks)))
 
 pub returns-in_err-learn-clause-looks : goal.returns-in_err-learn-clause-looks
-returns-in_err-learn-clause-looks c = subst (λ (old : Knowing). LooksOnce old c.learn.new.reader) c.pass.view_is (looks_once c.pass.inside.reader c.learn.new.reader c.learn.ensures.counts (ap (λ (p : Knowing). p.steps) c.pass.view_is ∙ c.requires.begun) c.learn.ensures.few)
+returns-in_err-learn-clause-looks c = subst (λ (old : Knowing). LooksOnce old c.learn.new.reader) c.pass.view_is (looks_once (room_of c.args.self.now.order) c.pass.inside.reader c.learn.new.reader c.learn.ensures.counts (ap (λ (p : Knowing). p.steps) c.pass.view_is ∙ c.requires.begun) c.learn.ensures.looks)
 
 pub returns-in_err-check-clause-looks : goal.returns-in_err-check-clause-looks
-returns-in_err-check-clause-looks c = subst (λ (old : Knowing). LooksOnce old c.learn.new.reader) c.pass.view_is (looks_once c.pass.inside.reader c.learn.new.reader c.learn.ensures.counts (ap (λ (p : Knowing). p.steps) c.pass.view_is ∙ c.requires.begun) c.learn.ensures.few)
+returns-in_err-check-clause-looks c = subst (λ (old : Knowing). LooksOnce old c.learn.new.reader) c.pass.view_is (looks_once (room_of c.args.self.now.order) c.pass.inside.reader c.learn.new.reader c.learn.ensures.counts (ap (λ (p : Knowing). p.steps) c.pass.view_is ∙ c.requires.begun) c.learn.ensures.looks)
 
 pub returns-clause-looks : goal.returns-clause-looks
-returns-clause-looks c = subst (λ (p : Knowing). LooksOnce c.args.pass.now p) (sym c.reply.ensures.same) (subst (λ (old : Knowing). LooksOnce old c.learn.new.reader) c.pass.view_is (looks_once c.pass.inside.reader c.learn.new.reader c.learn.ensures.counts (ap (λ (p : Knowing). p.steps) c.pass.view_is ∙ c.requires.begun) c.learn.ensures.few))
+returns-clause-looks c = subst (λ (p : Knowing). LooksOnce c.args.pass.now p) (sym c.reply.ensures.same) (subst (λ (old : Knowing). LooksOnce old c.learn.new.reader) c.pass.view_is (looks_once (room_of c.args.self.now.order) c.pass.inside.reader c.learn.new.reader c.learn.ensures.counts (ap (λ (p : Knowing). p.steps) c.pass.view_is ∙ c.requires.begun) c.learn.ensures.looks))
 
 pub returns-clause-pass : goal.returns-clause-pass
 returns-clause-pass c = pass_same c.args.self.now c.learn.new.reader c.reply.new.self (ap (λ (p : Knowing). p.order) c.reply.ensures.same) (ap (λ (p : Knowing). p.shown) c.reply.ensures.same) c.learn.ensures.pass

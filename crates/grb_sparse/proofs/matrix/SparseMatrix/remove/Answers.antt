@@ -54,3 +54,18 @@ returns-clause-matrix c =
     (cells-changed i.nrows i.ncols i.lists i.deleted.items i.pending.changes i.nvals i.assembled c.self.invariant.0 i.lists c.erase-stood.new.deleted.items c.erase-stood.new.pending.changes c.erase-stood.ensures.laid refl
     c.code.result c.args.i c.args.j c.code.ensures row column None c.erase-stood.ensures.found)
     ∙ ap (λ (v : SparseMatrixView). edited_matrix (without_entry cell_cmp (c.args.i, c.args.j)) v.matrix) c.self.view_is
+
+pub returns-clause-absent : goal.returns-clause-absent
+returns-clause-absent c =
+    let i = c.self.inside in
+    let held = c.self.invariant.0 in
+    let column : c.args.j < i.ncols = subst (λ (v : SparseMatrixView). c.args.j < v.matrix.ncols) (sym c.self.view_is) c.requires.column in
+    let small = dimension-fits i.ncols held.matrix.ncols in
+    let m = stored i.lists i.deleted.items i.pending.changes in
+    λ none.
+    let nothing : find nat_cmp c.code.result m ≡ None =
+    ap (λ k. find nat_cmp k m) c.code.ensures
+    ∙ find-cell c.args.i c.args.j m (omega (arith, column, small))
+    ∙ ap (λ (v : SparseMatrixView). find cell_cmp (c.args.i, c.args.j) v.matrix.entries) c.self.view_is
+    ∙ none in
+    ap length (c.erase-stood.ensures.absent nothing) ∙ ap (λ (v : SparseMatrixView). v.pending) c.self.view_is

@@ -1,5 +1,0 @@
-use Rattle.std.proofs.Common.{◌≤◌, length}
-use Rattle.grb_bench_operations.proofs.by_hand.merging.make_rows.Given as goal
-
-abbrev pub invariant-rows : goal.invariant-rows
-invariant-rows g l = l.k ≤ length l.columns

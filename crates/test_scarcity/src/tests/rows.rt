@@ -1,0 +1,220 @@
+//! Calls where memory is refused to one of them, or to all. What takes no memory is answered, and so is each other reason to refuse a call.
+ghost use Rattle.std.specs.Prelude.{◌<◌, ◌≤◌};
+ghost use Rattle.grb_context.specs.Known.{IsPassOf};
+
+use crate::tests::calls::calls_in;
+use crate::tests::memory::{STEP, TRIALS, hold_all, leave, leave_ample};
+use crate::tests::same::same;
+use crate::tests::shown::Shown;
+use crate::tests::stores::{Answer, DONE, NO_MEMORY, Store, answers_to, copy_of, make_all, open};
+use grb_call::{Call, MatrixId, Object, Reply, VectorId, WaitMode};
+use grb_context::{Context, Pass};
+use grb_core::{Info, Refusal, Value};
+use grb_scarcity::Hoard;
+use std::alloc::AllocError;
+use std::fs::Files;
+use std::process::Abort;
+
+const V: VectorId = VectorId(0);
+
+const MADE: Answer = Ok(Reply::MadeVector(V));
+
+const IS_5: Answer = Ok(Reply::Value(Value::Uint64(5)));
+
+const IS_7: Answer = Ok(Reply::Value(Value::Uint64(7)));
+
+const BAD_VALUE: Answer = Err(Refusal::InvalidValue);
+
+const BAD_INDEX: Answer = Err(Refusal::InvalidIndex);
+
+const FULL: Answer = Err(Refusal::OrderFull);
+
+/// Makes the calls, which are answered so. One that is refused memory leaves all else that the pass shows.
+fn expect_each<R: Abort>(
+    rt: &R,
+    context: &Context,
+    pass: &mut Pass,
+    calls: &[Call],
+    wanted: &[Answer],
+)
+    requires { IsPassOf context.now pass.old }
+    ensures { IsPassOf context.now pass.new }
+{
+    for (call, wanted) in calls.iter().zip(wanted.iter()) {
+        let before = Shown::of(pass);
+        let answer = context.call(pass, copy_of(rt, call));
+        same(rt, answer, *wanted, call);
+        let known = before
+            .known
+            .saturating_add(u32::from(call.enters() && answer.is_ok()));
+        same(rt, (pass.words(), pass.known()), (known, known), call);
+        if answer == NO_MEMORY {
+            same(rt, Shown::of(pass), before.refused(call.object()), call);
+        }
+    }
+}
+
+/// The calls after `finally` are answered so while all memory is refused, and then so with ample memory. How many calls are settled in the end.
+fn expect_starved<R: Abort + Files + AllocGlobal>(
+    rt: &R,
+    room: u32,
+    script: &str,
+    starved: &[Answer],
+    ample: &[Answer],
+) -> Result<u32, AllocError>
+    requires { (0 < room) × (room ≤ 4096) }
+{
+    let (first, then) = calls_in(rt, rt.alloc(), script)?;
+    same(
+        rt,
+        (starved.len(), ample.len()),
+        (then.len(), then.len()),
+        "the calls",
+    );
+    let mut store = open(rt, rt.alloc(), room);
+    make_all(rt, &store.context, &mut store.p, &first);
+    let mut hoard = hold_all(rt, 10);
+    leave(rt, &mut hoard, 0);
+    expect_each(rt, &store.context, &mut store.p, &then, starved);
+    leave_ample(rt, &mut hoard);
+    expect_each(rt, &store.context, &mut store.p, &then, ample);
+    Ok(store.p.settled())
+}
+
+#[test]
+fn a_refused_set_is_not_entered(rt: HostRuntime) -> Result<(), AllocError> {
+    let script = "vector v uint64 4\nfinally\nset v 1 5\n";
+    expect_starved(&rt, 8, script, &[NO_MEMORY], &[DONE])?;
+    Ok(())
+}
+
+#[test]
+fn what_is_settled_is_read_without_memory(rt: HostRuntime) -> Result<(), AllocError> {
+    let script =
+        "vector v uint64 4\nset v 0 5\nwait v materialize\nfinally\nget v 0\nnvals v\ntotal v plus\n";
+    let answers = [IS_5, Ok(Reply::Count(1)), IS_5];
+    let settled = expect_starved(&rt, 128, script, &answers, &answers)?;
+    same(&rt, settled, 2, "the settled calls");
+    Ok(())
+}
+
+#[test]
+fn other_refusals_come_before_out_of_memory(rt: HostRuntime) -> Result<(), AllocError> {
+    let script = "vector v uint64 4\nset v 0 5\nfinally\nmatrix A bool 0 1\nset v 4 5\nset v 3 5\n";
+    let full = [BAD_VALUE, BAD_INDEX, FULL];
+    expect_starved(&rt, 2, script, &full, &full)?;
+    let starved = [BAD_VALUE, BAD_INDEX, NO_MEMORY];
+    expect_starved(&rt, 3, script, &starved, &[BAD_VALUE, BAD_INDEX, DONE])?;
+    Ok(())
+}
+
+/// The list is refused, makes no call, and is made with ample memory.
+fn expect_list<R: Abort>(rt: &R, hoard: &mut Hoard, context: &Context, p: &mut Pass, calls: &[Call])
+    requires { IsPassOf context.now p.old }
+{
+    let before = Shown::of(p);
+    leave(rt, hoard, 0);
+    let refused = context.run(p, calls).err();
+    leave_ample(rt, hoard);
+    same(rt, refused, Some(Refusal::OutOfMemory), "the list");
+    same(rt, Shown::of(p), before, "what the pass shows");
+    let answers = answers_to(rt, context, p, calls);
+    let wanted = [MADE, DONE, IS_5, BAD_INDEX];
+    same(rt, answers.as_slice(), wanted.as_slice(), "the answers");
+    same(rt, (before.known, p.known()), (0, 2), "the calls");
+}
+
+#[test]
+fn a_list_without_memory_makes_no_call(rt: HostRuntime) -> Result<(), AllocError> {
+    let script = "vector v uint64 2\nset v 0 5\nget v 0\nset v 2 5\n";
+    let (calls, _) = calls_in(&rt, rt.alloc(), script)?;
+    let mut store = open(&rt, rt.alloc(), 8);
+    let mut hoard = hold_all(&rt, 10);
+    expect_list(&rt, &mut hoard, &store.context, &mut store.p, &calls);
+    Ok(())
+}
+
+/// A meeting, and all that is read of a pass and of shapes.
+fn expect_met<R: Abort>(rt: &R, context: &Context, p: &mut Pass, q: &mut Pass)
+    requires p { IsPassOf context.now p.old }
+    requires q { IsPassOf context.now q.old }
+{
+    same(rt, context.meet(q, p), Ok(()), "the meeting");
+    same(
+        rt,
+        (q.number(), q.words(), q.known()),
+        (1, 2, 2),
+        "the pass",
+    );
+    same(
+        rt,
+        (q.room_left(), q.steps(), q.settled()),
+        (6, 2, 0),
+        "its counts",
+    );
+    let size = context.size_vector(q, V);
+    same(rt, size, Ok(Reply::Size(4)), "the size");
+    let dims = context.size_matrix(q, MatrixId(0));
+    same(rt, dims, Ok(Reply::Dims(2, 3)), "the dimensions");
+    let status = q.last_info(Object::Vector(V));
+    same(rt, status, Some(Info::Success), "the status");
+}
+
+#[test]
+fn a_meeting_and_reads_of_shapes_take_no_memory(rt: HostRuntime) -> Result<(), AllocError> {
+    let script = "vector v uint64 4\nmatrix A uint64 2 3\n";
+    let (calls, _) = calls_in(&rt, rt.alloc(), script)?;
+    let mut store = open(&rt, rt.alloc(), 8);
+    make_all(&rt, &store.context, &mut store.p, &calls);
+    let mut hoard = hold_all(&rt, 1);
+    leave(&rt, &mut hoard, 0);
+    expect_met(&rt, &store.context, &mut store.p, &mut store.q);
+    Ok(())
+}
+
+/// One pass waits with so many bytes, and then both go on. Whether the wait was refused.
+fn is_refused_wait<R: Abort>(rt: &R, hoard: &mut Hoard, store: &mut Store, bytes: usize) -> bool
+    requires p { IsPassOf store.old.context store.old.p }
+    requires q { IsPassOf store.old.context store.old.q }
+{
+    let (context, p, q) = (&store.context, &mut store.p, &mut store.q);
+    leave(rt, hoard, bytes);
+    let answer = context.wait_vector(p, V, WaitMode::Materialize);
+    leave_ample(rt, hoard);
+    let is_refused = answer == NO_MEMORY;
+    same(rt, is_refused || answer == DONE, true, answer);
+    same(
+        rt,
+        p.settled(),
+        if is_refused { 0 } else { 2 },
+        "the settled calls",
+    );
+    let six = context.set_vector(q, V, 0, Value::Uint64(6));
+    same(rt, six, DONE, "a set of the other");
+    let seven = context.set_vector(q, V, 0, Value::Uint64(7));
+    same(rt, seven, DONE, "another set of the other");
+    same(rt, context.meet(p, q), Ok(()), "the meeting");
+    same(rt, context.get_vector(p, V, 0), IS_7, "the value");
+    same(rt, p.known(), 4, "the calls");
+    is_refused
+}
+
+#[test]
+fn a_refused_wait_leaves_all_other_answers(rt: HostRuntime) -> Result<(), AllocError> {
+    let (calls, _) = calls_in(&rt, rt.alloc(), "vector v uint64 4\nset v 0 5\n")?;
+    let mut hoard = hold_all(&rt, 2_000);
+    leave_ample(&rt, &mut hoard);
+    let mut refused = 0;
+    for trial in 0..TRIALS {
+        let mut store = open(&rt, rt.alloc(), 128);
+        make_all(&rt, &store.context, &mut store.p, &calls);
+        if !is_refused_wait(&rt, &mut hoard, &mut store, trial * STEP) {
+            break;
+        }
+        refused = trial + 1;
+    }
+    hoard.release();
+    assert!(rt; println!(rt; "the wait is refused {refused} times").is_ok());
+    assert!(rt; 0 < refused && refused < TRIALS, "refused {refused} times");
+    Ok(())
+}

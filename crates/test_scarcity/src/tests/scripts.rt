@@ -1,0 +1,163 @@
+//! A script with ever more memory. Where memory is refused outside of its calls the run ends, and nothing is written; in a call its line tells.
+ghost use Rattle.std.specs.Prelude.{None};
+
+use crate::tests::memory::{STEP, TRIALS, hold_all, leave, leave_ample};
+use crate::tests::same::same;
+use grb_driver::{MAX_FILE, MAX_SCRIPT, OpenGate, RunFault, Source, SourceFault, run_script};
+use grb_market::{Sink, SinkFault};
+use grb_scarcity::{Hoard, SPARE};
+use std::alloc::{AllocError, Global};
+use std::mem;
+use std::process::Abort;
+use std::sync::Wait;
+use std::thread::Threads;
+
+const SCRIPT: &str = "load A file\nvector v uint64 5\nset v 2 7\nget v 2\nnvals A\n";
+
+const LINES: &[u8] = b"ok\nok\nok\nvalue 7\ncount 1\n";
+
+const FILE: &[u8] = b"%%MatrixMarket matrix coordinate integer general\n2 2 1\n1 2 3\n";
+
+/// Hands out a script and a file that it has, and takes no memory.
+#[derive(Drop)]
+struct Texts {
+    alloc: Global,
+    script: Vec<u8>,
+    file: Vec<u8>,
+}
+
+impl Source for Texts {
+    ghost script_bytes = { λ s. None };
+
+    ghost file_bytes = { λ s path. None };
+
+    ghost faults = { λ s. record { cannot_read = 0; too_long = 0; out_of_memory = 0 } };
+
+    fn script(&mut self) -> Result<Vec<u8>, SourceFault> {
+        let mut script = mem::replace(&mut self.script, Vec::new(self.alloc));
+        script.truncate(MAX_SCRIPT);
+        Ok(script)
+    }
+
+    fn file(&mut self, _path: &str) -> Result<Vec<u8>, SourceFault> {
+        let mut file = mem::replace(&mut self.file, Vec::new(self.alloc));
+        file.truncate(MAX_FILE);
+        Ok(file)
+    }
+}
+
+fn texts_of(alloc: Global, script: &str) -> Result<Texts, AllocError> {
+    let script = script.as_bytes().to_vec(alloc)?;
+    let file = FILE.to_vec(alloc)?;
+    Ok(Texts {
+        alloc,
+        script,
+        file,
+    })
+}
+
+/// Takes bytes while it has places, and takes no memory.
+#[derive(Drop)]
+struct Places {
+    taken: Vec<u8>,
+    failures: u64,
+}
+
+impl Sink for Places {
+    ghost taken = { λ s. None };
+
+    ghost failures = { λ s. s.failures };
+
+    fn put(&mut self, bytes: &[u8]) -> Result<usize, SinkFault> {
+        if self.taken.extend_from_slice(bytes).is_err() {
+            self.failures += 1;
+            return Err(SinkFault);
+        }
+        Ok(bytes.len())
+    }
+}
+
+/// How a run ended.
+#[derive(Clone, Copy, Debug, PartialEq, Eq)]
+enum End {
+    /// Memory was refused outside of the calls.
+    Refused,
+    /// Lines tell of calls that were refused memory.
+    Told,
+    /// A thread was not started.
+    NoThread,
+    /// All calls were answered.
+    Whole,
+}
+
+fn count(lines: &[u8], line: &[u8]) -> usize {
+    lines
+        .split(|byte| *byte == b'\n')
+        .filter(|it| *it == line)
+        .count()
+}
+
+/// How a run ended with these lines, which is as it may.
+fn end_of<R: Abort>(rt: &R, ended: &Result<(), RunFault>, lines: &[u8]) -> End {
+    let end = match ended {
+        Ok(()) if lines == LINES => return End::Whole,
+        Ok(()) => {
+            let told = count(lines, b"GrB_OUT_OF_MEMORY");
+            same(rt, (told > 0, count(lines, b"")), (true, 1), "the lines");
+            return End::Told;
+        }
+        Err(RunFault::OutOfMemory) => End::Refused,
+        Err(RunFault::NoThread) => End::NoThread,
+        Err(_) => panic!(rt; "the run has another fault"),
+    };
+    same(rt, lines.len(), 0, "the bytes written");
+    end
+}
+
+/// Runs the script with so many bytes.
+fn run_with<R: Abort + Threads + Wait + Sync>(
+    rt: &R,
+    alloc: Global,
+    hoard: &mut Hoard,
+    script: &str,
+    bytes: usize,
+) -> Result<End, AllocError> {
+    let taken = Vec::with_capacity(alloc, 1_000)?;
+    let mut sink = Places { taken, failures: 0 };
+    let mut source = texts_of(alloc, script)?;
+    leave(rt, hoard, bytes);
+    let ended = run_script(rt, alloc, 8, &mut source, &mut sink, &OpenGate);
+    leave_ample(rt, hoard);
+    Ok(end_of(rt, &ended, &sink.taken))
+}
+
+#[test]
+fn a_script_without_memory_writes_nothing(rt: HostRuntime) -> Result<(), AllocError> {
+    let mut hoard = hold_all(&rt, 4_000);
+    leave_ample(&rt, &mut hoard);
+    let (mut refused, mut told) = (0u32, 0u32);
+    for trial in 0..TRIALS {
+        match run_with(&rt, rt.alloc(), &mut hoard, SCRIPT, trial * STEP)? {
+            End::Refused => refused = refused.saturating_add(1),
+            End::Told => told = told.saturating_add(1),
+            _ => break,
+        }
+    }
+    let end = run_with(&rt, rt.alloc(), &mut hoard, SCRIPT, SPARE)?;
+    hoard.release();
+    assert!(rt; println!(rt; "a script: refused {refused}, told in a line {told}").is_ok());
+    same(&rt, end, End::Whole, "the last run");
+    same(&rt, (refused > 0, told > 0), (true, true), "the runs");
+    Ok(())
+}
+
+/// All addresses are taken, and a thread needs some for its stack.
+#[test]
+fn a_thread_that_is_not_started_ends_the_run(rt: HostRuntime) -> Result<(), AllocError> {
+    let mut hoard = hold_all(&rt, 10);
+    leave_ample(&rt, &mut hoard);
+    let script = "vector v uint64 5\nthread 1\nset v 2 7\n";
+    let end = run_with(&rt, rt.alloc(), &mut hoard, script, SPARE)?;
+    same(&rt, end, End::NoThread, "the run");
+    Ok(())
+}

@@ -1,0 +1,84 @@
+//! Stores with two passes.
+ghost use Rattle.std.specs.Prelude.{◌<◌, ◌≤◌, All};
+ghost use Rattle.grb_context.specs.Known.{IsPassOf};
+
+use crate::tests::same::same;
+use grb_call::{Call, Reply};
+use grb_context::{Context, Pass};
+use grb_core::Refusal;
+use std::alloc::Global;
+use std::process::Abort;
+
+pub(super) type Answer = Result<Reply, Refusal>;
+
+pub(super) const DONE: Answer = Ok(Reply::Done);
+
+pub(super) const NO_MEMORY: Answer = Err(Refusal::OutOfMemory);
+
+/// A store, and its two passes.
+#[derive(Drop)]
+pub(super) struct Store {
+    pub(super) context: Context,
+    pub(super) p: Pass,
+    pub(super) q: Pass,
+}
+
+pub(super) fn copy_of(rt: &impl Abort, call: &Call) -> Call {
+    let Ok(call) = call.try_clone() else {
+        panic!(rt; "no memory for the call")
+    };
+    call
+}
+
+/// The pass of the highest number of those that are left.
+fn next_pass(rt: &impl Abort, context: &Context, passes: &mut Vec<Pass>) -> Pass
+    requires { All (IsPassOf context.now) passes.old.items }
+    ensures pass { IsPassOf context.now result }
+    ensures rest { All (IsPassOf context.now) passes.new.items }
+{
+    let Some(pass) = passes.pop() else {
+        panic!(rt; "no pass is left")
+    };
+    pass
+}
+
+/// A new store with this room.
+pub(super) fn open(rt: &impl Abort, alloc: Global, room: u32) -> Store
+    requires { (0 < room) × (room ≤ 4096) }
+    ensures p { IsPassOf result.context result.p }
+    ensures q { IsPassOf result.context result.q }
+{
+    let Ok((context, mut passes)) = Context::open(alloc, room, 2) else {
+        panic!(rt; "no memory for the store")
+    };
+    let q = next_pass(rt, &context, &mut passes);
+    let p = next_pass(rt, &context, &mut passes);
+    Store { context, p, q }
+}
+
+/// The answers to these calls, in order.
+pub(super) fn answers_to(
+    rt: &impl Abort,
+    context: &Context,
+    pass: &mut Pass,
+    calls: &[Call],
+) -> Vec<Answer>
+    requires { IsPassOf context.now pass.old }
+    ensures { IsPassOf context.now pass.new }
+{
+    let Ok(answers) = context.run(pass, calls) else {
+        panic!(rt; "no memory for the answers")
+    };
+    answers
+}
+
+/// Makes these calls, of which none is refused.
+pub(super) fn make_all<R: Abort>(rt: &R, context: &Context, pass: &mut Pass, calls: &[Call])
+    requires { IsPassOf context.now pass.old }
+    ensures { IsPassOf context.now pass.new }
+{
+    let answers = answers_to(rt, context, pass, calls);
+    for (at, answer) in answers.iter().enumerate() {
+        same(rt, answer.is_ok(), true, ("call", at, *answer));
+    }
+}
