@@ -56,62 +56,56 @@ output_of (call.ReduceVector v monoid) = None
 output_of (call.WaitMatrix a mode) = None
 output_of (call.WaitVector v mode) = None
 
+-- the entries of each object, and none of one that is not there
+pub record ObjectEntries : Type 0 where
+  pub matrix : MatrixId → MatrixEntries
+  pub vector : VectorId → VectorEntries
+
+abbrev pub entries_in : Store → ObjectEntries
+entries_in s = record { matrix = matrix_entries s; vector = vector_entries s }
+
 -- the matrix with the result of an operation written into it, by mask, accumulator and descriptor
-abbrev pub written_matrix : Store → Option MatrixId → Option BinaryOp → Descriptor → MatrixEntries → Matrix → Matrix
-written_matrix s mask accum d computed m =
-    edited_matrix (λ old. written cell_cmp (is_inside cell_cmp d.structure d.comp (option_map (matrix_entries s) mask)) d.replace accum old computed) m
+abbrev pub written_matrix : ObjectEntries → Option MatrixId → Option BinaryOp → Descriptor → MatrixEntries → Matrix → Matrix
+written_matrix r mask accum d computed m =
+    edited_matrix (λ old. written cell_cmp (is_inside cell_cmp d.structure d.comp (option_map r.matrix mask)) d.replace accum old computed) m
 
 -- the same of a vector
-abbrev pub written_vector : Store → Option VectorId → Option BinaryOp → Descriptor → VectorEntries → Vector → Vector
-written_vector s mask accum d computed x =
-    edited_vector (λ old. written nat_cmp (is_inside nat_cmp d.structure d.comp (option_map (vector_entries s) mask)) d.replace accum old computed) x
+abbrev pub written_vector : ObjectEntries → Option VectorId → Option BinaryOp → Descriptor → VectorEntries → Vector → Vector
+written_vector r mask accum d computed x =
+    edited_vector (λ old. written nat_cmp (is_inside nat_cmp d.structure d.comp (option_map r.vector mask)) d.replace accum old computed) x
+
+-- the matrix that the call makes of the one that it changes and does not end, by the entries of the objects that it reads
+abbrev pub matrix_made : ObjectEntries → Call → Matrix → Matrix
+matrix_made r (call.SetMatrix a i j value) m = edited_matrix (put cell_cmp (i, j) value) m
+matrix_made r (call.RemoveMatrix a i j) m = edited_matrix (without_entry cell_cmp (i, j)) m
+matrix_made r (call.ClearMatrix a) m = edited_matrix (λ _. []) m
+matrix_made r (call.ResizeMatrix a nrows ncols) m = resized_matrix nrows ncols m
+matrix_made r (call.BuildMatrix a tuples dup) m = edited_matrix (λ _. built_from cell_cmp dup (cells_of tuples)) m
+matrix_made r (call.EwiseAddMatrix c mask accum op a b d) m = written_matrix r mask accum d (ewise_add cell_cmp op (r.matrix a) (r.matrix b)) m
+matrix_made r (call.EwiseMultMatrix c mask accum op a b d) m = written_matrix r mask accum d (ewise_mult cell_cmp op (r.matrix a) (r.matrix b)) m
+matrix_made r (call.Mxm c mask accum semiring a b d) m = written_matrix r mask accum d (mxm_of semiring (r.matrix a) (r.matrix b)) m
+matrix_made r _ m = m
+
+-- the same of a vector
+abbrev pub vector_made : ObjectEntries → Call → Vector → Vector
+vector_made r (call.SetVector v i value) x = edited_vector (put nat_cmp i value) x
+vector_made r (call.RemoveVector v i) x = edited_vector (without_entry nat_cmp i) x
+vector_made r (call.ClearVector v) x = edited_vector (λ _. []) x
+vector_made r (call.ResizeVector v size) x = resized_vector size x
+vector_made r (call.BuildVector v tuples dup) x = edited_vector (λ _. built_from nat_cmp dup tuples) x
+vector_made r (call.EwiseAddVector w mask accum op u v d) x = written_vector r mask accum d (ewise_add nat_cmp op (r.vector u) (r.vector v)) x
+vector_made r (call.EwiseMultVector w mask accum op u v d) x = written_vector r mask accum d (ewise_mult nat_cmp op (r.vector u) (r.vector v)) x
+vector_made r (call.Mxv w mask accum semiring a u d) x = written_vector r mask accum d (mxv_of semiring (r.matrix a) (r.vector u)) x
+vector_made r (call.ReduceRows w mask accum monoid a d) x = written_vector r mask accum d (reduce_rows_of monoid (r.matrix a)) x
+vector_made r _ x = x
 
 -- the matrix that the call leaves, in this store, of the one that it changes and does not end
 abbrev pub matrix_after : Store → Call → Matrix → Matrix
-matrix_after s (call.SetMatrix a i j value) m = edited_matrix (put cell_cmp (i, j) value) m
-matrix_after s (call.RemoveMatrix a i j) m = edited_matrix (without_entry cell_cmp (i, j)) m
-matrix_after s (call.ClearMatrix a) m = edited_matrix (λ _. []) m
-matrix_after s (call.ResizeMatrix a nrows ncols) m = resized_matrix nrows ncols m
-matrix_after s (call.BuildMatrix a tuples dup) m = edited_matrix (λ _. built_from cell_cmp dup (cells_of tuples)) m
-matrix_after s (call.EwiseAddMatrix c mask accum op a b d) m =
-    written_matrix s mask accum d (ewise_add cell_cmp op (matrix_entries s a) (matrix_entries s b)) m
-matrix_after s (call.EwiseMultMatrix c mask accum op a b d) m =
-    written_matrix s mask accum d (ewise_mult cell_cmp op (matrix_entries s a) (matrix_entries s b)) m
-matrix_after s (call.EwiseAddVector w mask accum op u v d) m = m
-matrix_after s (call.EwiseMultVector w mask accum op u v d) m = m
-matrix_after s (call.Mxv w mask accum semiring a u d) m = m
-matrix_after s (call.Mxm c mask accum semiring a b d) m =
-    written_matrix s mask accum d (mxm_of semiring (matrix_entries s a) (matrix_entries s b)) m
-matrix_after s (call.ReduceRows w mask accum monoid a d) m = m
-matrix_after s (call.ReduceMatrix a monoid) m = m
-matrix_after s (call.ReduceVector v monoid) m = m
-matrix_after s (call.WaitMatrix a mode) m = m
-matrix_after s (call.WaitVector v mode) m = m
-matrix_after s _ m = m
+matrix_after s c m = matrix_made (entries_in s) c m
 
 -- the vector that the call leaves, in this store, of the one that it changes and does not end
 abbrev pub vector_after : Store → Call → Vector → Vector
-vector_after s (call.SetVector v i value) x = edited_vector (put nat_cmp i value) x
-vector_after s (call.RemoveVector v i) x = edited_vector (without_entry nat_cmp i) x
-vector_after s (call.ClearVector v) x = edited_vector (λ _. []) x
-vector_after s (call.ResizeVector v size) x = resized_vector size x
-vector_after s (call.BuildVector v tuples dup) x = edited_vector (λ _. built_from nat_cmp dup tuples) x
-vector_after s (call.EwiseAddVector w mask accum op u v d) x =
-    written_vector s mask accum d (ewise_add nat_cmp op (vector_entries s u) (vector_entries s v)) x
-vector_after s (call.EwiseMultVector w mask accum op u v d) x =
-    written_vector s mask accum d (ewise_mult nat_cmp op (vector_entries s u) (vector_entries s v)) x
-vector_after s (call.EwiseAddMatrix c mask accum op a b d) x = x
-vector_after s (call.EwiseMultMatrix c mask accum op a b d) x = x
-vector_after s (call.Mxv w mask accum semiring a u d) x =
-    written_vector s mask accum d (mxv_of semiring (matrix_entries s a) (vector_entries s u)) x
-vector_after s (call.Mxm c mask accum semiring a b d) x = x
-vector_after s (call.ReduceRows w mask accum monoid a d) x =
-    written_vector s mask accum d (reduce_rows_of monoid (matrix_entries s a)) x
-vector_after s (call.ReduceMatrix a monoid) x = x
-vector_after s (call.ReduceVector v monoid) x = x
-vector_after s (call.WaitMatrix a mode) x = x
-vector_after s (call.WaitVector v mode) x = x
-vector_after s _ x = x
+vector_after s c x = vector_made (entries_in s) c x
 
 -- what is left of the matrix that the call changes: nothing of one that it ends
 abbrev pub matrix_left : Store → Call → Option Matrix → Option Matrix

@@ -31,7 +31,7 @@ own_all context old new (c ∷ cs) [] is = absurd is
 own_all context old new (c ∷ cs) (r ∷ rs) is =
     let next : Knowing = is.0 in
     let one : Promise context old next c r = promise context old next c r is.1 in
-    let number : next.view.number ≡ old.view.number = one.explains.grown.number in
+    let number : next.view.number ≡ old.view.number = one.explains.answer.grown.number in
     let rest : calls_by next.view.number (known new) ≡ calls_by next.view.number (known next) ++ all_entered cs rs = own_all context next new cs rs is.2 in
     let here : calls_by old.view.number (known new) ≡ calls_by old.view.number (known next) ++ all_entered cs rs =
     subst (λ (n : ℕ). calls_by n (known new) ≡ calls_by n (known next) ++ all_entered cs rs) number rest in

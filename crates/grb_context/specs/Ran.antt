@@ -26,9 +26,9 @@ all_statuses room (c ∷ cs) (r ∷ rs) before = all_statuses room cs rs (status
 all_statuses room [] rs before = before
 all_statuses room (c ∷ cs) [] before = before
 
--- The calls of a list, made one after another: one history explains all answers; of its own calls the pass knows those of before, and
--- behind them those of the list that were entered; the statuses are those that the calls left in turn; and each call keeps the promise of
--- a call made by itself, its steps too
+-- The calls of a list, made one after another: one history explains all answers, and what is settled from call to call; of its own calls
+-- the pass knows those of before, and behind them those of the list that were entered; the statuses are those that the calls left in turn;
+-- and each call keeps the promise of a call made by itself, its steps too
 pub record Ran (context : Shared) (old new : Knowing) (calls : List Call) (answers : List Answer) : Type 0 where
   pub explains : Explains (room_of context.order) old calls answers new
   pub own : calls_by old.view.number (known new) ≡ calls_by old.view.number (known old) ++ all_entered calls answers

@@ -11,7 +11,7 @@ use Rattle.grb_call.specs.Kinds.{enters}
 use Rattle.grb_call.specs.After.{refused}
 use Rattle.grb_call.specs.History.{History, store_of}
 use Rattle.grb_context.specs.Known.{Shared, Knowing, known, IsAlone}
-use Rattle.grb_context.specs.Explains.{Answer, ground_of, history_after, IsGrounded, IsUnshown, ExplainsCall, MayLackMemory}
+use Rattle.grb_context.specs.Explains.{Answer, ground_of, history_after, IsGrounded, IsUnshown, ExplainsAnswer, MayLackMemory}
 use Rattle.grb_context.specs.Answered.{Promise, Answered}
 use Rattle.grb_context.proofs.Alone.{grounds-alone, known-alone, shown-alone}
 use Rattle.grb_context.proofs.Promised.{promise}
@@ -70,7 +70,7 @@ pub explained : (context : Shared) (old new : Knowing) (c : Call) (a : Answer) �
 explained context old new c a alone given =
     let room : ℕ = room_of context.order in
     let is : Promise context old new c a = promise context old new c a given in
-    let explains : ExplainsCall room old new c a = is.explains in
+    let explains : ExplainsAnswer room old new c a = is.explains.answer in
     let first : new.view.number ≡ 0 = explains.grown.number ∙ alone.number in
     let one : new.view.passes ≡ 1 = explains.grown.passes ∙ alone.passes in
     let known_after : known new ≡ history_after 0 c a (known old) = known-alone room old new c a alone.number alone.passes explains in

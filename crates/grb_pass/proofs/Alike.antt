@@ -3,7 +3,7 @@ use Rattle.std.proofs.Common.{ℕ, ◌++◌, inl, inr}
 use Rattle.grb_call.specs.declared.call.Call.{Call}
 use Rattle.grb_call.specs.History.{History}
 use Rattle.grb_pass.specs.Known.{Shared, Knowing, known, IsKnown}
-use Rattle.grb_pass.specs.Explains.{Answer, Ground, ByStore, ByRoom, ByMemory, ByRecords, ExplainsCall, IsCaughtUp, IsGrounded, ground_of}
+use Rattle.grb_pass.specs.Explains.{Answer, Ground, ByStore, ByRoom, ByMemory, ByRecords, ExplainsAnswer, IsCaughtUp, IsGrounded, ground_of}
 use Rattle.grb_pass.specs.Counting.{CountsCall}
 use Rattle.grb_pass.specs.Learning.{IsSteady}
 use Rattle.grb_statuses.specs.Statuses.{StatusRows}
@@ -20,7 +20,7 @@ module _ (room : ℕ) (old mid : Knowing) (statuses : StatusRows) (settled : ℕ
   grounds_alike g ByRecords (inl is) = inl is
   grounds_alike g ByRecords (inr is) = inr (record { point = is.point; may = is.may })
 
-  pub explains_alike : ExplainsCall room old mid c r → ExplainsCall room old (with_rest mid statuses settled) c r
+  pub explains_alike : ExplainsAnswer room old mid c r → ExplainsAnswer room old (with_rest mid statuses settled) c r
   explains_alike e = record {
     grown = e.grown;
     learnt = e.learnt;

@@ -10,7 +10,7 @@ use Rattle.grb_call.specs.declared.call.Call.{Call}
 use Rattle.grb_call.specs.History.{Entry, History}
 use Rattle.grb_records.specs.Token.{Shown}
 use Rattle.grb_pass.specs.Known.{Shared, Knowing, known, AreRecords, IsOfOthers, IsOfPasses, IsKnown}
-use Rattle.grb_pass.specs.Explains.{Answer, ground_of, history_after, IsGrounded, IsUnshown, ExplainsCall}
+use Rattle.grb_pass.specs.Explains.{Answer, ground_of, history_after, IsGrounded, IsUnshown, ExplainsAnswer}
 use Rattle.grb_pass.proofs.Spelling.{length_spelled}
 
 -- no entry is of another pass than the first, where there is no other
@@ -47,7 +47,7 @@ module _ (context : Shared) (p : Knowing) (first : p.view.number ≡ 0) (one : p
       let same : length (known p) ≡ length p.shown = length_spelled p.view.words p.shown few in
       omega arith
 
-module _ (room : ℕ) (old new : Knowing) (c : Call) (r : Answer) (first : old.view.number ≡ 0) (one : old.view.passes ≡ 1) (is : ExplainsCall room old new c r) where
+module _ (room : ℕ) (old new : Knowing) (c : Call) (r : Answer) (first : old.view.number ≡ 0) (one : old.view.passes ≡ 1) (is : ExplainsAnswer room old new c r) where
   learnt-alone : is.learnt ≡ []
   learnt-alone = no_others is.learnt (subst (λ (n : ℕ). IsOfOthers n is.learnt) first is.others) (subst (λ (n : ℕ). IsOfPasses n is.learnt) one is.passes)
 

@@ -26,12 +26,12 @@ use Rattle.grb_pass.specs.declared.learn.End.{End}
 use Rattle.grb_pass.specs.declared.learn.End.TheVariants.{Vacant, Full}
 use Rattle.grb_pass.specs.Known.{Knowing, known, spelled, IsOfOthers, IsOfPasses}
 use Rattle.grb_pass.specs.Point.{GrewTo, IsAtPoint}
-use Rattle.grb_pass.specs.Explains.{Answer, Ground, ByStore, ByRoom, ByMemory, ByRecords, ground_of, history_after, IsGrounded, IsOutOfMemory, MayLackMemory, ExplainsCall, IsCaughtUp}
+use Rattle.grb_pass.specs.Explains.{Answer, Ground, ByStore, ByRoom, ByMemory, ByRecords, ground_of, history_after, IsGrounded, IsOutOfMemory, MayLackMemory, ExplainsAnswer, IsCaughtUp}
 use Rattle.grb_pass.specs.Learning.{Learns, Finds, IsReady, IsRefused}
 use Rattle.grb_pass.proofs.Spelling.{spelled_push, spelled_more, length_spelled}
 use Rattle.grb_pass.specs.Reading.{IsChecked}
 use Rattle.grb_pass.proofs.Checking.{reads_no_build, build_no_size, build_no_entry_read, enters_no_size, enters_no_entry_read, unrefused_by_shapes}
-use Rattle.grb_pass.proofs.Kept.{number_of-order_word}
+use Rattle.grb_pass.proofs.Readers.{number_of-order_word}
 use Rattle.grb_pass.proofs.Alike.{explains_alike}
 use Rattle.grb_pass.proofs.Learnt.{grows_then, grows_enters, learns_then, learns_word}
 
@@ -132,7 +132,7 @@ refused_put room old new c r (inr is) writes ready looked =
 memory_refused : (room : ℕ) (old new : Knowing) (c : Call) (r : Answer) (g : History) → r ≡ Err OutOfMemory → IsGrounded room old new c r g (ground_of r) → MayLackMemory room old.settled g c
 memory_refused room old new c r g is grounds = let out : IsOutOfMemory room old new c g = subst (λ (a : Answer). IsGrounded room old new c a g (ground_of a)) is grounds in out.may
 
-pub memory_explained : (room : ℕ) (old new : Knowing) (c : Call) (r : Answer) → ExplainsCall room old new c r → r ≡ Err OutOfMemory → MayLackMemory room old.settled (known new) c
+pub memory_explained : (room : ℕ) (old new : Knowing) (c : Call) (r : Answer) → ExplainsAnswer room old new c r → r ≡ Err OutOfMemory → MayLackMemory room old.settled (known new) c
 memory_explained room old new c r e is =
     let g : History = known old ++ e.learnt in
     let same : g ≡ known new = sym (e.known_is ∙ ap (λ (a : Answer). history_after old.view.number c a g) is) in
@@ -165,7 +165,7 @@ learns_lost room old mid lost c word l ready shown statuses settled is =
     learns_then old mid lost l (learns_word mid lost few shown statuses settled word is)
 
 -- a call that is refused where the pass learnt what it knows now
-pub explains_refused : (room : ℕ) (old new : Knowing) (c : Call) (r : Refusal) → Learns old new → IsRefused room old new c r → ExplainsCall room old new c (Err r)
+pub explains_refused : (room : ℕ) (old new : Knowing) (c : Call) (r : Refusal) → Learns old new → IsRefused room old new c r → ExplainsAnswer room old new c (Err r)
 explains_refused room old new c r l is = record {
   grown = l.grown;
   learnt = l.learnt;
@@ -176,7 +176,7 @@ explains_refused room old new c r l is = record {
 }
 
 -- a call whose later part is explained
-pub explains_before : (room : ℕ) (old mid new : Knowing) (c : Call) (r : Answer) → Learns old mid → ExplainsCall room mid new c r → ExplainsCall room old new c r
+pub explains_before : (room : ℕ) (old mid new : Knowing) (c : Call) (r : Answer) → Learns old mid → ExplainsAnswer room mid new c r → ExplainsAnswer room old new c r
 explains_before room old mid new c r l is =
     let g : History = known old ++ (l.learnt ++ is.learnt) in
     let same : known mid ++ is.learnt ≡ g = ap (λ (h : History). h ++ is.learnt) l.known_is ∙ append_assoc (known old) l.learnt is.learnt in
@@ -207,7 +207,7 @@ known_won mid new token all small is shown =
     ∙ (λ i. spelled_more mid.view.words (word ∷ []) mid.shown few i ++ (number i, token.call) ∷ [])
 
 pub explains_won : (room : ℕ) (old mid new : Knowing) (c : Call) (token : Shown) (reply : Reply) → Learns old mid → IsReady room mid c → enters c ≡ true → token.call ≡ c → token.index < 2 ^ 48
-    → new.view ≡ enters_word mid.view (order_word mid.view.number token.index) → new.shown ≡ mid.shown ++ token ∷ [] → reply ≡ reply_of (store_of (known mid)) c → ExplainsCall room old new c (Ok reply)
+    → new.view ≡ enters_word mid.view (order_word mid.view.number token.index) → new.shown ≡ mid.shown ++ token ∷ [] → reply ≡ reply_of (store_of (known mid)) c → ExplainsAnswer room old new c (Ok reply)
 explains_won room old mid new c token reply l ready writes same small view shown is =
     let g : History = known mid in
     let word : ℕ = order_word mid.view.number token.index in
@@ -238,7 +238,7 @@ known_entered mid new token room c ready small view shown =
 
 -- a call that only reads
 explains_read : (room : ℕ) (old new : Knowing) (end : End) (c : Call) (kind : Kind) (reply : Reply) → Learns old new → Finds room old (Ok end) new → enters c ≡ false → check_of (shapes_of (store_of (known new))) c ≡ Ok kind
-    → reply ≡ reply_of (store_of (known new)) c → ExplainsCall room old new c (Ok reply)
+    → reply ≡ reply_of (store_of (known new)) c → ExplainsAnswer room old new c (Ok reply)
 explains_read room old new end c kind reply l f reads e is =
     let g : History = known new in
     let answered : Ok reply ≡ answer (store_of g) c = ap (λ (r : Reply). Ok r) is ∙ sym (answer-ok (store_of g) c kind e (reads_no_build c reads)) in
@@ -271,12 +271,12 @@ refused_by_memory room old new end c kind f reads e no_size unsettled =
 -- what a call that only reads answers, where its evaluation may be refused memory
 module _ (room : ℕ) (old now new : Knowing) (end : End) (c : Call) (kind : Kind) (found : Finds room old (Ok end) now) (same : new ≡ record now { settled = new.settled }) where
   pub explains_evaluated : (r : Result Reply AllocError) → Learns old now → enters c ≡ false → check_of (shapes_of (store_of (known now))) c ≡ Ok kind
-      → IfOk r (λ reply. reply ≡ reply_of (store_of (known now)) c) → OnErr r (is_size c ≡ false) → OnErr r (now.settled < length (known now)) → ExplainsCall room old new c (result_or r (Err OutOfMemory))
+      → IfOk r (λ reply. reply ≡ reply_of (store_of (known now)) c) → OnErr r (is_size c ≡ false) → OnErr r (now.settled < length (known now)) → ExplainsAnswer room old new c (result_or r (Err OutOfMemory))
   explains_evaluated (Ok reply) l reads e is no_size unsettled =
-      subst (λ (p : Knowing). ExplainsCall room old p c (Ok reply)) (sym same) (explains_alike room old now now.statuses new.settled c (Ok reply) (explains_read room old now end c kind reply l found reads e is))
+      subst (λ (p : Knowing). ExplainsAnswer room old p c (Ok reply)) (sym same) (explains_alike room old now now.statuses new.settled c (Ok reply) (explains_read room old now end c kind reply l found reads e is))
   explains_evaluated (Err error) l reads e is no_size unsettled =
       let few : old.settled < length (known now) = omega (arith, l.settled, unsettled) in
-      subst (λ (p : Knowing). ExplainsCall room old p c (Err OutOfMemory)) (sym same)
+      subst (λ (p : Knowing). ExplainsAnswer room old p c (Err OutOfMemory)) (sym same)
       (explains_alike room old now now.statuses new.settled c (Err OutOfMemory) (explains_refused room old now c OutOfMemory l (refused_by_memory room old now end c kind found reads e no_size few)))
 
   pub known_evaluated : (r : Result Reply AllocError) → IsCaughtUp (ground_of (result_or r (Err OutOfMemory))) new

@@ -10,7 +10,7 @@ use Rattle.grb_order.specs.declared.step.Look.TheVariants.{Next, Vacant, Full}
 use Rattle.grb_call.specs.declared.call.Call.{Call}
 use Rattle.grb_pass.specs.Counting.{steps_of, look_steps, Counts, CountsTries, CountsCall, LooksLast, LooksOnce, LooksRise, others_end}
 use Rattle.grb_pass.specs.Known.{Knowing, known}
-use Rattle.grb_pass.specs.Explains.{Answer, ExplainsCall, ground_of}
+use Rattle.grb_pass.specs.Explains.{Answer, ExplainsAnswer, ground_of}
 use Rattle.grb_pass.specs.Learning.{IsReady, Learns, LooksAtEnd}
 use Rattle.grb_pass.proofs.Learnt.{grows_refl}
 use Rattle.grb_pass.proofs.Answering.{grounded_before}
@@ -139,9 +139,9 @@ learns_begun p = record {
 }
 
 -- what a call explains once it has begun to count, it explains
-pub explains_begun : (room : ℕ) (old now new : Knowing) (c : Call) (r : Answer) → now ≡ begun old → ExplainsCall room now new c r → ExplainsCall room old new c r
+pub explains_begun : (room : ℕ) (old now new : Knowing) (c : Call) (r : Answer) → now ≡ begun old → ExplainsAnswer room now new c r → ExplainsAnswer room old new c r
 explains_begun room old now new c r is e =
-    let f : ExplainsCall room (begun old) new c r = subst (λ (k : Knowing). ExplainsCall room k new c r) is e in record {
+    let f : ExplainsAnswer room (begun old) new c r = subst (λ (k : Knowing). ExplainsAnswer room k new c r) is e in record {
       grown = f.grown;
       learnt = f.learnt;
       others = f.others;

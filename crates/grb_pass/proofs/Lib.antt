@@ -4,14 +4,13 @@ pub mod Alone
 mod Answering
 mod Checking
 mod Counted
-mod Evaluated
-mod Kept
-mod Lately
+mod Evaluating
 mod Learnt
 mod Meeting
 mod Opening
 mod Owning
 pub mod Promised
+mod Readers
 mod Rising
 mod Settling
 mod Spelling

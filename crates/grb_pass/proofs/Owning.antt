@@ -11,7 +11,7 @@ use Rattle.grb_records.specs.Token.{Shown}
 use Rattle.grb_call.specs.declared.call.Call.{Call}
 use Rattle.grb_call.specs.History.{Entry, History, calls_of}
 use Rattle.grb_pass.specs.Known.{Shared, Knowing, known, spelled, IsOfOthers, IsOfPasses, IsPassOf, IsKnown, calls_by}
-use Rattle.grb_pass.specs.Explains.{Answer, ExplainsCall, is_entered, entered_calls}
+use Rattle.grb_pass.specs.Explains.{Answer, ExplainsAnswer, is_entered, entered_calls}
 use Rattle.grb_pass.specs.Learning.{IsSteady, Learns}
 use Rattle.grb_pass.proofs.Spelling.{length_spelled}
 
@@ -38,7 +38,7 @@ by_kind true number c g = calls_by-append number g ((number, c) ∷ []) ∙ ap (
 by_kind false number c g = sym (append-nil (calls_by number g))
 
 -- of its own calls the pass knows one more where it entered one
-pub own_calls : (room : ℕ) (old new : Knowing) (c : Call) (r : Answer) → ExplainsCall room old new c r → calls_by old.view.number (known new) ≡ calls_by old.view.number (known old) ++ entered_calls c r
+pub own_calls : (room : ℕ) (old new : Knowing) (c : Call) (r : Answer) → ExplainsAnswer room old new c r → calls_by old.view.number (known new) ≡ calls_by old.view.number (known old) ++ entered_calls c r
 own_calls room old new c r is =
     let number : ℕ = old.view.number in let before : List Call = calls_by number (known old) in
     ap (calls_by number) is.known_is ∙ by_kind (is_entered c r) number c (known old ++ is.learnt)

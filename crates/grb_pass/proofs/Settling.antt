@@ -1,5 +1,6 @@
 -- What is settled after a call.
-use Rattle.std.proofs.Common.{◌≡◌, ℕ, Bool, true, false, cond, length, refl, sym, ap, ◌∙◌}
+use Rattle.std.proofs.Common.{◌≡◌, ℕ, ◌+◌, ◌≤◌, Bool, true, false, cond, [], ◌∷◌, ◌++◌, length, refl, sym, ap, ◌∙◌, subst, arith, length-append}
+use Rattle.std.proofs.lemmas.List.{length_push}
 use Rattle.std.specs.Prelude.{Result, Ok, Err, OnOk, OnErr}
 use Rattle.std.specs.Result.{result_or}
 use Rattle.std.specs.declared.alloc.AllocError.{AllocError}
@@ -11,11 +12,15 @@ use Rattle.grb_call.specs.declared.descriptor.WaitMode.TheVariants.{Complete, Ma
 use Rattle.grb_call.specs.declared.ids.Object.{Object}
 use Rattle.grb_call.specs.declared.ids.Object.TheVariants as object
 use Rattle.grb_call.specs.declared.reply.Reply.{Reply}
+use Rattle.grb_call.specs.History.{Entry, History, calls_of}
 use Rattle.grb_call.specs.Kinds.{enters}
 use Rattle.grb_pass.specs.Known.{Knowing, known}
-use Rattle.grb_pass.specs.Explains.{Answer}
+use Rattle.grb_pass.specs.Explains.{Answer, ExplainsAnswer, ExplainsCall, is_entered}
+use Rattle.grb_pass.specs.Evaluated.{IsStoreFor}
 use Rattle.grb_pass.specs.Settled.{is_materialize, settled_after}
+use Rattle.grb_pass.proofs.Evaluating.{length-calls_of}
 use Rattle.grb_replay.specs.Settled.{AreAllAssembled, HasWaited, IsSettled}
+use Rattle.grb_replay.specs.State.{RoomyStore}
 
 enters_no_materialize : (c : Call) → enters c ≡ true → is_materialize c ≡ false
 enters_no_materialize (call.WaitMatrix a mode) e = cc
@@ -32,6 +37,48 @@ pub settled_read : (now new : Knowing) (c : Call) (r : Result Reply AllocError) 
     → new.settled ≡ settled_after c (result_or r (Err OutOfMemory)) (length (known new)) settled
 settled_read now new c (Ok reply) settled same is ok err = ok ∙ (λ i. cond (is_materialize c) (length (known (sym same i))) (is i))
 settled_read now new c (Err error) settled same is ok err = err ∙ is
+
+-- a pass has settled no more calls than it knows
+pub settled_known : (p : Knowing) (state : RoomyStore) (evaluated : ℕ) → IsStoreFor p state evaluated → p.settled ≤ length (known p)
+settled_known p state evaluated is =
+    let n : length (calls_of (known p)) ≡ length (known p) = length-calls_of (known p) in
+    omega (arith, is.settled, is.state_is.within)
+
+settled_or : (b : Bool) (known settled : ℕ) → settled ≤ known → (settled ≤ cond b known settled) × (cond b known settled ≤ known)
+settled_or true known settled within = (within, omega arith)
+settled_or false known settled within = (omega arith, within)
+
+-- what was settled stays, and what is settled is known
+settled_between : (c : Call) (r : Answer) (known settled : ℕ) → settled ≤ known → (settled ≤ settled_after c r known settled) × (settled_after c r known settled ≤ known)
+settled_between c (Ok reply) known settled within = settled_or (is_materialize c) known settled within
+settled_between c (Err refusal) known settled within = (omega arith, within)
+
+entry_or : (b : Bool) (e : Entry) (g : History) → length g ≤ length (cond b (g ++ e ∷ []) g)
+entry_or true e g = let n : length (g ++ e ∷ []) ≡ length g + 1 = length_push g e in omega arith
+entry_or false e g = omega arith
+
+-- a call leaves no less known than before
+known_more : (room : ℕ) (old new : Knowing) (c : Call) (r : Answer) → ExplainsAnswer room old new c r → length (known old) ≤ length (known new)
+known_more room old new c r is =
+    let g : History = known old ++ is.learnt in
+    let n : length g ≡ length (known old) + length is.learnt = length-append (known old) is.learnt in
+    let m : length g ≤ length (known new) = subst (λ (h : History). length g ≤ length h) (sym is.known_is) (entry_or (is_entered c r) (old.view.number, c) g) in
+    omega arith
+
+-- a call whose answer is explained, where what is settled after it is what it is to settle
+pub explains_settled : (room : ℕ) (old new : Knowing) (c : Call) (r : Answer) → ExplainsAnswer room old new c r → old.settled ≤ length (known old)
+    → new.settled ≡ settled_after c r (length (known new)) old.settled → ExplainsCall room old new c r
+explains_settled room old new c r is before settled =
+    let more : length (known old) ≤ length (known new) = known_more room old new c r is in
+    let between : (old.settled ≤ settled_after c r (length (known new)) old.settled) × (settled_after c r (length (known new)) old.settled ≤ length (known new)) =
+    settled_between c r (length (known new)) old.settled (omega (arith, before, more)) in
+    record {
+      answer = is;
+      known_before = before;
+      settled = settled;
+      stay = omega (arith, settled, between.0);
+      known_after = omega (arith, settled, between.1);
+    }
 
 has_waited : (assembled : Object → Bool) (o : Object) (mode : WaitMode) → AreAllAssembled assembled → HasWaited assembled o mode
 has_waited assembled o Complete all = all o

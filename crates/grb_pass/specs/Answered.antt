@@ -1,5 +1,5 @@
 -- believed: All that a call promises (own): one record, under one name, which each method of the store cites with its call.
-use Rattle.std.specs.Prelude.{◌≡◌, ◌++◌, false, length, Err}
+use Rattle.std.specs.Prelude.{◌≡◌, ◌++◌, false, Err}
 use Rattle.grb_core.specs.declared.refusal.Refusal.TheVariants.{OutOfMemory}
 use Rattle.grb_order.specs.Order.{room_of}
 use Rattle.grb_call.specs.declared.call.Call.{Call}
@@ -8,15 +8,13 @@ use Rattle.grb_call.specs.Status.{statuses_after}
 use Rattle.grb_pass.specs.Known.{Shared, Knowing, known, calls_by, IsKnown}
 use Rattle.grb_pass.specs.Explains.{Answer, entered_calls, ground_of, ExplainsCall, IsCaughtUp, MayLackMemory}
 use Rattle.grb_pass.specs.Counting.{CountsCall, LooksOnce}
-use Rattle.grb_pass.specs.Settled.{settled_after}
 use Rattle.grb_statuses.specs.Statuses.{status_at}
 
 -- One call of a pass, with what the pass knows before and after it. The answer is that of one history, which it now knows to the end
 -- of the words that it has learnt unless a record is not there. Of its own calls it knows those of before, and this one if it was
 -- entered. Memory is refused only where nothing that comes first refuses the call. The steps on the order are counted, and a
 -- call that only reads makes no more than one for each word that it learns, and one. The answer is kept as the status of the target, and no
--- other status changes. A Materialize that is done settles what is then known, and
--- nothing else settles a call
+-- other status changes. Of what is settled before and after the call `explains` says all
 pub record Promise (context : Shared) (old new : Knowing) (c : Call) (r : Answer) : Type 0 where
   pub explains : ExplainsCall (room_of context.order) old new c r
   pub knows : IsKnown context new
@@ -26,7 +24,6 @@ pub record Promise (context : Shared) (old new : Knowing) (c : Call) (r : Answer
   pub steps : CountsCall (room_of context.order) old new
   pub read_steps : enters c ≡ false → LooksOnce old new
   pub statuses : status_at new.statuses ≡ statuses_after (room_of context.order) c r (status_at old.statuses)
-  pub settled : new.settled ≡ settled_after c r (length (known new)) old.settled
 
 -- That promise, closed: what one call passes on to the next. Two of them are the same only where their calls are, so a proof compares
 -- the calls and not the fields. It sees the fields by the lemma `promise` of `proofs/Promised.antt`

@@ -1,6 +1,6 @@
 -- believed: When a history explains the answers of a pass. Herlihy, "Wait-free synchronization", 1991: each answer is that of the
 -- sequential object at one point of the one order. The answers for want of room, of memory and of a record are our own.
-use Rattle.std.specs.Prelude.{◌≡◌, ℕ, ◌<◌, Bool, false, if◌then◌else◌, IsTrue, List, [], ◌∷◌, ◌++◌, length, None, Result, Ok, Err, ◌⊎◌}
+use Rattle.std.specs.Prelude.{◌≡◌, ℕ, ◌<◌, ◌≤◌, Bool, false, if◌then◌else◌, IsTrue, List, [], ◌∷◌, ◌++◌, length, None, Result, Ok, Err, ◌⊎◌}
 use Rattle.grb_core.specs.declared.refusal.Refusal.{Refusal}
 use Rattle.grb_core.specs.declared.refusal.Refusal.TheVariants.{OrderFull, OutOfMemory, Panic}
 use Rattle.grb_call.specs.declared.call.Call.{Call}
@@ -12,6 +12,7 @@ use Rattle.grb_call.specs.After.{refused, answer}
 use Rattle.grb_call.specs.History.{History, store_of}
 use Rattle.grb_pass.specs.Known.{Knowing, known, IsOfOthers, IsOfPasses}
 use Rattle.grb_pass.specs.Point.{IsAtPoint, Grows}
+use Rattle.grb_pass.specs.Settled.{settled_after}
 
 abbrev pub Answer : Type 0
 Answer = Result Reply Refusal
@@ -89,9 +90,9 @@ IsGrounded room old new c r g ByRoom = IsFull room c g
 IsGrounded room old new c r g ByMemory = IsOutOfMemory room old new c g
 IsGrounded room old new c r g ByRecords = IsUnshown new ⊎ IsUntaken room old new c g
 
--- One call: the pass first learnt entries of others; then the answer is grounded, and the call stands behind what was known if it
--- was entered, once, and nowhere if not
-pub record ExplainsCall (room : ℕ) (old new : Knowing) (c : Call) (r : Answer) : Type 0 where
+-- The answer of one call: the pass first learnt entries of others; then the answer is grounded, and the call stands behind what was
+-- known if it was entered, once, and nowhere if not
+pub record ExplainsAnswer (room : ℕ) (old new : Knowing) (c : Call) (r : Answer) : Type 0 where
   pub grown : Grows old.view new.view
   pub learnt : History
   pub others : IsOfOthers old.view.number learnt
@@ -99,7 +100,17 @@ pub record ExplainsCall (room : ℕ) (old new : Knowing) (c : Call) (r : Answer)
   pub grounds : IsGrounded room old new c r (known old ++ learnt) (ground_of r)
   pub known_is : known new ≡ history_after old.view.number c r (known old ++ learnt)
 
--- the calls of a pass, one after another, and what it knows before and after each
+-- One call, and how many calls are settled before and after it. Those of before are known before the call, so it is answered at a point
+-- that is not before them, and they stay settled. A Materialize that is done settles all that is then known, and no other call settles any
+pub record ExplainsCall (room : ℕ) (old new : Knowing) (c : Call) (r : Answer) : Type 0 where
+  pub answer : ExplainsAnswer room old new c r
+  pub known_before : old.settled ≤ length (known old)
+  pub settled : new.settled ≡ settled_after c r (length (known new)) old.settled
+  pub stay : old.settled ≤ new.settled
+  pub known_after : new.settled ≤ length (known new)
+
+-- the calls of a pass, one after another, with what it knows and how many calls are settled before and after each: each is explained from
+-- what the one before it left
 abbrev pub Explains : ℕ → Knowing → List Call → List Answer → Knowing → Type 0
 Explains room old [] [] new = new ≡ old
 Explains room old (c ∷ cs) (r ∷ rs) new = (next : Knowing) × ExplainsCall room old next c r × Explains room next cs rs new

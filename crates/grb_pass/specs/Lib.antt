@@ -1,6 +1,7 @@
 pub mod Answered
 pub mod BackOff
 pub mod Counting
+pub mod Evaluated
 pub mod Explains
 pub mod Known
 pub mod Laws
@@ -9,6 +10,5 @@ pub mod Meeting
 pub mod Point
 pub mod Putting
 pub mod Reading
-pub mod Recent
 pub mod Settled
 pub use Rattle.grb_statuses.specs.Statuses

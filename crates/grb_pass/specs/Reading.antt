@@ -3,7 +3,6 @@ use Rattle.std.specs.Prelude.{◌≡◌, ℕ, ◌+◌, ◌≤◌, true, List, le
 use Rattle.grb_core.specs.declared.refusal.Refusal.{Refusal}
 use Rattle.grb_core.specs.declared.refusal.Refusal.TheVariants.{OutOfMemory}
 use Rattle.grb_order.specs.View.{IsOthers, IsSound}
-use Rattle.grb_order.specs.Order.{room_of}
 use Rattle.grb_order.specs.Holding.{Holding}
 use Rattle.grb_records.specs.Token.{Shown}
 use Rattle.grb_call.specs.declared.call.Call.{Call}
@@ -15,17 +14,14 @@ use Rattle.grb_call.specs.History.{calls_of, store_of}
 use Rattle.grb_slices.specs.Followed.{targets_of}
 use Rattle.grb_values.specs.Targets.{WalkedCalls}
 use Rattle.grb_pass.specs.Explains.{ByStore, ground_of}
-use Rattle.grb_pass.specs.Known.{Knowing, known, spelled, AreRecords}
-use Rattle.grb_replay.specs.Evaluated.{IsEvaluated}
-use Rattle.grb_replay.specs.State.{RoomyStore, is_assembled}
-use Rattle.grb_replay.specs.Settled.{AreAllAssembled}
+use Rattle.grb_pass.specs.Known.{Knowing, spelled, AreRecords}
 use Rattle.grb_pass.specs.declared.reader.Reader.TheInside.{Inside}
 
 abbrev pub knowing : Inside → Knowing
 knowing r = record { order = r.place.table_id; view = r.place.view; shown = r.tokens.items; steps = r.steps; statuses = r.statuses.rows; settled = r.settled }
 
 -- a reader with these tokens, targets and shapes; the words whose records were not shown yet are of others
-pub record IsKept (number size : ℕ) (place : Holding) (shown : List Shown) (capacity : ℕ) (walk : WalkedCalls) : Type 0 where
+pub record IsReaderWith (number size : ℕ) (place : Holding) (shown : List Shown) (capacity : ℕ) (walk : WalkedCalls) : Type 0 where
   pub number_is : number ≡ place.view.number
   pub sound : IsSound place.table_id.words place.view
   pub few : length shown ≤ length place.view.words
@@ -39,18 +35,7 @@ pub record IsKept (number size : ℕ) (place : Holding) (shown : List Shown) (ca
   pub small : place.table_id.words ≤ 4096
 
 abbrev pub IsReader : Inside → Type 0
-IsReader r = IsKept r.number r.statuses.room r.place r.tokens.items (vec_capacity r.tokens) r.targets
-
--- where all calls that are known are settled, no change waits in any object
-abbrev pub IsAssembledWhereSettled : Knowing → RoomyStore → Type 0
-IsAssembledWhereSettled p state = length (known p) ≤ p.settled → AreAllAssembled (is_assembled state.matrices state.vectors)
-
--- the store is the one after so many of the calls that are known, no fewer than are settled, and each call to come has its room there
-pub record IsPass (p : Knowing) (state : RoomyStore) (evaluated : ℕ) : Type 0 where
-  pub state_is : IsEvaluated (calls_of (known p)) evaluated state.store
-  pub room : room_of p.order ≤ state.room + evaluated
-  pub settled : p.settled ≤ evaluated
-  pub assembled : IsAssembledWhereSettled p state
+IsReader r = IsReaderWith r.number r.statuses.room r.place r.tokens.items (vec_capacity r.tokens) r.targets
 
 -- what a check of a build by what is stored found: no refusal, or memory was refused to the evaluation, or this refusal
 abbrev pub IsBuildChecked : Store → Call → Result (Unit {0}) Refusal → Type 0

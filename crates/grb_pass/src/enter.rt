@@ -4,7 +4,7 @@ ghost use Rattle.grb_records.specs.Token.{IsOf};
 ghost use Rattle.grb_call.specs.Kinds.{enters};
 ghost use Rattle.grb_pass.specs.Known.{IsPassOf};
 ghost use Rattle.grb_pass.specs.Point.{GrewTo};
-ghost use Rattle.grb_pass.specs.Explains.{ExplainsCall, IsCaughtUp, ground_of};
+ghost use Rattle.grb_pass.specs.Explains.{ExplainsAnswer, IsCaughtUp, ground_of};
 ghost use Rattle.grb_pass.specs.Answered.{Answered};
 ghost use Rattle.grb_pass.specs.Counting.{Counts, CountsTries, CountsCall};
 ghost use Rattle.grb_pass.specs.Learning.{IsReady, IsRefused, IsSteady, Learns, LooksAtEnd};
@@ -57,7 +57,7 @@ impl Shared {
         ensures statuses { pass.new.statuses ≡ pass.old.statuses }
         ensures settled { pass.new.settled ≡ pass.old.settled }
         ensures counts { CountsTries (room_of self.now.order) pass.old pass.new }
-        ensures explains { ExplainsCall (room_of self.now.order) pass.old pass.new token.call result }
+        ensures explains { ExplainsAnswer (room_of self.now.order) pass.old pass.new token.call result }
         ensures steady { IsSteady pass.new }
         ensures caught_up { IsCaughtUp (ground_of result) pass.new }
     {
@@ -83,7 +83,7 @@ impl Shared {
         ensures statuses { pass.new.statuses ≡ pass.old.statuses }
         ensures settled { pass.new.settled ≡ pass.old.settled }
         ensures counts { CountsCall (room_of self.now.order) pass.old pass.new }
-        ensures explains { ExplainsCall (room_of self.now.order) pass.old pass.new call result }
+        ensures explains { ExplainsAnswer (room_of self.now.order) pass.old pass.new call result }
         ensures steady { IsSteady pass.new }
         ensures caught_up { IsCaughtUp (ground_of result) pass.new }
     {
@@ -101,7 +101,7 @@ impl Shared {
         ensures statuses { pass.new.statuses ≡ pass.old.statuses }
         ensures settled { pass.new.settled ≡ pass.old.settled }
         ensures counts { CountsCall (room_of self.now.order) pass.old pass.new }
-        ensures explains { ExplainsCall (room_of self.now.order) pass.old pass.new call.now result }
+        ensures explains { ExplainsAnswer (room_of self.now.order) pass.old pass.new call.now result }
         ensures steady { IsSteady pass.new }
         ensures caught_up { IsCaughtUp (ground_of result) pass.new }
     {

@@ -9,15 +9,14 @@
 
 mod back_off;
 mod enter;
+mod evaluated;
 mod learn;
 mod meet;
 mod pass;
 mod read;
 mod reader;
-mod recent;
 mod row;
 mod shared;
-mod sharing;
 
 pub use pass::Pass;
 pub use shared::Shared;

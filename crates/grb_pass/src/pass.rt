@@ -13,24 +13,18 @@ ghost use Rattle.grb_statuses.specs.Statuses.{no_rows, status_at};
 ghost use Rattle.grb_pass.specs.Known.{known};
 ghost use Rattle.grb_pass.specs.Counting.{Counts};
 ghost use Rattle.grb_pass.specs.Learning.{Enters, IsSteady};
-ghost use Rattle.grb_pass.specs.Reading.{IsAssembledWhereSettled, IsBuildChecked, IsChecked, IsPass};
-ghost use Rattle.grb_pass.specs.Recent.{IsRecent};
+ghost use Rattle.grb_pass.specs.Evaluated.{IsEvaluatedFor};
+ghost use Rattle.grb_pass.specs.Reading.{IsBuildChecked, IsChecked};
 ghost use Rattle.grb_pass.specs.Settled.{is_materialize};
-ghost use Rattle.grb_replay.specs.Settled.{IsSettled};
-ghost use Rattle.grb_replay.specs.State.{is_assembled};
 
 use crate::back_off::BackOff;
+use crate::evaluated::Evaluated;
 use crate::reader::Reader;
-use crate::recent::{object_read, reply_apart};
 use crate::row::Row;
-use crate::sharing::Sharing;
 use grb_call::{Call, Kind, Object, Reply, WaitMode};
 use grb_core::{Info, Refusal};
 use grb_order::{Order, Place};
 use grb_records::{Records, Token};
-use grb_replay::State;
-use grb_slices::CallList;
-use grb_values::Kept;
 use grb_versions::Versions;
 use std::alloc::{AllocError, Global};
 use std::marker::Model;
@@ -40,115 +34,47 @@ use std::sync::Arc;
 #[derive(Drop)]
 pub struct Pass {
     pub(crate) reader: Reader,
-    // The store after the first calls known, as many as were evaluated.
-    state: State,
-    evaluated: usize,
-    // The objects that it read, each evaluated apart, where not all known calls were evaluated.
-    recent: Kept,
-    // What it takes of the stores that other passes evaluated, and gives them.
-    sharing: Sharing,
+    // What it has evaluated of the calls that it knows.
+    evaluated: Evaluated,
     // Where its own records go.
     row: Row,
     // How long it holds back after a lost try.
     back_off: BackOff,
-    // How many calls its last call made in the store, apart from those that it made of the objects that it read.
-    made: u32,
 }
 
 impl Model for Pass {
+    ghost use Rattle.grb_pass.specs.Evaluated.{IsEvaluatedFor};
     ghost use Rattle.grb_pass.specs.Known.{Knowing};
-    ghost use Rattle.grb_order.specs.Order.{room_of};
-    ghost use Rattle.grb_call.specs.History.{calls_of};
-    ghost use Rattle.grb_pass.specs.Known.{known};
-    ghost use Rattle.grb_pass.specs.Reading.{IsPass};
-    ghost use Rattle.grb_pass.specs.Recent.{IsRecent};
 
     ghost Value = { Knowing };
 
     ghost view = { λ p. p.reader };
 
-    ghost invariant = { λ p. IsPass p.reader p.state p.evaluated × IsRecent (room_of p.reader.order) (calls_of (known p.reader)) p.recent };
+    ghost invariant = { λ p. IsEvaluatedFor p.reader p.evaluated };
 }
 
-/// The store before the first call, and no object read, with room for so many calls. `AllocError` where memory is refused.
-fn open_store(alloc: Global, room: u32) -> Result<(State, Kept), AllocError>
-    ensures store { IfOk result (λ opened. opened.0.store ≡ empty_store) }
-    ensures room { IfOk result (λ opened. opened.0.room ≡ room) }
-    ensures recent { IfOk result (λ opened. IsRecent room [] opened.1) }
-{
-    let state = State::open(alloc, room)?;
-    Ok((state, Kept::open(alloc, room)?))
-}
-
-/// Applies the calls of the records that were not yet evaluated, and counts each among those made. Where memory is refused, those before
-/// stay evaluated.
-fn evaluate(
-    records: &Records,
-    reader: &mut Reader,
-    state: &mut State,
-    evaluated: &mut usize,
-    made: &mut u32,
-) -> Result<(), AllocError>
-    requires kept { IsPass reader.old state.old evaluated.old }
-    requires of { All (IsOf records.now) reader.old.shown }
-    ensures same { reader.new ≡ reader.old }
-    ensures kept { IsPass reader.new state.new evaluated.new }
-    ensures store { OnOk result (state.new.store ≡ store_of (known reader.new)) }
-    ensures all { OnOk result (length (known reader.new) ≤ evaluated.new) }
-    ensures memory { OnErr result (reader.old.settled < length (known reader.old)) }
-{
-    'calls: while *evaluated < reader.known() as usize {
-        *made = made.saturating_add(1);
-        state.apply(reader.call_at(records, *evaluated))?;
-        *evaluated += 1;
-    }
-    Ok(())
-}
-
-/// Whether the call waits for all objects.
-fn is_materialize(call: &Call) -> bool
-    ensures { result ≡ is_materialize call.now }
+/// The object that a call reads entries of, or has the changes done of, where it is one object.
+fn object_read(call: &Call) -> Option<Object>
+    ensures about { IfSome result (λ object. object_of call.now ≡ Some object) }
+    ensures no_wait { IfSome result (λ object. is_materialize call.now ≡ false) }
 {
     match call {
-        Call::WaitMatrix { mode, .. } | Call::WaitVector { mode, .. } => match mode {
-            WaitMode::Complete => false,
-            WaitMode::Materialize => true,
-        },
-        _ => false,
-    }
-}
-
-/// Has the changes done that a reading call asks for, where all known calls are evaluated; where these are settled none wait. A call that
-/// waits for all objects then offers the store to the other passes, and settles them. `AllocError` where memory is refused to any of it.
-fn settle(
-    records: &Records,
-    reader: &mut Reader,
-    state: &mut State,
-    sharing: &Sharing,
-    call: &Call,
-) -> Result<(), AllocError>
-    requires of { All (IsOf records.now) reader.old.shown }
-    requires all { state.old.store ≡ store_of (known reader.old) }
-    requires within { reader.old.settled ≤ length (known reader.old) }
-    requires assembled { IsAssembledWhereSettled reader.old state.old }
-    ensures store { state.new.store ≡ state.old.store }
-    ensures room { state.new.room ≡ state.old.room }
-    ensures same { reader.new ≡ record reader.old { settled = reader.new.settled } }
-    ensures settled { OnOk result (reader.new.settled ≡ (if is_materialize call.now then length (known reader.old) else reader.old.settled)) }
-    ensures err { OnErr result (reader.new ≡ reader.old) }
-    ensures within { reader.new.settled ≤ length (known reader.old) }
-    ensures assembled { IsAssembledWhereSettled reader.new state.new }
-    ensures ready { OnOk result (IsSettled (is_assembled state.new.matrices state.new.vectors) call.now) }
-    ensures memory { OnErr result (reader.old.settled < length (known reader.old)) }
-{
-    if reader.settled() < reader.known() {
-        state.settle(call)?;
-        if is_materialize(call) {
-            sharing.offer(records, reader, state)?;
-            reader.settle();
+        Call::GetMatrix { a, .. } | Call::NvalsMatrix { a } | Call::ReduceMatrix { a, .. } => {
+            Some(Object::Matrix(*a))
         }
+        Call::GetVector { v, .. } | Call::NvalsVector { v } | Call::ReduceVector { v, .. } => {
+            Some(Object::Vector(*v))
+        }
+        Call::WaitMatrix { a, mode } => match mode {
+            WaitMode::Complete => Some(Object::Matrix(*a)),
+            WaitMode::Materialize => None,
+        },
+        Call::WaitVector { v, mode } => match mode {
+            WaitMode::Complete => Some(Object::Vector(*v)),
+            WaitMode::Materialize => None,
+        },
+        _ => None,
     }
-    Ok(())
 }
 
 impl Pass {
@@ -166,16 +92,12 @@ impl Pass {
         ensures { IfOk result (λ pass. pass ≡ record { order = place.table_id; view = place.view; shown = []; steps = 0; statuses = no_rows (room_of place.table_id); settled = 0 }) }
     {
         let reader = Reader::open(alloc, number, place, room)?;
-        let (state, recent) = open_store(alloc, room)?;
+        let evaluated = Evaluated::open(alloc, room, versions)?;
         Ok(Pass {
             reader,
-            state,
-            evaluated: 0,
-            recent,
-            sharing: Sharing::new(versions),
+            evaluated,
             row: Row::open(room),
             back_off: BackOff::new(),
-            made: 0,
         })
     }
 
@@ -201,20 +123,20 @@ impl Pass {
     }
 
     /// How many atomic steps the pass's last call made on the order, or its last meeting with it as the first pass, if that came later; 0
-    /// before either. A call that learns d words, its own included, makes d + 1, and one more for each try that it loses; where it finds
-    /// the order full or a record not shown, one less. A meeting that learns d words makes d. Takes no memory.
+    /// before either. A call that learns d words, its own included, makes d + 1 at most, and one more for each try that it loses; where it
+    /// finds the order full or a record not shown, one less. A meeting that learns d words makes d. Takes no memory.
     pub fn steps(&self) -> u32
         ensures { result ≡ self.now.steps }
     {
         self.reader.steps()
     }
 
-    /// How many calls of the history the pass's last call made to answer: each that it applied to its store, or to what it keeps of the
+    /// How many calls of the history the pass's last call made to answer: each that it applied to its store, or to the partial stores of the
     /// objects that it reads. A call that is made twice counts twice, and one that was refused memory counts; those that the pass has of
     /// another's wait, as a version, do not. 0 before the first call and after a meeting. It is for tests and for services that watch what
     /// reads cost; no contract says the number (own). Takes no memory.
     pub fn made(&self) -> u32 {
-        self.made.saturating_add(self.recent.made())
+        self.evaluated.made()
     }
 
     /// How many calls of the history the pass knew at its last wait with `Materialize` that was answered `Done`; 0 before the first. As long
@@ -249,11 +171,11 @@ impl Pass {
 
     /// Begins to count the steps of a call or a meeting, and the calls that it makes.
     pub(crate) fn begin(&mut self)
-        ensures { self.new ≡ record self.old { steps = 0 } }
+        ensures same { self.new ≡ record self.old { steps = 0 } }
+        ensures settled { self.old.settled ≤ length (known self.old) }
     {
         self.reader.begin();
-        self.recent.begin();
-        self.made = 0;
+        self.evaluated.begin();
     }
 
     /// How many more calls the history takes, as far as the pass has learnt. Takes no memory.
@@ -281,12 +203,7 @@ impl Pass {
         requires records { All (IsOf records.now) self.old.shown }
         ensures same { self.new ≡ self.old }
     {
-        self.sharing.go_on(
-            records,
-            &mut self.reader,
-            &mut self.state,
-            &mut self.evaluated,
-        );
+        self.evaluated.go_on(records, &mut self.reader);
     }
 
     /// Why what is stored after all known calls refuses the build, if it does; it evaluates them. `OutOfMemory` where memory is refused.
@@ -301,23 +218,9 @@ impl Pass {
         ensures checked { IsBuildChecked (store_of (known self.old)) call.now result }
         ensures same { self.new ≡ self.old }
     {
-        self.recent.release();
-        self.sharing.go_on_to_all(
-            records,
-            &mut self.reader,
-            &mut self.state,
-            &mut self.evaluated,
-        );
-        let evaluated = evaluate(
-            records,
-            &mut self.reader,
-            &mut self.state,
-            &mut self.evaluated,
-            &mut self.made,
-        );
-        match evaluated {
+        match self.evaluated.make_all(records, &mut self.reader) {
             Err(_refused) => Err(Refusal::OutOfMemory),
-            Ok(()) => match self.state.refused_build(call, in_bounds) {
+            Ok(()) => match self.evaluated.refused_build(call, in_bounds) {
                 Some(refusal) => Err(refusal),
                 None => Ok(()),
             },
@@ -340,51 +243,6 @@ impl Pass {
         }
     }
 
-    /// The reply to a call that reads the object alone, after all known ones, of which only those are evaluated that it depends on: from what
-    /// is kept of the object, or else from the store. None where all are evaluated, or are to be. `AllocError` where memory is refused.
-    fn reply_of_object(
-        &mut self,
-        records: &Records,
-        object: Object,
-        call: &Call,
-    ) -> Result<Option<Reply>, AllocError>
-        requires reads { enters call.now ≡ false }
-        requires no_size { is_size call.now ≡ false }
-        requires about { object_of call.now ≡ Some object }
-        requires accepted { refused (store_of (known self.old)) call.now ≡ None }
-        requires records { All (IsOf records.now) self.old.shown }
-        ensures reply { IfOk result (λ given. IfSome given (λ reply. reply ≡ reply_of (store_of (known self.old)) call.now)) }
-        ensures unsettled { OnErr result (self.old.settled < length (known self.old)) }
-        ensures same { self.new ≡ self.old }
-    {
-        if self.evaluated >= self.reader.known() as usize {
-            return Ok(None);
-        }
-        let kept = self.recent.len();
-        let reply = reply_apart(
-            &mut self.recent,
-            records,
-            &mut self.reader,
-            &self.state,
-            self.evaluated,
-            object,
-            call,
-        )?;
-        if reply.is_some() || self.recent.len() == kept {
-            return Ok(reply);
-        }
-        // What was kept of the object lacked what new calls read, and is dropped.
-        reply_apart(
-            &mut self.recent,
-            records,
-            &mut self.reader,
-            &self.state,
-            self.evaluated,
-            object,
-            call,
-        )
-    }
-
     /// The reply to a call that reads entries or has changes done, after all known ones, which it evaluates. One that waits for all objects
     /// settles them. `AllocError` where memory is refused; then no more calls are settled than before.
     fn reply_of_all(&mut self, records: &Records, call: &Call) -> Result<Reply, AllocError>
@@ -398,28 +256,9 @@ impl Pass {
         ensures settled { OnOk result (self.new.settled ≡ (if is_materialize call.now then length (known self.old) else self.old.settled)) }
         ensures err { OnErr result (self.new.settled ≡ self.old.settled) }
     {
-        self.recent.release();
-        self.sharing.go_on_to_all(
-            records,
-            &mut self.reader,
-            &mut self.state,
-            &mut self.evaluated,
-        );
-        evaluate(
-            records,
-            &mut self.reader,
-            &mut self.state,
-            &mut self.evaluated,
-            &mut self.made,
-        )?;
-        settle(
-            records,
-            &mut self.reader,
-            &mut self.state,
-            &self.sharing,
-            call,
-        )?;
-        Ok(self.state.reply(call))
+        self.evaluated.make_all(records, &mut self.reader)?;
+        self.evaluated.settle(records, &mut self.reader, call)?;
+        Ok(self.evaluated.reply(call))
     }
 
     /// The reply to a call that reads entries or has changes done, after all known ones, which it evaluates: all of them, or only those
@@ -438,7 +277,10 @@ impl Pass {
     {
         self.go_on(records);
         if let Some(object) = object_read(call) {
-            if let Some(reply) = self.reply_of_object(records, object, call)? {
+            let reply = self
+                .evaluated
+                .reply_of_object(records, &mut self.reader, object, call)?;
+            if let Some(reply) = reply {
                 return Ok(reply);
             }
         }

@@ -2,7 +2,7 @@ ghost use Rattle.std.specs.Prelude.{◌≡◌, false, length};
 ghost use Rattle.grb_order.specs.Order.{room_of};
 ghost use Rattle.grb_call.specs.Kinds.{enters};
 ghost use Rattle.grb_pass.specs.Known.{IsPassOf, known};
-ghost use Rattle.grb_pass.specs.Explains.{ExplainsCall, IsCaughtUp, ground_of};
+ghost use Rattle.grb_pass.specs.Explains.{ExplainsAnswer, IsCaughtUp, ground_of};
 ghost use Rattle.grb_pass.specs.Answered.{Answered};
 ghost use Rattle.grb_pass.specs.Counting.{CountsCall, LooksOnce};
 ghost use Rattle.grb_pass.specs.Learning.{IsSteady};
@@ -24,7 +24,7 @@ impl Shared {
         ensures settled { pass.new.settled ≡ settled_after call.now result (length (known pass.new)) pass.old.settled }
         ensures counts { CountsCall (room_of self.now.order) pass.old pass.new }
         ensures looks { LooksOnce pass.old pass.new }
-        ensures explains { ExplainsCall (room_of self.now.order) pass.old pass.new call.now result }
+        ensures explains { ExplainsAnswer (room_of self.now.order) pass.old pass.new call.now result }
         ensures steady { IsSteady pass.new }
         ensures caught_up { IsCaughtUp (ground_of result) pass.new }
     {

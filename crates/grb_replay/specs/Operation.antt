@@ -1,5 +1,5 @@
 -- inside: no public contract names it. When an operation on several objects may be evaluated (own; what the kernels ask for).
-use Rattle.std.specs.Prelude.{◌≡◌, ℕ, Bool, true, false, List, ◌++◌, Option, IfSome}
+use Rattle.std.specs.Prelude.{◌≡◌, ℕ, Bool, true, false, List, Option, IfSome}
 use Rattle.std.specs.List.{AllByRecursion}
 use Rattle.grb_sparse.specs.Matrix.{SparseMatrixView}
 use Rattle.grb_sparse.specs.Vector.{SparseVectorView}
@@ -7,7 +7,7 @@ use Rattle.grb_call.specs.declared.call.Call.{Call}
 use Rattle.grb_call.specs.declared.call.Call.TheVariants as call
 use Rattle.grb_call.specs.declared.ids.Object.{Object}
 use Rattle.grb_call.specs.declared.ids.Object.TheVariants as object
-use Rattle.grb_call.specs.Operands.{operands, masks}
+use Rattle.grb_call.specs.Operands.{objects_read}
 use Rattle.grb_call.specs.Shapes.{object_at}
 
 -- whether what the call leaves of its output is made from other objects too
@@ -51,6 +51,10 @@ abbrev pub IsAssembled : List (Option SparseMatrixView) → List (Option SparseV
 IsAssembled matrices vectors (object.Matrix a) = IsAssembledMatrix matrices a.0
 IsAssembled matrices vectors (object.Vector v) = IsAssembledVector vectors v.0
 
--- no change waits in any object that the call names, its mask among them
+-- nor in any of these
+abbrev pub AreAllOf : List (Option SparseMatrixView) → List (Option SparseVectorView) → List Object → Type 0
+AreAllOf matrices vectors os = AllByRecursion (IsAssembled matrices vectors) os
+
+-- no change waits in any object that the call reads, its mask among them
 abbrev pub AreAssembled : List (Option SparseMatrixView) → List (Option SparseVectorView) → Call → Type 0
-AreAssembled matrices vectors c = AllByRecursion (IsAssembled matrices vectors) (operands c ++ masks c)
+AreAssembled matrices vectors c = AreAllOf matrices vectors (objects_read c)

@@ -1,7 +1,7 @@
-ghost use Rattle.std.specs.Prelude.{◌≡◌, length, IfOk};
-ghost use Rattle.std.specs.Option.{option_map};
+ghost use Rattle.std.specs.Prelude.{◌≡◌, ◌+◌, ◌<◌, ◌^◌, true, length, IfOk};
+ghost use Rattle.std.specs.Option.{option_map, option_map_or};
 ghost use Rattle.grb_call.specs.Store.{matrix_at, shapes_of, vector_at};
-ghost use Rattle.grb_replay.specs.State.{count_in};
+ghost use Rattle.grb_replay.specs.State.{count_in, is_assembled};
 
 use crate::matrices::matrix_of;
 use crate::shared::share_all;
@@ -38,14 +38,16 @@ impl State {
 
     /// The matrix, if it was made and not freed. Takes no memory.
     pub fn matrix(&self, a: MatrixId) -> Option<&SparseMatrix>
-        ensures { option_map (λ matrix. matrix.now.matrix) result ≡ matrix_at self.now.store a }
+        ensures stored { option_map (λ matrix. matrix.now.matrix) result ≡ matrix_at self.now.store a }
+        ensures assembled { option_map_or (λ matrix. matrix.now.assembled) result true ≡ is_assembled self.now.matrices self.now.vectors (Object.Matrix a) }
     {
         matrix_of(&self.matrices, a)
     }
 
     /// The vector, if it was made and not freed. Takes no memory.
     pub fn vector(&self, v: VectorId) -> Option<&SparseVector>
-        ensures { option_map (λ vector. vector.now.vector) result ≡ vector_at self.now.store v }
+        ensures stored { option_map (λ vector. vector.now.vector) result ≡ vector_at self.now.store v }
+        ensures assembled { option_map_or (λ vector. vector.now.assembled) result true ≡ is_assembled self.now.matrices self.now.vectors (Object.Vector v) }
     {
         vector_of(&self.vectors, v)
     }
@@ -58,16 +60,13 @@ impl State {
     }
 
     /// An equal store, with room for so many further calls: both stores hold the same objects, until one of them changes one, and no entry
-    /// is copied. It takes memory for places: one for each object, and one of each sort for each further call. `AllocError` where it is
-    /// refused, or where the objects of a sort and these calls are together 2^32 or more, for which there are no numbers (own).
+    /// is copied. It takes memory for places: one for each object, and one of each sort for each further call. `AllocError` where memory
+    /// is refused (own).
     pub fn try_clone(&self, room: u32) -> Result<State, AllocError>
-        ensures store { IfOk result (λ copy. copy.store ≡ self.now.store) }
-        ensures room { IfOk result (λ copy. copy.room ≡ room) }
+        requires matrices { length self.now.store.matrices + room < 2 ^ 32 }
+        requires vectors { length self.now.store.vectors + room < 2 ^ 32 }
+        ensures { IfOk result (λ copy. copy ≡ record self.now { room = room }) }
     {
-        let most = self.matrices().max(self.vectors());
-        if u32::MAX - most < room {
-            return Err(AllocError);
-        }
         Ok(State {
             shapes: self.shapes.try_clone(room)?,
             matrices: share_all(&self.matrices, room)?,

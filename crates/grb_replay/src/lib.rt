@@ -2,8 +2,8 @@
 //!
 //! A `State` holds the matrices and vectors that the calls made, with their entries. One unit is one call: `apply` makes of the
 //! store what the call makes of it, and nothing of it where the call is refused; `settle` does what waits in the objects and changes
-//! no entry; `reply` and `refused_build` read it. All places for objects to come are reserved where a state is opened. Nothing here
-//! knows of passes, of an order, or of which calls there are: the caller brings them, one after another.
+//! no entry; `reply` and `refused_build` read it. All places for objects to come are reserved where a state is cloned: an empty state has
+//! none. Nothing here knows of passes, of an order, or of which calls there are: the caller brings them, one after another.
 #![tactic(auto)]
 
 mod copies;

@@ -151,21 +151,12 @@ pub(crate) fn matrix_of(
     matrices: &[Option<Shared<SparseMatrix>>],
     a: MatrixId,
 ) -> Option<&SparseMatrix>
-    ensures { option_map (λ x. x.now.matrix) result ≡ object_at (stored_matrices matrices.now) a.0 }
+    ensures stored { option_map (λ x. x.now.matrix) result ≡ object_at (stored_matrices matrices.now) a.0 }
+    ensures object { option_map (λ x. x.now) result ≡ object_at matrices.now a.0 }
 {
     match matrices.get(a.0 as usize) {
         Some(Some(shared)) => Some(shared.lent()),
         _ => None,
-    }
-}
-
-/// Whether no change waits in the matrix with this number; true where it is not there. Takes no memory.
-pub(crate) fn is_assembled_matrix(matrices: &[Option<Shared<SparseMatrix>>], a: MatrixId) -> bool
-    ensures { result ≡ option_map_or (λ m. m.assembled) (object_at matrices.now a.0) true }
-{
-    match matrices.get(a.0 as usize) {
-        Some(Some(shared)) => shared.lent().is_assembled(),
-        _ => true,
     }
 }
 

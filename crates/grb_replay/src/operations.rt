@@ -1,15 +1,16 @@
 //! Operations: what an operation reads is assembled, lent, and its answer put in the place of the old output.
-ghost use Rattle.std.specs.Prelude.{◌≡◌, true, None, OnOk, OnErr, IfSome, vec_capacity};
+ghost use Rattle.std.specs.Prelude.{◌≡◌, ◌<◌, true, None, Some, length, slice_get, OnOk, OnErr, vec_capacity};
+ghost use Rattle.grb_call.specs.declared.ids.Object.{Object};
 ghost use Rattle.grb_call.specs.After.{changed, refused};
-ghost use Rattle.grb_replay.specs.Operation.{is_operation, IsAssembledMatrix, IsAssembledVector, AreAssembled};
-ghost use Rattle.grb_replay.specs.State.{stored, stored_matrices, stored_vectors};
+ghost use Rattle.grb_replay.specs.Operation.{is_operation, IsAssembled, AreAllOf, AreAssembled};
+ghost use Rattle.grb_replay.specs.State.{stored};
 
 use crate::matrices::{assemble_matrix, put_matrix};
 use crate::matrix_operations::operated_matrix;
 use crate::shared::Shared;
 use crate::vector_operations::operated_vector;
 use crate::vectors::{assemble_vector, put_vector};
-use grb_call::{Call, MatrixId, Object, VectorId};
+use grb_call::{Call, Object, objects_read};
 use grb_sparse::{SparseMatrix, SparseVector};
 use std::alloc::AllocError;
 
@@ -29,75 +30,50 @@ pub(crate) fn is_operation(call: &Call) -> bool
     )
 }
 
-/// Assembles an output, two inputs and a mask. `AllocError` where memory is refused; the entries are as before in any case.
-fn assemble_matrices(
-    matrices: &mut Vec<Option<Shared<SparseMatrix>>>,
-    c: MatrixId,
-    mask: Option<MatrixId>,
-    a: MatrixId,
-    b: MatrixId,
-) -> Result<(), AllocError>
-    ensures same { stored_matrices matrices.new.items ≡ stored_matrices matrices.old.items }
-    ensures output { OnOk result (IsAssembledMatrix matrices.new.items c.0) }
-    ensures first { OnOk result (IsAssembledMatrix matrices.new.items a.0) }
-    ensures second { OnOk result (IsAssembledMatrix matrices.new.items b.0) }
-    ensures mask { OnOk result (IfSome mask (λ m. IsAssembledMatrix matrices.new.items m.0)) }
-    ensures capacity { vec_capacity matrices.new ≡ vec_capacity matrices.old }
+/// The object at this place of the list.
+fn object_at(objects: &[Object], at: usize) -> Object
+    requires { at < length objects.now }
+    ensures { slice_get objects.now at ≡ Some result }
 {
-    assemble_matrix(matrices, c)?;
-    assemble_matrix(matrices, a)?;
-    assemble_matrix(matrices, b)?;
-    match mask {
-        Some(m) => assemble_matrix(matrices, m),
-        None => Ok(()),
-    }
+    objects[at]
 }
 
-/// Assembles an output, two inputs and a mask. `AllocError` where memory is refused; the entries are as before in any case.
-fn assemble_vectors(
-    vectors: &mut Vec<Option<Shared<SparseVector>>>,
-    w: VectorId,
-    mask: Option<VectorId>,
-    u: VectorId,
-    v: VectorId,
-) -> Result<(), AllocError>
-    ensures same { stored_vectors vectors.new.items ≡ stored_vectors vectors.old.items }
-    ensures output { OnOk result (IsAssembledVector vectors.new.items w.0) }
-    ensures first { OnOk result (IsAssembledVector vectors.new.items u.0) }
-    ensures second { OnOk result (IsAssembledVector vectors.new.items v.0) }
-    ensures mask { OnOk result (IfSome mask (λ m. IsAssembledVector vectors.new.items m.0)) }
-    ensures capacity { vec_capacity vectors.new ≡ vec_capacity vectors.old }
-{
-    assemble_vector(vectors, w)?;
-    assemble_vector(vectors, u)?;
-    assemble_vector(vectors, v)?;
-    match mask {
-        Some(m) => assemble_vector(vectors, m),
-        None => Ok(()),
-    }
-}
-
-/// Assembles a matrix, an output and an input that are vectors, and a mask. `AllocError` where memory is refused; the entries are as
-/// before in any case.
-fn assemble_rows(
+/// Assembles the object, if it is there. `AllocError` where memory is refused; the entries are as before in any case, and what was
+/// assembled stays so.
+fn assemble_object(
     matrices: &mut Vec<Option<Shared<SparseMatrix>>>,
     vectors: &mut Vec<Option<Shared<SparseVector>>>,
-    a: MatrixId,
-    w: VectorId,
-    mask: Option<VectorId>,
-    u: VectorId,
+    object: Object,
 ) -> Result<(), AllocError>
-    ensures same_matrices { stored_matrices matrices.new.items ≡ stored_matrices matrices.old.items }
-    ensures same_vectors { stored_vectors vectors.new.items ≡ stored_vectors vectors.old.items }
-    ensures matrix { OnOk result (IsAssembledMatrix matrices.new.items a.0) }
-    ensures output { OnOk result (IsAssembledVector vectors.new.items w.0) }
-    ensures vector { OnOk result (IsAssembledVector vectors.new.items u.0) }
-    ensures mask { OnOk result (IfSome mask (λ m. IsAssembledVector vectors.new.items m.0)) }
+    ensures same { stored matrices.new.items vectors.new.items ≡ stored matrices.old.items vectors.old.items }
+    ensures assembled { OnOk result (IsAssembled matrices.new.items vectors.new.items object) }
+    ensures kept { (o : Object) → IsAssembled matrices.old.items vectors.old.items o → IsAssembled matrices.new.items vectors.new.items o }
     ensures matrices { vec_capacity matrices.new ≡ vec_capacity matrices.old }
     ensures vectors { vec_capacity vectors.new ≡ vec_capacity vectors.old }
 {
-    assemble_matrix(matrices, a)?;
-    assemble_vectors(vectors, w, mask, u, u)
+    match object {
+        Object::Matrix(a) => assemble_matrix(matrices, a),
+        Object::Vector(v) => assemble_vector(vectors, v),
+    }
+}
+
+/// Assembles each of the objects that is there. `AllocError` where memory is refused; the entries are as before in any case.
+fn assemble_each(
+    matrices: &mut Vec<Option<Shared<SparseMatrix>>>,
+    vectors: &mut Vec<Option<Shared<SparseVector>>>,
+    objects: &[Object],
+) -> Result<(), AllocError>
+    ensures same { stored matrices.new.items vectors.new.items ≡ stored matrices.old.items vectors.old.items }
+    ensures assembled { OnOk result (AreAllOf matrices.new.items vectors.new.items objects.now) }
+    ensures matrices { vec_capacity matrices.new ≡ vec_capacity matrices.old }
+    ensures vectors { vec_capacity vectors.new ≡ vec_capacity vectors.old }
+{
+    let mut at = objects.len();
+    'objects: while at > 0 {
+        at -= 1;
+        assemble_object(matrices, vectors, object_at(objects, at))?;
+    }
+    Ok(())
 }
 
 /// Assembles all that the operation reads, its old output and its mask among it. `AllocError` where memory is refused; the entries
@@ -107,24 +83,13 @@ fn assemble_operands(
     vectors: &mut Vec<Option<Shared<SparseVector>>>,
     call: &Call,
 ) -> Result<(), AllocError>
-    requires operation { is_operation call.now ≡ true }
     ensures same { stored matrices.new.items vectors.new.items ≡ stored matrices.old.items vectors.old.items }
     ensures assembled { OnOk result (AreAssembled matrices.new.items vectors.new.items call.now) }
     ensures matrices { vec_capacity matrices.new ≡ vec_capacity matrices.old }
     ensures vectors { vec_capacity vectors.new ≡ vec_capacity vectors.old }
 {
-    match call {
-        Call::EwiseAddMatrix { c, mask, a, b, .. }
-        | Call::EwiseMultMatrix { c, mask, a, b, .. }
-        | Call::Mxm { c, mask, a, b, .. } => assemble_matrices(matrices, *c, *mask, *a, *b),
-        Call::EwiseAddVector { w, mask, u, v, .. } | Call::EwiseMultVector { w, mask, u, v, .. } =>
-            { assemble_vectors(vectors, *w, *mask, *u, *v) }
-        Call::Mxv { w, mask, a, u, .. } => { assemble_rows(matrices, vectors, *a, *w, *mask, *u) }
-        Call::ReduceRows { w, mask, a, .. } => {
-            assemble_rows(matrices, vectors, *a, *w, *mask, *w)
-        }
-        _ => unreachable!(),
-    }
+    let objects = objects_read(*matrices.allocator(), call);
+    assemble_each(matrices, vectors, objects.as_slice())
 }
 
 /// The objects that an operation which is not refused leaves: its output is made from what stood before, and put last. `AllocError`

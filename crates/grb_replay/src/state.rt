@@ -1,4 +1,4 @@
-ghost use Rattle.std.specs.Prelude.{◌≡◌, ◌+◌, ◌<◌, false, true, None, length, OnOk, OnErr, IfOk, vec_len, vec_capacity};
+ghost use Rattle.std.specs.Prelude.{◌≡◌, ◌+◌, ◌<◌, [], false, true, None, length, OnOk, OnErr, IfOk, vec_len, vec_capacity};
 ghost use Rattle.std.specs.Option.{option_map};
 ghost use Rattle.std.specs.Ordering.{nat_cmp};
 ghost use Rattle.std.specs.FinMap.{find};
@@ -7,20 +7,18 @@ ghost use Rattle.grb_core.specs.Results.{reduce_of};
 ghost use Rattle.grb_call.specs.Kinds.{enters, is_build, is_size};
 ghost use Rattle.grb_call.specs.Output.{output_of};
 ghost use Rattle.grb_call.specs.Refused.{is_in_bounds};
-ghost use Rattle.grb_call.specs.Store.{empty_store, shapes_of, matrix_at, vector_at, matrix_entries, vector_entries};
+ghost use Rattle.grb_call.specs.Store.{empty_store, shapes_of, matrix_at, vector_at, matrix_entries, vector_entries, with_place};
 ghost use Rattle.grb_call.specs.After.{after, changed, get_reply, has_old_entries, refused, refused_build, reply_of};
 ghost use Rattle.grb_replay.specs.Settled.{AreAllAssembled, HasWaited, IsSettled, settles};
 ghost use Rattle.grb_replay.specs.State.{stored, is_assembled};
 
 use crate::matrices::{
-    assemble_all_matrices, assemble_matrix, dup_matrix, edit_matrix, is_assembled_matrix,
-    lent_matrix, matrix_of,
+    assemble_all_matrices, assemble_matrix, dup_matrix, edit_matrix, lent_matrix, matrix_of,
 };
 use crate::operations::{is_operation, operate};
 use crate::shared::Shared;
 use crate::vectors::{
-    assemble_all_vectors, assemble_vector, dup_vector, edit_vector, is_assembled_vector,
-    lent_vector, vector_of,
+    assemble_all_vectors, assemble_vector, dup_vector, edit_vector, lent_vector, vector_of,
 };
 use grb_call::{Call, Kind, MatrixId, Object, Reply, Shapes, VectorId, WaitMode, check};
 use grb_core::{Monoid, Refusal, Value};
@@ -121,16 +119,15 @@ fn get_reply(value: Option<Value>) -> Reply
 }
 
 impl State {
-    /// A store with no objects, and room for so many calls. `AllocError` where memory is refused.
-    pub fn open(alloc: Global, room: u32) -> Result<State, AllocError>
-        ensures store { IfOk result (λ s. s.store ≡ empty_store) }
-        ensures room { IfOk result (λ s. s.room ≡ room) }
+    /// The store with no objects, and room for no call. Takes no memory.
+    pub fn empty(alloc: Global) -> State
+        ensures { result ≡ record { store = empty_store; room = 0; matrices = []; vectors = [] } }
     {
-        Ok(State {
-            shapes: Shapes::open(alloc, room)?,
-            matrices: Vec::with_capacity(alloc, room as usize)?,
-            vectors: Vec::with_capacity(alloc, room as usize)?,
-        })
+        State {
+            shapes: Shapes::empty(alloc),
+            matrices: Vec::new(alloc),
+            vectors: Vec::new(alloc),
+        }
     }
 
     /// The value that the matrix stores in row `i`, column `j`, if there is one.
@@ -199,18 +196,11 @@ impl State {
         }
     }
 
-    /// Whether no change waits in the object; true of one that was freed or never made. Takes no memory (own).
-    pub fn is_assembled(&self, object: Object) -> bool
-        ensures { result ≡ is_assembled self.now.matrices self.now.vectors object }
-    {
-        match object {
-            Object::Matrix(a) => is_assembled_matrix(&self.matrices, a),
-            Object::Vector(v) => is_assembled_vector(&self.vectors, v),
-        }
-    }
-
-    /// Does the changes that wait in the object, if it is there. `AllocError` where memory is refused.
-    fn complete(&mut self, object: Object) -> Result<(), AllocError>
+    /// Does the changes that wait in the object, if it is there. `AllocError` where memory is refused; the entries are as before in any
+    /// case.
+    ///
+    /// Source: GraphBLAS C API 2.0, "wait: Wait for pending operations on an object to complete".
+    pub fn complete(&mut self, object: Object) -> Result<(), AllocError>
         ensures store { self.new.store ≡ self.old.store }
         ensures room { self.new.room ≡ self.old.room }
         ensures assembled { OnOk result (is_assembled self.new.matrices self.new.vectors object ≡ true) }
@@ -221,8 +211,10 @@ impl State {
         }
     }
 
-    /// Does the changes that wait in any object. `AllocError` where memory is refused.
-    fn materialize(&mut self) -> Result<(), AllocError>
+    /// Does the changes that wait in any object. `AllocError` where memory is refused; the entries are as before in any case.
+    ///
+    /// Source: GraphBLAS C API 2.0, "wait: Wait for pending operations on an object to complete".
+    pub fn materialize(&mut self) -> Result<(), AllocError>
         ensures store { self.new.store ≡ self.old.store }
         ensures room { self.new.room ≡ self.old.room }
         ensures assembled { OnOk result (AreAllAssembled (is_assembled self.new.matrices self.new.vectors)) }
@@ -297,6 +289,20 @@ impl State {
             Call::WaitMatrix { .. } | Call::WaitVector { .. } => Reply::Done,
             _ => unreachable!(),
         }
+    }
+
+    /// Leaves the next number of the object's sort with nothing there, as where the object of this number was freed: one that is made later
+    /// has a later number. Takes no memory (own).
+    pub fn add_place(&mut self, object: Object)
+        requires { 0 < self.old.room }
+        ensures store { self.new.store ≡ with_place self.old.store object }
+        ensures room { self.new.room + 1 ≡ self.old.room }
+    {
+        match object {
+            Object::Matrix(_) => self.matrices.push_reserved(None),
+            Object::Vector(_) => self.vectors.push_reserved(None),
+        }
+        self.shapes.add_place(object);
     }
 
     /// The store after the call; a call that is refused changes nothing. `AllocError` where memory is refused.

@@ -150,21 +150,12 @@ pub(crate) fn vector_of(
     vectors: &[Option<Shared<SparseVector>>],
     v: VectorId,
 ) -> Option<&SparseVector>
-    ensures { option_map (λ x. x.now.vector) result ≡ object_at (stored_vectors vectors.now) v.0 }
+    ensures stored { option_map (λ x. x.now.vector) result ≡ object_at (stored_vectors vectors.now) v.0 }
+    ensures object { option_map (λ x. x.now) result ≡ object_at vectors.now v.0 }
 {
     match vectors.get(v.0 as usize) {
         Some(Some(shared)) => Some(shared.lent()),
         _ => None,
-    }
-}
-
-/// Whether no change waits in the vector with this number; true where it is not there. Takes no memory.
-pub(crate) fn is_assembled_vector(vectors: &[Option<Shared<SparseVector>>], v: VectorId) -> bool
-    ensures { result ≡ option_map_or (λ x. x.assembled) (object_at vectors.now v.0) true }
-{
-    match vectors.get(v.0 as usize) {
-        Some(Some(shared)) => shared.lent().is_assembled(),
-        _ => true,
     }
 }
 

@@ -17,6 +17,8 @@ pub record IsLaid (size : ℕ) (row : RowView) (ds : List Bool) (cs : List Chang
   pub apart : (i : ℕ) (d : ℕ × Value) → i < length row.entries → last_at (slice_index_or row.entries i d).0 cs ≡ None
   pub inside : All (IsChangeIn size row.domain) cs
 
--- there are no marks until a place for a change is reserved, and then one for each entry
-abbrev pub IsMarked : RowView → List Bool → ℕ → Type 0
-IsMarked row ds reserved = 0 < length ds + reserved → length row.entries ≤ length ds
+-- at most one mark for each entry, so no list of marks has a length that follows from dimensions; there are none until a place for a
+-- change is reserved, and then one for each entry
+pub record IsMarked (row : RowView) (ds : List Bool) (reserved : ℕ) : Type 0 where
+  pub few : length ds ≤ length row.entries
+  pub each : 0 < length ds + reserved → length row.entries ≤ length ds

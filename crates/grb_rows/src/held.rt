@@ -60,7 +60,7 @@ pub fn store(
     ensures stood { result ≡ is_some (find nat_cmp index (stored row.old deleted.old.items pending.old.changes)) }
     ensures domain { row.new.domain ≡ row.old.domain }
     ensures reserved { pending.new.reserved + 1 ≡ pending.old.reserved }
-    ensures marked { length row.new.entries ≤ length deleted.new.items }
+    ensures marked { length deleted.new.items ≡ length row.new.entries }
     ensures not_fewer { length pending.old.changes ≤ length pending.new.changes }
     ensures one_more { length pending.new.changes ≤ length pending.old.changes + 1 }
 {
@@ -97,7 +97,7 @@ pub fn erase(
     ensures stood { result ≡ is_some (find nat_cmp index (stored row.now deleted.old.items pending.old.changes)) }
     ensures absent { find nat_cmp index (stored row.now deleted.old.items pending.old.changes) ≡ None → pending.new.changes ≡ pending.old.changes }
     ensures reserved { pending.new.reserved + 1 ≡ pending.old.reserved }
-    ensures marked { length row.now.entries ≤ length deleted.new.items }
+    ensures marked { length deleted.new.items ≡ length row.now.entries }
     ensures not_fewer { length pending.old.changes ≤ length pending.new.changes }
     ensures one_more { length pending.new.changes ≤ length pending.old.changes + 1 }
 {

@@ -1,5 +1,5 @@
 //! The values of one object, in a list of their domain's type.
-ghost use Rattle.std.specs.Prelude.{◌≡◌, ◌+◌, ◌<◌, ◌≤◌, ◌++◌, [], ◌∷◌, length, take, slice_set, slice_index_or, IfOk};
+ghost use Rattle.std.specs.Prelude.{◌≡◌, ◌+◌, ◌<◌, ◌≤◌, ◌++◌, [], ◌∷◌, length, slice_set, slice_index_or, IfOk};
 ghost use Rattle.grb_core.specs.Value.{value_domain};
 ghost use Rattle.grb_rows.specs.Values.{values_list, values_domain, values_len, values_capacity};
 
@@ -123,17 +123,6 @@ impl Values {
         match self {
             Values::Bool(bools) => bools.push_reserved(bool_of(value)),
             Values::Uint64(numbers) => numbers.push_reserved(number_of(value)),
-        }
-    }
-
-    /// Leaves the first `len` values.
-    pub(crate) fn truncate(&mut self, len: usize)
-        ensures list { values_list self.new ≡ take len (values_list self.old) }
-        ensures domain { values_domain self.new ≡ values_domain self.old }
-    {
-        match self {
-            Values::Bool(bools) => bools.truncate(len),
-            Values::Uint64(numbers) => numbers.truncate(len),
         }
     }
 }

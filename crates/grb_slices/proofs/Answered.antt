@@ -19,7 +19,8 @@ use Rattle.grb_core.specs.Results.{reduce_of}
 use Rattle.std.specs.Ordering.{nat_cmp}
 use Rattle.std.specs.FinMap.{find}
 use Rattle.grb_call.specs.After.{answer, refused, refused_build, reply_of, get_reply}
-use Rattle.grb_slices.specs.Content.{Content, MatrixContent, VectorContent, content_at, objects_read}
+use Rattle.grb_call.specs.Operands.{objects_read}
+use Rattle.grb_slices.specs.Content.{Content, MatrixContent, VectorContent, content_at}
 use Rattle.grb_slices.specs.Slice.{is_among}
 use Rattle.grb_slices.proofs.Refusals.{same_refusal}
 use Rattle.grb_slices.proofs.Wants.{is_same_object-true}

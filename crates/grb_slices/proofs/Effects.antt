@@ -24,14 +24,14 @@ use Rattle.grb_call.specs.declared.ids.VectorId.{VectorId}
 use Rattle.grb_call.specs.declared.ids.Object.{Object}
 use Rattle.grb_call.specs.declared.ids.Object.TheVariants as object
 use Rattle.grb_call.specs.Shapes.{ObjectShapes, MatrixShape, VectorShape, object_at}
-use Rattle.grb_call.specs.Operands.{matrix_mask, vector_mask}
-use Rattle.grb_call.specs.Output.{matrix_after, vector_after, written_matrix, written_vector}
+use Rattle.grb_call.specs.Operands.{matrix_mask, objects_read, vector_mask}
+use Rattle.grb_call.specs.Output.{entries_in, matrix_after, vector_after, written_matrix, written_vector}
 use Rattle.grb_call.specs.Refused.{refused_by_shapes, is_in_bounds}
 use Rattle.grb_call.specs.Store.{Store, shapes_of, matrix_shape, vector_shape, matrix_at, vector_at, matrix_entries, vector_entries, put_matrix, put_vector}
 use Rattle.grb_call.specs.After.{has_old_entries, refused_build, changed, after}
 use Rattle.grb_call.proofs.ShapesAfter.{object_at-map}
 use Rattle.grb_call.proofs.ObjectLists.{object_at-end, object_at-set_other}
-use Rattle.grb_slices.specs.Content.{Content, MatrixContent, VectorContent, Contents, content_at, objects_read, target_of, effective_target, held_by_matrix, held_by_vector, matrix_in, vector_in, written_in_matrix, written_in_vector, matrix_made, vector_made, content_made, outcome}
+use Rattle.grb_slices.specs.Content.{Content, MatrixContent, VectorContent, Contents, content_at, target_of, effective_target, held_by_matrix, held_by_vector, entries_held, filled_matrix, filled_vector, content_made, outcome}
 use Rattle.grb_slices.specs.Steps.{AgreeOn}
 use Rattle.grb_slices.specs.Slice.{is_among}
 use Rattle.grb_slices.proofs.Wants.{among_first, among_next}
@@ -51,6 +51,13 @@ module _ {X : Type 0} where
 
   object_at-count : {Y : Type 0} (g : X → Y) (xs : List (Option X)) (o : Option X) → object_at (xs ++ o ∷ []) (length (map (option_map g) xs)) ≡ o
   object_at-count g xs o = ap (object_at (xs ++ o ∷ [])) (length-map xs (option_map g)) ∙ object_at-end xs o
+
+-- the entries of the objects, by what they hold
+abbrev matrix_in : Contents → MatrixId → MatrixEntries
+matrix_in r a = (entries_held r).matrix a
+
+abbrev vector_in : Contents → VectorId → VectorEntries
+vector_in r v = (entries_held r).vector v
 
 -- the entries that a call reads of the store are those of what its objects hold
 held_m : (o : Option Matrix) → held_by_matrix (option_map MatrixContent o) ≡ option_map_or (λ m. m.entries) o []
@@ -77,16 +84,16 @@ module _ (s : Store) where
   mask_v (Some m) = ap (λ es. Some es) (in_v m)
 
   written_m : (mask : Option MatrixId) (accum : Option BinaryOp) (d : Descriptor) (x y : MatrixEntries) (m : Matrix) → x ≡ y →
-      written_matrix s mask accum d x m ≡ written_in_matrix (content_at s) mask accum d y m
+      written_matrix (entries_in s) mask accum d x m ≡ written_matrix (entries_held (content_at s)) mask accum d y m
   written_m mask accum d x y m e =
       ap (λ (p : Option MatrixEntries). edited_matrix (λ old. written cell_cmp (is_inside cell_cmp d.structure d.comp p) d.replace accum old x) m) (mask_m mask)
-      ∙ ap (λ (z : MatrixEntries). written_in_matrix (content_at s) mask accum d z m) e
+      ∙ ap (λ (z : MatrixEntries). written_matrix (entries_held (content_at s)) mask accum d z m) e
 
   written_v : (mask : Option VectorId) (accum : Option BinaryOp) (d : Descriptor) (x y : VectorEntries) (m : Vector) → x ≡ y →
-      written_vector s mask accum d x m ≡ written_in_vector (content_at s) mask accum d y m
+      written_vector (entries_in s) mask accum d x m ≡ written_vector (entries_held (content_at s)) mask accum d y m
   written_v mask accum d x y m e =
       ap (λ (p : Option VectorEntries). edited_vector (λ old. written nat_cmp (is_inside nat_cmp d.structure d.comp p) d.replace accum old x) m) (mask_v mask)
-      ∙ ap (λ (z : VectorEntries). written_in_vector (content_at s) mask accum d z m) e
+      ∙ ap (λ (z : VectorEntries). written_vector (entries_held (content_at s)) mask accum d z m) e
 
   -- what two objects hold goes into one result
   two_m : {R : Type 0} (f : MatrixEntries → MatrixEntries → R) (a b : MatrixId) →
@@ -102,21 +109,21 @@ module _ (s : Store) where
   both f a u = ap (λ p. f p (vector_entries s u)) (in_m a) ∙ ap (f (matrix_in (content_at s) a)) (in_v u)
 
 -- the target
-through_m : (r : Contents) (c : Call) (f : Matrix → Matrix) → ((m : Matrix) → f m ≡ matrix_made r c m) → (o : Option Matrix) →
+through_m : (r : Contents) (c : Call) (f : Matrix → Matrix) → ((m : Matrix) → f m ≡ filled_matrix r c m) → (o : Option Matrix) →
     option_map MatrixContent (option_map f o) ≡ option_map (content_made r c) (option_map MatrixContent o)
 through_m r c f same None = refl
 through_m r c f same (Some m) = ap (λ y. Some (MatrixContent y)) (same m)
 
-through_v : (r : Contents) (c : Call) (f : Vector → Vector) → ((x : Vector) → f x ≡ vector_made r c x) → (o : Option Vector) →
+through_v : (r : Contents) (c : Call) (f : Vector → Vector) → ((x : Vector) → f x ≡ filled_vector r c x) → (o : Option Vector) →
     option_map VectorContent (option_map f o) ≡ option_map (content_made r c) (option_map VectorContent o)
 through_v r c f same None = refl
 through_v r c f same (Some m) = ap (λ y. Some (VectorContent y)) (same m)
 
-edited_m : (s : Store) (a : MatrixId) (c : Call) (f : Matrix → Matrix) → ((m : Matrix) → f m ≡ matrix_made (content_at s) c m) →
+edited_m : (s : Store) (a : MatrixId) (c : Call) (f : Matrix → Matrix) → ((m : Matrix) → f m ≡ filled_matrix (content_at s) c m) →
     content_at (put_matrix s a (option_map f (matrix_at s a))) (object.Matrix a) ≡ option_map (content_made (content_at s) c) (content_at s (object.Matrix a))
 edited_m s a c f same = ap (option_map MatrixContent) (object_at-set_own s.matrices a.0 (option_map f) refl) ∙ through_m (content_at s) c f same (matrix_at s a)
 
-edited_v : (s : Store) (v : VectorId) (c : Call) (f : Vector → Vector) → ((x : Vector) → f x ≡ vector_made (content_at s) c x) →
+edited_v : (s : Store) (v : VectorId) (c : Call) (f : Vector → Vector) → ((x : Vector) → f x ≡ filled_vector (content_at s) c x) →
     content_at (put_vector s v (option_map f (vector_at s v))) (object.Vector v) ≡ option_map (content_made (content_at s) c) (content_at s (object.Vector v))
 edited_v s v c f same = ap (option_map VectorContent) (object_at-set_own s.vectors v.0 (option_map f) refl) ∙ through_v (content_at s) c f same (vector_at s v)
 
@@ -295,13 +302,13 @@ module _ {r t : Contents} where
   agree_next o os agree p wanted = agree p (among_next p o os wanted)
 
 module _ (r t : Contents) where
-  made_same : (c : Call) → ((m : Matrix) → matrix_made r c m ≡ matrix_made t c m) → ((x : Vector) → vector_made r c x ≡ vector_made t c x) → (o : Option Content) →
+  made_same : (c : Call) → ((m : Matrix) → filled_matrix r c m ≡ filled_matrix t c m) → ((x : Vector) → filled_vector r c x ≡ filled_vector t c x) → (o : Option Content) →
       option_map (content_made r c) o ≡ option_map (content_made t c) o
   made_same c m v None = refl
   made_same c m v (Some (MatrixContent a)) = ap (λ y. Some (MatrixContent y)) (m a)
   made_same c m v (Some (VectorContent x)) = ap (λ y. Some (VectorContent y)) (v x)
 
-  framed : (c : Call) (o : Object) → ((m : Matrix) → matrix_made r c m ≡ matrix_made t c m) → ((x : Vector) → vector_made r c x ≡ vector_made t c x) → r o ≡ t o →
+  framed : (c : Call) (o : Object) → ((m : Matrix) → filled_matrix r c m ≡ filled_matrix t c m) → ((x : Vector) → filled_vector r c x ≡ filled_vector t c x) → r o ≡ t o →
       option_map (content_made r c) (r o) ≡ option_map (content_made t c) (t o)
   framed c o m v e = made_same c m v (r o) ∙ ap (option_map (content_made t c)) e
 
@@ -314,20 +321,20 @@ module _ (r t : Contents) where
   masked_v (Some m) agree = ap (λ o. Some (held_by_vector o)) (agree_first (object.Vector m) [] agree)
 
   wrote_m : (mask : Option MatrixId) (accum : Option BinaryOp) (d : Descriptor) (x y : MatrixEntries) (m : Matrix) → AgreeOn (is_among (matrix_mask mask)) r t → x ≡ y →
-      written_in_matrix r mask accum d x m ≡ written_in_matrix t mask accum d y m
+      written_matrix (entries_held r) mask accum d x m ≡ written_matrix (entries_held t) mask accum d y m
   wrote_m mask accum d x y m agree e =
       ap (λ (p : Option MatrixEntries). edited_matrix (λ old. written cell_cmp (is_inside cell_cmp d.structure d.comp p) d.replace accum old x) m) (masked_m mask agree)
-      ∙ ap (λ (z : MatrixEntries). written_in_matrix t mask accum d z m) e
+      ∙ ap (λ (z : MatrixEntries). written_matrix (entries_held t) mask accum d z m) e
 
   wrote_v : (mask : Option VectorId) (accum : Option BinaryOp) (d : Descriptor) (x y : VectorEntries) (m : Vector) → AgreeOn (is_among (vector_mask mask)) r t → x ≡ y →
-      written_in_vector r mask accum d x m ≡ written_in_vector t mask accum d y m
+      written_vector (entries_held r) mask accum d x m ≡ written_vector (entries_held t) mask accum d y m
   wrote_v mask accum d x y m agree e =
       ap (λ (p : Option VectorEntries). edited_vector (λ old. written nat_cmp (is_inside nat_cmp d.structure d.comp p) d.replace accum old x) m) (masked_v mask agree)
-      ∙ ap (λ (z : VectorEntries). written_in_vector t mask accum d z m) e
+      ∙ ap (λ (z : VectorEntries). written_vector (entries_held t) mask accum d z m) e
 
   -- a call on a matrix of two matrices, and on a vector of two vectors
   of_two_m : (f : MatrixEntries → MatrixEntries → MatrixEntries) (c : Call) (o a b : MatrixId) (mask : Option MatrixId) (accum : Option BinaryOp) (d : Descriptor) →
-      ((q : Contents) (m : Matrix) → matrix_made q c m ≡ written_in_matrix q mask accum d (f (matrix_in q a) (matrix_in q b)) m) → ((q : Contents) (x : Vector) → vector_made q c x ≡ x) →
+      ((q : Contents) (m : Matrix) → filled_matrix q c m ≡ written_matrix (entries_held q) mask accum d (f (matrix_in q a) (matrix_in q b)) m) → ((q : Contents) (x : Vector) → filled_vector q c x ≡ x) →
       AgreeOn (is_among (object.Matrix o ∷ object.Matrix a ∷ object.Matrix b ∷ matrix_mask mask)) r t →
       option_map (content_made r c) (r (object.Matrix o)) ≡ option_map (content_made t c) (t (object.Matrix o))
   of_two_m f c o a b mask accum d is vector agree =
@@ -342,7 +349,7 @@ module _ (r t : Contents) where
       (λ x. vector r x ∙ sym (vector t x)) (agree_first (object.Matrix o) (object.Matrix a ∷ object.Matrix b ∷ matrix_mask mask) agree)
 
   of_two_v : (f : VectorEntries → VectorEntries → VectorEntries) (c : Call) (o u v : VectorId) (mask : Option VectorId) (accum : Option BinaryOp) (d : Descriptor) →
-      ((q : Contents) (m : Matrix) → matrix_made q c m ≡ m) → ((q : Contents) (x : Vector) → vector_made q c x ≡ written_in_vector q mask accum d (f (vector_in q u) (vector_in q v)) x) →
+      ((q : Contents) (m : Matrix) → filled_matrix q c m ≡ m) → ((q : Contents) (x : Vector) → filled_vector q c x ≡ written_vector (entries_held q) mask accum d (f (vector_in q u) (vector_in q v)) x) →
       AgreeOn (is_among (object.Vector o ∷ object.Vector u ∷ object.Vector v ∷ vector_mask mask)) r t →
       option_map (content_made r c) (r (object.Vector o)) ≡ option_map (content_made t c) (t (object.Vector o))
   of_two_v f c o u v mask accum d matrix is agree =
@@ -358,7 +365,7 @@ module _ (r t : Contents) where
 
   -- a call on a vector of a matrix and a vector
   of_both : (f : MatrixEntries → VectorEntries → VectorEntries) (c : Call) (o u : VectorId) (a : MatrixId) (mask : Option VectorId) (accum : Option BinaryOp) (d : Descriptor) →
-      ((q : Contents) (m : Matrix) → matrix_made q c m ≡ m) → ((q : Contents) (x : Vector) → vector_made q c x ≡ written_in_vector q mask accum d (f (matrix_in q a) (vector_in q u)) x) →
+      ((q : Contents) (m : Matrix) → filled_matrix q c m ≡ m) → ((q : Contents) (x : Vector) → filled_vector q c x ≡ written_vector (entries_held q) mask accum d (f (matrix_in q a) (vector_in q u)) x) →
       AgreeOn (is_among (object.Vector o ∷ object.Matrix a ∷ object.Vector u ∷ vector_mask mask)) r t →
       option_map (content_made r c) (r (object.Vector o)) ≡ option_map (content_made t c) (t (object.Vector o))
   of_both f c o u a mask accum d matrix is agree =
@@ -374,7 +381,7 @@ module _ (r t : Contents) where
 
   -- a call on a vector of a matrix
   of_one : (f : MatrixEntries → VectorEntries) (c : Call) (o : VectorId) (a : MatrixId) (mask : Option VectorId) (accum : Option BinaryOp) (d : Descriptor) →
-      ((q : Contents) (m : Matrix) → matrix_made q c m ≡ m) → ((q : Contents) (x : Vector) → vector_made q c x ≡ written_in_vector q mask accum d (f (matrix_in q a)) x) →
+      ((q : Contents) (m : Matrix) → filled_matrix q c m ≡ m) → ((q : Contents) (x : Vector) → filled_vector q c x ≡ written_vector (entries_held q) mask accum d (f (matrix_in q a)) x) →
       AgreeOn (is_among (object.Vector o ∷ object.Matrix a ∷ vector_mask mask)) r t →
       option_map (content_made r c) (r (object.Vector o)) ≡ option_map (content_made t c) (t (object.Vector o))
   of_one f c o a mask accum d matrix is agree =

@@ -1,5 +1,5 @@
 -- One entry of a list, made on the whole store, and on the part that holds what is wanted where it belongs to the slice.
-use Rattle.std.proofs.Common.{◌≡◌, ◌≢◌, ℕ, suc, Bool, true, false, if◌then◌else◌, List, [], ◌∷◌, ◌++◌, length, refl, sym, ap, subst, ◌∙◌, Option, Some, None, length-set}
+use Rattle.std.proofs.Common.{◌≡◌, ◌≢◌, ℕ, zero, suc, Bool, true, false, if◌then◌else◌, List, [], ◌∷◌, ◌++◌, length, refl, sym, ap, subst, ◌∙◌, Option, Some, None, option_map, length-set}
 use lib.ListN.{length-map}
 use Rattle.std.specs.Option.{option_map_or}
 use Rattle.grb_core.specs.declared.refusal.Refusal.{Refusal}
@@ -8,16 +8,17 @@ use Rattle.grb_call.specs.declared.call.Call.TheVariants as call
 use Rattle.grb_call.specs.declared.ids.Object.{Object}
 use Rattle.grb_call.specs.declared.ids.Object.TheVariants as object
 use Rattle.grb_call.specs.Output.{output_of}
-use Rattle.grb_call.specs.Shapes.{ObjectShapes}
+use Rattle.grb_call.specs.Shapes.{ObjectShapes, object_at}
 use Rattle.grb_call.specs.Refused.{refused_by_shapes, reshaped}
 use Rattle.grb_call.specs.Status.{is_same_object}
-use Rattle.grb_call.specs.Store.{Store, shapes_of}
+use Rattle.grb_call.specs.Store.{Store, shapes_of, with_place}
 use Rattle.grb_call.specs.After.{after}
 use Rattle.grb_call.proofs.ShapesAfter.{shapes_of-after}
-use Rattle.grb_slices.specs.Content.{content_at, objects_read, target_of, effective_target}
-use Rattle.grb_slices.specs.Slice.{Wants, Make, is_among, wants_before}
+use Rattle.grb_call.specs.Operands.{objects_read}
+use Rattle.grb_slices.specs.Content.{MatrixContent, VectorContent, content_at, target_of, effective_target, outcome}
+use Rattle.grb_slices.specs.Slice.{Wants, Make, is_among, wants_before, with_content}
 use Rattle.grb_slices.specs.Steps.{AgreeOn}
-use Rattle.grb_slices.specs.Followed.{Follows, place_for, part_after}
+use Rattle.grb_slices.specs.Followed.{Follows, part_after}
 use Rattle.grb_slices.specs.Wanted.{is_chosen, wants_behind}
 use Rattle.grb_slices.proofs.Effects.{own, other, effective, frame}
 use Rattle.grb_slices.proofs.Refusals.{same_refusal}
@@ -102,21 +103,47 @@ makes_no_output (call.DupMatrix a) o e = cc
 makes_no_output (call.DupVector x) o e = cc
 makes_no_output _ o e = (refl, refl)
 
-made_as : (s : ObjectShapes) (c : Call) (o : Object) → target_of s c ≡ Some o → output_of c ≡ None →
-    (target_of s (place_for o) ≡ Some o) × (makes_matrix c ≡ makes_matrix (place_for o)) × (makes_vector c ≡ makes_vector (place_for o))
-made_as s (call.NewMatrix domain nrows ncols) (object.Matrix a) e none = (e, refl, refl)
+-- of which sort an object is
+abbrev is_matrix : Object → Bool
+is_matrix (object.Matrix a) = true
+is_matrix (object.Vector v) = false
+
+abbrev is_vector : Object → Bool
+is_vector (object.Matrix a) = false
+is_vector (object.Vector v) = true
+
+-- a call that makes an object makes one of the sort of its target
+made_as : (s : ObjectShapes) (c : Call) (o : Object) → target_of s c ≡ Some o → output_of c ≡ None → (makes_matrix c ≡ is_matrix o) × (makes_vector c ≡ is_vector o)
+made_as s (call.NewMatrix domain nrows ncols) (object.Matrix a) e none = (refl, refl)
 made_as s (call.NewMatrix domain nrows ncols) (object.Vector v) e none = cc
 made_as s (call.NewVector domain size) (object.Matrix a) e none = cc
-made_as s (call.NewVector domain size) (object.Vector v) e none = (e, refl, refl)
-made_as s (call.DupMatrix b) (object.Matrix a) e none = (e, refl, refl)
+made_as s (call.NewVector domain size) (object.Vector v) e none = (refl, refl)
+made_as s (call.DupMatrix b) (object.Matrix a) e none = (refl, refl)
 made_as s (call.DupMatrix b) (object.Vector v) e none = cc
 made_as s (call.DupVector x) (object.Matrix a) e none = cc
-made_as s (call.DupVector x) (object.Vector v) e none = (e, refl, refl)
+made_as s (call.DupVector x) (object.Vector v) e none = (refl, refl)
 made_as s _ o e none = let no : ◌≡◌ {A = Option Object} None (Some o) = sym none ∙ e in cc
 
-place_taken : (s : ObjectShapes) (o : Object) → refused_by_shapes s (place_for o) ≡ None
-place_taken s (object.Matrix a) = refl
-place_taken s (object.Vector v) = refl
+-- a place where nothing is
+nothing_more : {X : Type 0} (xs : List (Option X)) (n : ℕ) → object_at (xs ++ None ∷ []) n ≡ object_at xs n
+nothing_more [] zero = refl
+nothing_more [] (suc n) = refl
+nothing_more (x ∷ xs) zero = refl
+nothing_more (x ∷ xs) (suc n) = nothing_more xs n
+
+pub placed_same : (s : Store) (o p : Object) → content_at (with_place s o) p ≡ content_at s p
+placed_same s (object.Matrix a) (object.Matrix b) = ap (option_map MatrixContent) (nothing_more s.matrices b.0)
+placed_same s (object.Matrix a) (object.Vector w) = refl
+placed_same s (object.Vector v) (object.Matrix b) = refl
+placed_same s (object.Vector v) (object.Vector w) = ap (option_map VectorContent) (nothing_more s.vectors w.0)
+
+placed_matrices : (s : Store) (o : Object) → length (with_place s o).matrices ≡ more (is_matrix o) (length s.matrices)
+placed_matrices s (object.Matrix a) = one_more s.matrices None
+placed_matrices s (object.Vector v) = refl
+
+placed_vectors : (s : Store) (o : Object) → length (with_place s o).vectors ≡ more (is_vector o) (length s.vectors)
+placed_vectors s (object.Matrix a) = refl
+placed_vectors s (object.Vector v) = one_more s.vectors None
 
 some_same : (o p : Object) → ◌≡◌ {A = Option Object} (Some o) (Some p) → o ≡ p
 some_same o p e = cc
@@ -127,16 +154,35 @@ apart_object o p apart e = let same : is_same_object o p ≡ true = subst (λ (q
 unwanted_object : (w : Wants) (o p : Object) → w o ≡ false → w p ≡ true → o ≢ p
 unwanted_object w o p unwanted wanted e = let both : w o ≡ true = subst (λ (q : Object). w q ≡ true) (sym e) wanted in cc
 
+-- on a part that follows, a call whose target is wanted has the same target
+pub taken_there : (w : Wants) (s t : Store) (c : Call) (o : Object) → effective_target (shapes_of s) c ≡ Some o → Follows (wants_before w o (Make c)) s t →
+    (refused_by_shapes (shapes_of t) c ≡ None) × (target_of (shapes_of t) c ≡ Some o)
+taken_there w s t c o target follows =
+    let taken = effective (shapes_of s) c o target in
+    let reads : AgreeOn (λ p. is_among (objects_read c) p) (content_at s) (content_at t) = λ p wanted. follows.agree p (read_before w o (Make c) p wanted) in
+    let counted_m : length (shapes_of t).matrices ≡ length (shapes_of s).matrices = matrices_of t ∙ (follows.matrices ∙ sym (matrices_of s)) in
+    let counted_v : length (shapes_of t).vectors ≡ length (shapes_of s).vectors = vectors_of t ∙ (follows.vectors ∙ sym (vectors_of s)) in
+    (sym (same_refusal s t c reads) ∙ taken.0, same_target (shapes_of s) (shapes_of t) c counted_m counted_v ∙ taken.1)
+
+-- what a store holds after a call with a target
+pub made_there : (t : Store) (c : Call) (o : Object) → refused_by_shapes (shapes_of t) c ≡ None → target_of (shapes_of t) c ≡ Some o → (p : Object) →
+    content_at (after t c) p ≡ with_content (content_at t) o (outcome (content_at t) c) p
+made_there t c o unrefused target p = by_same (is_same_object o p) refl
+  where
+    effective_t : effective_target (shapes_of t) c ≡ Some o
+    effective_t = ap (λ p. option_map_or (λ _. None) p (target_of (shapes_of t) c)) unrefused ∙ target
+
+    by_same : (b : Bool) → is_same_object o p ≡ b → content_at (after t c) p ≡ (if b then outcome (content_at t) c else content_at t p)
+    by_same true same = subst (λ (q : Object). content_at (after t c) q ≡ outcome (content_at t) c) (is_same_object-true o p same) (own t c o unrefused target)
+    by_same false apart = other t c p (λ e. apart_object o p apart (some_same o p (sym effective_t ∙ e)))
+
 module _ (w : Wants) (s t : Store) (c : Call) where
   -- the target is wanted: the call is made on the part too
   pub follows_chosen : (o : Object) → effective_target (shapes_of s) c ≡ Some o → Follows (wants_before w o (Make c)) s t → Follows w (after s c) (after t c)
   follows_chosen o target follows =
       let taken = effective (shapes_of s) c o target in
       let reads : AgreeOn (λ p. is_among (objects_read c) p) (content_at s) (content_at t) = λ p wanted. follows.agree p (read_before w o (Make c) p wanted) in
-      let unrefused : refused_by_shapes (shapes_of t) c ≡ None = sym (same_refusal s t c reads) ∙ taken.0 in
-      let counted_m : length (shapes_of t).matrices ≡ length (shapes_of s).matrices = matrices_of t ∙ (follows.matrices ∙ sym (matrices_of s)) in
-      let counted_v : length (shapes_of t).vectors ≡ length (shapes_of s).vectors = vectors_of t ∙ (follows.vectors ∙ sym (vectors_of s)) in
-      let target_t : target_of (shapes_of t) c ≡ Some o = same_target (shapes_of s) (shapes_of t) c counted_m counted_v ∙ taken.1 in
+      let there = taken_there w s t c o target follows in let unrefused = there.0 in let target_t = there.1 in
       let effective_t : effective_target (shapes_of t) c ≡ Some o = ap (λ p. option_map_or (λ _. None) p (target_of (shapes_of t) c)) unrefused ∙ target_t in
       record {
         matrices = after_matrices t c unrefused ∙ (ap (more (makes_matrix c)) follows.matrices ∙ sym (after_matrices s c taken.0));
@@ -185,20 +231,14 @@ module _ (w : Wants) (s t : Store) (c : Call) where
       }
 
   -- the target is not wanted and is new: the part gets a place for it
-  pub follows_placed : (o : Object) → effective_target (shapes_of s) c ≡ Some o → w o ≡ false → output_of c ≡ None → Follows w s t → Follows w (after s c) (after t (place_for o))
+  pub follows_placed : (o : Object) → effective_target (shapes_of s) c ≡ Some o → w o ≡ false → output_of c ≡ None → Follows w s t → Follows w (after s c) (with_place t o)
   follows_placed o target unwanted none follows =
       let taken = effective (shapes_of s) c o target in
       let made = made_as (shapes_of s) c o taken.1 none in
-      let counted_m : length (shapes_of t).matrices ≡ length (shapes_of s).matrices = matrices_of t ∙ (follows.matrices ∙ sym (matrices_of s)) in
-      let counted_v : length (shapes_of t).vectors ≡ length (shapes_of s).vectors = vectors_of t ∙ (follows.vectors ∙ sym (vectors_of s)) in
-      let taken_t = place_taken (shapes_of t) o in
-      let target_t : effective_target (shapes_of t) (place_for o) ≡ Some o =
-      ap (λ p. option_map_or (λ _. None) p (target_of (shapes_of t) (place_for o))) taken_t ∙ (same_target (shapes_of s) (shapes_of t) (place_for o) counted_m counted_v ∙ made.0) in
       record {
-        matrices = after_matrices t (place_for o) taken_t ∙ (ap (λ b. more b (length t.matrices)) (sym made.1) ∙ (ap (more (makes_matrix c)) follows.matrices ∙ sym (after_matrices s c taken.0)));
-        vectors = after_vectors t (place_for o) taken_t ∙ (ap (λ b. more b (length t.vectors)) (sym made.2) ∙ (ap (more (makes_vector c)) follows.vectors ∙ sym (after_vectors s c taken.0)));
-        agree = λ p wanted. other s c p (λ e. unwanted_object w o p unwanted wanted (some_same o p (sym target ∙ e)))
-            ∙ (follows.agree p wanted ∙ sym (other t (place_for o) p (λ e. unwanted_object w o p unwanted wanted (some_same o p (sym target_t ∙ e)))));
+        matrices = placed_matrices t o ∙ (ap (λ b. more b (length t.matrices)) (sym made.0) ∙ (ap (more (makes_matrix c)) follows.matrices ∙ sym (after_matrices s c taken.0)));
+        vectors = placed_vectors t o ∙ (ap (λ b. more b (length t.vectors)) (sym made.1) ∙ (ap (more (makes_vector c)) follows.vectors ∙ sym (after_vectors s c taken.0)));
+        agree = λ p wanted. other s c p (λ e. unwanted_object w o p unwanted wanted (some_same o p (sym target ∙ e))) ∙ (follows.agree p wanted ∙ sym (placed_same t o p));
       }
 
 -- wants that are the same object by object
@@ -212,7 +252,7 @@ same_wants v w s t same follows = record {
 -- one entry, chosen or not, where its target is wanted after it or not
 module _ (w : Wants) (s t : Store) (c : Call) where
   unmade : (o : Object) (q : Option Object) → effective_target (shapes_of s) c ≡ Some o → w o ≡ false → output_of c ≡ q → Follows w s t →
-      Follows w (after s c) (option_map_or (λ _. t) q (after t (place_for o)))
+      Follows w (after s c) (option_map_or (λ _. t) q (with_place t o))
   unmade o None target unwanted output follows = follows_placed w s t c o target unwanted output follows
   unmade o (Some q) target unwanted output follows = follows_left w s t c o q target unwanted output follows
 

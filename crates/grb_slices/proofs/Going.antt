@@ -1,19 +1,21 @@
 -- A list of calls on the whole store and on the part, one after another.
-use Rattle.std.proofs.Common.{◌≡◌, ℕ, zero, suc, ◌<◌, Bool, List, [], ◌∷◌, refl, sym, ap, subst, ◌∙◌, arith, length, drop, take, get_or, Option}
+use Rattle.std.proofs.Common.{◌≡◌, ℕ, zero, suc, ◌<◌, Bool, true, false, if◌then◌else◌, List, [], ◌∷◌, refl, sym, ap, subst, ◌∙◌, arith, length, drop, take, get_or, Option, Some, None}
+use Rattle.std.specs.Option.{option_map_or}
 use Rattle.grb_call.specs.declared.call.Call.{Call}
 use Rattle.grb_call.specs.declared.ids.Object.{Object}
 use Rattle.grb_call.specs.Shapes.{ObjectShapes}
 use Rattle.grb_call.specs.Refused.{shapes_after}
-use Rattle.grb_call.specs.Store.{Store, shapes_of}
+use Rattle.grb_call.specs.Output.{output_of}
+use Rattle.grb_call.specs.Store.{Store, shapes_of, with_place}
 use Rattle.grb_call.specs.After.{after}
 use Rattle.grb_call.specs.History.{after_all}
 use Rattle.grb_call.proofs.ShapesAfter.{shapes_of-after}
-use Rattle.grb_slices.specs.Content.{effective_target}
-use Rattle.grb_slices.specs.Slice.{Step, Entry, Wants, entries, sliced}
+use Rattle.grb_slices.specs.Content.{Contents, content_at, effective_target, outcome}
+use Rattle.grb_slices.specs.Slice.{Step, Entry, Make, Wants, entries, evaluated, sliced, wants_before, with_content}
 use Rattle.grb_slices.specs.Steps.{steps_of}
 use Rattle.grb_slices.specs.Wanted.{is_chosen, wants_behind}
-use Rattle.grb_slices.specs.Followed.{Follows, GoesOn, part_after, targets_of}
-use Rattle.grb_slices.proofs.Followed.{follows_next, same_wants}
+use Rattle.grb_slices.specs.Followed.{Follows, GoesOn, HasGoneOver, part_after, targets_of}
+use Rattle.grb_slices.proofs.Followed.{follows_next, made_there, placed_same, same_wants, taken_there}
 use Rattle.grb_slices.proofs.Walked.{sliced_behind}
 
 first_of : {X : Type 0} (x y : X) (xs ys : List X) → ◌≡◌ {A = List X} (x ∷ xs) (y ∷ ys) → x ≡ y
@@ -88,6 +90,73 @@ goes_end w s part cs ts bs n e same goes =
     subst (λ (x : List Call). Follows w (after_all s x) part) (take_all cs n e)
     (subst (λ (x : List Step). Follows (sliced w x).wanted (after_all s (take n cs)) part)
     (ap (λ (x : List Call). entries (drop n ts) x) (drop_all cs n e) ∙ ap (λ (x : List (Option Object)). entries x []) (drop_all ts n (e ∙ sym same))) goes.follows)
+
+-- what the part holds goes over, by the tasks to come, into what is to be held at the end
+abbrev pub HasCome : Wants → Contents → List (Option Object) → List Call → Store → Type 0
+HasCome w end ts cs part = evaluated (content_at part) (sliced w (entries ts cs)).tasks ≡ end
+
+-- an entry without a target, one whose target is not wanted, and one that is made
+module _ (w : Wants) (end : Contents) (s part : Store) (c : Call) (xs : List Step) where
+  abbrev v : Wants
+  v = (sliced w xs).wanted
+
+  unmade : (o : Object) (q : Option Object) → content_at (option_map_or (λ _. part) q (with_place part o)) ≡ content_at part
+  unmade o None = λ i p. placed_same part o p i
+  unmade o (Some q) = refl
+
+  made : (o : Object) → effective_target (shapes_of s) c ≡ Some o → Follows (wants_before v o (Make c)) s part →
+      evaluated (with_content (content_at part) o (outcome (content_at part) c)) (sliced w xs).tasks ≡ end → evaluated (content_at (after part c)) (sliced w xs).tasks ≡ end
+  made o target follows come =
+      let there = taken_there v s part c o target follows in
+      ap (λ (r : Contents). evaluated r (sliced w xs).tasks) (λ i p. made_there part c o there.0 there.1 p i) ∙ come
+
+  by_want : (o : Object) → effective_target (shapes_of s) c ≡ Some o → (b : Bool) → v o ≡ b →
+      Follows (if b then wants_before v o (Make c) else v) s part →
+      evaluated (content_at part) (if b then (record { wanted = wants_before v o (Make c); tasks = (o, Make c) ∷ (sliced w xs).tasks }) else sliced w xs).tasks ≡ end →
+      evaluated (content_at (part_after b (Some o) c part)) (sliced w xs).tasks ≡ end
+  by_want o target true wanted follows come = made o target follows come
+  by_want o target false unwanted follows come = ap (λ (r : Contents). evaluated r (sliced w xs).tasks) (unmade o (output_of c)) ∙ come
+
+  by_target : (t : Option Object) → effective_target (shapes_of s) c ≡ t → Follows (wants_behind v t c) s part → evaluated (content_at part) (sliced w (Entry t c ∷ xs)).tasks ≡ end →
+      evaluated (content_at (part_after (is_chosen v t) t c part)) (sliced w xs).tasks ≡ end
+  by_target None target follows come = come
+  by_target (Some o) target follows come = by_want o target (v o) refl follows come
+
+comes_next : (w : Wants) (end : Contents) (s part : Store) (c : Call) (cs : List Call) (t : Option Object) (ts : List (Option Object)) (b : Bool) (bs : List Bool) →
+    GoesOn w s (c ∷ cs) (t ∷ ts) (b ∷ bs) part → HasCome w end (t ∷ ts) (c ∷ cs) part → HasCome w end ts cs (part_after b t c part)
+comes_next w end s part c cs t ts b bs goes come =
+    let target : t ≡ effective_target (shapes_of s) c = first_of t _ ts _ goes.targets_are in
+    let xs : List Step = entries ts cs in
+    let chose : b ≡ is_chosen (sliced w xs).wanted t = first_of b _ bs _ goes.chosen_are in
+    let before : Follows (wants_behind (sliced w xs).wanted t c) s part = same_wants (sliced w (Entry t c ∷ xs)).wanted (wants_behind (sliced w xs).wanted t c) s part (sliced_behind w t c xs) goes.follows in
+    subst (λ (d : Bool). HasCome w end ts cs (part_after d t c part)) (sym chose) (by_target w end s part c xs t (sym target) before come)
+
+-- at each place of the lists
+pub comes_at : (w : Wants) (end : Contents) (s part : Store) (cs : List Call) (ts : List (Option Object)) (bs : List Bool) (k : ℕ) (c : Call) (t : Option Object) (b : Bool) →
+    k < length cs → length ts ≡ length cs → length bs ≡ length cs → get_or cs k c ≡ c → get_or ts k t ≡ t → get_or bs k b ≡ b →
+    GoesOn w (after_all s (take k cs)) (drop k cs) (drop k ts) (drop k bs) part → HasCome w end (drop k ts) (drop k cs) part →
+    HasCome w end (drop (suc k) ts) (drop (suc k) cs) (part_after b t c part)
+comes_at w end s part cs ts bs k c t b within same_t same_b ec et eb goes come =
+    let here_c : drop k cs ≡ c ∷ drop (suc k) cs = drop_at cs k c within ∙ ap (λ x. x ∷ drop (suc k) cs) ec in
+    let here_t : drop k ts ≡ t ∷ drop (suc k) ts = drop_at ts k t (omega (arith, within, same_t)) ∙ ap (λ x. x ∷ drop (suc k) ts) et in
+    let here_b : drop k bs ≡ b ∷ drop (suc k) bs = drop_at bs k b (omega (arith, within, same_b)) ∙ ap (λ x. x ∷ drop (suc k) bs) eb in
+    comes_next w end (after_all s (take k cs)) part c (drop (suc k) cs) t (drop (suc k) ts) b (drop (suc k) bs)
+    (subst (λ (x : List Call). GoesOn w (after_all s (take k cs)) x (t ∷ drop (suc k) ts) (b ∷ drop (suc k) bs) part) here_c
+    (subst (λ (x : List (Option Object)). GoesOn w (after_all s (take k cs)) (drop k cs) x (b ∷ drop (suc k) bs) part) here_t
+    (subst (λ (x : List Bool). GoesOn w (after_all s (take k cs)) (drop k cs) (drop k ts) x part) here_b goes)))
+    (subst (λ (x : List Call). HasCome w end (t ∷ drop (suc k) ts) x part) here_c (subst (λ (x : List (Option Object)). HasCome w end x (drop k cs) part) here_t come))
+
+-- at the end of the lists the calls were gone over
+pub has_gone_over : (w : Wants) (s old new : Store) (cs : List Call) (ts : List (Option Object)) (bs : List Bool) (n : ℕ) → n ≡ length cs → length ts ≡ length cs →
+    GoesOn w (after_all s (take n cs)) (drop n cs) (drop n ts) (drop n bs) new →
+    HasCome w (evaluated (content_at old) (sliced w (entries ts cs)).tasks) (drop n ts) (drop n cs) new → HasGoneOver w s cs ts old new
+has_gone_over w s old new cs ts bs n e same goes come = record {
+  follows = goes_end w s new cs ts bs n e same goes;
+  tasks =
+      let none : entries (drop n ts) (drop n cs) ≡ [] = ap (λ (x : List Call). entries (drop n ts) x) (drop_all cs n e) ∙ ap (λ (x : List (Option Object)). entries x []) (drop_all ts n (e ∙ sym same)) in
+      let held : content_at new ≡ evaluated (content_at old) (sliced w (entries ts cs)).tasks = subst (λ (x : List Step). evaluated (content_at new) (sliced w x).tasks ≡ evaluated (content_at old) (sliced w (entries ts cs)).tasks) none come in
+      λ o. ap (λ (r : Contents). r o) held;
+}
 
 -- the entries of these targets are those that one walk over shapes finds
 pub entries_are : (s : ObjectShapes) (cs : List Call) → entries (targets_of s cs) cs ≡ steps_of s cs

@@ -2,12 +2,13 @@ pub mod Answered
 pub mod Effects
 pub mod Followed
 pub mod Going
-pub mod Kept
 pub mod Live
 pub mod Marks
 pub mod Placed
+pub mod Places
 pub mod Refusals
 pub mod Sliced
+pub mod Stays
 pub mod Targets
 pub mod Walked
 pub mod Wants

@@ -13,7 +13,8 @@ use Rattle.grb_call.specs.Refused.{is_initialized, refused_by_shapes, shapes_aft
 use Rattle.grb_call.specs.After.{after}
 use Rattle.grb_call.specs.History.{after_all}
 use Rattle.grb_call.proofs.ShapesAfter.{object_at-map, shapes_of-after}
-use Rattle.grb_slices.specs.Content.{MatrixContent, VectorContent, content_at, effective_target, objects_read}
+use Rattle.grb_call.specs.Operands.{objects_read}
+use Rattle.grb_slices.specs.Content.{MatrixContent, VectorContent, content_at, effective_target}
 use Rattle.grb_slices.specs.Slice.{Step, Wants, is_among, sliced}
 use Rattle.grb_slices.specs.Steps.{steps_of}
 use Rattle.grb_slices.specs.Wanted.{wants_behind}

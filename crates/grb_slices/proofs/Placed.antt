@@ -5,13 +5,12 @@ use Rattle.grb_call.specs.declared.call.Call.{Call}
 use Rattle.grb_call.specs.declared.call.Call.TheVariants as call
 use Rattle.grb_call.specs.declared.ids.Object.{Object}
 use Rattle.grb_call.specs.declared.ids.Object.TheVariants as object
-use Rattle.grb_call.specs.Operands.{operands, masks}
+use Rattle.grb_call.specs.Operands.{masks, objects_read, operands}
 use Rattle.grb_call.specs.Output.{output_of}
 use Rattle.grb_call.specs.Shapes.{ObjectShapes, is_live, object_at}
-use Rattle.grb_call.specs.Store.{Store, shapes_of}
-use Rattle.grb_call.specs.After.{after}
-use Rattle.grb_slices.specs.Content.{effective_target, objects_read, target_of}
-use Rattle.grb_slices.specs.Followed.{HasPlaceIn, LacksPlaceIn, part_after, place_for}
+use Rattle.grb_call.specs.Store.{Store, shapes_of, with_place}
+use Rattle.grb_slices.specs.Content.{effective_target, target_of}
+use Rattle.grb_slices.specs.Followed.{HasPlaceIn, LacksPlaceIn, part_after}
 use Rattle.grb_slices.specs.Slice.{is_among}
 use Rattle.grb_slices.proofs.Effects.{effective}
 use Rattle.grb_slices.proofs.Followed.{matrices_of, vectors_of}
@@ -117,8 +116,8 @@ lacks_both part (object.Vector x) has lacks = omega (arith, has, lacks)
 
 -- what becomes of a part that has as many objects, at a call with this target that is not made
 module _ (s part : Store) (c : Call) (o : Object) (target : effective_target (shapes_of s) c ≡ Some o) (m : length part.matrices ≡ length s.matrices) (v : length part.vectors ≡ length s.vectors) where
-  by_output : (q : Option Object) → output_of c ≡ q → part_after false (Some o) c part ≡ option_map_or (λ _. part) q (after part (place_for o))
-  by_output q e = ap (λ (p : Option Object). option_map_or (λ _. part) p (after part (place_for o))) e
+  by_output : (q : Option Object) → output_of c ≡ q → part_after false (Some o) c part ≡ option_map_or (λ _. part) q (with_place part o)
+  by_output q e = ap (λ (p : Option Object). option_map_or (λ _. part) p (with_place part o)) e
 
   lacks_of : output_of c ≡ None → LacksPlaceIn part o
   lacks_of e = has_too s part o m v (new_lacks s c o (effective (shapes_of s) c o target).1 e)
@@ -132,10 +131,10 @@ module _ (s part : Store) (c : Call) (o : Object) (target : effective_target (sh
       by (Some p) e = by_output (Some p) e
 
   -- it is new: it gets a place
-  pub left_new : LacksPlaceIn part o → part_after false (Some o) c part ≡ after part (place_for o)
+  pub left_new : LacksPlaceIn part o → part_after false (Some o) c part ≡ with_place part o
   left_new lacks = by (output_of c) refl
     where
-      by : (q : Option Object) → output_of c ≡ q → part_after false (Some o) c part ≡ after part (place_for o)
+      by : (q : Option Object) → output_of c ≡ q → part_after false (Some o) c part ≡ with_place part o
       by None e = by_output None e
       by (Some p) e =
           let same : p ≡ o = some_object p o (sym (output_target (shapes_of s) c p e) ∙ (effective (shapes_of s) c o target).1) in

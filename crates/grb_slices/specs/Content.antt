@@ -1,26 +1,15 @@
 -- believed: What one object holds, and what a call makes of its target, from what the objects hold that it names: GraphBLAS C API
 -- 2.0, "Execution modes": a sequence of methods is ordered by which of them writes what another reads.
-use Rattle.std.specs.Prelude.{ℕ, Bool, ◌&&◌, ◌==◌, nat_lt, if◌then◌else◌, List, [], ◌++◌, length, Option, Some, None}
+use Rattle.std.specs.Prelude.{Bool, true, ◌&&◌, ◌==◌, nat_lt, if◌then◌else◌, [], length, Option, Some, None}
 use Rattle.std.specs.List.{list_all}
 use Rattle.std.specs.Option.{option_map, option_map_or}
-use Rattle.std.specs.Ordering.{nat_cmp}
-use Rattle.std.specs.FinMap.{put}
-use Rattle.grb_core.specs.declared.operator.BinaryOp.{BinaryOp}
-use Rattle.grb_core.specs.declared.value.Value.{Value}
-use Rattle.grb_core.specs.Contents.{Matrix, Vector, edited_matrix, edited_vector, resized_matrix, resized_vector}
-use Rattle.grb_core.specs.Entries.{cell_cmp, MatrixEntries, VectorEntries, cells_of, nvals_of, without_entry, built_from}
-use Rattle.grb_core.specs.Mask.{is_inside}
-use Rattle.grb_core.specs.Written.{written}
-use Rattle.grb_core.specs.Results.{ewise_add, ewise_mult, mxv_of, mxm_of, reduce_rows_of}
+use Rattle.grb_core.specs.Contents.{Matrix, Vector}
+use Rattle.grb_core.specs.Entries.{MatrixEntries, VectorEntries, nvals_of}
 use Rattle.grb_call.specs.declared.call.Call.{Call}
 use Rattle.grb_call.specs.declared.call.Call.TheVariants as call
-use Rattle.grb_call.specs.declared.descriptor.Descriptor.{Descriptor}
-use Rattle.grb_call.specs.declared.ids.MatrixId.{MatrixId}
-use Rattle.grb_call.specs.declared.ids.VectorId.{VectorId}
 use Rattle.grb_call.specs.declared.ids.Object.{Object}
 use Rattle.grb_call.specs.declared.ids.Object.TheVariants as object
-use Rattle.grb_call.specs.Operands.{operands, masks}
-use Rattle.grb_call.specs.Output.{output_of}
+use Rattle.grb_call.specs.Output.{ObjectEntries, output_of, matrix_made, vector_made}
 use Rattle.grb_call.specs.Refused.{refused_by_shapes}
 use Rattle.grb_call.specs.Shapes.{ObjectShapes}
 use Rattle.grb_call.specs.Store.{Store, matrix_at, vector_at}
@@ -37,10 +26,6 @@ Contents = Object → Option Content
 abbrev pub content_at : Store → Contents
 content_at s (object.Matrix a) = option_map MatrixContent (matrix_at s a)
 content_at s (object.Vector v) = option_map VectorContent (vector_at s v)
-
--- the objects that a call reads: its inputs, its mask, and what its output held
-abbrev pub objects_read : Call → List Object
-objects_read c = operands c ++ masks c
 
 -- the object that the call changes or makes, where it is not refused; none for a call that only reads
 abbrev pub target_of : ObjectShapes → Call → Option Object
@@ -63,64 +48,29 @@ abbrev pub held_by_vector : Option Content → VectorEntries
 held_by_vector (Some (VectorContent x)) = x.entries
 held_by_vector _ = []
 
-abbrev pub matrix_in : Contents → MatrixId → MatrixEntries
-matrix_in r a = held_by_matrix (r (object.Matrix a))
+-- the entries of all objects
+abbrev pub entries_held : Contents → ObjectEntries
+entries_held r = record { matrix = λ a. held_by_matrix (r (object.Matrix a)); vector = λ v. held_by_vector (r (object.Vector v)) }
 
-abbrev pub vector_in : Contents → VectorId → VectorEntries
-vector_in r v = held_by_vector (r (object.Vector v))
+-- whether a call may fill what it finds: a build no entry, and all places of its list within the object; any other call what there is
+abbrev pub can_fill_matrix : Call → Matrix → Bool
+can_fill_matrix (call.BuildMatrix a tuples dup) m = (nvals_of m.entries == 0) && list_all (λ e. nat_lt e.0 m.nrows && nat_lt e.1 m.ncols) tuples
+can_fill_matrix _ m = true
 
--- what a build finds: no entry, and all places of its list within the object
-abbrev pub can_build_matrix : List (ℕ × ℕ × Value) → Matrix → Bool
-can_build_matrix tuples m = (nvals_of m.entries == 0) && list_all (λ e. nat_lt e.0 m.nrows && nat_lt e.1 m.ncols) tuples
+abbrev pub can_fill_vector : Call → Vector → Bool
+can_fill_vector (call.BuildVector v tuples dup) x = (nvals_of x.entries == 0) && list_all (λ e. nat_lt e.0 x.size) tuples
+can_fill_vector _ x = true
 
-abbrev pub can_build_vector : List (ℕ × Value) → Vector → Bool
-can_build_vector tuples x = (nvals_of x.entries == 0) && list_all (λ e. nat_lt e.0 x.size) tuples
+-- what a call which shapes do not refuse leaves of its output, where it does not end it
+abbrev pub filled_matrix : Contents → Call → Matrix → Matrix
+filled_matrix r c m = if can_fill_matrix c m then matrix_made (entries_held r) c m else m
 
--- the matrix with the result of an operation written into it, by mask, accumulator and descriptor
-abbrev pub written_in_matrix : Contents → Option MatrixId → Option BinaryOp → Descriptor → MatrixEntries → Matrix → Matrix
-written_in_matrix r mask accum d computed m =
-    edited_matrix (λ old. written cell_cmp (is_inside cell_cmp d.structure d.comp (option_map (matrix_in r) mask)) d.replace accum old computed) m
-
--- the same of a vector
-abbrev pub written_in_vector : Contents → Option VectorId → Option BinaryOp → Descriptor → VectorEntries → Vector → Vector
-written_in_vector r mask accum d computed x =
-    edited_vector (λ old. written nat_cmp (is_inside nat_cmp d.structure d.comp (option_map (vector_in r) mask)) d.replace accum old computed) x
-
--- the matrix that a call which shapes do not refuse leaves of its output, where it does not end it
-abbrev pub matrix_made : Contents → Call → Matrix → Matrix
-matrix_made r (call.SetMatrix a i j value) m = edited_matrix (put cell_cmp (i, j) value) m
-matrix_made r (call.RemoveMatrix a i j) m = edited_matrix (without_entry cell_cmp (i, j)) m
-matrix_made r (call.ClearMatrix a) m = edited_matrix (λ _. []) m
-matrix_made r (call.ResizeMatrix a nrows ncols) m = resized_matrix nrows ncols m
-matrix_made r (call.BuildMatrix a tuples dup) m = if can_build_matrix tuples m then edited_matrix (λ _. built_from cell_cmp dup (cells_of tuples)) m else m
-matrix_made r (call.EwiseAddMatrix c mask accum op a b d) m =
-    written_in_matrix r mask accum d (ewise_add cell_cmp op (matrix_in r a) (matrix_in r b)) m
-matrix_made r (call.EwiseMultMatrix c mask accum op a b d) m =
-    written_in_matrix r mask accum d (ewise_mult cell_cmp op (matrix_in r a) (matrix_in r b)) m
-matrix_made r (call.Mxm c mask accum semiring a b d) m =
-    written_in_matrix r mask accum d (mxm_of semiring (matrix_in r a) (matrix_in r b)) m
-matrix_made r _ m = m
-
--- the same of a vector
-abbrev pub vector_made : Contents → Call → Vector → Vector
-vector_made r (call.SetVector v i value) x = edited_vector (put nat_cmp i value) x
-vector_made r (call.RemoveVector v i) x = edited_vector (without_entry nat_cmp i) x
-vector_made r (call.ClearVector v) x = edited_vector (λ _. []) x
-vector_made r (call.ResizeVector v size) x = resized_vector size x
-vector_made r (call.BuildVector v tuples dup) x = if can_build_vector tuples x then edited_vector (λ _. built_from nat_cmp dup tuples) x else x
-vector_made r (call.EwiseAddVector w mask accum op u v d) x =
-    written_in_vector r mask accum d (ewise_add nat_cmp op (vector_in r u) (vector_in r v)) x
-vector_made r (call.EwiseMultVector w mask accum op u v d) x =
-    written_in_vector r mask accum d (ewise_mult nat_cmp op (vector_in r u) (vector_in r v)) x
-vector_made r (call.Mxv w mask accum semiring a u d) x =
-    written_in_vector r mask accum d (mxv_of semiring (matrix_in r a) (vector_in r u)) x
-vector_made r (call.ReduceRows w mask accum monoid a d) x =
-    written_in_vector r mask accum d (reduce_rows_of monoid (matrix_in r a)) x
-vector_made r _ x = x
+abbrev pub filled_vector : Contents → Call → Vector → Vector
+filled_vector r c x = if can_fill_vector c x then vector_made (entries_held r) c x else x
 
 abbrev pub content_made : Contents → Call → Content → Content
-content_made r c (MatrixContent m) = MatrixContent (matrix_made r c m)
-content_made r c (VectorContent x) = VectorContent (vector_made r c x)
+content_made r c (MatrixContent m) = MatrixContent (filled_matrix r c m)
+content_made r c (VectorContent x) = VectorContent (filled_vector r c x)
 
 -- what a call leaves of its output, where it has one
 abbrev pub output_made : Contents → Call → Option Object → Option Content

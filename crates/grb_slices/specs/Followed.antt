@@ -2,29 +2,23 @@
 -- a slice in place of all calls leaves.
 use Rattle.std.specs.Prelude.{◌≡◌, ◌<◌, ◌≤◌, List, [], ◌∷◌, length, Bool, true, false, Option, Some, None}
 use Rattle.std.specs.Option.{option_map_or}
-use Rattle.grb_core.specs.declared.domain.Domain.TheVariants as domain
 use Rattle.grb_call.specs.declared.call.Call.{Call}
-use Rattle.grb_call.specs.declared.call.Call.TheVariants as call
 use Rattle.grb_call.specs.declared.ids.Object.{Object}
 use Rattle.grb_call.specs.declared.ids.Object.TheVariants as object
 use Rattle.grb_call.specs.Output.{output_of}
 use Rattle.grb_call.specs.Shapes.{ObjectShapes}
 use Rattle.grb_call.specs.Refused.{shapes_after}
-use Rattle.grb_call.specs.Store.{Store, shapes_of}
+use Rattle.grb_call.specs.Store.{Store, shapes_of, with_place}
 use Rattle.grb_call.specs.After.{after}
-use Rattle.grb_slices.specs.Content.{content_at, effective_target}
-use Rattle.grb_slices.specs.Slice.{Wants, choices, entries, sliced}
+use Rattle.grb_call.specs.History.{after_all}
+use Rattle.grb_slices.specs.Content.{Contents, content_at, effective_target}
+use Rattle.grb_slices.specs.Slice.{Task, Wants, choices, entries, evaluated, sliced}
 use Rattle.grb_slices.specs.Steps.{AgreeOn}
 
 pub record Follows (w : Wants) (whole part : Store) : Type 0 where
   pub matrices : length part.matrices ≡ length whole.matrices
   pub vectors : length part.vectors ≡ length whole.vectors
   pub agree : AgreeOn w (content_at whole) (content_at part)
-
--- a call that makes a small object without entries, for the place of one that is not wanted
-abbrev pub place_for : Object → Call
-place_for (object.Matrix a) = call.NewMatrix domain.Bool 1 1
-place_for (object.Vector v) = call.NewVector domain.Bool 1
 
 -- a store has a place for the object, whether or not it was freed
 abbrev pub HasPlaceIn : Store → Object → Type 0
@@ -40,7 +34,7 @@ LacksPlaceIn s (object.Vector v) = length s.vectors ≤ v.0
 abbrev pub part_after : Bool → Option Object → Call → Store → Store
 part_after true t c s = after s c
 part_after false None c s = s
-part_after false (Some o) c s = option_map_or (λ _. s) (output_of c) (after s (place_for o))
+part_after false (Some o) c s = option_map_or (λ _. s) (output_of c) (with_place s o)
 
 -- the targets of the calls, each at its place, by one walk over shapes
 abbrev pub targets_of : ObjectShapes → List Call → List (Option Object)
@@ -53,3 +47,13 @@ pub record GoesOn (w : Wants) (whole : Store) (calls : List Call) (targets : Lis
   pub targets_are : targets ≡ targets_of (shapes_of whole) calls
   pub chosen_are : chosen ≡ choices w (entries targets calls)
   pub follows : Follows (sliced w (entries targets calls)).wanted whole part
+
+-- each object holds what the tasks, and nothing else, make of what the objects held before
+abbrev pub HoldsTasks : Contents → List Task → Store → Type 0
+HoldsTasks before tasks part = (o : Object) → content_at part o ≡ evaluated before tasks o
+
+-- these calls with these targets, which come on the whole store, were gone over on a part: it holds what is wanted behind them, and it was
+-- changed by the calls of their slice alone
+pub record HasGoneOver (w : Wants) (whole : Store) (calls : List Call) (targets : List (Option Object)) (old new : Store) : Type 0 where
+  pub follows : Follows w (after_all whole calls) new
+  pub tasks : HoldsTasks (content_at old) (sliced w (entries targets calls)).tasks new

@@ -2,11 +2,12 @@
 use Rattle.std.specs.Prelude.{◌≡◌, ◌≢◌, List, ◌++◌, Some, None}
 use Rattle.grb_call.specs.declared.call.Call.{Call}
 use Rattle.grb_call.specs.declared.ids.Object.{Object}
+use Rattle.grb_call.specs.Operands.{objects_read}
 use Rattle.grb_call.specs.Refused.{refused_by_shapes}
 use Rattle.grb_call.specs.Store.{Store, shapes_of}
 use Rattle.grb_call.specs.After.{after}
 use Rattle.grb_call.specs.History.{after_all}
-use Rattle.grb_slices.specs.Content.{Contents, content_at, objects_read, target_of, effective_target, outcome}
+use Rattle.grb_slices.specs.Content.{Contents, content_at, target_of, effective_target, outcome}
 use Rattle.grb_call.specs.Status.{is_same_object}
 use Rattle.grb_slices.specs.Slice.{Step, Wants, is_among, sliced, evaluated}
 use Rattle.grb_slices.specs.Steps.{steps_of, AreSteps, AgreeOn}

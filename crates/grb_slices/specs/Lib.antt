@@ -1,7 +1,7 @@
 pub mod Content
 pub mod Followed
-pub mod Found
 pub mod Laws
 pub mod Slice
+pub mod SliceFor
 pub mod Steps
 pub mod Wanted

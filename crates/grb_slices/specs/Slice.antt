@@ -6,8 +6,9 @@ use Rattle.std.specs.List.{list_any}
 use Rattle.std.specs.Option.{option_map_or}
 use Rattle.grb_call.specs.declared.call.Call.{Call}
 use Rattle.grb_call.specs.declared.ids.Object.{Object}
+use Rattle.grb_call.specs.Operands.{objects_read}
 use Rattle.grb_call.specs.Status.{is_same_object}
-use Rattle.grb_slices.specs.Content.{Content, Contents, objects_read, outcome}
+use Rattle.grb_slices.specs.Content.{Content, Contents, outcome}
 
 -- an entry of a list, with its target at its place if it has one; or, between two entries, what an object is known to hold there
 pub data Step : Type 0 where

@@ -1,11 +1,11 @@
 -- believed: What a contract sees of the objects that are wanted: for each sort a mark by number, and none of a number of which
 -- there is no place (own).
-use Rattle.std.specs.Prelude.{ℕ, ◌≡◌, ◌<◌, ◌≤◌, Bool, true, false, if◌then◌else◌, List, [], ◌∷◌, length, Option, Some, None, slice_get}
+use Rattle.std.specs.Prelude.{ℕ, ◌≡◌, ◌<◌, ◌≤◌, Bool, true, false, if◌then◌else◌, List, length, Option, Some, None, slice_get}
+use Rattle.std.specs.List.{AllByRecursion}
 use Rattle.std.specs.Option.{option_map_or}
 use Rattle.grb_call.specs.declared.call.Call.{Call}
 use Rattle.grb_call.specs.declared.ids.Object.{Object}
 use Rattle.grb_call.specs.declared.ids.Object.TheVariants as object
-use Rattle.grb_slices.specs.declared.reads.Reads.{Reads}
 use Rattle.grb_slices.specs.Slice.{Wants, Make, wants_before}
 
 pub record Marks : Type 0 where
@@ -32,32 +32,19 @@ pub record LacksOne (here there : Marks) : Type 0 where
   pub wanted : is_wanted here object ≡ true
   pub lacks : is_wanted there object ≡ false
 
--- there is a place for the mark of the object, where it is one
-abbrev pub HasPlace : Marks → Option Object → Type 0
-HasPlace m None = Unit {0}
-HasPlace m (Some (object.Matrix a)) = a.0 < length m.matrices
-HasPlace m (Some (object.Vector v)) = v.0 < length m.vectors
+-- there is a place for the mark of the object
+abbrev pub HasPlace : Marks → Object → Type 0
+HasPlace m (object.Matrix a) = a.0 < length m.matrices
+HasPlace m (object.Vector v) = v.0 < length m.vectors
+
+-- there is a place for the mark of each
+abbrev pub HavePlaces : Marks → List Object → Type 0
+HavePlaces m os = AllByRecursion (HasPlace m) os
 
 -- no place was lost
 pub record KeepsPlaces (old new : Marks) : Type 0 where
   pub matrices : length old.matrices ≤ length new.matrices
   pub vectors : length old.vectors ≤ length new.vectors
-
--- the object, where there is one, before these
-abbrev pub with_object : Option Object → List Object → List Object
-with_object None os = os
-with_object (Some o) os = o ∷ os
-
--- the objects that are read, in the order in which a call reads them
-abbrev pub objects_of : Reads → List Object
-objects_of reads = with_object reads.output (with_object reads.first (with_object reads.second (with_object reads.mask [])))
-
--- there is a place for the mark of each
-pub record HavePlaces (m : Marks) (reads : Reads) : Type 0 where
-  pub output : HasPlace m reads.output
-  pub first : HasPlace m reads.first
-  pub second : HasPlace m reads.second
-  pub mask : HasPlace m reads.mask
 
 -- whether an entry with this target belongs to a slice for what is wanted after it
 abbrev pub is_chosen : Wants → Option Object → Bool

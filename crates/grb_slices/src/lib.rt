@@ -5,13 +5,12 @@
 
 mod calls;
 mod laws;
-mod reads;
 mod slice;
 mod target;
 mod wanted;
 
 pub use calls::CallList;
 pub use laws::{a_call_changes_its_target, a_slice_is_enough, entries_stay_evaluated};
-pub use slice::{Slice, slice_for, slice_of};
-pub use target::{place_for, target_at, target_of};
+pub use slice::{Slice, slice_for};
+pub use target::{target_at, target_of};
 pub use wanted::Wanted;

@@ -1,8 +1,7 @@
 ghost use Rattle.std.specs.Prelude.{◌≡◌, ◌+◌, ◌<◌, ◌≤◌, ◌^◌, ℕ, Some, if◌then◌else◌, drop, length, slice_get, IfOk, OnOk};
 ghost use Rattle.grb_call.specs.declared.call.Call.{Call};
 ghost use Rattle.grb_call.specs.declared.ids.Object.{Object};
-ghost use Rattle.grb_call.specs.Status.{is_same_object};
-ghost use Rattle.grb_slices.specs.Found.{IsSliceFor};
+ghost use Rattle.grb_slices.specs.SliceFor.{IsSliceFor};
 ghost use Rattle.grb_slices.specs.Wanted.{is_chosen, is_wanted, wants_behind};
 
 use crate::calls::CallList;
@@ -85,23 +84,4 @@ pub fn slice_for<S, C: CallList<S>>(
         count,
         wanted,
     })
-}
-
-/// The calls of a list that an object depends on. `AllocError` where memory is refused.
-///
-/// Source: Weiser, "Program slicing", 1981; over calls own.
-pub fn slice_of<S, C: CallList<S>>(
-    alloc: Global,
-    calls: &mut C,
-    source: &S,
-    object: Object,
-) -> Result<Slice, AllocError>
-    requires held { C.is_in source.now calls.old }
-    requires targets { length (C.target_list calls.old) ≡ length (C.calls source.now calls.old) }
-    ensures same { calls.new ≡ calls.old }
-    ensures slice { IfOk result (λ slice. IsSliceFor slice (is_same_object object) (C.target_list calls.old) (C.calls source.now calls.old)) }
-{
-    let mut wanted = Wanted::new(alloc);
-    wanted.want(object)?;
-    slice_for(alloc, calls, source, 0, wanted)
 }

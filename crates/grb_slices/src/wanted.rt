@@ -1,11 +1,10 @@
-ghost use Rattle.std.specs.Prelude.{true, [], Some, ◌≡◌, ◌<◌, ◌≤◌, ◌||◌, ◌==◌, ℕ, false, if◌then◌else◌, length, replicate, IfOk, OnOk, OnErr};
+ghost use Rattle.std.specs.Prelude.{true, Some, slice_get, ◌≡◌, ◌<◌, ◌≤◌, ◌||◌, ◌==◌, ℕ, false, if◌then◌else◌, length, replicate, IfOk, OnOk, OnErr};
 ghost use Rattle.grb_call.specs.Status.{is_same_object};
 ghost use Rattle.grb_call.specs.declared.ids.Object.{Object};
 ghost use Rattle.grb_slices.specs.Slice.{is_among};
-ghost use Rattle.grb_slices.specs.Wanted.{HasPlace, HavePlaces, KeepsPlaces, LacksMark, LacksOne, is_chosen, is_wanted, marked, objects_of, wants_behind, with_object};
+ghost use Rattle.grb_slices.specs.Wanted.{HasPlace, HavePlaces, KeepsPlaces, LacksMark, LacksOne, is_chosen, is_wanted, marked, wants_behind};
 
-use crate::reads::{Reads, reads_of};
-use grb_call::{Call, Object};
+use grb_call::{Call, Object, objects_read};
 use std::alloc::{AllocError, Global};
 use std::marker::Model;
 
@@ -66,6 +65,14 @@ fn are_within(marks: &[bool], others: &[bool]) -> bool
     true
 }
 
+/// The object at this place of the list.
+fn object_at(objects: &[Object], at: usize) -> Object
+    requires { at < length objects.now }
+    ensures { slice_get objects.now at ≡ Some result }
+{
+    objects[at]
+}
+
 impl Wanted {
     /// No object is wanted. Takes no memory.
     pub fn new(alloc: Global) -> Wanted
@@ -117,22 +124,21 @@ impl Wanted {
         are_within(&self.matrices, &other.matrices) && are_within(&self.vectors, &other.vectors)
     }
 
-    /// Makes a place for the mark of the object, if there is one and it has none. `AllocError` where memory is refused.
-    fn make_place(&mut self, object: Option<Object>) -> Result<(), AllocError>
+    /// Makes a place for the mark of the object, if it has none. `AllocError` where memory is refused.
+    fn make_place(&mut self, object: Object) -> Result<(), AllocError>
         ensures same { (o : Object) → is_wanted self.new o ≡ is_wanted self.old o }
         ensures place { OnOk result (HasPlace self.new object) }
         ensures kept { KeepsPlaces self.old self.new }
     {
         match object {
-            Some(Object::Matrix(a)) => make_place_at(&mut self.matrices, a.0),
-            Some(Object::Vector(v)) => make_place_at(&mut self.vectors, v.0),
-            None => Ok(()),
+            Object::Matrix(a) => make_place_at(&mut self.matrices, a.0),
+            Object::Vector(v) => make_place_at(&mut self.vectors, v.0),
         }
     }
 
     /// The object is wanted or not from now on. It has a place.
     fn put(&mut self, object: Object, mark: bool)
-        requires { HasPlace self.old (Some object) }
+        requires { HasPlace self.old object }
         ensures marks { (o : Object) → is_wanted self.new o ≡ (if is_same_object object o then mark else is_wanted self.old o) }
         ensures kept { KeepsPlaces self.old self.new }
     {
@@ -142,23 +148,12 @@ impl Wanted {
         }
     }
 
-    /// The object is wanted from now on, if there is one. It has a place.
-    fn mark(&mut self, object: Option<Object>)
-        requires { HasPlace self.old object }
-        ensures marks { (o : Object) → is_wanted self.new o ≡ (is_among (with_object object []) o || is_wanted self.old o) }
-        ensures kept { KeepsPlaces self.old self.new }
-    {
-        if let Some(object) = object {
-            self.put(object, true);
-        }
-    }
-
     /// The object is wanted too. `AllocError` where memory is refused; then nothing more is wanted.
     pub fn want(&mut self, object: Object) -> Result<(), AllocError>
         ensures ok { OnOk result ((o : Object) → is_wanted self.new o ≡ (is_same_object object o || is_wanted self.old o)) }
         ensures err { OnErr result ((o : Object) → is_wanted self.new o ≡ is_wanted self.old o) }
     {
-        self.make_place(Some(object))?;
+        self.make_place(object)?;
         self.put(object, true);
         Ok(())
     }
@@ -172,28 +167,30 @@ impl Wanted {
         }
     }
 
-    /// Makes a place for each object that is read. `AllocError` where memory is refused.
-    fn make_places(&mut self, reads: &Reads) -> Result<(), AllocError>
+    /// Makes a place for the mark of each object. `AllocError` where memory is refused.
+    fn make_places(&mut self, objects: &[Object]) -> Result<(), AllocError>
         ensures same { (o : Object) → is_wanted self.new o ≡ is_wanted self.old o }
-        ensures places { OnOk result (HavePlaces self.new reads.now) }
+        ensures places { OnOk result (HavePlaces self.new objects.now) }
         ensures kept { KeepsPlaces self.old self.new }
     {
-        self.make_place(reads.output)?;
-        self.make_place(reads.first)?;
-        self.make_place(reads.second)?;
-        self.make_place(reads.mask)?;
+        let mut at = objects.len();
+        'places: while at > 0 {
+            at -= 1;
+            self.make_place(object_at(objects, at))?;
+        }
         Ok(())
     }
 
-    /// What is read is wanted from now on. Each object has a place.
-    fn mark_all(&mut self, reads: &Reads)
-        requires { HavePlaces self.old reads.now }
-        ensures { (o : Object) → is_wanted self.new o ≡ (is_among (objects_of reads.now) o || is_wanted self.old o) }
+    /// The objects are wanted from now on. Each has a place.
+    fn mark_all(&mut self, objects: &[Object])
+        requires { HavePlaces self.old objects.now }
+        ensures { (o : Object) → is_wanted self.new o ≡ (is_among objects.now o || is_wanted self.old o) }
     {
-        self.mark(reads.mask);
-        self.mark(reads.second);
-        self.mark(reads.first);
-        self.mark(reads.output);
+        let mut at = objects.len();
+        'marks: while at > 0 {
+            at -= 1;
+            self.put(object_at(objects, at), true);
+        }
     }
 
     /// Goes back over a call that has this target at its place, none where it is refused there: whether the target is wanted, so that the
@@ -212,11 +209,11 @@ impl Wanted {
         if !self.contains(object) {
             return Ok(false);
         }
-        let reads = reads_of(call);
-        self.make_places(&reads)?;
-        self.make_place(target)?;
+        let objects = objects_read(*self.matrices.allocator(), call);
+        self.make_places(objects.as_slice())?;
+        self.make_place(object)?;
         self.put(object, false);
-        self.mark_all(&reads);
+        self.mark_all(objects.as_slice());
         Ok(true)
     }
 }

@@ -1,4 +1,4 @@
-pub mod Keeping
 pub mod NextTarget
 pub mod Onward
+pub mod Partial
 pub mod Valued

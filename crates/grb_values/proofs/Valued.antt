@@ -1,6 +1,5 @@
--- The object after all calls, and how many of them were made for it.
+-- The object after all calls, and which of them were made for it.
 use Rattle.std.proofs.Common.{◌≡◌, is_some, option_map, refl, if◌then◌else◌, Bool, false, true, List, length, sym, ap, ◌∙◌, Option, Some, None, Result, Ok, Err, ℕ}
-use Rattle.std.specs.Prelude.{OnOk}
 use Rattle.std.specs.Option.{option_map_or}
 use Rattle.grb_core.specs.declared.refusal.Refusal.{Refusal}
 use Rattle.grb_call.specs.declared.reply.Reply.{Reply}
@@ -16,35 +15,20 @@ use Rattle.grb_call.proofs.ShapesAfter.{object_at-map}
 use Rattle.grb_call.specs.History.{after_all}
 use Rattle.grb_slices.specs.Content.{MatrixContent, VectorContent, content_at}
 use Rattle.grb_slices.specs.declared.slice.Slice.{Slice}
-use Rattle.grb_slices.specs.Found.{IsSliceFor}
-use Rattle.grb_slices.specs.Slice.{Step, Wants, choices, entries, sliced}
+use Rattle.grb_slices.specs.SliceFor.{IsSliceFor}
+use Rattle.grb_slices.specs.Slice.{Step, Wants, entries, sliced}
 use Rattle.grb_slices.specs.Wanted.{is_wanted}
-use Rattle.grb_values.specs.Held.{tasks_of}
-use Rattle.grb_slices.specs.Steps.{steps_of}
-use Rattle.grb_slices.specs.Followed.{Follows, GoesOn, targets_of}
+use Rattle.grb_values.specs.Held.{tasks_for, tasks_of}
+use Rattle.grb_slices.specs.Followed.{Follows, GoesOn, HasGoneOver, targets_of}
 use Rattle.grb_slices.proofs.Going.{entries_are}
 use Rattle.grb_slices.proofs.Answered.{same_answer}
-use Rattle.grb_slices.proofs.Followed.{same_wants}
-use Rattle.grb_slices.proofs.Wants.{is_same_object-self}
 
-pub valued : (o : Object) (whole part made : Store) (cs : List Call) (ts : List (Option Object)) (bs : List Bool) (w : Wants) →
-    ts ≡ targets_of (shapes_of whole) cs → bs ≡ choices (is_same_object o) (entries ts cs) → ((p : Object) → w p ≡ (sliced (is_same_object o) (entries ts cs)).wanted p) → Follows w whole part →
-    ((u : Wants) (s : Store) → GoesOn u s cs ts bs part → Follows u (after_all s cs) made) →
-    content_at (after_all whole cs) o ≡ content_at made o
-valued o whole part made cs ts bs w targets chosen same follows goes =
-    let end : Follows (is_same_object o) (after_all whole cs) made =
-    goes (is_same_object o) whole (record { targets_are = targets; chosen_are = chosen; follows = same_wants w (sliced (is_same_object o) (entries ts cs)).wanted whole part same follows }) in
-    end.agree o (is_same_object-self o)
-
-pub counted : (o : Object) (s : Store) (cs : List Call) (ts : List (Option Object)) (n : ℕ) → ts ≡ targets_of (shapes_of s) cs →
-    n ≡ length (sliced (is_same_object o) (entries ts cs)).tasks → n ≡ length (sliced (is_same_object o) (steps_of (shapes_of s) cs)).tasks
-counted o s cs ts n targets count =
-    count ∙ ap (λ (xs : List Step). length (sliced (is_same_object o) xs).tasks) (ap (λ (us : List (Option Object)). entries us cs) targets ∙ entries_are (shapes_of s) cs)
-
--- what follows from what an answer promises
-pub on_ok : {T E P Q : Type 0} → (P → Q) → (r : Result T E) → OnOk r P → OnOk r Q
-on_ok f (Ok x) p = f p
-on_ok f (Err e) p = p
+-- the tasks of the slice of one object, which is all that is wanted
+pub tasks_are : (o : Object) (s : Store) (cs : List Call) (ts : List (Option Object)) (w : Wants) → ((p : Object) → w p ≡ is_same_object o p) → ts ≡ targets_of (shapes_of s) cs →
+    (sliced w (entries ts cs)).tasks ≡ tasks_for s o cs
+tasks_are o s cs ts w one targets =
+    ap (λ (v : Wants). (sliced v (entries ts cs)).tasks) (λ i p. one p i)
+    ∙ ap (λ (xs : List Step). (sliced (is_same_object o) xs).tasks) (ap (λ (us : List (Option Object)). entries us cs) targets ∙ entries_are (shapes_of s) cs)
 
 -- the answer by the part, where the object holds the same as in the whole
 pub refused-by : (whole part : Store) (c : Call) (o : Object) (r : Refusal) → enters c ≡ false → object_of c ≡ Some o → content_at whole o ≡ content_at part o → refused part c ≡ Some r →
@@ -86,9 +70,9 @@ follows_same w whole part e = record { matrices = ap (λ (s : Store). length s.m
 
 -- what is wanted behind the calls, where the part holds what their slice wants before them
 module _ (v w : Wants) (cs : List Call) (ts : List (Option Object)) (bs : List Bool) (slice : Slice) (found : IsSliceFor slice w ts cs) (whole part made : Store)
-    (targets : ts ≡ targets_of (shapes_of whole) cs) (chosen : bs ≡ slice.chosen.items) (goes : (u : Wants) (s : Store) → GoesOn u s cs ts bs part → Follows u (after_all s cs) made) where
-  pub goes_onward : ((p : Object) → is_wanted slice.wanted p ≡ true → v p ≡ true) → Follows v whole part → Follows w (after_all whole cs) made
-  goes_onward sub follows = goes w whole (record {
+    (targets : ts ≡ targets_of (shapes_of whole) cs) (chosen : bs ≡ slice.chosen.items) (goes : (u : Wants) (s : Store) → GoesOn u s cs ts bs part → HasGoneOver u s cs ts part made) where
+  pub goes_over : ((p : Object) → is_wanted slice.wanted p ≡ true → v p ≡ true) → Follows v whole part → HasGoneOver w whole cs ts part made
+  goes_over sub follows = goes w whole (record {
     targets_are = targets;
     chosen_are = chosen ∙ found.chosen;
     follows = narrowed v (sliced w (entries ts cs)).wanted whole part (λ p is. sub p (found.wanted p ∙ is)) follows;
@@ -98,13 +82,13 @@ module _ (v w : Wants) (cs : List Call) (ts : List (Option Object)) (bs : List B
 pub tasks_none : (s : Store) (o : Object) (cs : List Call) (u : ObjectShapes) → u ≡ shapes_of (after_all s cs) → is_live u o ≡ false → 0 ≡ tasks_of s o cs
 tasks_none s o cs u is gone = by (is_live (shapes_of (after_all s cs)) o) (ap (λ (t : ObjectShapes). is_live t o) (sym is) ∙ gone)
   where
-    by : (b : Bool) → b ≡ false → 0 ≡ (if b then length (sliced (is_same_object o) (steps_of (shapes_of s) cs)).tasks else 0)
+    by : (b : Bool) → b ≡ false → 0 ≡ (if b then length (tasks_for s o cs) else 0)
     by true e = cc
     by false e = refl
 
-pub tasks_all : (s : Store) (o : Object) (cs : List Call) (u : ObjectShapes) (n : ℕ) → u ≡ shapes_of (after_all s cs) → is_live u o ≡ true → n ≡ length (sliced (is_same_object o) (steps_of (shapes_of s) cs)).tasks → n ≡ tasks_of s o cs
+pub tasks_all : (s : Store) (o : Object) (cs : List Call) (u : ObjectShapes) (n : ℕ) → u ≡ shapes_of (after_all s cs) → is_live u o ≡ true → n ≡ length (tasks_for s o cs) → n ≡ tasks_of s o cs
 tasks_all s o cs u n is live count = by (is_live (shapes_of (after_all s cs)) o) (ap (λ (t : ObjectShapes). is_live t o) (sym is) ∙ live)
   where
-    by : (b : Bool) → b ≡ true → n ≡ (if b then length (sliced (is_same_object o) (steps_of (shapes_of s) cs)).tasks else 0)
+    by : (b : Bool) → b ≡ true → n ≡ (if b then length (tasks_for s o cs) else 0)
     by true e = count
     by false e = cc

@@ -1,3 +1,3 @@
 pub mod Held
-pub mod Keeping
+pub mod Partial
 pub mod Targets

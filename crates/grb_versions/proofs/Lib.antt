@@ -1,2 +1,3 @@
 mod Begins
 mod SameCalls
+mod Served

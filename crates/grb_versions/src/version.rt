@@ -1,4 +1,6 @@
 ghost use Rattle.std.specs.Prelude.{◌≡◌, ◌≤◌, IsTrue, IfOk, IfSome, length, map, take};
+ghost use Rattle.grb_replay.specs.Settled.{AreAllAssembled};
+ghost use Rattle.grb_replay.specs.State.{is_assembled};
 ghost use Rattle.grb_versions.specs.Versions.{IsFold, Serves};
 
 use grb_call::Call;
@@ -6,7 +8,7 @@ use grb_replay::State;
 use std::alloc::{AllocError, Global};
 use std::marker::Model;
 
-/// Calls, and the store that they leave.
+/// Calls, and the store that they leave, in which no change waits.
 #[derive(Drop)]
 pub(crate) struct Version {
     calls: Vec<Call>,
@@ -14,13 +16,15 @@ pub(crate) struct Version {
 }
 
 impl Model for Version {
+    ghost use Rattle.grb_replay.specs.Settled.{AreAllAssembled};
+    ghost use Rattle.grb_replay.specs.State.{is_assembled};
     ghost use Rattle.grb_versions.specs.Versions.{VersionView, IsFold};
 
     ghost Value = { VersionView };
 
     ghost view = { λ v. record { calls = v.calls.items; state = v.state } };
 
-    ghost invariant = { λ v. IsFold v.calls.items v.state.store };
+    ghost invariant = { λ v. IsFold v.calls.items v.state.store × AreAllAssembled (is_assembled v.state.matrices v.state.vectors) };
 }
 
 /// Whether the calls are the same. Takes no memory.
@@ -60,7 +64,8 @@ fn copies(alloc: Global, calls: &[&Call]) -> Result<Vec<Call>, AllocError>
 impl Version {
     /// The state of these calls, with copies of them. `AllocError` where memory is refused.
     pub(crate) fn of(alloc: Global, calls: &[&Call], state: State) -> Result<Version, AllocError>
-        requires { IsFold (map (λ c. c.now) calls.now) state.store }
+        requires fold { IsFold (map (λ c. c.now) calls.now) state.store }
+        requires assembled { AreAllAssembled (is_assembled state.matrices state.vectors) }
         ensures { IfOk result (λ version. version.calls ≡ map (λ c. c.now) calls.now) }
     {
         Ok(Version {
@@ -69,16 +74,10 @@ impl Version {
         })
     }
 
-    /// How many calls it has. Takes no memory.
-    pub(crate) fn count(&self) -> usize
-        ensures { result ≡ length self.now.calls }
-    {
-        self.calls.len()
-    }
-
     /// How many calls it has, and their state, where they begin these. Takes no memory.
     pub(crate) fn serving(&self, calls: &[&Call]) -> Option<(usize, &State)>
-        ensures { IfSome result (λ found. Serves (map (λ c. c.now) calls.now) found.0 found.1.now.store) }
+        ensures serves { IfSome result (λ found. Serves (map (λ c. c.now) calls.now) found.0 found.1.now.store) }
+        ensures assembled { IfSome result (λ found. AreAllAssembled (is_assembled found.1.now.matrices found.1.now.vectors)) }
     {
         if begin_with(calls, &self.calls) {
             Some((self.calls.len(), &self.state))

@@ -1,5 +1,7 @@
 ghost use Rattle.std.specs.Prelude.{◌≡◌, ◌+◌, ◌*◌, ◌<◌, ◌≤◌, true, Ok, IfOk, IfSome, length, map, take};
 ghost use Rattle.grb_replay.specs.Evaluated.{IsEvaluated};
+ghost use Rattle.grb_replay.specs.Settled.{AreAllAssembled};
+ghost use Rattle.grb_replay.specs.State.{is_assembled};
 ghost use Rattle.grb_versions.specs.Versions.{IsFold, Serves};
 
 use crate::version::Version;
@@ -61,10 +63,11 @@ impl Versions {
         }
     }
 
-    /// Keeps the state of these calls, unless its cell has one, or there is none, as of no calls and of more than there are places for:
-    /// then it takes no memory. `AllocError` where memory is refused; then nothing is kept.
+    /// Keeps the state of these calls, in which no change waits, unless its cell has one, or there is none, as of no calls and of more than
+    /// there are places for: then it takes no memory. `AllocError` where memory is refused; then nothing is kept.
     pub fn offer(&self, calls: &[&Call], state: State) -> Result<(), AllocError>
-        requires { IsFold (map (λ c. c.now) calls.now) state.store }
+        requires fold { IsFold (map (λ c. c.now) calls.now) state.store }
+        requires assembled { AreAllAssembled (is_assembled state.matrices state.vectors) }
         ensures none { length calls.now ≡ 0 → result ≡ Ok tt }
         ensures beyond { 64 * self.now < length calls.now → result ≡ Ok tt }
     {
@@ -80,12 +83,13 @@ impl Versions {
         Ok(())
     }
 
-    /// The longest version found whose calls begin these: how many calls it has, and the state that they leave. Takes no memory.
-    pub fn newest(&self, calls: &[&Call]) -> Option<(usize, &State)>
-        ensures { IfSome result (λ found. Serves (map (λ c. c.now) calls.now) found.0 found.1.now.store) }
+    /// The longest version found whose calls begin these, of those in the cells from this one on. Takes no memory.
+    fn newest_from(&self, first: usize, calls: &[&Call]) -> Option<(usize, &State)>
+        ensures serves { IfSome result (λ found. Serves (map (λ c. c.now) calls.now) found.0 found.1.now.store) }
+        ensures assembled { IfSome result (λ found. AreAllAssembled (is_assembled found.1.now.matrices found.1.now.vectors)) }
     {
         let mut k = calls.len().div_ceil(LENGTHS).min(self.cells.len());
-        'cells: while k > 0 {
+        'cells: while k > first {
             k -= 1;
             if let Some(version) = self.cells[k].get() {
                 let version: &Version = version;
@@ -97,35 +101,36 @@ impl Versions {
         None
     }
 
-    /// How many calls the longest version has that is kept; 0 where none is. Takes no memory.
-    pub fn longest(&self) -> usize {
-        for cell in self.cells.iter().rev() {
-            if let Some(version) = cell.get() {
-                let version: &Version = version;
-                return version.count();
-            }
-        }
-        0
+    /// The longest version found whose calls begin these: how many calls it has, and the state that they leave, in which no change waits.
+    /// Takes no memory.
+    pub fn newest(&self, calls: &[&Call]) -> Option<(usize, &State)>
+        ensures serves { IfSome result (λ found. Serves (map (λ c. c.now) calls.now) found.0 found.1.now.store) }
+        ensures assembled { IfSome result (λ found. AreAllAssembled (is_assembled found.1.now.matrices found.1.now.vectors)) }
+    {
+        self.newest_from(0, calls)
     }
 
     /// Puts the longest version found whose calls begin these in place of a state that is evaluated less far: of so many of these calls,
     /// in a history that takes `room` calls. It answers how many the state is of then. Where no such version is found, or memory for its
-    /// places is refused, the state stays as it is. No entry is copied.
+    /// places is refused, the state stays as it is. No entry is copied. Cells whose versions have no more calls than the state are not
+    /// looked at.
     pub fn advance(&self, calls: &[&Call], state: &mut State, evaluated: usize, room: u32) -> usize
+        requires few { length calls.now ≤ room }
         requires evaluated { IsEvaluated (map (λ c. c.now) calls.now) evaluated state.old.store }
         requires room { room ≤ state.old.room + evaluated }
         ensures evaluated { IsEvaluated (map (λ c. c.now) calls.now) result state.new.store }
         ensures further { evaluated ≤ result }
         ensures room { room ≤ state.new.room + result }
+        ensures stays { result ≡ evaluated → state.new ≡ state.old }
+        ensures assembled { evaluated < result → AreAllAssembled (is_assembled state.new.matrices state.new.vectors) }
     {
-        let Some((count, found)) = self.newest(calls) else {
+        let Some((count, found)) = self.newest_from(evaluated / LENGTHS, calls) else {
             return evaluated;
         };
         if count <= evaluated {
             return evaluated;
         }
-        let behind = (room as usize).saturating_sub(count) as u32;
-        let Ok(copy) = found.try_clone(behind) else {
+        let Ok(copy) = found.try_clone(room - count as u32) else {
             return evaluated;
         };
         *state = copy;

@@ -1,6 +1,8 @@
 //! Calls as the tests of this crate make them, the store that a list of calls leaves, and what it answers.
-ghost use Rattle.std.specs.Prelude.{◌≡◌, ◌≤◌, false, length};
+ghost use Rattle.std.specs.Prelude.{◌≡◌, ◌≤◌, false, length, IfOk};
 ghost use Rattle.grb_call.specs.Kinds.{enters, is_size};
+ghost use Rattle.grb_replay.specs.Settled.{AreAllAssembled};
+ghost use Rattle.grb_replay.specs.State.{is_assembled};
 
 use grb_call::{Call, Descriptor, MatrixId, Reply, VectorId};
 use grb_core::{BinaryOp, Domain, Monoid, Refusal, Semiring, Value};
@@ -167,8 +169,19 @@ pub(crate) fn lent(alloc: Global, calls: &[Call]) -> Result<Vec<&Call>, AllocErr
     calls.iter().collect(alloc)
 }
 
-/// The store that these calls leave, which are few.
-pub(crate) fn replayed(
+/// The store that these calls leave, which are few. No change waits in it.
+pub(crate) fn replayed(rt: &impl Abort, alloc: Global, calls: &[&Call]) -> Result<State, AllocError>
+    ensures { IfOk result (λ state. AreAllAssembled (is_assembled state.matrices state.vectors)) }
+{
+    if calls.len() > 10_000 {
+        panic!(rt; "{calls} calls", calls = calls.len());
+    }
+    let empty = State::empty(alloc);
+    replay(&empty, calls)
+}
+
+/// The store that these calls leave, which are few, each made as it comes: changes wait in it.
+pub(crate) fn applied(
     rt: &impl Abort,
     alloc: Global,
     calls: &[&Call],
@@ -176,8 +189,11 @@ pub(crate) fn replayed(
     if calls.len() > 10_000 {
         panic!(rt; "{calls} calls", calls = calls.len());
     }
-    let empty = State::open(alloc, 0)?;
-    replay(&empty, calls)
+    let mut state = State::empty(alloc).try_clone(calls.len() as u32)?;
+    'calls: for at in 0..calls.len() {
+        state.apply(calls[at])?;
+    }
+    Ok(state)
 }
 
 /// What the store answers to a reading call.

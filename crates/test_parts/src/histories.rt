@@ -1,18 +1,23 @@
-//! Drawn histories: what each object holds by only the calls that it depends on, against the whole store; and each call against its copy.
+//! Drawn histories: what each object holds by only the calls that it depends on, and in a replay, entry by entry and as a text, against the
+//! whole store; and each call against its copy.
 //!
 //! A contract says that both hold the same, by one definition of what a call does, and nothing says that memory suffices for either.
-ghost use Rattle.std.specs.Prelude.{◌≡◌, false, Some};
-ghost use Rattle.grb_call.specs.Kinds.{enters, is_size};
-ghost use Rattle.grb_call.specs.Status.{object_of};
+ghost use Rattle.std.specs.Prelude.{◌≡◌, true};
+ghost use Rattle.grb_replay.specs.Settled.{AreAllAssembled};
+ghost use Rattle.grb_replay.specs.State.{is_assembled};
 
-use crate::calls::{Choice, Operands, Operation, answer, lent, operation_call, replayed, value_of};
+use crate::calls::{
+    Answer, Choice, Operands, Operation, answer, applied, lent, operation_call, replayed, value_of,
+};
 use crate::draw::Draw;
 use crate::same::same;
+use crate::texts_written::text_of;
 use crate::values::held_after;
-use grb_call::{Call, MatrixId, MatrixTuples, Object, VectorId, VectorTuples};
-use grb_core::{Domain, Value};
+use grb_call::{Call, MatrixId, MatrixTuples, Object, Reply, VectorId, VectorTuples};
+use grb_core::{Domain, Refusal, Value};
+use grb_market::WriteFault;
 use grb_replay::State;
-use grb_values::Held;
+use grb_sparse::{SparseMatrix, SparseVector};
 use std::alloc::{AllocError, Global};
 use std::process::Abort;
 
@@ -180,80 +185,226 @@ fn drawn_history(rt: &impl Abort, alloc: Global, draw: &mut Draw) -> Result<Vec<
 
 // ---- against the whole store
 
-fn same_answer(
+/// What is answered to a get in this matrix, as it is in a store.
+fn answer_in_matrix(matrix: Option<&SparseMatrix>, i: u64, j: u64) -> Answer {
+    let Some(matrix) = matrix else {
+        return Err(Refusal::UninitializedObject);
+    };
+    let (nrows, ncols) = matrix.dims();
+    if i >= nrows || j >= ncols {
+        return Err(Refusal::InvalidIndex);
+    }
+    Ok(get_reply(matrix.get(i, j)))
+}
+
+/// What is answered to a get in this vector, as it is in a store.
+fn answer_in_vector(vector: Option<&SparseVector>, i: u64) -> Answer {
+    let Some(vector) = vector else {
+        return Err(Refusal::UninitializedObject);
+    };
+    if i >= vector.dims() {
+        return Err(Refusal::InvalidIndex);
+    }
+    Ok(get_reply(vector.get(i)))
+}
+
+fn get_reply(value: Option<Value>) -> Reply {
+    match value {
+        Some(value) => Reply::Value(value),
+        None => Reply::NoValue,
+    }
+}
+
+/// What is answered to how many entries an object stores, as it is in a store.
+fn answer_of_count(nvals: Option<u64>) -> Answer {
+    match nvals {
+        Some(nvals) => Ok(Reply::Count(nvals)),
+        None => Err(Refusal::UninitializedObject),
+    }
+}
+
+/// The matrix, which has at most five rows and columns, is as the store answers. What it stores there, row by row.
+fn same_matrix(
     rt: &impl Abort,
-    held: &mut Held,
-    whole: &mut State,
-    call: &Call,
+    alloc: Global,
+    matrix: Option<&SparseMatrix>,
+    store: &mut State,
+    a: MatrixId,
+) -> Result<Vec<((u64, u64), Value)>, AllocError> {
+    let mut entries = Vec::new(alloc);
+    for place in 0..25 {
+        let (i, j) = (place / 5, place % 5);
+        let call = Call::GetMatrix { a, i, j };
+        let wanted = answer(store, &call)?;
+        same(rt, answer_in_matrix(matrix, i, j), wanted, &call);
+        if let Ok(Reply::Value(value)) = wanted {
+            entries.push(((i, j), value))?;
+        }
+    }
+    let call = Call::NvalsMatrix { a };
+    let nvals = answer_of_count(matrix.map(|matrix| matrix.nvals()));
+    same(rt, nvals, answer(store, &call)?, &call);
+    Ok(entries)
+}
+
+/// The vector, which has at most size five, is as the store answers. What it stores there, in the order of the indices.
+fn same_vector(
+    rt: &impl Abort,
+    alloc: Global,
+    vector: Option<&SparseVector>,
+    store: &mut State,
+    v: VectorId,
+) -> Result<Vec<(u64, Value)>, AllocError> {
+    let mut entries = Vec::new(alloc);
+    for i in 0..5 {
+        let call = Call::GetVector { v, i };
+        let wanted = answer(store, &call)?;
+        same(rt, answer_in_vector(vector, i), wanted, &call);
+        if let Ok(Reply::Value(value)) = wanted {
+            entries.push((i, value))?;
+        }
+    }
+    let call = Call::NvalsVector { v };
+    let nvals = answer_of_count(vector.map(|vector| vector.nvals()));
+    same(rt, nvals, answer(store, &call)?, &call);
+    Ok(entries)
+}
+
+/// The text of a matrix by hand: none where a false is stored.
+fn wanted_text(
+    alloc: Global,
+    domain: Domain,
+    (nrows, ncols): (u64, u64),
+    entries: &[((u64, u64), Value)],
+) -> Result<Option<String>, AllocError> {
+    let field = match domain {
+        Domain::Bool => "pattern",
+        Domain::Uint64 => "integer",
+    };
+    let nvals = entries.len();
+    let mut text = format!(in alloc;
+        "%%MatrixMarket matrix coordinate {field} general\n{nrows} {ncols} {nvals}\n"
+    )?;
+    for ((i, j), value) in entries {
+        let (row, column) = (i.wrapping_add(1), j.wrapping_add(1));
+        match value {
+            Value::Bool(false) => return Ok(None),
+            Value::Bool(true) => write!(text, "{row} {column}\n")?,
+            Value::Uint64(n) => write!(text, "{row} {column} {n}\n")?,
+        }
+    }
+    Ok(Some(text))
+}
+
+/// The matrix is passed over entry by entry, and written as a text, as these entries say.
+fn expect_matrix(
+    rt: &impl Abort,
+    alloc: Global,
+    matrix: &SparseMatrix,
+    entries: &[((u64, u64), Value)],
+    a: MatrixId,
 ) -> Result<(), AllocError>
-    requires reads { enters call.now ≡ false }
-    requires no_size { is_size call.now ≡ false }
-    requires about { object_of call.now ≡ Some held.old.object }
-    ensures { held.new.object ≡ held.old.object }
+    requires { matrix.now.assembled ≡ true }
 {
-    let wanted = answer(whole, call)?;
-    same(rt, held.answer(call)?, wanted, call);
+    let seen: Vec<((u64, u64), Value)> = matrix.entries().collect(alloc)?;
+    same(rt, seen.as_slice(), entries, a);
+    let found = text_of(alloc, matrix);
+    match wanted_text(alloc, matrix.domain(), matrix.dims(), entries)? {
+        Some(text) => same(rt, found.as_deref(), Ok(text.as_bytes()), a),
+        None => same(rt, found.err(), Some(WriteFault::NotPattern), a),
+    }
     Ok(())
 }
 
-/// A get of the object; of a vector at `i`.
-fn get_call(object: Object, i: u64, j: u64) -> Call
-    ensures reads { enters result ≡ false }
-    ensures no_size { is_size result ≡ false }
-    ensures about { object_of result ≡ Some object }
-{
-    match object {
-        Object::Matrix(a) => Call::GetMatrix { a, i, j },
-        Object::Vector(v) => Call::GetVector { v, i },
-    }
-}
-
-/// A question for how many entries the object stores.
-fn nvals_call(object: Object) -> Call
-    ensures reads { enters result ≡ false }
-    ensures no_size { is_size result ≡ false }
-    ensures about { object_of result ≡ Some object }
-{
-    match object {
-        Object::Matrix(a) => Call::NvalsMatrix { a },
-        Object::Vector(v) => Call::NvalsVector { v },
-    }
-}
-
-/// The object, which has at most five rows and columns, is held as the whole store has it.
-fn same_answers(
+/// The vector is passed over entry by entry as these entries say.
+fn expect_vector(
     rt: &impl Abort,
-    held: &mut Held,
-    whole: &mut State,
-    object: Object,
+    alloc: Global,
+    vector: &SparseVector,
+    entries: &[(u64, Value)],
+    v: VectorId,
 ) -> Result<(), AllocError>
-    requires { held.old.object ≡ object }
+    requires { vector.now.assembled ≡ true }
 {
-    'places: for place in 0..25 {
-        same_answer(rt, held, whole, &get_call(object, place / 5, place % 5))?;
-    }
-    same_answer(rt, held, whole, &nvals_call(object))
+    let seen: Vec<(u64, Value)> = vector.entries().collect(alloc)?;
+    same(rt, seen.as_slice(), entries, v);
+    Ok(())
 }
 
-fn same_object(
+fn same_held_matrix(
     rt: &impl Abort,
     alloc: Global,
     calls: &[&Call],
-    whole: &mut State,
-    object: Object,
+    store: &mut State,
+    a: MatrixId,
 ) -> Result<(), AllocError> {
-    let mut held = held_after(rt, alloc, calls, object)?;
-    same_answers(rt, &mut held, whole, object)
+    let held = held_after(rt, alloc, calls, Object::Matrix(a))?;
+    let entries = same_matrix(rt, alloc, held.matrix(), store, a)?;
+    match held.matrix() {
+        Some(matrix) => expect_matrix(rt, alloc, matrix, &entries, a),
+        None => Ok(()),
+    }
 }
 
-/// Compares each object that the calls make, and of each sort the next, which they do not make.
-fn same_as_whole(rt: &impl Abort, alloc: Global, calls: &[&Call]) -> Result<(), AllocError> {
-    let mut whole = replayed(rt, alloc, calls)?;
-    for v in 0..=whole.vectors() {
-        same_object(rt, alloc, calls, &mut whole, Object::Vector(VectorId(v)))?;
+fn same_held_vector(
+    rt: &impl Abort,
+    alloc: Global,
+    calls: &[&Call],
+    store: &mut State,
+    v: VectorId,
+) -> Result<(), AllocError> {
+    let held = held_after(rt, alloc, calls, Object::Vector(v))?;
+    let entries = same_vector(rt, alloc, held.vector(), store, v)?;
+    match held.vector() {
+        Some(vector) => expect_vector(rt, alloc, vector, &entries, v),
+        None => Ok(()),
     }
-    for a in 0..=whole.matrices() {
-        same_object(rt, alloc, calls, &mut whole, Object::Matrix(MatrixId(a)))?;
+}
+
+fn same_replayed_matrix(
+    rt: &impl Abort,
+    alloc: Global,
+    whole: &State,
+    store: &mut State,
+    a: MatrixId,
+) -> Result<(), AllocError>
+    requires { AreAllAssembled (is_assembled whole.now.matrices whole.now.vectors) }
+{
+    let entries = same_matrix(rt, alloc, whole.matrix(a), store, a)?;
+    match whole.matrix(a) {
+        Some(matrix) => expect_matrix(rt, alloc, matrix, &entries, a),
+        None => Ok(()),
+    }
+}
+
+fn same_replayed_vector(
+    rt: &impl Abort,
+    alloc: Global,
+    whole: &State,
+    store: &mut State,
+    v: VectorId,
+) -> Result<(), AllocError>
+    requires { AreAllAssembled (is_assembled whole.now.matrices whole.now.vectors) }
+{
+    let entries = same_vector(rt, alloc, whole.vector(v), store, v)?;
+    match whole.vector(v) {
+        Some(vector) => expect_vector(rt, alloc, vector, &entries, v),
+        None => Ok(()),
+    }
+}
+
+/// Compares each object that the calls make, and of each sort the next, which they do not make: as it is held by itself, and as it is in the
+/// replay of all calls, with what a store answers in which changes wait.
+fn same_as_whole(rt: &impl Abort, alloc: Global, calls: &[&Call]) -> Result<(), AllocError> {
+    let whole = replayed(rt, alloc, calls)?;
+    let mut store = applied(rt, alloc, calls)?;
+    for v in 0..=store.vectors() {
+        same_held_vector(rt, alloc, calls, &mut store, VectorId(v))?;
+        same_replayed_vector(rt, alloc, &whole, &mut store, VectorId(v))?;
+    }
+    for a in 0..=store.matrices() {
+        same_held_matrix(rt, alloc, calls, &mut store, MatrixId(a))?;
+        same_replayed_matrix(rt, alloc, &whole, &mut store, MatrixId(a))?;
     }
     Ok(())
 }

@@ -6,13 +6,13 @@
 #![tactic(auto)]
 
 #[cfg(test)]
+mod assembled;
+#[cfg(test)]
 mod calls;
 #[cfg(test)]
 mod draw;
 #[cfg(test)]
 mod histories;
-#[cfg(test)]
-mod kept;
 #[cfg(test)]
 mod listed;
 #[cfg(test)]
@@ -21,6 +21,8 @@ mod memory;
 mod objects;
 #[cfg(test)]
 mod operations;
+#[cfg(test)]
+mod partial_stores;
 #[cfg(test)]
 mod plain;
 #[cfg(test)]

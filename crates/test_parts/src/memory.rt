@@ -2,10 +2,10 @@
 //! surely refused it.
 //!
 //! No contract can say that memory is there: a body that only answers that it is not would be proved.
-use crate::calls::{answer, lent, replayed};
+use crate::calls::{answer, applied, lent};
 use crate::same::same;
 use crate::values::{Step, calls_of};
-use grb_call::{Call, MatrixId, Object, Reply, Shapes, VectorId, WaitMode};
+use grb_call::{Call, MatrixId, Reply, Shapes, VectorId, WaitMode};
 use grb_core::{Domain, Monoid, Value};
 use grb_replay::State;
 use grb_sparse::{SparseMatrix, SparseVector};
@@ -44,7 +44,7 @@ fn expect_wait(
 ) -> Result<(), AllocError> {
     let calls = calls_of(alloc, &STEPS)?;
     let lent = lent(alloc, &calls)?;
-    let mut state = replayed(rt, alloc, &lent)?;
+    let mut state = applied(rt, alloc, &lent)?;
     same(rt, are_assembled(&state), (false, false), "before");
     let done = answer(&mut state, &Call::WaitVector { v: V, mode })?;
     same(rt, done, Ok(Reply::Done), mode);
@@ -52,10 +52,12 @@ fn expect_wait(
     Ok(())
 }
 
+fn is_assembled(state: &State, v: VectorId) -> bool {
+    state.vector(v).is_some_and(|vector| vector.is_assembled())
+}
+
 fn are_assembled(state: &State) -> (bool, bool) {
-    let first = state.is_assembled(Object::Vector(V));
-    let second = state.is_assembled(Object::Vector(VectorId(1)));
-    (first, second)
+    (is_assembled(state, V), is_assembled(state, VectorId(1)))
 }
 
 #[test]

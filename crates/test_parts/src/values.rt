@@ -2,16 +2,15 @@
 //!
 //! A contract counts the calls that a value is made of by a definition of which calls an object depends on. The rows say by hand which these
 //! are. That a read costs no other call is said nowhere.
-ghost use Rattle.std.specs.Prelude.{◌≡◌, false, IfOk, Some};
-ghost use Rattle.grb_call.specs.Kinds.{enters, is_size};
-ghost use Rattle.grb_call.specs.Status.{object_of};
-ghost use Rattle.grb_call.specs.declared.ids.Object.TheVariants.{Vector};
+ghost use Rattle.std.specs.Prelude.{◌≡◌, true};
 
-use crate::calls::{Answer, PLAIN, lent};
+use crate::calls::{PLAIN, lent};
+use crate::plain::count;
 use crate::same::same;
-use grb_call::{Call, Descriptor, Object, Reply, VectorId};
-use grb_core::{BinaryOp, Domain, Refusal, Value};
+use grb_call::{Call, Descriptor, Object, VectorId};
+use grb_core::{BinaryOp, Domain, Value};
 use grb_replay::State;
+use grb_sparse::SparseVector;
 use grb_values::{Held, value_of};
 use std::alloc::{AllocError, Global};
 use std::process::Abort;
@@ -210,45 +209,56 @@ static ROWS: [Row; 10] = [
     },
 ];
 
-fn expect_answer(
+/// What the row says that the vector stores at an index.
+fn wanted_at(stored: &[Option<u64>], i: u64) -> Option<Value> {
+    match stored.get(i as usize) {
+        Some(Some(n)) => Some(Value::Uint64(*n)),
+        _ => None,
+    }
+}
+
+/// What the row says that the vector stores, in the order of the indices.
+fn wanted_entries(alloc: Global, stored: &[Option<u64>]) -> Result<Vec<(u64, Value)>, AllocError> {
+    let mut entries = Vec::new(alloc);
+    for (i, number) in stored.iter().enumerate() {
+        if let Some(n) = number {
+            entries.push((i as u64, Value::Uint64(*n)))?;
+        }
+    }
+    Ok(entries)
+}
+
+/// The vector has the size of what is stored, and stores that and nothing else.
+fn expect_stored(
     rt: &impl Abort,
-    held: &mut Held,
-    call: &Call,
-    wanted: Answer,
+    alloc: Global,
+    vector: &SparseVector,
+    stored: &[Option<u64>],
     of: &'static str,
 ) -> Result<(), AllocError>
-    requires reads { enters call.now ≡ false }
-    requires no_size { is_size call.now ≡ false }
-    requires about { object_of call.now ≡ Some held.old.object }
-    ensures { held.new.object ≡ held.old.object }
+    requires { vector.now.assembled ≡ true }
 {
-    same(rt, held.answer(call)?, wanted, of);
+    let shape = (vector.domain(), vector.dims());
+    same(rt, shape, (Domain::Uint64, stored.len() as u64), of);
+    for i in 0..4 {
+        same(rt, vector.get(i), wanted_at(stored, i), of);
+    }
+    same(rt, vector.nvals(), count(stored), of);
+    let seen: Vec<(u64, Value)> = vector.entries().collect(alloc)?;
+    let wanted = wanted_entries(alloc, stored)?;
+    same(rt, seen.as_slice(), wanted.as_slice(), of);
     Ok(())
 }
 
-/// The answer to a get of what is stored, none where the vector is not there.
-fn answer_of(stored: Option<&[Option<u64>]>, i: u64) -> Answer {
-    let Some(values) = stored else {
-        return Err(Refusal::UninitializedObject);
-    };
-    match values.get(i as usize) {
-        Some(Some(n)) => Ok(Reply::Value(Value::Uint64(*n))),
-        Some(None) => Ok(Reply::NoValue),
-        None => Err(Refusal::InvalidIndex),
-    }
-}
-
-fn expect_held(rt: &impl Abort, held: &mut Held, v: VectorId, row: &Row) -> Result<(), AllocError>
-    requires { held.old.object ≡ Vector v }
-{
+fn expect_held(rt: &impl Abort, alloc: Global, held: &Held, row: &Row) -> Result<(), AllocError> {
     same(rt, held.evaluated(), row.evaluated, row.name);
     same(rt, held.matrix().is_none(), true, row.name);
-    same(rt, held.vector().is_some(), row.stored.is_some(), row.name);
-    'indices: for i in 0..4 {
-        let wanted = answer_of(row.stored, i);
-        expect_answer(rt, held, &Call::GetVector { v, i }, wanted, row.name)?;
+    let vector = held.vector();
+    same(rt, vector.is_some(), row.stored.is_some(), row.name);
+    match (vector, row.stored) {
+        (Some(vector), Some(stored)) => expect_stored(rt, alloc, vector, stored, row.name),
+        _ => Ok(()),
     }
-    Ok(())
 }
 
 /// What an object holds after the calls, which are few.
@@ -257,13 +267,11 @@ pub(crate) fn held_after(
     alloc: Global,
     calls: &[&Call],
     object: Object,
-) -> Result<Held, AllocError>
-    ensures { IfOk result (λ held. held.object ≡ object) }
-{
+) -> Result<Held, AllocError> {
     if calls.len() > 10_000 {
         panic!(rt; "{calls} calls", calls = calls.len());
     }
-    let empty = State::open(alloc, 0)?;
+    let empty = State::empty(alloc);
     value_of(alloc, &empty, calls, object)
 }
 
@@ -272,9 +280,8 @@ fn expect_row(rt: &impl Abort, alloc: Global, steps: &[Step], row: &Row) -> Resu
     steps.extend_from_slice(row.last)?;
     let calls = calls_of(alloc, &steps)?;
     let lent = lent(alloc, &calls)?;
-    let v = VectorId(row.v);
-    let mut held = held_after(rt, alloc, &lent, Object::Vector(v))?;
-    expect_held(rt, &mut held, v, row)
+    let held = held_after(rt, alloc, &lent, Object::Vector(VectorId(row.v)))?;
+    expect_held(rt, alloc, &held, row)
 }
 
 #[test]

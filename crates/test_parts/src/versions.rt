@@ -5,6 +5,8 @@
 ghost use Rattle.std.specs.Prelude.{◌≡◌, ◌≤◌, length, map, IfOk};
 ghost use Rattle.grb_call.specs.Store.{empty_store};
 ghost use Rattle.grb_call.specs.History.{after_all};
+ghost use Rattle.grb_replay.specs.Settled.{AreAllAssembled};
+ghost use Rattle.grb_replay.specs.State.{is_assembled};
 
 use crate::calls::lent;
 use crate::same::same;
@@ -58,11 +60,12 @@ fn calls_of(alloc: Global, history: History) -> Result<Vec<Call>, AllocError> {
 }
 
 /// The store that the calls leave.
-fn state_of(alloc: Global, calls: &[&Call]) -> Result<State, AllocError>
+pub(crate) fn state_of(alloc: Global, calls: &[&Call]) -> Result<State, AllocError>
     requires { length calls.now ≤ 4096 }
-    ensures { IfOk result (λ state. state.store ≡ after_all empty_store (map (λ c. c.now) calls.now)) }
+    ensures store { IfOk result (λ state. state.store ≡ after_all empty_store (map (λ c. c.now) calls.now)) }
+    ensures assembled { IfOk result (λ state. AreAllAssembled (is_assembled state.matrices state.vectors)) }
 {
-    let empty = State::open(alloc, 0)?;
+    let empty = State::empty(alloc);
     replay(&empty, calls)
 }
 
@@ -96,13 +99,16 @@ fn found(versions: &Versions, calls: &[&Call]) -> Option<(usize, Option<u64>)> {
     Some((length, stored(state)))
 }
 
-/// Of how many calls a state is that goes on from a version, and what the vector stores in it; none where it stays the empty one.
+/// Of how many calls a state is that goes on from a version, and what the vector stores in it; none where it stays the empty one. The calls
+/// are 128 at most.
 fn advanced(
     alloc: Global,
     versions: &Versions,
     calls: &[&Call],
-) -> Result<Option<(usize, Option<u64>)>, AllocError> {
-    let mut state = State::open(alloc, 128)?;
+) -> Result<Option<(usize, Option<u64>)>, AllocError>
+    requires { length calls.now ≤ 128 }
+{
+    let mut state = State::empty(alloc).try_clone(128)?;
     let length = versions.advance(calls, &mut state, 0, 128);
     if length == 0 {
         return Ok(None);
@@ -110,14 +116,12 @@ fn advanced(
     Ok(Some((length, stored(&state))))
 }
 
-/// Versions of a room: those offered in turn, how many calls the longest has that is kept, the calls that are asked for, and what is found
-/// for them.
+/// Versions of a room: those offered in turn, the calls that are asked for, and what is found for them.
 #[derive(Clone, Copy)]
 struct Row {
     name: &'static str,
     room: u32,
     offered: &'static [History],
-    longest: usize,
     asked: History,
     found: Option<(usize, Option<u64>)>,
 }
@@ -127,7 +131,6 @@ static ROWS: [Row; 13] = [
         name: "nothing was offered",
         room: 128,
         offered: &[],
-        longest: 0,
         asked: These(&[0, 5]),
         found: None,
     },
@@ -135,7 +138,6 @@ static ROWS: [Row; 13] = [
         name: "the calls themselves",
         room: 128,
         offered: &[These(&[0, 5])],
-        longest: 2,
         asked: These(&[0, 5]),
         found: Some((2, Some(4))),
     },
@@ -143,7 +145,6 @@ static ROWS: [Row; 13] = [
         name: "the same calls, and another between them",
         room: 128,
         offered: &[These(&[0, 1])],
-        longest: 2,
         asked: These(&[0, 2, 1]),
         found: None,
     },
@@ -151,7 +152,6 @@ static ROWS: [Row; 13] = [
         name: "the same calls, and another after them",
         room: 128,
         offered: &[These(&[0, 1])],
-        longest: 2,
         asked: These(&[0, 1, 2]),
         found: Some((2, None)),
     },
@@ -159,7 +159,6 @@ static ROWS: [Row; 13] = [
         name: "as many other calls",
         room: 128,
         offered: &[These(&[0, 5])],
-        longest: 2,
         asked: These(&[0, 6]),
         found: None,
     },
@@ -167,7 +166,6 @@ static ROWS: [Row; 13] = [
         name: "fewer calls",
         room: 128,
         offered: &[These(&[0, 5])],
-        longest: 2,
         asked: These(&[0]),
         found: None,
     },
@@ -175,7 +173,6 @@ static ROWS: [Row; 13] = [
         name: "a cell is set once",
         room: 128,
         offered: &[These(&[0, 5]), These(&[0, 6])],
-        longest: 2,
         asked: These(&[0, 6]),
         found: None,
     },
@@ -183,7 +180,6 @@ static ROWS: [Row; 13] = [
         name: "no calls are no version",
         room: 128,
         offered: &[These(&[])],
-        longest: 0,
         asked: These(&[]),
         found: None,
     },
@@ -191,7 +187,6 @@ static ROWS: [Row; 13] = [
         name: "the longer of two",
         room: 128,
         offered: &[These(&[0, 2]), Until(65)],
-        longest: 65,
         asked: Until(66),
         found: Some((65, Some(64))),
     },
@@ -199,7 +194,6 @@ static ROWS: [Row; 13] = [
         name: "the shorter of two, where the longer has other calls",
         room: 128,
         offered: &[These(&[0, 2]), Until(65)],
-        longest: 65,
         asked: These(&[0, 2, 9]),
         found: Some((2, Some(1))),
     },
@@ -207,7 +201,6 @@ static ROWS: [Row; 13] = [
         name: "64 calls and 65 in cells of their own",
         room: 128,
         offered: &[Until(64), Until(65)],
-        longest: 65,
         asked: Until(64),
         found: Some((64, Some(63))),
     },
@@ -215,7 +208,6 @@ static ROWS: [Row; 13] = [
         name: "the last in the room",
         room: 64,
         offered: &[Until(64)],
-        longest: 64,
         asked: Until(66),
         found: Some((64, Some(63))),
     },
@@ -223,7 +215,6 @@ static ROWS: [Row; 13] = [
         name: "beyond the room",
         room: 64,
         offered: &[Until(65)],
-        longest: 0,
         asked: Until(66),
         found: None,
     },
@@ -234,10 +225,12 @@ fn expect_row(rt: &impl Abort, alloc: Global, row: &Row) -> Result<(), AllocErro
     for history in row.offered {
         offer(rt, alloc, &versions, *history)?;
     }
-    same(rt, versions.longest(), row.longest, row.name);
     let calls = calls_of(alloc, row.asked)?;
     let lent = lent(alloc, &calls)?;
     same(rt, found(&versions, &lent), row.found, row.name);
+    if lent.len() > 128 {
+        panic!(rt; "{calls} calls", calls = lent.len());
+    }
     same(rt, advanced(alloc, &versions, &lent)?, row.found, row.name);
     Ok(())
 }

@@ -17,7 +17,7 @@ returns-in-Some-clause-found c =
     let ds = c.args.deleted.now.items in
     let found = c.in-Some.ensures.found in
     let d : ℕ × Value = (0, value.Bool true) in
-    let among : c.in-Some.at < length ds = let a = found.0 in let b = c.requires.marked (omega (arith, c.requires.reserved)) in omega (arith, a, b) in
+    let among : c.in-Some.at < length ds = let a = found.0 in let b = c.requires.marked.each (omega (arith, c.requires.reserved)) in omega (arith, a, b) in
     λ q. ap (λ (cs : List Change). find nat_cmp q (stored row (set ds c.in-Some.at true) cs)) c.spend.ensures.changes
     ∙ find-written c.args.size row ds c.args.pending.now.changes c.requires.laid c.args.index c.in-Some.at found.0 found.1 (get_or row.entries c.in-Some.at d).1 true row (set ds c.in-Some.at true)
     (λ e. unchanged row.entries c.in-Some.at d e found.0) refl refl among q

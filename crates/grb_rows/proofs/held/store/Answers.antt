@@ -19,7 +19,7 @@ pub returns-in-Some-clause-found : goal.returns-in-Some-clause-found
 returns-in-Some-clause-found c =
     let ds = c.args.deleted.now.items in
     let found = c.in-Some.ensures.found in
-    let among : c.in-Some.at < length ds = let a = found.0 in let b = c.requires.marked (omega (arith, c.requires.reserved)) in omega (arith, a, b) in
+    let among : c.in-Some.at < length ds = let a = found.0 in let b = c.requires.marked.each (omega (arith, c.requires.reserved)) in omega (arith, a, b) in
     λ q. ap (λ (cs : List Change). find nat_cmp q (stored c.write.new.self (set ds c.in-Some.at false) cs)) c.spend.ensures.changes
     ∙ find-written c.args.size c.args.row.now ds c.args.pending.now.changes c.requires.laid c.args.index c.in-Some.at found.0 found.1 c.args.value false c.write.new.self (set ds c.in-Some.at false) c.write.ensures.entries refl c.write.ensures.domain among q
 
@@ -46,5 +46,5 @@ returns-in-Some-clause-marked c =
     let d : ℕ × Value = (0, c.args.value) in
     let long : length c.write.new.self.entries ≡ length m = ap length (c.write.ensures.entries d) ∙ length-set m c.in-Some.at ((get_or m c.in-Some.at d).0, c.args.value) in
     let same : length (set ds c.in-Some.at false) ≡ length ds = length-set ds c.in-Some.at false in
-    let marked = c.requires.marked (omega (arith, c.requires.reserved)) in
+    let marked = c.requires.marked.each (omega (arith, c.requires.reserved)) in
     omega (arith, long, same, marked)

@@ -7,5 +7,5 @@ use Rattle.grb_pass.proofs.pass.Pass.reply_of_all.Goals as goal
 
 pub returns-clause-reply : goal.returns-clause-reply
 returns-clause-reply c =
-    let call = c.args.call.now in let same = c.evaluate.ensures.same ∙ c.go_on_to_all.ensures.same ∙ c.self.view_is in
-    c.reply.ensures ∙ ap (λ (s : Store). reply_of s call) (c.settle.ensures.store ∙ c.in_ok-evaluate.ensures.store ∙ ap (λ (p : Knowing). store_of (known p)) same)
+    let call = c.args.call.now in let same = c.make_all.ensures.same ∙ c.self.view_is in
+    c.reply.ensures ∙ ap (λ (s : Store). reply_of s call) (c.settle.ensures.store ∙ c.in_ok-make_all.ensures.store ∙ ap (λ (p : Knowing). store_of (known p)) same)

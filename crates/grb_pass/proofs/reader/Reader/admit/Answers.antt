@@ -1,7 +1,7 @@
 use Rattle.std.proofs.Common.{◌≡◌, ◌<◌, length, get_or, subst, sym}
 use Rattle.grb_order.specs.Word.{number_of, index_of}
 use Rattle.grb_pass.specs.Known.{Knowing}
-use Rattle.grb_pass.proofs.Kept.{kept_admit}
+use Rattle.grb_pass.proofs.Readers.{kept_admit}
 use Rattle.grb_pass.proofs.reader.Reader.admit.Goals as goal
 
 pub invariant_of-self : goal.invariant_of-self

@@ -8,7 +8,7 @@ use Rattle.grb_call.specs.Shapes.{ObjectShapes}
 use Rattle.grb_call.specs.Store.{shapes_of}
 use Rattle.grb_call.specs.History.{store_of}
 use Rattle.grb_pass.specs.Known.{Knowing, known}
-use Rattle.grb_pass.proofs.Kept.{kept_won, kept_lost, kept_order, sound_order, steady}
+use Rattle.grb_pass.proofs.Readers.{kept_won, kept_lost, kept_order, sound_order, steady}
 use Rattle.grb_pass.proofs.reader.Reader.enter.Goals as goal
 
 pub take_in-requires-clause-accepted : goal.take_in-requires-clause-accepted

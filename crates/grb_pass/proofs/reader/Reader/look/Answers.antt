@@ -2,7 +2,7 @@ use Rattle.std.proofs.Common.{◌≡◌, ◌+◌, sym, ap, subst, arith, ◌∙�
 use Rattle.grb_pass.specs.Counting.{look_steps, steps_of}
 use Rattle.grb_pass.specs.Known.{Knowing}
 use Rattle.grb_pass.proofs.Counted.{counts_look}
-use Rattle.grb_pass.proofs.Kept.{kept_look, kept_order, sound_order, steady}
+use Rattle.grb_pass.proofs.Readers.{kept_look, kept_order, sound_order, steady}
 use Rattle.grb_pass.proofs.reader.Reader.look.Goals as goal
 
 pub invariant_of-self : goal.invariant_of-self

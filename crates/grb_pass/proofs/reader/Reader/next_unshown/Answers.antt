@@ -1,7 +1,7 @@
 use Rattle.std.proofs.Common.{◌≡◌, ℕ, ◌<◌, length, get_or, sym, ap, subst, ◌∙◌, arith}
 use Rattle.grb_pass.specs.Known.{Knowing}
 use Rattle.grb_pass.specs.Learning.{IsNextUnshown}
-use Rattle.grb_pass.proofs.Kept.{next_is}
+use Rattle.grb_pass.proofs.Readers.{next_is}
 use Rattle.grb_pass.proofs.reader.Reader.next_unshown.Goals as goal
 
 pub returns-then-shown-words-clause-next : goal.returns-then-shown-words-clause-next

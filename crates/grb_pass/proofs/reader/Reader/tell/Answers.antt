@@ -1,6 +1,6 @@
 use Rattle.std.proofs.Common.{◌≡◌, sym, ap, subst, ◌∙◌}
 use Rattle.grb_pass.specs.Learning.{IsSteady}
-use Rattle.grb_pass.proofs.Kept.{kept_told, steady}
+use Rattle.grb_pass.proofs.Readers.{kept_told, steady}
 use Rattle.grb_pass.proofs.reader.Reader.tell.Goals as goal
 
 pub invariant_of-self : goal.invariant_of-self

@@ -6,7 +6,7 @@ use Rattle.grb_call.specs.declared.call.Call.{Call}
 use Rattle.grb_call.specs.History.{calls_of}
 use Rattle.grb_pass.specs.Known.{Knowing, known}
 use Rattle.grb_pass.specs.Reading.{knowing}
-use Rattle.grb_pass.proofs.Evaluated.{call_known, known_within, length-calls_of}
+use Rattle.grb_pass.proofs.Evaluating.{call_known, known_within, length-calls_of}
 use Rattle.grb_pass.proofs.reader.ReaderCallListRecords.call_at.Goals as goal
 
 pub index_mut-requires : goal.index_mut-requires

@@ -9,4 +9,4 @@ returns-clause-pass c = pass_kept c.args.self.now c.enter_record-answer.new.pass
 pub returns-clause-answered : goal.returns-clause-answered
 returns-clause-answered c =
     let is = c.enter_record-answer.ensures in
-    answered c.args.self.now c.args.pass.now c.begin.new.self c.enter_record-answer.new.pass c.keep.new.self c.object-object.result c.args.call c.enter_record-answer.result c.begin.ensures is.pass is.explains is.steady is.caught_up is.counts (λ reads. let no : true ≡ false = sym c.requires.enters ∙ reads in cc) is.statuses (is.settled ∙ sym (settled_entered c.args.call c.enter_record-answer.result _ _ c.requires.enters)) c.object-object.ensures (record { same = c.keep.ensures.same; kept = c.keep.ensures.kept })
+    answered c.args.self.now c.args.pass.now c.begin.new.self c.enter_record-answer.new.pass c.keep.new.self c.object-object.result c.args.call c.enter_record-answer.result c.begin.ensures.same c.begin.ensures.settled is.pass is.explains is.steady is.caught_up is.counts (λ reads. let no : true ≡ false = sym c.requires.enters ∙ reads in cc) is.statuses (is.settled ∙ sym (settled_entered c.args.call c.enter_record-answer.result _ _ c.requires.enters)) c.object-object.ensures (record { same = c.keep.ensures.same; kept = c.keep.ensures.kept })

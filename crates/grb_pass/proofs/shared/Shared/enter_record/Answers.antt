@@ -5,7 +5,7 @@ use Rattle.grb_order.specs.Order.{room_of}
 use Rattle.grb_call.specs.declared.call.Call.{Call}
 use Rattle.grb_pass.specs.Known.{Knowing}
 use Rattle.grb_pass.specs.Counting.{CountsCall, CountsTries}
-use Rattle.grb_pass.specs.Explains.{ExplainsCall, IsCaughtUp, ground_of}
+use Rattle.grb_pass.specs.Explains.{ExplainsAnswer, IsCaughtUp, ground_of}
 use Rattle.grb_pass.proofs.Answering.{refused_put, explains_refused, explains_before}
 use Rattle.grb_pass.proofs.Counted.{counts_looked, counts_tried}
 use Rattle.grb_pass.proofs.Rising.{looks_ready}
@@ -29,7 +29,7 @@ returns-in_err-token-clause-explains c =
     let room = room_of c.args.self.now.order in let old = c.args.pass.now in let mid = c.ready.new.pass in let call = c.args.call in
     let p = err_from_is_err_and c.from_residual-in_err-token.result c.from_residual-in_err-token.ensures.1 in
     let is = explains_refused room old mid call _ c.ready.ensures.learns (refused_put room old mid call _ c.in_err-token.ensures.refused c.requires.enters c.in_ok-ready.ensures.ready c.in_ok-ready.ensures.looked) in
-    rw (p.1, p.2) (subst (λ (k : Knowing). ExplainsCall room old k call (Err c.in_err-token.field-0.0)) (sym c.put.ensures.same) is)
+    rw (p.1, p.2) (subst (λ (k : Knowing). ExplainsAnswer room old k call (Err c.in_err-token.field-0.0)) (sym c.put.ensures.same) is)
 
 pub returns-in_err-token-clause-caught_up : goal.returns-in_err-token-clause-caught_up
 returns-in_err-token-clause-caught_up c =
@@ -41,6 +41,6 @@ returns-in_err-token-clause-caught_up c =
 pub returns-clause-explains : goal.returns-clause-explains
 returns-clause-explains c =
     let room = room_of c.args.self.now.order in let old = c.args.pass.now in let mid = c.ready.new.pass in let new = c.enter_token.new.pass in let answer = c.enter_token.result in
-    let after : ExplainsCall room c.put.new.self new c.in_ok-token.token.call answer = c.enter_token.ensures.explains in
-    let same : ExplainsCall room mid new c.args.call answer = subst (λ (y : Knowing × Call). ExplainsCall room y.0 new y.1 answer) (λ i. (c.put.ensures.same i, c.in_ok-token.ensures.put.1 i)) after in
+    let after : ExplainsAnswer room c.put.new.self new c.in_ok-token.token.call answer = c.enter_token.ensures.explains in
+    let same : ExplainsAnswer room mid new c.args.call answer = subst (λ (y : Knowing × Call). ExplainsAnswer room y.0 new y.1 answer) (λ i. (c.put.ensures.same i, c.in_ok-token.ensures.put.1 i)) after in
     explains_before room old mid new c.args.call answer c.ready.ensures.learns same

@@ -7,4 +7,4 @@ returns-clause-pass c = pass_kept c.args.self.now c.read_at_end-answer.new.pass 
 pub returns-clause-answered : goal.returns-clause-answered
 returns-clause-answered c =
     let is = c.read_at_end-answer.ensures in
-    answered c.args.self.now c.args.pass.now c.begin.new.self c.read_at_end-answer.new.pass c.keep.new.self c.object.result c.args.call.now c.read_at_end-answer.result c.begin.ensures is.pass is.explains is.steady is.caught_up is.counts (λ _. is.looks) is.statuses is.settled c.object.ensures (record { same = c.keep.ensures.same; kept = c.keep.ensures.kept })
+    answered c.args.self.now c.args.pass.now c.begin.new.self c.read_at_end-answer.new.pass c.keep.new.self c.object.result c.args.call.now c.read_at_end-answer.result c.begin.ensures.same c.begin.ensures.settled is.pass is.explains is.steady is.caught_up is.counts (λ _. is.looks) is.statuses is.settled c.object.ensures (record { same = c.keep.ensures.same; kept = c.keep.ensures.kept })

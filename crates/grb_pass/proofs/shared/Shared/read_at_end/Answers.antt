@@ -4,15 +4,14 @@ use Rattle.std.proofs.lemmas.Result.{err_from_is_err_and}
 use Rattle.grb_order.specs.Order.{room_of}
 use Rattle.grb_pass.specs.Known.{Knowing, known}
 use Rattle.grb_pass.specs.Counting.{CountsCall, LooksOnce}
-use Rattle.grb_pass.specs.Explains.{Answer, ExplainsCall, IsCaughtUp, ground_of}
+use Rattle.grb_pass.specs.Explains.{Answer, ExplainsAnswer, IsCaughtUp, ground_of}
 use Rattle.grb_pass.specs.Learning.{IsRefused, IsSteady}
 use Rattle.grb_pass.specs.Settled.{settled_after}
 use Rattle.grb_pass.proofs.Alike.{counts_alike, steady_alike}
 use Rattle.grb_pass.proofs.Answering.{refused_by_check, explains_refused, explains_evaluated, known_evaluated}
 use Rattle.grb_pass.proofs.Counted.{counts_looked, looks_once}
-use Rattle.grb_pass.proofs.Evaluated.{pass_learns}
+use Rattle.grb_pass.proofs.Evaluating.{evaluated_learns}
 use Rattle.grb_pass.proofs.Learnt.{pass_same}
-use Rattle.grb_pass.proofs.Lately.{recent_learns}
 use Rattle.grb_pass.proofs.Settling.{settled_read}
 use Rattle.grb_pass.proofs.shared.Shared.read_at_end.Goals as goal
 
@@ -23,7 +22,7 @@ pub returns-in_err-check-clause-explains : goal.returns-in_err-check-clause-expl
 returns-in_err-check-clause-explains c =
     let room = room_of c.args.self.now.order in let new = c.learn.new.reader in let call = c.args.call.now in let r = c.in_err-check.field-0.0 in
     let p = err_from_is_err_and c.from_residual-in_err-check.result c.from_residual-in_err-check.ensures.1 in
-    rw (p.1, p.2) (subst (λ (old : Knowing). ExplainsCall room old new call (Err r)) c.pass.view_is (explains_refused room _ new call r c.learn.ensures.learns (refused_check c)))
+    rw (p.1, p.2) (subst (λ (old : Knowing). ExplainsAnswer room old new call (Err r)) c.pass.view_is (explains_refused room _ new call r c.learn.ensures.learns (refused_check c)))
 
 pub returns-in_err-check-clause-caught_up : goal.returns-in_err-check-clause-caught_up
 returns-in_err-check-clause-caught_up c =
@@ -34,7 +33,7 @@ pub returns-clause-explains : goal.returns-clause-explains
 returns-clause-explains c =
     let room = room_of c.args.self.now.order in let new = c.reply.new.self in let call = c.args.call.now in
     let is = explains_evaluated room _ c.learn.new.reader new c.in_ok-learn.field-0 call _ c.in_ok-learn.ensures.finds c.reply.ensures.same c.reply.result c.learn.ensures.learns c.requires.reads (sym c.check.ensures ∙ c.in_ok-check.was) c.reply.ensures.reply c.reply.ensures.memory c.reply.ensures.unsettled in
-    subst (λ (y : Knowing × Answer). ExplainsCall room y.0 new call y.1) (λ i. (c.pass.view_is i, sym c.or.ensures i)) is
+    subst (λ (y : Knowing × Answer). ExplainsAnswer room y.0 new call y.1) (λ i. (c.pass.view_is i, sym c.or.ensures i)) is
 
 pub returns-clause-caught_up : goal.returns-clause-caught_up
 returns-clause-caught_up c =
@@ -91,21 +90,15 @@ returns-in_err-check-clause-settled c =
 
 pub invariant_of-pass : goal.invariant_of-pass
 invariant_of-pass c =
-    let order = c.learn.ensures.pass.order ∙ sym (ap (λ (p : Knowing). p.order) c.pass.view_is ∙ c.requires.pass.order) in (
-      pass_learns c.pass.inside.reader c.learn.new.reader c.pass.inside.state c.pass.inside.evaluated order c.learn.ensures.learns c.pass.invariant.0,
-      recent_learns c.pass.inside.reader c.learn.new.reader c.pass.inside.recent order c.learn.ensures.learns c.pass.invariant.1,
-    )
+    let order = c.learn.ensures.pass.order ∙ sym (ap (λ (p : Knowing). p.order) c.pass.view_is ∙ c.requires.pass.order) in
+    evaluated_learns c.pass.inside.reader c.learn.new.reader c.pass.inside.evaluated order c.learn.ensures.learns c.pass.invariant
 
 pub invariant_of-pass-in_err-check : goal.invariant_of-pass-in_err-check
 invariant_of-pass-in_err-check c =
-    let order = c.learn.ensures.pass.order ∙ sym (ap (λ (p : Knowing). p.order) c.pass.view_is ∙ c.requires.pass.order) in (
-      pass_learns c.pass.inside.reader c.learn.new.reader c.pass.inside.state c.pass.inside.evaluated order c.learn.ensures.learns c.pass.invariant.0,
-      recent_learns c.pass.inside.reader c.learn.new.reader c.pass.inside.recent order c.learn.ensures.learns c.pass.invariant.1,
-    )
+    let order = c.learn.ensures.pass.order ∙ sym (ap (λ (p : Knowing). p.order) c.pass.view_is ∙ c.requires.pass.order) in
+    evaluated_learns c.pass.inside.reader c.learn.new.reader c.pass.inside.evaluated order c.learn.ensures.learns c.pass.invariant
 
 pub invariant_of-pass-2 : goal.invariant_of-pass-2
 invariant_of-pass-2 c =
-    let order = c.learn.ensures.pass.order ∙ sym (ap (λ (p : Knowing). p.order) c.pass.view_is ∙ c.requires.pass.order) in (
-      pass_learns c.pass.inside.reader c.learn.new.reader c.pass.inside.state c.pass.inside.evaluated order c.learn.ensures.learns c.pass.invariant.0,
-      recent_learns c.pass.inside.reader c.learn.new.reader c.pass.inside.recent order c.learn.ensures.learns c.pass.invariant.1,
-    )
+    let order = c.learn.ensures.pass.order ∙ sym (ap (λ (p : Knowing). p.order) c.pass.view_is ∙ c.requires.pass.order) in
+    evaluated_learns c.pass.inside.reader c.learn.new.reader c.pass.inside.evaluated order c.learn.ensures.learns c.pass.invariant

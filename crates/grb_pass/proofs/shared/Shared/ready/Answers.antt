@@ -8,8 +8,7 @@ use Rattle.grb_pass.specs.declared.learn.End.{End}
 use Rattle.grb_pass.specs.Known.{Knowing}
 use Rattle.grb_pass.specs.Learning.{Finds, IsRefused}
 use Rattle.grb_pass.proofs.Answering.{refused_checked, refused_by_room}
-use Rattle.grb_pass.proofs.Evaluated.{pass_learns}
-use Rattle.grb_pass.proofs.Lately.{recent_learns}
+use Rattle.grb_pass.proofs.Evaluating.{evaluated_learns}
 use Rattle.grb_pass.proofs.shared.Shared.ready.Goals as goal
 
 pub returns-in_err-check-clause-refused : goal.returns-in_err-check-clause-refused
@@ -30,14 +29,10 @@ returns-in-Vacant-clause-refused c = search rules
 
 pub invariant_of-pass : goal.invariant_of-pass
 invariant_of-pass c =
-    let order = c.learn.ensures.pass.order ∙ sym (ap (λ (p : Knowing). p.order) c.pass.view_is ∙ c.requires.pass.order) in (
-      pass_learns c.pass.inside.reader c.learn.new.reader c.pass.inside.state c.pass.inside.evaluated order c.learn.ensures.learns c.pass.invariant.0,
-      recent_learns c.pass.inside.reader c.learn.new.reader c.pass.inside.recent order c.learn.ensures.learns c.pass.invariant.1,
-    )
+    let order = c.learn.ensures.pass.order ∙ sym (ap (λ (p : Knowing). p.order) c.pass.view_is ∙ c.requires.pass.order) in
+    evaluated_learns c.pass.inside.reader c.learn.new.reader c.pass.inside.evaluated order c.learn.ensures.learns c.pass.invariant
 
 pub invariant_of-pass-2 : goal.invariant_of-pass-2
 invariant_of-pass-2 c =
-    let order = c.learn.ensures.pass.order ∙ sym (ap (λ (p : Knowing). p.order) c.pass.view_is ∙ c.requires.pass.order) in (
-      pass_learns c.pass.inside.reader c.learn.new.reader c.pass.inside.state c.pass.inside.evaluated order c.learn.ensures.learns c.pass.invariant.0,
-      recent_learns c.pass.inside.reader c.learn.new.reader c.pass.inside.recent order c.learn.ensures.learns c.pass.invariant.1,
-    )
+    let order = c.learn.ensures.pass.order ∙ sym (ap (λ (p : Knowing). p.order) c.pass.view_is ∙ c.requires.pass.order) in
+    evaluated_learns c.pass.inside.reader c.learn.new.reader c.pass.inside.evaluated order c.learn.ensures.learns c.pass.invariant

@@ -33,7 +33,7 @@ invariant_of-self c =
     let none = ap (λ (p : PendingView). p.changes) c.clear-then-self.ensures in (
       matrix-held_fresh i.nrows i.ncols i.lists c.clear.new.self.items (none_set c.clear.new.self.items c.clear.ensures.items) c.clear-then-self.new.self.changes none
           (IsMatrix-same i.lists.domain i.lists.domain i.nrows i.ncols (decoded i.lists.entries) _ refl (ap decoded (sym all)) held.matrix) i.nvals (held.counted ∙ ap length all) i.assembled,
-      λ l. let r = ap (λ (p : PendingView). p.reserved) c.clear-then-self.ensures in let n = ap length c.clear.ensures.items in absurd (omega (arith, l, r, n)),
+      record { few = let n = ap length c.clear.ensures.items in omega (arith, n); each = λ l. let r = ap (λ (p : PendingView). p.reserved) c.clear-then-self.ensures in let n = ap length c.clear.ensures.items in absurd (omega (arith, l, r, n)) },
     )
 
 pub returns-then-self-clause-matrix : goal.returns-then-self-clause-matrix
@@ -55,7 +55,7 @@ invariant_of-self-2 c =
     let same = c.in_ok-lists.ensures.domain in (
       matrix-held_fresh i.nrows i.ncols new c.new-deleted.result.items (none_set c.new-deleted.result.items c.new-deleted.ensures.items) c.clear-2.new.self.changes (ap (λ (p : PendingView). p.changes) c.clear-2.ensures)
           (IsMatrix-same new.domain i.lists.domain i.nrows i.ncols (decoded new.entries) (decoded (stored i.lists i.deleted.items i.pending.changes)) same (ap decoded is) held.matrix) i.nvals (held.counted ∙ ap length (sym is)) true,
-      λ l. let r = ap (λ (p : PendingView). p.reserved) c.clear-2.ensures in let n = ap length c.new-deleted.ensures.items in absurd (omega (arith, l, r, n)),
+      record { few = let n = ap length c.new-deleted.ensures.items in omega (arith, n); each = λ l. let r = ap (λ (p : PendingView). p.reserved) c.clear-2.ensures in let n = ap length c.new-deleted.ensures.items in absurd (omega (arith, l, r, n)) },
     )
 
 pub returns-clause-matrix : goal.returns-clause-matrix

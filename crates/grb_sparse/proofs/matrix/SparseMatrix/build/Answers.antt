@@ -61,7 +61,7 @@ invariant_of-self c =
       matrix-held_fresh i.nrows i.ncols new c.new-unmarked.result.items (none_set c.new-unmarked.result.items c.new-unmarked.ensures.items) c.clear.new.self.changes (ap (λ (p : PendingView). p.changes) c.clear.ensures)
           (IsMatrix-same new.domain i.lists.domain i.nrows i.ncols (decoded new.entries) built (c.in_ok-lists.ensures.domain ∙ c.domain.ensures) (ap decoded (c.in_ok-lists.ensures.entries ∙ c.deref-2.ensures.value))
           (IsMatrix-built (matrix_of i.lists.domain i.nrows i.ncols (decoded (stored i.lists i.deleted.items i.pending.changes))) c.args.dup c.args.tuples.now built c.self.invariant.0.matrix rows columns is ordered of_domain same)) c.len.result c.len.ensures.len true,
-      λ l. let r = ap (λ (p : PendingView). p.reserved) c.clear.ensures in let n = ap length c.new-unmarked.ensures.items in absurd (omega (arith, l, r, n)),
+      record { few = let n = ap length c.new-unmarked.ensures.items in omega (arith, n); each = λ l. let r = ap (λ (p : PendingView). p.reserved) c.clear.ensures in let n = ap length c.new-unmarked.ensures.items in absurd (omega (arith, l, r, n)) },
     )
 
 pub returns-clause-matrix : goal.returns-clause-matrix

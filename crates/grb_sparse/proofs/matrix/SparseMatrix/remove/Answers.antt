@@ -42,7 +42,7 @@ invariant_of-self c =
       matrix-held_changed i.nrows i.ncols i.lists i.deleted.items i.pending.changes i.nvals i.assembled held i.lists c.erase-stood.new.deleted.items c.erase-stood.new.pending.changes c.erase-stood.ensures.laid refl
           c.code.result c.args.i c.args.j c.code.ensures row column None c.erase-stood.ensures.found
           tt c.counted-self-inside.result (ap (λ b. c.counted-self-inside.result + cond b 1 0) (sym stood) ∙ c.counted-self-inside.ensures),
-      λ l. c.erase-stood.ensures.marked,
+      record { few = let n = c.erase-stood.ensures.marked in omega (arith, n); each = λ l. let n = c.erase-stood.ensures.marked in omega (arith, n) },
     )
 
 pub returns-clause-matrix : goal.returns-clause-matrix

@@ -35,7 +35,7 @@ invariant_of-self c =
           matrix-held_fresh c.args.nrows c.args.ncols new c.new-deleted.result.items (none_set c.new-deleted.result.items c.new-deleted.ensures.items) c.clear.new.self.changes (ap (λ (p : PendingView). p.changes) c.clear.ensures)
           (IsMatrix-same new.domain i.lists.domain c.args.nrows c.args.ncols (decoded new.entries) _ (c.in_ok-lists.ensures.domain ∙ c.in_ok-whole.ensures.domain) is
           (IsMatrix-resized (matrix_of i.lists.domain i.nrows i.ncols (decoded (stored i.lists i.deleted.items i.pending.changes))) c.args.nrows c.args.ncols c.requires.rows c.requires.columns held.matrix)) c.len.result c.len.ensures.len i.assembled,
-      λ l. let r = ap (λ (p : PendingView). p.reserved) c.clear.ensures in let n = ap length c.new-deleted.ensures.items in absurd (omega (arith, l, r, n)),
+      record { few = let n = ap length c.new-deleted.ensures.items in omega (arith, n); each = λ l. let r = ap (λ (p : PendingView). p.reserved) c.clear.ensures in let n = ap length c.new-deleted.ensures.items in absurd (omega (arith, l, r, n)) },
     )
 
 pub returns-clause-matrix : goal.returns-clause-matrix

@@ -43,7 +43,7 @@ invariant_of-self c =
       matrix-held_changed i.nrows i.ncols i.lists i.deleted.items i.pending.changes i.nvals i.assembled held c.store-stood.new.row c.store-stood.new.deleted.items c.store-stood.new.pending.changes c.store-stood.ensures.laid c.store-stood.ensures.domain
           c.code.result c.args.i c.args.j c.code.ensures row column (Some c.args.value) c.store-stood.ensures.found
           (subst (λ d. IsValueOf d c.args.value) same c.read.ensures) c.counted-self-inside.result (ap (λ b. c.counted-self-inside.result + cond b 1 0) (sym stood) ∙ c.counted-self-inside.ensures),
-      λ l. c.store-stood.ensures.marked,
+      record { few = let n = c.store-stood.ensures.marked in omega (arith, n); each = λ l. let n = c.store-stood.ensures.marked in omega (arith, n) },
     )
 
 pub returns-clause-matrix : goal.returns-clause-matrix

@@ -34,7 +34,7 @@ invariant_of-result c =
     let same = c.in_ok-copy.ensures.domain in (
       matrix-held_fresh i.nrows i.ncols new c.new-deleted.result.items (none_set c.new-deleted.result.items c.new-deleted.ensures.items) c.new.result.changes (ap (λ (p : PendingView). p.changes) c.new.ensures)
           (IsMatrix-same new.domain i.lists.domain i.nrows i.ncols (decoded new.entries) (decoded (stored i.lists i.deleted.items i.pending.changes)) same (ap decoded is) held.matrix) i.nvals (held.counted ∙ ap length (sym is)) i.assembled,
-      λ l. let r = ap (λ (p : PendingView). p.reserved) c.new.ensures in let n = ap length c.new-deleted.ensures.items in absurd (omega (arith, l, r, n)),
+      record { few = let n = ap length c.new-deleted.ensures.items in omega (arith, n); each = λ l. let r = ap (λ (p : PendingView). p.reserved) c.new.ensures in let n = ap length c.new-deleted.ensures.items in absurd (omega (arith, l, r, n)) },
     )
 
 pub returns-clause-matrix : goal.returns-clause-matrix

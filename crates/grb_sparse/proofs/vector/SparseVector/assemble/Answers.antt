@@ -26,7 +26,7 @@ invariant_of-self c =
     let none = ap (λ (p : PendingView). p.changes) c.clear-then-self.ensures in (
       held-fresh i.size i.row c.clear.new.self.items (none_set c.clear.new.self.items c.clear.ensures.items) c.clear-then-self.new.self.changes none
           (IsVector-same i.row.domain i.row.domain i.size i.row.entries _ refl (sym all) held.vector) i.nvals (held.counted ∙ ap length all) i.assembled,
-      λ l. let r = ap (λ (p : PendingView). p.reserved) c.clear-then-self.ensures in let n = ap length c.clear.ensures.items in absurd (omega (arith, l, r, n)),
+      record { few = let n = ap length c.clear.ensures.items in omega (arith, n); each = λ l. let r = ap (λ (p : PendingView). p.reserved) c.clear-then-self.ensures in let n = ap length c.clear.ensures.items in absurd (omega (arith, l, r, n)) },
     )
 
 pub returns-then-self-clause-vector : goal.returns-then-self-clause-vector
@@ -47,7 +47,7 @@ invariant_of-self-2 c =
     let same = c.in_ok-row.ensures.domain in (
       held-fresh c.self.inside.size row c.new-deleted.result.items (none_set c.new-deleted.result.items c.new-deleted.ensures.items) c.clear-2.new.self.changes (ap (λ (p : PendingView). p.changes) c.clear-2.ensures)
           (IsVector-same row.domain _ c.self.inside.size row.entries _ same is held.vector) c.self.inside.nvals (held.counted ∙ ap length (sym is)) true,
-      λ l. let r = ap (λ (p : PendingView). p.reserved) c.clear-2.ensures in let n = ap length c.new-deleted.ensures.items in absurd (omega (arith, l, r, n)),
+      record { few = let n = ap length c.new-deleted.ensures.items in omega (arith, n); each = λ l. let r = ap (λ (p : PendingView). p.reserved) c.clear-2.ensures in let n = ap length c.new-deleted.ensures.items in absurd (omega (arith, l, r, n)) },
     )
 
 pub returns-clause-vector : goal.returns-clause-vector

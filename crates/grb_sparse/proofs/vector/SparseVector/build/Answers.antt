@@ -33,7 +33,7 @@ invariant_of-self c =
       held-fresh i.size c.in_ok-row.row c.new-unmarked.result.items (none_set c.new-unmarked.result.items c.new-unmarked.ensures.items) c.clear.new.self.changes (ap (λ (p : PendingView). p.changes) c.clear.ensures)
           (IsVector-same c.in_ok-row.row.domain i.row.domain i.size c.in_ok-row.row.entries built (c.in_ok-row.ensures.domain ∙ c.domain.ensures) (c.in_ok-row.ensures.entries ∙ c.deref.ensures.value)
           (IsVector-built (vector_of i.row.domain i.size (stored i.row i.deleted.items i.pending.changes)) c.args.dup c.args.tuples.now built c.self.invariant.0.vector within is c.in_ok-built.ensures.sorted c.in_ok-built.ensures.of_domain same)) c.len.result c.len.ensures.len true,
-      λ l. let r = ap (λ (p : PendingView). p.reserved) c.clear.ensures in let n = ap length c.new-unmarked.ensures.items in absurd (omega (arith, l, r, n)),
+      record { few = let n = ap length c.new-unmarked.ensures.items in omega (arith, n); each = λ l. let r = ap (λ (p : PendingView). p.reserved) c.clear.ensures in let n = ap length c.new-unmarked.ensures.items in absurd (omega (arith, l, r, n)) },
     )
 
 pub returns-clause-vector : goal.returns-clause-vector

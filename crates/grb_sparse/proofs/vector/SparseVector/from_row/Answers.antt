@@ -8,7 +8,7 @@ pub invariant_of-result : goal.invariant_of-result
 invariant_of-result c = (
   held-fresh c.args.size c.args.row c.new.result.items (none_set c.new.result.items c.new.ensures.items) c.new-2.result.changes (ap (λ (p : PendingView). p.changes) c.new-2.ensures)
       c.requires.whole c.len-nvals.result c.len-nvals.ensures.len true,
-  λ l. let r = ap (λ (p : PendingView). p.reserved) c.new-2.ensures in let n = ap length c.new.ensures.items in absurd (omega (arith, l, r, n)),
+  record { few = let n = ap length c.new.ensures.items in omega (arith, n); each = λ l. let r = ap (λ (p : PendingView). p.reserved) c.new-2.ensures in let n = ap length c.new.ensures.items in absurd (omega (arith, l, r, n)) },
 )
 
 pub returns : goal.returns

@@ -32,7 +32,7 @@ invariant_of-self c =
     let stood = c.erase-stood.ensures.stood in (
       held-changed i.size i.row i.deleted.items i.pending.changes i.nvals i.assembled held i.row c.erase-stood.new.deleted.items c.erase-stood.new.pending.changes c.erase-stood.ensures.laid refl c.args.index None c.erase-stood.ensures.found
           inside tt c.counted-self-inside.result (ap (λ b. c.counted-self-inside.result + cond b 1 0) (sym stood) ∙ c.counted-self-inside.ensures),
-      λ l. c.erase-stood.ensures.marked,
+      record { few = let n = c.erase-stood.ensures.marked in omega (arith, n); each = λ l. let n = c.erase-stood.ensures.marked in omega (arith, n) },
     )
 
 pub returns-clause-vector : goal.returns-clause-vector

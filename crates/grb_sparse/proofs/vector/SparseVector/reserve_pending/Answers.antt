@@ -24,7 +24,7 @@ invariant_of-self-then-is_empty c =
     let i = c.self.inside in
     let is : i.deleted.items ≡ [] = empty i.deleted.items (let z = is_zero _ (sym c.is_empty.ensures ∙ c.if-is_empty.true) in omega (arith, z, i.deleted.ok.0)) in (
       held-marked i.row i.deleted.items is c.in_ok-deleted.deleted.items c.in_ok-deleted.ensures.unset i.pending.changes c.reserve.new.self.changes c.reserve.ensures.changes i.size i.nvals i.assembled c.self.invariant.0,
-      λ l. let a = c.in_ok-deleted.ensures.len in let b = c.len.ensures.len in omega (arith, a, b),
+      let a = c.in_ok-deleted.ensures.len in let b = c.len.ensures.len in record { few = omega (arith, a, b); each = λ l. omega (arith, a, b) },
     )
 
 pub returns-then-is_empty-clause-vector : goal.returns-then-is_empty-clause-vector

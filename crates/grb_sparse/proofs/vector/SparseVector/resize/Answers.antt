@@ -36,7 +36,7 @@ invariant_of-self c =
     let is = c.in_ok-row.ensures.entries ∙ restricted-one_row c.args.size (omega (arith, small)) c.in_ok-whole.whole.entries ∙ ap (restricted (is_index_in c.args.size)) c.in_ok-whole.ensures.entries in (
       held-fresh c.args.size new c.new-deleted.result.items (none_set c.new-deleted.result.items c.new-deleted.ensures.items) c.clear.new.self.changes (ap (λ (p : PendingView). p.changes) c.clear.ensures)
           (IsVector-same new.domain i.row.domain c.args.size new.entries _ (c.in_ok-row.ensures.domain ∙ c.in_ok-whole.ensures.domain) is (IsVector-resized (vector_of i.row.domain i.size (stored i.row i.deleted.items i.pending.changes)) c.args.size c.requires.dimension held.vector)) c.len.result c.len.ensures.len i.assembled,
-      λ l. let r = ap (λ (p : PendingView). p.reserved) c.clear.ensures in let n = ap length c.new-deleted.ensures.items in absurd (omega (arith, l, r, n)),
+      record { few = let n = ap length c.new-deleted.ensures.items in omega (arith, n); each = λ l. let r = ap (λ (p : PendingView). p.reserved) c.clear.ensures in let n = ap length c.new-deleted.ensures.items in absurd (omega (arith, l, r, n)) },
     )
 
 pub returns-clause-vector : goal.returns-clause-vector

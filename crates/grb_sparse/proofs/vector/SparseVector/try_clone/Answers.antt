@@ -26,7 +26,7 @@ invariant_of-result c =
     let same = c.in_ok-copy.ensures.domain in (
       held-fresh c.self.inside.size row c.new-deleted.result.items (none_set c.new-deleted.result.items c.new-deleted.ensures.items) c.new.result.changes (ap (λ (p : PendingView). p.changes) c.new.ensures)
           (IsVector-same row.domain _ c.self.inside.size row.entries _ same is held.vector) c.self.inside.nvals (held.counted ∙ ap length (sym is)) c.self.inside.assembled,
-      λ l. let r = ap (λ (p : PendingView). p.reserved) c.new.ensures in let n = ap length c.new-deleted.ensures.items in absurd (omega (arith, l, r, n)),
+      record { few = let n = ap length c.new-deleted.ensures.items in omega (arith, n); each = λ l. let r = ap (λ (p : PendingView). p.reserved) c.new.ensures in let n = ap length c.new-deleted.ensures.items in absurd (omega (arith, l, r, n)) },
     )
 
 pub returns-clause-vector : goal.returns-clause-vector

@@ -1,0 +1,362 @@
+ghost use Rattle.std.specs.Prelude.{◌≡◌, ◌<◌, ◌≤◌, ◌^◌, [], false, None, Some, if◌then◌else◌, length, map, All, IfOk, IfSome, OnOk, OnErr};
+ghost use Rattle.grb_order.specs.Order.{room_of};
+ghost use Rattle.grb_records.specs.Token.{IsOf};
+ghost use Rattle.grb_call.specs.declared.call.Call.{Call};
+ghost use Rattle.grb_call.specs.Kinds.{enters, is_size};
+ghost use Rattle.grb_call.specs.Refused.{is_in_bounds};
+ghost use Rattle.grb_call.specs.Status.{object_of};
+ghost use Rattle.grb_call.specs.Store.{empty_store, shapes_of};
+ghost use Rattle.grb_call.specs.After.{refused, refused_build, reply_of};
+ghost use Rattle.grb_call.specs.History.{calls_of, store_of};
+ghost use Rattle.grb_replay.specs.Evaluated.{IsEvaluated};
+ghost use Rattle.grb_replay.specs.Settled.{AreAllAssembled, IsSettled};
+ghost use Rattle.grb_replay.specs.State.{is_assembled};
+ghost use Rattle.grb_values.specs.Partial.{ArePartial};
+ghost use Rattle.grb_pass.specs.Evaluated.{IsAssembledWhereSettled, IsEvaluatedFor, IsStoreFor};
+ghost use Rattle.grb_pass.specs.Known.{known};
+ghost use Rattle.grb_pass.specs.Settled.{is_materialize};
+
+use crate::reader::Reader;
+use grb_call::{Call, Object, Reply, WaitMode};
+use grb_core::Refusal;
+use grb_records::Records;
+use grb_replay::State;
+use grb_slices::CallList;
+use grb_values::PartialStores;
+use grb_versions::Versions;
+use std::alloc::{AllocError, Global};
+use std::marker::Model;
+use std::sync::Arc;
+
+/// How many calls more are known where a pass asks for a version again, and how many are to be made where it asks at once (own).
+const MANY: usize = 64;
+
+/// What a pass has evaluated of the calls that it knows: the store after the first of them, and, where not all were evaluated, the objects
+/// that it read, each in a partial store. It goes on from the versions that passes share, and offers its store where all known calls were
+/// evaluated and are settled.
+#[derive(Drop)]
+pub(crate) struct Evaluated {
+    state: State,
+    // How many of the known calls were made in the state.
+    count: usize,
+    objects: PartialStores,
+    versions: Arc<Versions>,
+    // How many calls are known where it asks for a version next.
+    next: usize,
+    // How many calls the last call of the pass made in the state.
+    made: u32,
+}
+
+impl Model for Evaluated {
+    ghost use Rattle.grb_pass.specs.Evaluated.{EvaluatedView};
+
+    ghost Value = { EvaluatedView };
+
+    ghost view = { λ e. record { state = e.state; count = e.count; objects = e.objects } };
+}
+
+/// The known calls, in turn. `AllocError` where memory is refused.
+fn lent_calls<'a>(records: &'a Records, reader: &mut Reader) -> Result<Vec<&'a Call>, AllocError>
+    requires of { All (IsOf records.now) reader.old.shown }
+    ensures calls { IfOk result (λ calls. map (λ c. c.now) calls.items ≡ calls_of (known reader.old)) }
+    ensures few { IfOk result (λ calls. length calls.items < 2 ^ 32) }
+    ensures within { IfOk result (λ calls. length calls.items ≤ room_of reader.old.order) }
+    ensures known { length (known reader.old) ≤ room_of reader.old.order }
+    ensures same { reader.new ≡ reader.old }
+{
+    let known = reader.known() as usize;
+    let mut calls = Vec::with_capacity(reader.allocator(), known)?;
+    'calls: for at in 0..known {
+        calls.push_reserved(reader.call_at(records, at));
+    }
+    Ok(calls)
+}
+
+/// Goes on from the longest version that a pass offered of the first known calls, where it has more of them than were evaluated. Where
+/// memory is refused to that, the store stays as it was evaluated.
+fn advance(
+    versions: &Versions,
+    records: &Records,
+    reader: &mut Reader,
+    state: &mut State,
+    count: &mut usize,
+)
+    requires store { IsStoreFor reader.old state.old count.old }
+    requires of { All (IsOf records.now) reader.old.shown }
+    ensures same { reader.new ≡ reader.old }
+    ensures store { IsStoreFor reader.new state.new count.new }
+{
+    if reader.known() as usize <= *count {
+        return;
+    }
+    let Ok(calls) = lent_calls(records, reader) else {
+        return;
+    };
+    let room = reader.room();
+    *count = versions.advance(calls.as_slice(), state, *count, room);
+}
+
+/// Applies the calls of the records that were not yet evaluated, and counts each among those made. Where memory is refused, those before
+/// stay evaluated.
+fn evaluate(
+    records: &Records,
+    reader: &mut Reader,
+    state: &mut State,
+    count: &mut usize,
+    made: &mut u32,
+) -> Result<(), AllocError>
+    requires store { IsStoreFor reader.old state.old count.old }
+    requires of { All (IsOf records.now) reader.old.shown }
+    ensures same { reader.new ≡ reader.old }
+    ensures evaluated { IsStoreFor reader.new state.new count.new }
+    ensures store { OnOk result (state.new.store ≡ store_of (known reader.new)) }
+    ensures all { OnOk result (length (known reader.new) ≤ count.new) }
+    ensures memory { OnErr result (reader.old.settled < length (known reader.old)) }
+{
+    'calls: while *count < reader.known() as usize {
+        *made = made.saturating_add(1);
+        state.apply(reader.call_at(records, *count))?;
+        *count += 1;
+    }
+    Ok(())
+}
+
+/// Whether the call waits for all objects.
+fn is_materialize(call: &Call) -> bool
+    ensures { result ≡ is_materialize call.now }
+{
+    match call {
+        Call::WaitMatrix { mode, .. } | Call::WaitVector { mode, .. } => match mode {
+            WaitMode::Complete => false,
+            WaitMode::Materialize => true,
+        },
+        _ => false,
+    }
+}
+
+/// Offers the store, in which all known calls are evaluated and no change waits, to the other passes; where the cell for so many calls has a
+/// version it copies nothing, and takes no memory. `AllocError` where memory is refused; then it has not offered it.
+fn offer(
+    versions: &Versions,
+    records: &Records,
+    reader: &mut Reader,
+    state: &State,
+) -> Result<(), AllocError>
+    requires of { All (IsOf records.now) reader.old.shown }
+    requires all { state.now.store ≡ store_of (known reader.old) }
+    requires assembled { AreAllAssembled (is_assembled state.now.matrices state.now.vectors) }
+    ensures same { reader.new ≡ reader.old }
+{
+    if !versions.takes(reader.known() as usize) {
+        return Ok(());
+    }
+    let calls = lent_calls(records, reader)?;
+    let copy = state.try_clone(0)?;
+    versions.offer(calls.as_slice(), copy)
+}
+
+/// Has the changes done that a reading call asks for, where all known calls are evaluated; where these are settled none wait. A call that
+/// waits for all objects then offers the store to the other passes, and settles them. `AllocError` where memory is refused to any of it.
+fn settle(
+    records: &Records,
+    reader: &mut Reader,
+    state: &mut State,
+    versions: &Versions,
+    call: &Call,
+) -> Result<(), AllocError>
+    requires of { All (IsOf records.now) reader.old.shown }
+    requires all { state.old.store ≡ store_of (known reader.old) }
+    requires within { reader.old.settled ≤ length (known reader.old) }
+    requires assembled { IsAssembledWhereSettled reader.old state.old }
+    ensures store { state.new.store ≡ state.old.store }
+    ensures room { state.new.room ≡ state.old.room }
+    ensures same { reader.new ≡ record reader.old { settled = reader.new.settled } }
+    ensures settled { OnOk result (reader.new.settled ≡ (if is_materialize call.now then length (known reader.old) else reader.old.settled)) }
+    ensures err { OnErr result (reader.new ≡ reader.old) }
+    ensures within { reader.new.settled ≤ length (known reader.old) }
+    ensures assembled { IsAssembledWhereSettled reader.new state.new }
+    ensures ready { OnOk result (IsSettled (is_assembled state.new.matrices state.new.vectors) call.now) }
+    ensures memory { OnErr result (reader.old.settled < length (known reader.old)) }
+{
+    if reader.settled() < reader.known() {
+        state.settle(call)?;
+        if is_materialize(call) {
+            offer(versions, records, reader, state)?;
+            reader.settle();
+        }
+    }
+    Ok(())
+}
+
+impl Evaluated {
+    /// No call is evaluated and no object read, with room for so many calls. `AllocError` where memory is refused.
+    pub(crate) fn open(
+        alloc: Global,
+        room: u32,
+        versions: Arc<Versions>,
+    ) -> Result<Evaluated, AllocError>
+        ensures store { IfOk result (λ e. e.state.store ≡ empty_store) }
+        ensures room { IfOk result (λ e. e.state.room ≡ room) }
+        ensures count { IfOk result (λ e. e.count ≡ 0) }
+        ensures objects { IfOk result (λ e. ArePartial [] e.objects) }
+        ensures objects_room { IfOk result (λ e. e.objects.room ≡ room) }
+    {
+        let state = State::empty(alloc).try_clone(room)?;
+        let objects = PartialStores::open(alloc, room)?;
+        Ok(Evaluated {
+            state,
+            count: 0,
+            objects,
+            versions,
+            next: 0,
+            made: 0,
+        })
+    }
+
+    /// Begins to count the calls that are made.
+    pub(crate) fn begin(&mut self)
+        ensures { self.new ≡ self.old }
+    {
+        self.objects.begin();
+        self.made = 0;
+    }
+
+    /// How many calls the last call of the pass made, as [`Pass::made`](crate::Pass::made) says.
+    pub(crate) fn made(&self) -> u32 {
+        self.made.saturating_add(self.objects.made())
+    }
+
+    /// Goes on from a version before a read, or a build's check: the first time, and then where 64 calls more are known than when it last
+    /// did so.
+    pub(crate) fn go_on(&mut self, records: &Records, reader: &mut Reader)
+        requires evaluated { IsEvaluatedFor reader.old self.old }
+        requires of { All (IsOf records.now) reader.old.shown }
+        ensures same { reader.new ≡ reader.old }
+        ensures evaluated { IsEvaluatedFor reader.new self.new }
+    {
+        let known = reader.known() as usize;
+        if known >= self.next {
+            self.next = known + MANY;
+            advance(
+                &self.versions,
+                records,
+                reader,
+                &mut self.state,
+                &mut self.count,
+            );
+        }
+    }
+
+    /// Evaluates all known calls, from a version where 64 of them or more are not made yet. No object is held in a partial store any more. Where memory is
+    /// refused, `AllocError`; those before stay evaluated.
+    pub(crate) fn make_all(
+        &mut self,
+        records: &Records,
+        reader: &mut Reader,
+    ) -> Result<(), AllocError>
+        requires evaluated { IsEvaluatedFor reader.old self.old }
+        requires of { All (IsOf records.now) reader.old.shown }
+        ensures same { reader.new ≡ reader.old }
+        ensures evaluated { IsEvaluatedFor reader.new self.new }
+        ensures store { OnOk result (self.new.state.store ≡ store_of (known reader.new)) }
+        ensures all { OnOk result (length (known reader.new) ≤ self.new.count) }
+        ensures memory { OnErr result (reader.old.settled < length (known reader.old)) }
+    {
+        self.objects.release();
+        if reader.known() as usize >= self.count.saturating_add(MANY) {
+            advance(
+                &self.versions,
+                records,
+                reader,
+                &mut self.state,
+                &mut self.count,
+            );
+        }
+        evaluate(
+            records,
+            reader,
+            &mut self.state,
+            &mut self.count,
+            &mut self.made,
+        )
+    }
+
+    /// Why what is stored refuses the build, if it does. Takes no memory.
+    pub(crate) fn refused_build(&self, call: &Call, in_bounds: bool) -> Option<Refusal>
+        requires { in_bounds ≡ is_in_bounds (shapes_of self.now.state.store) call.now }
+        ensures { result ≡ refused_build self.now.state.store call.now }
+    {
+        self.state.refused_build(call, in_bounds)
+    }
+
+    /// Has the changes done that a reading call asks for, where all known calls are evaluated. A call that waits for all objects then offers
+    /// the store to the other passes, and settles the known calls. `AllocError` where memory is refused to any of it.
+    pub(crate) fn settle(
+        &mut self,
+        records: &Records,
+        reader: &mut Reader,
+        call: &Call,
+    ) -> Result<(), AllocError>
+        requires evaluated { IsEvaluatedFor reader.old self.old }
+        requires of { All (IsOf records.now) reader.old.shown }
+        requires store { self.old.state.store ≡ store_of (known reader.old) }
+        requires all { length (known reader.old) ≤ self.old.count }
+        ensures store { self.new.state.store ≡ self.old.state.store }
+        ensures evaluated { IsEvaluatedFor reader.new self.new }
+        ensures same { reader.new ≡ record reader.old { settled = reader.new.settled } }
+        ensures settled { OnOk result (reader.new.settled ≡ (if is_materialize call.now then length (known reader.old) else reader.old.settled)) }
+        ensures err { OnErr result (reader.new ≡ reader.old) }
+        ensures ready { OnOk result (IsSettled (is_assembled self.new.state.matrices self.new.state.vectors) call.now) }
+        ensures memory { OnErr result (reader.old.settled < length (known reader.old)) }
+    {
+        settle(records, reader, &mut self.state, &self.versions, call)
+    }
+
+    /// The reply to a call that is not refused, only reads, and does not ask for dimensions alone; what it needs was settled. Takes no
+    /// memory.
+    pub(crate) fn reply(&self, call: &Call) -> Reply
+        requires reads { enters call.now ≡ false }
+        requires no_size { is_size call.now ≡ false }
+        requires accepted { refused self.now.state.store call.now ≡ None }
+        requires settled { IsSettled (is_assembled self.now.state.matrices self.now.state.vectors) call.now }
+        ensures { result ≡ reply_of self.now.state.store call.now }
+    {
+        self.state.reply(call)
+    }
+
+    /// The reply to a call that only reads the object and is not refused, after all known calls, from only those that the object depends on:
+    /// behind those that were evaluated for it before, or else in the state. None where all are evaluated, or are to be. `AllocError` where
+    /// memory is refused.
+    pub(crate) fn reply_of_object(
+        &mut self,
+        records: &Records,
+        reader: &mut Reader,
+        object: Object,
+        call: &Call,
+    ) -> Result<Option<Reply>, AllocError>
+        requires evaluated { IsEvaluatedFor reader.old self.old }
+        requires of { All (IsOf records.now) reader.old.shown }
+        requires reads { enters call.now ≡ false }
+        requires no_size { is_size call.now ≡ false }
+        requires about { object_of call.now ≡ Some object }
+        requires accepted { refused (store_of (known reader.old)) call.now ≡ None }
+        ensures same { reader.new ≡ reader.old }
+        ensures evaluated { IsEvaluatedFor reader.new self.new }
+        ensures reply { IfOk result (λ given. IfSome given (λ reply. reply ≡ reply_of (store_of (known reader.old)) call.now)) }
+        ensures unsettled { OnErr result (reader.old.settled < length (known reader.old)) }
+    {
+        if self.count >= reader.known() as usize {
+            return Ok(None);
+        }
+        let held = self.objects.len();
+        let reply = self
+            .objects
+            .reply(reader, records, &self.state, self.count, object, call)?;
+        if reply.is_some() || self.objects.len() == held {
+            return Ok(reply);
+        }
+        // What was held of the object lacked what new calls read, and is dropped.
+        self.objects
+            .reply(reader, records, &self.state, self.count, object, call)
+    }
+}

@@ -1,6 +1,0 @@
-use Prim.{search}
-use Rattle.std.proofs.Common.{rules}
-use Rattle.grb_replay.proofs.state.State.is_assembled.Goals as goal
-
-pub returns-in-Vector : goal.returns-in-Vector
-returns-in-Vector c = search rules
