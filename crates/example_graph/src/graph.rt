@@ -18,13 +18,14 @@ const PLAIN: Descriptor = Descriptor {
     structure: false,
     comp: false,
     replace: false,
+    tran: false,
 };
 
 /// An operation with a mask whose stored entries count, whatever their values are. What lies outside is removed.
 const INSIDE: Descriptor = Descriptor {
     structure: true,
-    comp: false,
     replace: true,
+    ..PLAIN
 };
 
 /// A graph in the store, and the objects in which its answers are computed. Any thread may copy it: it is three numbers.

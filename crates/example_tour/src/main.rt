@@ -22,6 +22,7 @@ const PLAIN: Descriptor = Descriptor {
     structure: false,
     comp: false,
     replace: false,
+    tran: false,
 };
 
 /// Prints what a call answered: its reply, or its refusal with what to do about it.

@@ -49,6 +49,7 @@ module _ (s : Store) where
   vectors_changed (call.EwiseAddVector w mask accum op l r d) = put s.vectors w.0 _
   vectors_changed (call.EwiseMultVector w mask accum op l r d) = put s.vectors w.0 _
   vectors_changed (call.Mxv w mask accum semiring l r d) = put s.vectors w.0 _
+  vectors_changed (call.Vxm w mask accum semiring l r d) = put s.vectors w.0 _
   vectors_changed (call.ReduceRows w mask accum monoid l d) = put s.vectors w.0 _
   vectors_changed _ = omega arith
 

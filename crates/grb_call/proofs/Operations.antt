@@ -1,5 +1,5 @@
 -- The operands of an operation that is not refused: they are there, of one domain, and of dimensions that fit.
-use Rattle.std.proofs.Common.{◌≡◌, ℕ, zero, suc, ◌&&◌, true, List, [], ◌∷◌, map, refl, sym, ap, subst, ◌∙◌, Option, Some, None, IfSome, is_some, option_map}
+use Rattle.std.proofs.Common.{◌≡◌, ℕ, zero, suc, ◌&&◌, Bool, true, false, List, [], ◌∷◌, map, refl, sym, ap, subst, ◌∙◌, Option, Some, None, IfSome, is_some, option_map}
 use Rattle.std.specs.List.{list_all}
 use Rattle.std.specs.Option.{option_map_or}
 use Rattle.std.proofs.lemmas.Bool.{and_parts, eqb-true}
@@ -14,7 +14,7 @@ use Rattle.grb_call.specs.declared.ids.Object.{Object}
 use Rattle.grb_call.specs.declared.ids.Object.TheVariants as object
 use Rattle.grb_call.specs.Operands.{matrix_mask, vector_mask, accum_domains}
 use Rattle.grb_call.specs.Shapes.{ObjectShapes, MatrixShape, VectorShape, object_at, matrix_shape_at, vector_shape_at, is_live, domain_at, nrows_at, ncols_at, size_at}
-use Rattle.grb_call.specs.Refused.{same_domain, are_of_domain, is_one_domain, same_dims, same_size, matrix_mask_fits, vector_mask_fits, ewise_matrices_fit, ewise_vectors_fit}
+use Rattle.grb_call.specs.Refused.{same_domain, are_of_domain, is_one_domain, same_dims, turned_dims, same_size, matrix_mask_fits, vector_mask_fits, ewise_matrices_fit, ewise_vectors_fit}
 use Rattle.grb_call.specs.Store.{Store, shapes_of, matrix_at, vector_at, matrix_shape, vector_shape}
 use Rattle.grb_call.proofs.ShapesAfter.{object_at-map}
 use Rattle.grb_call.proofs.Passed.{same_domain-true}
@@ -138,9 +138,28 @@ module _ (s : Store) (w : VectorId) (x : Vector) (at_output : vector_at s w ≡ 
       let found = there vector_shape s.vectors v.0 (and_parts _ _ live).0 in
       (found.0, found.1, size-same v found.0 found.1 fits)
 
+-- the matrix is there, and has these dimensions as it is turned
+abbrev pub IsTurnedAt : Store → Bool → MatrixId → Domain → ℕ → ℕ → Type 0
+IsTurnedAt s true a domain nrows ncols = IsMatrixAt s a domain ncols nrows
+IsTurnedAt s false a domain nrows ncols = IsMatrixAt s a domain nrows ncols
+
+turned_input : (s : Store) (c : MatrixId) (m : Matrix) → matrix_at s c ≡ Some m → (tran : Bool) (a : MatrixId) → is_live (shapes_of s) (object.Matrix a) ≡ true →
+    option_map_or (same_domain m.domain) (domain_at (shapes_of s) (object.Matrix a)) true ≡ true → turned_dims (shapes_of s) tran a c ≡ true → IsTurnedAt s tran a m.domain m.nrows m.ncols
+turned_input s c m at_output true a live domain dims =
+    let found = there matrix_shape s.matrices a.0 live in
+    let parts = and_parts _ _ dims in
+    record {
+      matrix = found.0;
+      at = found.1;
+      same_domain = domain_is (domain_at (shapes_of s) (object.Matrix a)) m.domain found.0.domain domain (matrix_domain-at s a found.0 found.1);
+      same_nrows = sym (nrows-at s a found.0 found.1) ∙ eqb-true _ _ parts.1 ∙ ncols-at s c m at_output;
+      same_ncols = sym (ncols-at s a found.0 found.1) ∙ eqb-true _ _ parts.0 ∙ nrows-at s c m at_output;
+    }
+turned_input s c m at_output false a live domain dims = matrix_input s c m at_output a live domain dims
+
 -- the operands of an element-wise operation, by its output m
-pub record EwiseMatrices (s : Store) (m : Matrix) (mask : Option MatrixId) (accum : Option BinaryOp) (op : BinaryOp) (a b : MatrixId) : Type 0 where
-  pub first : IsMatrixAt s a m.domain m.nrows m.ncols
+pub record EwiseMatrices (s : Store) (m : Matrix) (tran : Bool) (mask : Option MatrixId) (accum : Option BinaryOp) (op : BinaryOp) (a b : MatrixId) : Type 0 where
+  pub first : IsTurnedAt s tran a m.domain m.nrows m.ncols
   pub second : IsMatrixAt s b m.domain m.nrows m.ncols
   pub masked : IsMatrixMask s mask m.nrows m.ncols
   pub computes : op_domain op ≡ m.domain
@@ -153,11 +172,11 @@ pub record EwiseVectors (s : Store) (x : Vector) (mask : Option VectorId) (accum
   pub computes : op_domain op ≡ x.domain
   pub accumulates : AccumulatesIn x.domain accum
 
-pub ewise_matrices : (s : Store) (c : MatrixId) (m : Matrix) → matrix_at s c ≡ Some m → (mask : Option MatrixId) (accum : Option BinaryOp) (op : BinaryOp) (a b : MatrixId) →
+pub ewise_matrices : (s : Store) (c : MatrixId) (m : Matrix) → matrix_at s c ≡ Some m → (tran : Bool) (mask : Option MatrixId) (accum : Option BinaryOp) (op : BinaryOp) (a b : MatrixId) →
     list_all (is_live (shapes_of s)) (object.Matrix c ∷ object.Matrix a ∷ object.Matrix b ∷ matrix_mask mask) ≡ true →
     is_one_domain (shapes_of s) (object.Matrix c ∷ object.Matrix a ∷ object.Matrix b ∷ []) (op_domain op ∷ accum_domains accum) ≡ true →
-    ewise_matrices_fit (shapes_of s) c mask a b ≡ true → EwiseMatrices s m mask accum op a b
-ewise_matrices s c m at mask accum op a b initialized one_domain fits =
+    ewise_matrices_fit (shapes_of s) tran c mask a b ≡ true → EwiseMatrices s m tran mask accum op a b
+ewise_matrices s c m at tran mask accum op a b initialized one_domain fits =
     let live = and_parts _ _ (and_parts _ _ initialized).1 in
     let live_rest = and_parts _ _ live.1 in
     let domains = of_output (shapes_of s) (object.Matrix c) m.domain (object.Matrix a ∷ object.Matrix b ∷ []) (op_domain op ∷ accum_domains accum) (matrix_domain-at s c m at) one_domain in
@@ -166,7 +185,7 @@ ewise_matrices s c m at mask accum op a b initialized one_domain fits =
     let dims = and_parts _ _ fits in
     let dims_rest = and_parts _ _ dims.1 in
     record {
-      first = matrix_input s c m at a live.0 inputs.0 dims.0;
+      first = turned_input s c m at tran a live.0 inputs.0 dims.0;
       second = matrix_input s c m at b live_rest.0 (and_parts _ _ inputs.1).0 dims_rest.0;
       masked = matrix_mask-there s c m at mask live_rest.1 dims_rest.1;
       computes = given.0;

@@ -12,7 +12,7 @@ use Rattle.grb_call.specs.declared.call.Call.TheVariants as call
 use Rattle.grb_call.specs.declared.descriptor.WaitMode.TheVariants as mode
 use Rattle.grb_call.specs.Store.{empty_store}
 use Rattle.grb_call.specs.History.{answers}
-use Rattle.grb_call.proofs.Rows.{m, v, u64, done, made_vector, made_matrix, number, truth, count, none, plain, descriptor}
+use Rattle.grb_call.proofs.Rows.{m, v, u64, done, made_vector, made_matrix, number, truth, count, none, plain, descriptor, tran}
 
 abbrev semiring : Monoid → BinaryOp → SemiringParts
 semiring add multiply = record { monoid = add; op = multiply }
@@ -126,3 +126,52 @@ totals_and_waits :
     ∷ [])
     ≡ made_matrix 0 ∷ number 18446744073709551615 ∷ made_vector 0 ∷ truth true ∷ done ∷ done ∷ done ∷ number 2 ∷ Err DomainMismatch ∷ done ∷ Err UninitializedObject ∷ Err UninitializedObject ∷ []
 totals_and_waits = refl
+
+-- a vector with each column of a matrix, and the same by the transposed matrix; where multiply does not commute the two differ
+vxm_and_transposed_mxv :
+    answers empty_store
+    (call.NewMatrix domain.Uint64 2 3
+    ∷ call.NewVector domain.Uint64 2
+    ∷ call.NewVector domain.Uint64 3
+    ∷ call.BuildMatrix (m 0) ((0, 1, u64 2) ∷ (0, 2, u64 5) ∷ (1, 1, u64 7) ∷ []) monoid.Plus
+    ∷ call.BuildVector (v 0) ((0, u64 10) ∷ (1, u64 1) ∷ []) monoid.Plus
+    ∷ call.Vxm (v 1) None None (semiring monoid.Plus op.Times) (v 0) (m 0) plain
+    ∷ call.GetVector (v 1) 0
+    ∷ call.GetVector (v 1) 1
+    ∷ call.GetVector (v 1) 2
+    ∷ call.Mxv (v 1) None None (semiring monoid.Plus op.Times) (m 0) (v 0) plain
+    ∷ call.Mxv (v 1) None None (semiring monoid.Plus op.Times) (m 0) (v 0) tran
+    ∷ call.GetVector (v 1) 1
+    ∷ call.Vxm (v 1) None None (semiring monoid.Min op.Minus) (v 0) (m 0) tran
+    ∷ call.GetVector (v 1) 1
+    ∷ call.Mxv (v 1) None None (semiring monoid.Min op.Minus) (m 0) (v 0) tran
+    ∷ call.GetVector (v 1) 1
+    ∷ call.Vxm (v 0) None None (semiring monoid.Plus op.Times) (v 0) (m 0) plain
+    ∷ [])
+    ≡ made_matrix 0 ∷ made_vector 0 ∷ made_vector 1 ∷ done ∷ done ∷ done ∷ none ∷ number 27 ∷ number 50 ∷ Err DimensionMismatch ∷ done ∷ number 27 ∷ done ∷ number 8 ∷ done ∷ number 6
+    ∷ Err DimensionMismatch ∷ []
+vxm_and_transposed_mxv = refl
+
+-- sums of columns, the product of the transposed matrix with itself, and a matrix with its own transposed
+transposed_first_inputs :
+    answers empty_store
+    (call.NewMatrix domain.Uint64 2 3
+    ∷ call.BuildMatrix (m 0) ((0, 1, u64 2) ∷ (0, 2, u64 5) ∷ (1, 1, u64 7) ∷ []) monoid.Plus
+    ∷ call.NewVector domain.Uint64 3
+    ∷ call.ReduceRows (v 0) None None monoid.Plus (m 0) tran
+    ∷ call.GetVector (v 0) 1
+    ∷ call.NewMatrix domain.Uint64 3 3
+    ∷ call.Mxm (m 1) None None (semiring monoid.Plus op.Times) (m 0) (m 0) tran
+    ∷ call.GetMatrix (m 1) 1 1
+    ∷ call.GetMatrix (m 1) 1 2
+    ∷ call.NvalsMatrix (m 1)
+    ∷ call.NewMatrix domain.Uint64 2 2
+    ∷ call.SetMatrix (m 2) 0 1 (u64 5)
+    ∷ call.EwiseAddMatrix (m 2) None None op.First (m 2) (m 2) tran
+    ∷ call.GetMatrix (m 2) 1 0
+    ∷ call.NvalsMatrix (m 2)
+    ∷ call.EwiseAddMatrix (m 0) None None op.First (m 0) (m 0) tran
+    ∷ [])
+    ≡ made_matrix 0 ∷ done ∷ made_vector 0 ∷ done ∷ number 9 ∷ made_matrix 1 ∷ done ∷ number 53 ∷ number 10 ∷ count 4 ∷ made_matrix 2 ∷ done ∷ done ∷ number 5 ∷ count 2
+    ∷ Err DimensionMismatch ∷ []
+transposed_first_inputs = refl

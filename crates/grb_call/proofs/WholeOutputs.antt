@@ -1,5 +1,5 @@
 -- What an operation writes into a whole output is whole.
-use Rattle.std.proofs.Common.{◌≡◌, ℕ, [], sym, ap, subst, Option, Some, IfSome}
+use Rattle.std.proofs.Common.{◌≡◌, ℕ, Bool, true, false, [], sym, ap, subst, Option, Some, IfSome}
 use Rattle.std.specs.Option.{option_map, option_map_or}
 use Rattle.std.specs.Ordering.{nat_cmp}
 use Rattle.std.specs.FinMap.{nat_cmp-IsAntisymmetric}
@@ -10,16 +10,16 @@ use Rattle.grb_core.specs.Entries.{cell_cmp, MatrixEntries, VectorEntries}
 use Rattle.grb_core.specs.Contents.{Vector, Matrix, IsVector, IsMatrix}
 use Rattle.grb_core.specs.Mask.{is_inside}
 use Rattle.grb_core.specs.Written.{AccumulatesIn}
-use Rattle.grb_core.specs.Results.{ewise_add, ewise_mult}
+use Rattle.grb_core.specs.Results.{ewise_add, ewise_mult, turned}
 use Rattle.grb_core.specs.ResultLaws.{IsBelow, IsCellBelow, AreVectorEntries, AreMatrixEntries}
 use Rattle.grb_core.proofs.Maps.{cell_cmp_total, cell_cmp-IsAntisymmetric}
-use Rattle.grb_core.proofs.ResultLaws.{ewise_makes_entries, written_makes_entries}
+use Rattle.grb_core.proofs.ResultLaws.{ewise_makes_entries, transposed_makes_entries, written_makes_entries}
 use Rattle.grb_call.specs.declared.descriptor.Descriptor.{Descriptor}
 use Rattle.grb_call.specs.declared.ids.MatrixId.{MatrixId}
 use Rattle.grb_call.specs.declared.ids.VectorId.{VectorId}
 use Rattle.grb_call.specs.Output.{entries_in, written_matrix, written_vector}
 use Rattle.grb_call.specs.Store.{Store, matrix_at, vector_at, matrix_entries, vector_entries}
-use Rattle.grb_call.proofs.Operations.{IsMatrixAt, IsVectorAt, EwiseMatrices, EwiseVectors}
+use Rattle.grb_call.proofs.Operations.{IsMatrixAt, IsTurnedAt, IsVectorAt, EwiseMatrices, EwiseVectors}
 
 -- what is whole where it is there
 of_some : {X : Type 0} (P : X → Type 0) (o : Option X) (x : X) → o ≡ Some x → IfSome o P → P x
@@ -65,14 +65,21 @@ input_vector-entries s v domain size whole is =
     (subst (λ (n : ℕ). AreVectorEntries n x.domain x.entries) is.same_size
     (vector_entries_are x (of_some IsVector (vector_at s v) x is.at whole))))
 
+-- the entries of a first input, as it is turned
+pub input_turned-entries : (s : Store) (tran : Bool) (a : MatrixId) (domain : Domain) (nrows ncols : ℕ) → IfSome (matrix_at s a) IsMatrix → IsTurnedAt s tran a domain nrows ncols →
+    AreMatrixEntries nrows ncols domain (turned tran (matrix_entries s a))
+input_turned-entries s true a domain nrows ncols whole is = transposed_makes_entries ncols nrows domain (matrix_entries s a) (input_matrix-entries s a domain ncols nrows whole is)
+input_turned-entries s false a domain nrows ncols whole is = input_matrix-entries s a domain nrows ncols whole is
+
 -- the results of the element-wise operations
-pub ewise_matrices-entries : (s : Store) (m : Matrix) (mask : Option MatrixId) (accum : Option BinaryOp) (op : BinaryOp) (a b : MatrixId) → IfSome (matrix_at s a) IsMatrix → IfSome (matrix_at s b) IsMatrix →
-    EwiseMatrices s m mask accum op a b →
-    AreMatrixEntries m.nrows m.ncols m.domain (ewise_add cell_cmp op (matrix_entries s a) (matrix_entries s b)) × AreMatrixEntries m.nrows m.ncols m.domain (ewise_mult cell_cmp op (matrix_entries s a) (matrix_entries s b))
-ewise_matrices-entries s m mask accum op a b whole_a whole_b are =
-    let x = matrix_entries s a in
+pub ewise_matrices-entries : (s : Store) (m : Matrix) (tran : Bool) (mask : Option MatrixId) (accum : Option BinaryOp) (op : BinaryOp) (a b : MatrixId) → IfSome (matrix_at s a) IsMatrix → IfSome (matrix_at s b) IsMatrix →
+    EwiseMatrices s m tran mask accum op a b →
+    AreMatrixEntries m.nrows m.ncols m.domain (ewise_add cell_cmp op (turned tran (matrix_entries s a)) (matrix_entries s b))
+    × AreMatrixEntries m.nrows m.ncols m.domain (ewise_mult cell_cmp op (turned tran (matrix_entries s a)) (matrix_entries s b))
+ewise_matrices-entries s m tran mask accum op a b whole_a whole_b are =
+    let x : MatrixEntries = turned tran (matrix_entries s a) in
     let y = matrix_entries s b in
-    let first = input_matrix-entries s a m.domain m.nrows m.ncols whole_a are.first in
+    let first = input_turned-entries s tran a m.domain m.nrows m.ncols whole_a are.first in
     let second = input_matrix-entries s b m.domain m.nrows m.ncols whole_b are.second in
     let Of : Domain → MatrixEntries → Type 0 = λ domain es. AreMatrixEntries m.nrows m.ncols domain es in
     subst (λ (domain : Domain). Of domain (ewise_add cell_cmp op x y) × Of domain (ewise_mult cell_cmp op x y)) are.computes

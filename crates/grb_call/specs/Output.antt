@@ -9,7 +9,7 @@ use Rattle.grb_core.specs.declared.operator.BinaryOp.{BinaryOp}
 use Rattle.grb_core.specs.Entries.{cell_cmp, MatrixEntries, VectorEntries, cells_of, without_entry, built_from}
 use Rattle.grb_core.specs.Mask.{is_inside}
 use Rattle.grb_core.specs.Written.{written}
-use Rattle.grb_core.specs.Results.{ewise_add, ewise_mult, mxv_of, mxm_of, reduce_rows_of}
+use Rattle.grb_core.specs.Results.{ewise_add, ewise_mult, mxv_of, mxm_of, reduce_rows_of, turned, vxm_of}
 use Rattle.grb_core.specs.Contents.{Matrix, Vector, edited_matrix, edited_vector, resized_matrix, resized_vector}
 use Rattle.grb_call.specs.declared.call.Call.{Call}
 use Rattle.grb_call.specs.declared.call.Call.TheVariants as call
@@ -49,6 +49,7 @@ output_of (call.EwiseAddVector w mask accum op u v d) = Some (object.Vector w)
 output_of (call.EwiseMultMatrix c mask accum op a b d) = Some (object.Matrix c)
 output_of (call.EwiseMultVector w mask accum op u v d) = Some (object.Vector w)
 output_of (call.Mxv w mask accum semiring a u d) = Some (object.Vector w)
+output_of (call.Vxm w mask accum semiring u a d) = Some (object.Vector w)
 output_of (call.Mxm c mask accum semiring a b d) = Some (object.Matrix c)
 output_of (call.ReduceRows w mask accum monoid a d) = Some (object.Vector w)
 output_of (call.ReduceMatrix a monoid) = None
@@ -81,9 +82,9 @@ matrix_made r (call.RemoveMatrix a i j) m = edited_matrix (without_entry cell_cm
 matrix_made r (call.ClearMatrix a) m = edited_matrix (λ _. []) m
 matrix_made r (call.ResizeMatrix a nrows ncols) m = resized_matrix nrows ncols m
 matrix_made r (call.BuildMatrix a tuples dup) m = edited_matrix (λ _. built_from cell_cmp dup (cells_of tuples)) m
-matrix_made r (call.EwiseAddMatrix c mask accum op a b d) m = written_matrix r mask accum d (ewise_add cell_cmp op (r.matrix a) (r.matrix b)) m
-matrix_made r (call.EwiseMultMatrix c mask accum op a b d) m = written_matrix r mask accum d (ewise_mult cell_cmp op (r.matrix a) (r.matrix b)) m
-matrix_made r (call.Mxm c mask accum semiring a b d) m = written_matrix r mask accum d (mxm_of semiring (r.matrix a) (r.matrix b)) m
+matrix_made r (call.EwiseAddMatrix c mask accum op a b d) m = written_matrix r mask accum d (ewise_add cell_cmp op (turned d.tran (r.matrix a)) (r.matrix b)) m
+matrix_made r (call.EwiseMultMatrix c mask accum op a b d) m = written_matrix r mask accum d (ewise_mult cell_cmp op (turned d.tran (r.matrix a)) (r.matrix b)) m
+matrix_made r (call.Mxm c mask accum semiring a b d) m = written_matrix r mask accum d (mxm_of semiring (turned d.tran (r.matrix a)) (r.matrix b)) m
 matrix_made r _ m = m
 
 -- the same of a vector
@@ -95,8 +96,9 @@ vector_made r (call.ResizeVector v size) x = resized_vector size x
 vector_made r (call.BuildVector v tuples dup) x = edited_vector (λ _. built_from nat_cmp dup tuples) x
 vector_made r (call.EwiseAddVector w mask accum op u v d) x = written_vector r mask accum d (ewise_add nat_cmp op (r.vector u) (r.vector v)) x
 vector_made r (call.EwiseMultVector w mask accum op u v d) x = written_vector r mask accum d (ewise_mult nat_cmp op (r.vector u) (r.vector v)) x
-vector_made r (call.Mxv w mask accum semiring a u d) x = written_vector r mask accum d (mxv_of semiring (r.matrix a) (r.vector u)) x
-vector_made r (call.ReduceRows w mask accum monoid a d) x = written_vector r mask accum d (reduce_rows_of monoid (r.matrix a)) x
+vector_made r (call.Mxv w mask accum semiring a u d) x = written_vector r mask accum d (mxv_of semiring (turned d.tran (r.matrix a)) (r.vector u)) x
+vector_made r (call.Vxm w mask accum semiring u a d) x = written_vector r mask accum d (vxm_of semiring (r.vector u) (r.matrix a)) x
+vector_made r (call.ReduceRows w mask accum monoid a d) x = written_vector r mask accum d (reduce_rows_of monoid (turned d.tran (r.matrix a))) x
 vector_made r _ x = x
 
 -- the matrix that the call leaves, in this store, of the one that it changes and does not end

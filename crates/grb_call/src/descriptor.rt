@@ -9,6 +9,8 @@ pub struct Descriptor {
     pub comp: bool,
     /// What lies outside is removed from the output (`GrB_REPLACE`).
     pub replace: bool,
+    /// The first input, where it is a matrix, is read transposed: its rows and columns change places (`GrB_TRAN` of `GrB_INP0`).
+    pub tran: bool,
 }
 
 /// How far a wait has the work of an object done.

@@ -4,7 +4,7 @@ ghost use Rattle.std.specs.List.{list_all};
 ghost use Rattle.grb_core.specs.Operator.{op_domain};
 ghost use Rattle.grb_core.specs.Monoid.{monoid_domain};
 ghost use Rattle.grb_call.specs.Operands.{matrix_mask, vector_mask, accum_domains};
-ghost use Rattle.grb_call.specs.Refused.{same_domain, are_of_domain, is_one_domain, same_dims, same_size, matrix_mask_fits, vector_mask_fits, ewise_matrices_fit, ewise_vectors_fit, mxv_fits, mxm_fits, reduce_rows_fits, has_fitting_dims};
+ghost use Rattle.grb_call.specs.Refused.{same_domain, are_of_domain, is_one_domain, same_dims, same_size, matrix_mask_fits, vector_mask_fits, ewise_matrices_fit, ewise_vectors_fit, mxv_fits, mxm_fits, reduce_rows_fits, has_fitting_dims, turned_dims, turned_ncols, turned_nrows, vxm_fits};
 ghost use Rattle.grb_call.specs.Shapes.{is_live};
 
 use crate::call::Call;
@@ -87,6 +87,35 @@ fn same_dims(shapes: &Shapes, a: MatrixId, b: MatrixId) -> bool
     (shapes.nrows(a) == shapes.nrows(b)) & (shapes.ncols(a) == shapes.ncols(b))
 }
 
+/// The rows of a first input, its columns where it is transposed.
+fn turned_nrows(shapes: &Shapes, tran: bool, a: MatrixId) -> u64
+    ensures { result ≡ turned_nrows shapes.now.objects tran a }
+{
+    if tran {
+        shapes.ncols(a)
+    } else {
+        shapes.nrows(a)
+    }
+}
+
+/// The columns of a first input, its rows where it is transposed.
+fn turned_ncols(shapes: &Shapes, tran: bool, a: MatrixId) -> u64
+    ensures { result ≡ turned_ncols shapes.now.objects tran a }
+{
+    if tran {
+        shapes.nrows(a)
+    } else {
+        shapes.ncols(a)
+    }
+}
+
+fn turned_dims(shapes: &Shapes, tran: bool, a: MatrixId, c: MatrixId) -> bool
+    ensures { result ≡ turned_dims shapes.now.objects tran a c }
+{
+    (turned_nrows(shapes, tran, a) == shapes.nrows(c))
+        & (turned_ncols(shapes, tran, a) == shapes.ncols(c))
+}
+
 fn same_size(shapes: &Shapes, u: VectorId, v: VectorId) -> bool
     ensures { result ≡ same_size shapes.now.objects u v }
 {
@@ -109,14 +138,15 @@ fn vector_mask_fits(shapes: &Shapes, mask: Option<VectorId>, w: VectorId) -> boo
 
 fn ewise_matrices_fit(
     shapes: &Shapes,
+    tran: bool,
     c: MatrixId,
     mask: Option<MatrixId>,
     a: MatrixId,
     b: MatrixId,
 ) -> bool
-    ensures { result ≡ ewise_matrices_fit shapes.now.objects c mask a b }
+    ensures { result ≡ ewise_matrices_fit shapes.now.objects tran c mask a b }
 {
-    same_dims(shapes, a, c) & same_dims(shapes, b, c) & matrix_mask_fits(shapes, mask, c)
+    turned_dims(shapes, tran, a, c) & same_dims(shapes, b, c) & matrix_mask_fits(shapes, mask, c)
 }
 
 fn ewise_vectors_fit(
@@ -131,27 +161,55 @@ fn ewise_vectors_fit(
     same_size(shapes, u, w) & same_size(shapes, v, w) & vector_mask_fits(shapes, mask, w)
 }
 
-fn mxv_fits(shapes: &Shapes, w: VectorId, mask: Option<VectorId>, a: MatrixId, u: VectorId) -> bool
-    ensures { result ≡ mxv_fits shapes.now.objects w mask a u }
+fn mxv_fits(
+    shapes: &Shapes,
+    tran: bool,
+    w: VectorId,
+    mask: Option<VectorId>,
+    a: MatrixId,
+    u: VectorId,
+) -> bool
+    ensures { result ≡ mxv_fits shapes.now.objects tran w mask a u }
 {
-    (shapes.nrows(a) == shapes.size(w))
-        & (shapes.ncols(a) == shapes.size(u))
+    (turned_nrows(shapes, tran, a) == shapes.size(w))
+        & (turned_ncols(shapes, tran, a) == shapes.size(u))
         & vector_mask_fits(shapes, mask, w)
 }
 
-fn mxm_fits(shapes: &Shapes, c: MatrixId, mask: Option<MatrixId>, a: MatrixId, b: MatrixId) -> bool
-    ensures { result ≡ mxm_fits shapes.now.objects c mask a b }
+fn vxm_fits(shapes: &Shapes, w: VectorId, mask: Option<VectorId>, u: VectorId, a: MatrixId) -> bool
+    ensures { result ≡ vxm_fits shapes.now.objects w mask u a }
 {
-    (shapes.nrows(a) == shapes.nrows(c))
+    (shapes.ncols(a) == shapes.size(w))
+        & (shapes.nrows(a) == shapes.size(u))
+        & vector_mask_fits(shapes, mask, w)
+}
+
+fn mxm_fits(
+    shapes: &Shapes,
+    tran: bool,
+    c: MatrixId,
+    mask: Option<MatrixId>,
+    a: MatrixId,
+    b: MatrixId,
+) -> bool
+    ensures { result ≡ mxm_fits shapes.now.objects tran c mask a b }
+{
+    (turned_nrows(shapes, tran, a) == shapes.nrows(c))
         & (shapes.ncols(b) == shapes.ncols(c))
-        & (shapes.ncols(a) == shapes.nrows(b))
+        & (turned_ncols(shapes, tran, a) == shapes.nrows(b))
         & matrix_mask_fits(shapes, mask, c)
 }
 
-fn reduce_rows_fits(shapes: &Shapes, w: VectorId, mask: Option<VectorId>, a: MatrixId) -> bool
-    ensures { result ≡ reduce_rows_fits shapes.now.objects w mask a }
+fn reduce_rows_fits(
+    shapes: &Shapes,
+    tran: bool,
+    w: VectorId,
+    mask: Option<VectorId>,
+    a: MatrixId,
+) -> bool
+    ensures { result ≡ reduce_rows_fits shapes.now.objects tran w mask a }
 {
-    (shapes.nrows(a) == shapes.size(w)) & vector_mask_fits(shapes, mask, w)
+    (turned_nrows(shapes, tran, a) == shapes.size(w)) & vector_mask_fits(shapes, mask, w)
 }
 
 /// Whether the dimensions of output, inputs and mask fit together.
@@ -159,13 +217,44 @@ pub(crate) fn has_fitting_dims(shapes: &Shapes, call: &Call) -> bool
     ensures { result ≡ has_fitting_dims shapes.now.objects call.now }
 {
     match call {
-        Call::EwiseAddMatrix { c, mask, a, b, .. } | Call::EwiseMultMatrix { c, mask, a, b, .. } =>
-            { ewise_matrices_fit(shapes, *c, *mask, *a, *b) }
+        Call::EwiseAddMatrix {
+            c,
+            mask,
+            a,
+            b,
+            d,
+            ..
+        }
+        | Call::EwiseMultMatrix {
+            c,
+            mask,
+            a,
+            b,
+            d,
+            ..
+        } => { ewise_matrices_fit(shapes, d.tran, *c, *mask, *a, *b) }
         Call::EwiseAddVector { w, mask, u, v, .. } | Call::EwiseMultVector { w, mask, u, v, .. } =>
             { ewise_vectors_fit(shapes, *w, *mask, *u, *v) }
-        Call::Mxv { w, mask, a, u, .. } => mxv_fits(shapes, *w, *mask, *a, *u),
-        Call::Mxm { c, mask, a, b, .. } => mxm_fits(shapes, *c, *mask, *a, *b),
-        Call::ReduceRows { w, mask, a, .. } => reduce_rows_fits(shapes, *w, *mask, *a),
+        Call::Mxv {
+            w,
+            mask,
+            a,
+            u,
+            d,
+            ..
+        } => mxv_fits(shapes, d.tran, *w, *mask, *a, *u),
+        Call::Vxm { w, mask, u, a, .. } => vxm_fits(shapes, *w, *mask, *u, *a),
+        Call::Mxm {
+            c,
+            mask,
+            a,
+            b,
+            d,
+            ..
+        } => mxm_fits(shapes, d.tran, *c, *mask, *a, *b),
+        Call::ReduceRows { w, mask, a, d, .. } => {
+            reduce_rows_fits(shapes, d.tran, *w, *mask, *a)
+        }
         _ => true,
     }
 }

@@ -74,6 +74,13 @@ pub fn objects_read(alloc: Global, call: &Call) -> SmallVec<Object, 4>
             Some(Object::Vector(*u)),
             mask.map(|mask| Object::Vector(mask)),
         ),
+        Call::Vxm { w, mask, u, a, .. } => of_operation(
+            alloc,
+            Object::Vector(*w),
+            Object::Vector(*u),
+            Some(Object::Matrix(*a)),
+            mask.map(|mask| Object::Vector(mask)),
+        ),
         Call::ReduceRows { w, mask, a, .. } => of_operation(
             alloc,
             Object::Vector(*w),

@@ -7,11 +7,12 @@ use grb_core::{BinaryOp, Refusal};
 use grb_pass::Pass;
 
 impl Context {
-    /// `C<M> = accum(C, A + B)`: `op` of the values of `a` and `b` where both store one, else the one value, written into `c`.
+    /// `C<M> = accum(C, A + B)`: `op` of the values of `a` and `b` where both store one, else the one value, written into `c`. With `d.tran`
+    /// the transposed of `a` stands for `a`.
     ///
     /// - `UninitializedObject`: an object of the call, the mask too, is not there.
     /// - `DomainMismatch`: output, inputs, operator and accumulator are not of one domain.
-    /// - `DimensionMismatch`: inputs and mask have not the dimensions of `c`.
+    /// - `DimensionMismatch`: the inputs, `a` as it is turned, and the mask have not the dimensions of `c`.
     ///
     /// The mask may be of either domain, and one object may be output, input and mask at once. (`GrB_eWiseAdd`.)
     pub fn ewise_add_matrix(
@@ -79,11 +80,12 @@ impl Context {
         )
     }
 
-    /// `C<M> = accum(C, A .* B)`: `op` of the values of `a` and `b` where both store one, written into `c`.
+    /// `C<M> = accum(C, A .* B)`: `op` of the values of `a` and `b` where both store one, written into `c`. With `d.tran` the transposed of `a`
+    /// stands for `a`.
     ///
     /// - `UninitializedObject`: an object of the call, the mask too, is not there.
     /// - `DomainMismatch`: output, inputs, operator and accumulator are not of one domain.
-    /// - `DimensionMismatch`: inputs and mask have not the dimensions of `c`.
+    /// - `DimensionMismatch`: the inputs, `a` as it is turned, and the mask have not the dimensions of `c`.
     ///
     /// The mask may be of either domain, and one object may be output, input and mask at once. (`GrB_eWiseMult`.)
     pub fn ewise_mult_matrix(

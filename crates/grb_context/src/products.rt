@@ -8,11 +8,12 @@ use grb_pass::Pass;
 
 impl Context {
     /// `w<m> = accum(w, A * u)`: at row `i` the monoid's fold of the products of row `i` of `a` and `u` where both store a value, and
-    /// nothing where there is no such place; written into `w`.
+    /// nothing where there is no such place; written into `w`. With `d.tran` the transposed of `a` stands for `a`.
     ///
     /// - `UninitializedObject`: an object of the call, the mask too, is not there.
     /// - `DomainMismatch`: output, inputs, semiring and accumulator are not of one domain.
-    /// - `DimensionMismatch`: `a` has not a row for each index of `w` and a column for each of `u`, or the mask has not the size of `w`.
+    /// - `DimensionMismatch`: `a`, as it is turned, has not a row for each index of `w` and a column for each of `u`, or the mask has not the
+    ///   size of `w`.
     ///
     /// The mask may be of either domain, and one object may be output, input and mask at once. (`GrB_mxv`.)
     pub fn mxv(
@@ -44,13 +45,50 @@ impl Context {
         )
     }
 
-    /// `C<M> = accum(C, A * B)`: at row `i` and column `j` the monoid's fold of the products of row `i` of `a` and column `j` of `b` where
-    /// both store a value, and nothing where there is no such place; written into `c`.
+    /// `w<m> = accum(w, u * A)`: at column `j` the monoid's fold of the products of `u` and column `j` of `a` where both store a value, the
+    /// value of `u` first, and nothing where there is no such place; written into `w`. `d.tran` is not read.
     ///
     /// - `UninitializedObject`: an object of the call, the mask too, is not there.
     /// - `DomainMismatch`: output, inputs, semiring and accumulator are not of one domain.
-    /// - `DimensionMismatch`: `a` has not the rows of `c`, `b` not its columns, or `a` not as many columns as `b` has rows; or the mask has not the
-    ///   dimensions of `c`.
+    /// - `DimensionMismatch`: `a` has not a row for each index of `u` and a column for each of `w`, or the mask has not the size of `w`.
+    ///
+    /// The mask may be of either domain, and one object may be output, input and mask at once. (`GrB_vxm`.)
+    pub fn vxm(
+        &self,
+        pass: &mut Pass,
+        w: VectorId,
+        mask: Option<VectorId>,
+        accum: Option<BinaryOp>,
+        semiring: Semiring,
+        u: VectorId,
+        a: MatrixId,
+        d: Descriptor,
+    ) -> Result<Reply, Refusal>
+        requires pass { IsPassOf self.now pass.old }
+        ensures pass { IsPassOf self.now pass.new }
+        ensures answered { Answered self.now pass.old pass.new (Call.Vxm w mask accum semiring u a d) result }
+    {
+        self.call(
+            pass,
+            Call::Vxm {
+                w,
+                mask,
+                accum,
+                semiring,
+                u,
+                a,
+                d,
+            },
+        )
+    }
+
+    /// `C<M> = accum(C, A * B)`: at row `i` and column `j` the monoid's fold of the products of row `i` of `a` and column `j` of `b` where
+    /// both store a value, and nothing where there is no such place; written into `c`. With `d.tran` the transposed of `a` stands for `a`.
+    ///
+    /// - `UninitializedObject`: an object of the call, the mask too, is not there.
+    /// - `DomainMismatch`: output, inputs, semiring and accumulator are not of one domain.
+    /// - `DimensionMismatch`: `a`, as it is turned, has not the rows of `c`, `b` not its columns, or `a` not as many columns as `b` has rows; or
+    ///   the mask has not the dimensions of `c`.
     ///
     /// The mask may be of either domain, and one object may be output, input and mask at once. (`GrB_mxm`.)
     pub fn mxm(
@@ -83,11 +121,11 @@ impl Context {
     }
 
     /// `w<m> = accum(w, fold of each row of A)`: the monoid's fold of each row of `a` that stores a value, and nothing for any other row;
-    /// written into `w`.
+    /// written into `w`. With `d.tran` the columns of `a` are folded.
     ///
     /// - `UninitializedObject`: an object of the call, the mask too, is not there.
     /// - `DomainMismatch`: output, input, monoid and accumulator are not of one domain.
-    /// - `DimensionMismatch`: `a` has not a row for each index of `w`, or the mask has not the size of `w`.
+    /// - `DimensionMismatch`: `a`, as it is turned, has not a row for each index of `w`, or the mask has not the size of `w`.
     ///
     /// The mask may be of either domain. (`GrB_reduce`, to a vector.)
     pub fn reduce_rows(

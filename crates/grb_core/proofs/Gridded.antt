@@ -39,7 +39,7 @@ abbrev in_row : ℕ → VectorEntries → MatrixEntries
 in_row i n = map (λ e. ((i, e.0), e.1)) n
 
 -- the second map's entries in each row of the first map
-abbrev gridded : VectorEntries → VectorEntries → MatrixEntries
+abbrev pub gridded : VectorEntries → VectorEntries → MatrixEntries
 gridded [] n = []
 gridded (e ∷ m) n = in_row e.0 n ++ gridded m n
 
@@ -47,7 +47,7 @@ row_places : (i : ℕ) (n : VectorEntries) → map (λ e. e.0) (in_row i n) ≡ 
 row_places i [] = refl
 row_places i (e ∷ n) = ap (λ (ks : List Cell). (i, e.0) ∷ ks) (row_places i n)
 
-grid_places : (m n : VectorEntries) → map (λ e. e.0) (gridded m n) ≡ cells_between (map (λ e. e.0) m) (map (λ e. e.0) n)
+pub grid_places : (m n : VectorEntries) → map (λ e. e.0) (gridded m n) ≡ cells_between (map (λ e. e.0) m) (map (λ e. e.0) n)
 grid_places [] n = refl
 grid_places (e ∷ m) n =
     map-append (λ d. d.0) (in_row e.0 n) (gridded m n)

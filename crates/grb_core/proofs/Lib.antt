@@ -1,12 +1,14 @@
-pub mod MonoidLaws
-pub mod Maps
-pub mod Folds
-pub mod Edits
 pub mod Builds
-pub mod Rows
-pub mod Written
-pub mod Made
+mod Crossed
+pub mod Dimensions
+pub mod Edits
+pub mod Folds
 pub mod Gridded
+pub mod Made
+pub mod Maps
+pub mod MonoidLaws
 pub mod ResultLaws
 pub mod ResultRows
-pub mod Dimensions
+pub mod Rows
+mod Transposes
+pub mod Written

@@ -1,34 +1,43 @@
 -- The laws of results: in either order, and that what is made is in order, within, and of its domain.
 use Rattle.std.proofs.Common.{◌≡◌, ◌<◌, ℕ, Bool, true, false, List, refl, sym, ap, subst, ◌∙◌}
-use Rattle.std.specs.Prelude.{IsTrue, map, Option, Some, None}
+use Rattle.std.specs.Prelude.{IsTrue, map, Option, Some, None, is_some}
 use Rattle.std.specs.List.{AllByRecursion}
 use Rattle.std.specs.declared.cmp.Ordering.{Ordering}
 use Rattle.std.specs.Ordering.{nat_cmp}
 use Rattle.std.specs.Cmp.{IsTotalOrder, nat_cmp_total}
-use Rattle.std.specs.FinMap.{find, is_sorted, IsAntisymmetric}
+use Rattle.std.specs.FinMap.{find, is_sorted, IsAntisymmetric, nat_cmp-IsAntisymmetric}
 use Rattle.std.proofs.lemmas.List.Elements.{All-from_recursion, recursion_from_All}
 use lib.Dec.{T}
 use Rattle.grb_core.specs.declared.domain.Domain.{Domain}
+use Rattle.grb_core.specs.declared.domain.Domain.TheVariants as domain
+use Rattle.grb_core.specs.declared.value.Value.TheVariants as value
 use Rattle.grb_core.specs.declared.operator.BinaryOp.{BinaryOp}
 use Rattle.grb_core.specs.declared.value.Value.{Value}
 use Rattle.grb_core.specs.Value.{IsValueOf}
 use Rattle.grb_core.specs.Operator.{op_domain, value_of_op}
 use Rattle.grb_core.specs.Monoid.{monoid_domain}
 use Rattle.grb_core.specs.Fold.{fold_of_some}
-use Rattle.grb_core.specs.Entries.{Cell, cell_cmp, VectorEntries, MatrixEntries, values_of}
+use Rattle.grb_core.specs.Entries.{Cell, cell_cmp, VectorEntries, MatrixEntries, map_on, values_of}
 use Rattle.grb_core.specs.Semiring.{SemiringParts}
 use Rattle.grb_core.specs.Written.{either_value, both_values, AccumulatesIn, accumulated}
-use Rattle.grb_core.specs.Results.{ewise_add, ewise_mult, row_of, column_of, rows_of, columns_of, cells_between, product_of}
+use Rattle.grb_core.specs.Results.{ewise_add, ewise_mult, row_of, column_of, rows_of, columns_of, cells_between, product_of, transposed, mxm_of}
 use Rattle.grb_core.specs.ResultLaws.{Commutes, MonoidsCommute, EwiseInEitherOrder, IsCellBelow, AreEntries, EwiseMakesEntries, WrittenMakesEntries, MxvMakesEntries, MxmMakesEntries, ReduceRowsMakesEntries, ReduceMakesValue}
 use Rattle.grb_core.proofs.MonoidLaws.{monoid_laws}
 use Rattle.grb_core.proofs.Folds.{fold_of-is}
-use Rattle.grb_core.proofs.Maps.{same_entries_at, is_sorted-map_on_indices}
+use Rattle.grb_core.proofs.Maps.{cell_cmp_total, cell_cmp-IsAntisymmetric, same_entries_at, is_sorted-map_on_indices}
 use Rattle.grb_core.proofs.Written.{find-pointwise, is_sorted-pointwise, is_sorted-masked}
 use Rattle.grb_core.proofs.Made.{Holds, holds_either, holds_both, holds_fold, all-weaker, within-map_on, of-map_on, of-find, within-pointwise, of-pointwise, within-masked, of-masked, of-values, of-row, of-column, within-rows, within-columns, within-cells, op_closed}
 use Rattle.grb_core.proofs.Gridded.{is_sorted-cells}
+use Rattle.grb_core.specs.TransposeLaws.{ReducedColumns, StoresRowsOf, TransposedMakesEntries, TransposedProduct, VxmIsMxv, VxmMakesEntries, second_of}
+use Rattle.grb_core.proofs.Crossed.{find_mxm}
+use Rattle.grb_core.proofs.Transposes.{all_transposed, each_column_is, find_column, sorted_column, transposed_columns, transposed_rows, transposed_sorted, transposed_stores, vxm_exchanged}
 
 pub monoids_commute : MonoidsCommute
 monoids_commute m a b g h = (monoid_laws m).commutative a b g h
+
+pub passed : (b : Bool) → IsTrue b → T b
+passed true h = tt
+passed false h = cc
 
 passes : (b : Bool) → T b → IsTrue b
 passes true h = refl
@@ -164,3 +173,84 @@ reduce_makes_value m = (
   λ u h. fold_of-is m (values_of u) (of-values (IsValueOf (monoid_domain m)) u (recursion_from_All _ u h)),
   λ a h. fold_of-is m (values_of a) (of-values (IsValueOf (monoid_domain m)) a (recursion_from_All _ a h)),
 )
+
+-- a transposed matrix, and vxm
+pub transposed_makes_entries : TransposedMakesEntries
+transposed_makes_entries nrows ncols domain a is =
+    record {
+      ordered = passes _ (transposed_sorted a);
+      within = All-from_recursion (λ (e : Cell × Value). (e.0.0 < ncols) × (e.0.1 < nrows)) _
+          (all_transposed (λ e. (e.0.0 < nrows) × (e.0.1 < ncols)) (λ e. (e.0.0 < ncols) × (e.0.1 < nrows)) (λ e h. (h.1, h.0)) a (recursion_from_All _ a is.within));
+      of_domain = All-from_recursion (λ (e : Cell × Value). IsValueOf domain e.1) _
+          (all_transposed (λ e. IsValueOf domain e.1) (λ e. IsValueOf domain e.1) (λ e h. h) a (values_is nrows ncols domain a is));
+    }
+
+pub vxm_makes_entries : VxmMakesEntries
+vxm_makes_entries nrows ncols s u a d g h =
+    record {
+      ordered = passes _ (is_sorted-map_on_indices nat_cmp nat_cmp_total (λ j. product_of s u (column_of j a)) (map (λ e. (e.0.1, e.1)) a));
+      within = All-from_recursion (λ (e : ℕ × Value). e.0 < ncols) _
+          (within-map_on (λ j. j < ncols) (λ j. product_of s u (column_of j a)) (columns_of a) (within-columns (λ j. j < ncols) a (column_below nrows ncols _ a h)));
+      of_domain = All-from_recursion (λ (e : ℕ × Value). IsValueOf (op_domain s.op) e.1) _
+          (of-map_on (IsValueOf (op_domain s.op)) (λ j. product_of s u (column_of j a))
+          (λ j. product_is s u (column_of j a) d (recursion_from_All _ u g.of_domain) (of-column (IsValueOf (op_domain s.op)) j a (values_is nrows ncols _ a h))) (columns_of a));
+    }
+
+-- where multiply commutes, vxm is mxv of the transposed
+pub vxm_is_mxv : VxmIsMxv
+vxm_is_mxv s u a ordered commutes of_u of_a =
+    let sorted = passed _ ordered in
+    let t : MatrixEntries = transposed a in
+    let values : AllByRecursion (λ (e : Cell × Value). IsValueOf (op_domain s.op) e.1) t = all_transposed (λ e. IsValueOf (op_domain s.op) e.1) (λ e. IsValueOf (op_domain s.op) e.1) (λ e h. h) a (recursion_from_All _ a of_a) in
+    let turned : (j : ℕ) → product_of s u (row_of j t) ≡ product_of s (row_of j t) u =
+    λ j. ap (λ (z : VectorEntries). fold_of_some s.monoid (values_of z))
+    (ewise_in_either_order nat_cmp nat_cmp_total nat_cmp-IsAntisymmetric s.op u (row_of j t) commutes of_u (All-from_recursion (λ (e : ℕ × Value). IsValueOf (op_domain s.op) e.1) _ (of-row (IsValueOf (op_domain s.op)) j t values))).1 in
+    vxm_exchanged s u a sorted ∙ ap (map_on (rows_of t)) (λ i j. turned j i)
+
+pub transposed_product : TransposedProduct
+transposed_product s a b sorted_a sorted_b commutes of_a of_b =
+    let h = passed _ sorted_a in
+    let g = passed _ sorted_b in
+    let turned : (i j : ℕ) → product_of s (row_of i a) (column_of j b) ≡ product_of s (column_of j b) (row_of i a) =
+    λ i j. ap (λ (z : VectorEntries). fold_of_some s.monoid (values_of z))
+    (ewise_in_either_order nat_cmp nat_cmp_total nat_cmp-IsAntisymmetric s.op (row_of i a) (column_of j b) commutes
+    (All-from_recursion (λ (e : ℕ × Value). IsValueOf (op_domain s.op) e.1) _ (of-row (IsValueOf (op_domain s.op)) i a (recursion_from_All _ a of_a)))
+    (All-from_recursion (λ (e : ℕ × Value). IsValueOf (op_domain s.op) e.1) _ (of-column (IsValueOf (op_domain s.op)) j b (recursion_from_All _ b of_b)))).1 in
+    same_entries_at cell_cmp cell_cmp_total cell_cmp-IsAntisymmetric (transposed (mxm_of s a b)) (mxm_of s (transposed b) (transposed a))
+    (transposed_sorted (mxm_of s a b)) (is_sorted-cells (transposed b) (transposed a) (λ cell. product_of s (row_of cell.0 (transposed b)) (column_of cell.1 (transposed a))))
+    (λ q. transposed_stores (mxm_of s a b) q.1 q.0 ∙ (find_mxm s a b q.1 q.0 ∙ (turned q.1 q.0
+    ∙ (ap (λ (x : VectorEntries). product_of s x (row_of q.1 a)) (sym (transposed_rows b q.0 g))
+    ∙ (ap (λ (x : VectorEntries). product_of s (row_of q.0 (transposed b)) x) (sym (transposed_columns a q.1 h))
+    ∙ sym (find_mxm s (transposed b) (transposed a) q.0 q.1))))))
+
+second_is : (d : Domain) (x y : Value) → IsValueOf d x → IsValueOf d y → value_of_op (second_of d) x y ≡ y
+second_is domain.Bool (value.Bool x) (value.Bool y) h g = refl
+second_is domain.Uint64 (value.Uint64 x) (value.Uint64 y) h g = refl
+second_is domain.Bool (value.Uint64 x) y h g = absurd h
+second_is domain.Bool (value.Bool x) (value.Uint64 y) h g = absurd g
+second_is domain.Uint64 (value.Bool x) y h g = absurd h
+second_is domain.Uint64 (value.Uint64 x) (value.Bool y) h g = absurd g
+
+second_at : (d : Domain) (x y : Option Value) → Holds (IsValueOf d) x → Holds (IsValueOf d) y → (IsTrue (is_some y) → IsTrue (is_some x)) → both_values (value_of_op (second_of d)) x y ≡ y
+second_at d (Some x) (Some y) h g there = ap (λ (v : Value). Some v) (second_is d x y h g)
+second_at d None (Some y) h g there = let no : IsTrue false = there refl in cc
+second_at d (Some x) None h g there = refl
+second_at d None None h g there = refl
+
+-- a column, multiplied so by a vector that stores something at each of its rows, is the column
+second_column : (d : Domain) (u : VectorEntries) (a : MatrixEntries) (j : ℕ) → T (is_sorted cell_cmp a) → StoresRowsOf u a → AllByRecursion (λ e. IsValueOf d e.1) u → AllByRecursion (λ e. IsValueOf d e.1) a
+    → ewise_mult nat_cmp (second_of d) u (column_of j a) ≡ column_of j a
+second_column d u a j sorted there of_u of_a =
+    let f : Option Value → Option Value → Option Value = both_values (value_of_op (second_of d)) in
+    same_entries_at nat_cmp nat_cmp_total nat_cmp-IsAntisymmetric (ewise_mult nat_cmp (second_of d) u (column_of j a)) (column_of j a)
+    (is_sorted-pointwise nat_cmp_total nat_cmp-IsAntisymmetric f u (column_of j a)) (sorted_column j a sorted)
+    (λ k. find-pointwise nat_cmp_total nat_cmp-IsAntisymmetric f refl k u (column_of j a)
+    ∙ second_at d (find nat_cmp k u) (find nat_cmp k (column_of j a)) (of-find nat_cmp (IsValueOf d) k u of_u) (of-find nat_cmp (IsValueOf d) k (column_of j a) (of-column (IsValueOf d) j a of_a))
+    (λ t. there k j (subst (λ (o : Option Value). IsTrue (is_some o)) (find_column j k a) t)))
+
+pub reduced_columns : ReducedColumns
+reduced_columns m u a ordered there of_u of_a =
+    let sorted = passed _ ordered in
+    let same : (j : ℕ) → fold_of_some m (values_of (column_of j a)) ≡ product_of (record { monoid = m; op = second_of (monoid_domain m) }) u (column_of j a) =
+    λ j. ap (λ (z : VectorEntries). fold_of_some m (values_of z)) (sym (second_column (monoid_domain m) u a j sorted there (recursion_from_All _ u of_u) (recursion_from_All _ a of_a))) in
+    sym (each_column_is (λ x. fold_of_some m (values_of x)) a sorted) ∙ ap (map_on (columns_of a)) (λ i j. same j i)

@@ -9,5 +9,6 @@ pub mod Refusal
 pub mod ResultLaws
 pub mod Results
 pub mod Semiring
+pub mod TransposeLaws
 pub mod Value
 pub mod Written

@@ -3,6 +3,7 @@ ghost use Rattle.std.specs.Prelude.{ℕ};
 ghost use Rattle.std.specs.Ordering.{nat_cmp};
 ghost use Rattle.grb_core.specs.Entries.{cell_cmp};
 ghost use Rattle.grb_core.specs.Laws.{SetThenGet, RemoveThenGet, BuildStoresFolds, BuildIsSets, BuildsInAnyOrder, VectorResizedTwice, MatrixResizedTwice, FoldsInParts, FoldsInAnyOrder};
+ghost use Rattle.grb_core.specs.TransposeLaws.{TransposedStores, TransposedTwice, TransposedRows, TransposedColumns, TransposedMakesEntries, TransposedProduct, VxmIsMxvExchanged, VxmIsMxv, VxmMakesEntries, ReducedColumns};
 ghost use Rattle.grb_core.specs.ResultLaws.{MonoidsCommute, EwiseInEitherOrder, ComplementParts, WritesInside, LeavesOutside, ClearsOutside, IsBelow, IsCellBelow, EwiseMakesEntries, WrittenMakesEntries, MxvMakesEntries, MxmMakesEntries, ReduceRowsMakesEntries, ReduceMakesValue};
 
 /// A value that was set is what a get gives, and every other place gives what it gave before.
@@ -114,4 +115,30 @@ pub fn products_and_reductions_are_whole()
     ensures mxm { MxmMakesEntries }
     ensures rows { ReduceRowsMakesEntries }
     ensures totals { ReduceMakesValue }
+{}
+
+/// A transposed matrix stores at row j and column i what the matrix stores at row i and column j. Transposed twice it is the matrix, its rows
+/// are the matrix's columns and its columns the rows. The transposed of a product is the product of the transposed in the other order, where
+/// multiply commutes. It is in order, within the exchanged dimensions and of the same domain.
+///
+/// Source: GraphBLAS C API 2.0, "Descriptors": `GrB_TRAN`.
+pub fn transposed_exchanges_rows_and_columns()
+    ensures stores { TransposedStores }
+    ensures twice { TransposedTwice }
+    ensures rows { TransposedRows }
+    ensures columns { TransposedColumns }
+    ensures product { TransposedProduct }
+    ensures whole { TransposedMakesEntries }
+{}
+
+/// vxm is the product of the transposed matrix and the vector with the arguments of multiply exchanged, so it is mxv of the transposed where
+/// multiply commutes, and a reduction of columns where multiply gives its second argument. What it stores is in order, within the matrix's
+/// columns and of the semiring's domain.
+///
+/// Source: GraphBLAS C API 2.0, "vxm".
+pub fn vxm_is_a_product_of_the_transposed()
+    ensures exchanged { VxmIsMxvExchanged }
+    ensures mxv { VxmIsMxv }
+    ensures columns { ReducedColumns }
+    ensures whole { VxmMakesEntries }
 {}

@@ -21,7 +21,7 @@ pub use laws::{
     build_is_sets, build_stores_folds, builds_in_any_order, complement_parts,
     element_wise_results_are_whole, ewise_in_either_order, folds_in_any_order,
     products_and_reductions_are_whole, remove_then_get, resize_twice, set_then_get,
-    writes_inside_alone,
+    transposed_exchanges_rows_and_columns, vxm_is_a_product_of_the_transposed, writes_inside_alone,
 };
 pub use monoid::{Monoid, identity};
 pub use operator::{BinaryOp, apply};

@@ -90,7 +90,7 @@ on_vectors output mask accum op left right d =
     record { sort = sort.Vector; output = output; mask = mask; accum = accum; op = op; left = left; right = right; descriptor = d }
 
 abbrev plain : Descriptor
-plain = record { structure = false; comp = false; replace = false }
+plain = record { structure = false; comp = false; replace = false; tran = false }
 
 -- a sum is modulo 2^64
 a_sum : lines 4096

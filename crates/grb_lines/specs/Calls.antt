@@ -63,6 +63,10 @@ abbrev pub mxv_call : List Object → Product → Call
 mxv_call objects p =
     call.Mxv (vector_named objects p.output) (mask_vector objects p.mask) p.accum p.semiring (matrix_named objects p.left) (vector_named objects p.right) p.descriptor
 
+abbrev pub vxm_call : List Object → Product → Call
+vxm_call objects p =
+    call.Vxm (vector_named objects p.output) (mask_vector objects p.mask) p.accum p.semiring (vector_named objects p.left) (matrix_named objects p.right) p.descriptor
+
 abbrev pub mxm_call : List Object → Product → Call
 mxm_call objects p =
     call.Mxm (matrix_named objects p.output) (mask_matrix objects p.mask) p.accum p.semiring (matrix_named objects p.left) (matrix_named objects p.right) p.descriptor
@@ -102,6 +106,7 @@ call_of objects (statement.BuildVector name tuples dup) = call.BuildVector (vect
 call_of objects (statement.EwiseAdd e) = ewise_add_call objects e e.sort
 call_of objects (statement.EwiseMult e) = ewise_mult_call objects e e.sort
 call_of objects (statement.Mxv p) = mxv_call objects p
+call_of objects (statement.Vxm p) = vxm_call objects p
 call_of objects (statement.Mxm p) = mxm_call objects p
 call_of objects (statement.Reduce r) = reduce_call objects r
 call_of objects (statement.Total name sort monoid) = total_call objects name sort monoid

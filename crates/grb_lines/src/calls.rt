@@ -2,7 +2,9 @@ ghost use Rattle.std.specs.Prelude.{◌≡◌};
 ghost use Rattle.grb_lines.specs.Calls.{dup_call, free_call, nvals_call, size_call, clear_call, total_call, wait_call, call_of};
 
 use crate::objects::{matrix_named, vector_named};
-use crate::operations::{ewise_add_call, ewise_mult_call, mxm_call, mxv_call, reduce_call};
+use crate::operations::{
+    ewise_add_call, ewise_mult_call, mxm_call, mxv_call, reduce_call, vxm_call,
+};
 use grb_call::{Call, Object, WaitMode};
 use grb_core::Monoid;
 use grb_script::{Sort, Statement};
@@ -166,6 +168,7 @@ pub fn call_of(objects: &[Object], statement: Statement) -> Call
         Statement::EwiseAdd(says) => ewise_add_call(objects, &says),
         Statement::EwiseMult(says) => ewise_mult_call(objects, &says),
         Statement::Mxv(says) => mxv_call(objects, &says),
+        Statement::Vxm(says) => vxm_call(objects, &says),
         Statement::Mxm(says) => mxm_call(objects, &says),
         Statement::Reduce(says) => reduce_call(objects, &says),
         Statement::Total { name, sort, monoid } => total_call(objects, name, sort, monoid),

@@ -1,5 +1,5 @@
 ghost use Rattle.std.specs.Prelude.{◌≡◌};
-ghost use Rattle.grb_lines.specs.Calls.{mask_matrix, mask_vector, ewise_add_call, ewise_mult_call, mxv_call, mxm_call, reduce_call};
+ghost use Rattle.grb_lines.specs.Calls.{mask_matrix, mask_vector, ewise_add_call, ewise_mult_call, mxv_call, vxm_call, mxm_call, reduce_call};
 
 use crate::objects::{matrix_named, vector_named};
 use grb_call::{Call, MatrixId, Object, VectorId};
@@ -85,6 +85,20 @@ pub fn mxv_call(objects: &[Object], says: &Product) -> Call
         semiring: says.semiring,
         a: matrix_named(objects, says.left),
         u: vector_named(objects, says.right),
+        d: says.descriptor,
+    }
+}
+
+pub fn vxm_call(objects: &[Object], says: &Product) -> Call
+    ensures { result ≡ vxm_call objects.now says.now }
+{
+    Call::Vxm {
+        w: vector_named(objects, says.output),
+        mask: mask_vector(objects, says.mask),
+        accum: says.accum,
+        semiring: says.semiring,
+        u: vector_named(objects, says.left),
+        a: matrix_named(objects, says.right),
         d: says.descriptor,
     }
 }

@@ -1,5 +1,5 @@
 //! The product of two matrices.
-ghost use Rattle.std.specs.Prelude.{◌≡◌, ◌<◌, ◌^◌, length, true, All, IsTrue, IfOk, IfSome};
+ghost use Rattle.std.specs.Prelude.{◌≡◌, ◌<◌, ◌^◌, length, true, All, IsTrue, IfOk, IfSome, if◌then◌else◌};
 ghost use Rattle.std.specs.Option.{option_map};
 ghost use Rattle.std.specs.FinMap.{is_sorted};
 ghost use Rattle.grb_core.specs.declared.domain.Domain.TheVariants as domain;
@@ -10,7 +10,7 @@ ghost use Rattle.grb_core.specs.Entries.{cell_cmp};
 ghost use Rattle.grb_core.specs.Contents.{IsMatrix, edited_matrix};
 ghost use Rattle.grb_core.specs.Mask.{is_inside};
 ghost use Rattle.grb_core.specs.Written.{AccumulatesIn, written};
-ghost use Rattle.grb_core.specs.Results.{mxm_of};
+ghost use Rattle.grb_core.specs.Results.{mxm_of, turned};
 ghost use Rattle.grb_rows.specs.Cells.{decoded, IsFlat};
 ghost use Rattle.grb_ops.specs.Rows.{flat_entries};
 ghost use Rattle.grb_multiply.specs.Rows.{AreRows, selected_product, bounding};
@@ -24,7 +24,7 @@ use grb_kernels::Operator;
 use grb_kernels::operators::{
     First, FirstBool, Land, Lor, Lxnor, Lxor, Max, Min, Minus, Plus, Second, SecondBool, Times,
 };
-use grb_ops::write_masked_matrix;
+use grb_ops::{transposed, write_masked_matrix};
 use grb_products::{MonoidOver, Stored};
 use grb_rows::FlatRows;
 use grb_sparse::SparseMatrix;
@@ -361,12 +361,41 @@ fn wanted_product(
     }
 }
 
+/// The same with the first matrix transposed, where the descriptor says so. Where it does not, nothing is copied.
+fn turned_product(
+    alloc: Global,
+    mask: Option<&SparseMatrix>,
+    semiring: Semiring,
+    a: &SparseMatrix,
+    b: &SparseMatrix,
+    descriptor: Descriptor,
+) -> Result<SparseMatrix, AllocError>
+    requires a_assembled { a.now.assembled ≡ true }
+    requires b_assembled { b.now.assembled ≡ true }
+    requires mask_assembled { IfSome mask (λ m. m.now.assembled ≡ true) }
+    requires a_domain { a.now.matrix.domain ≡ op_domain semiring.op }
+    requires b_domain { b.now.matrix.domain ≡ op_domain semiring.op }
+    requires inner { (if descriptor.tran then a.now.matrix.nrows else a.now.matrix.ncols) ≡ b.now.matrix.nrows }
+    requires mask_columns { IfSome mask (λ m. m.now.matrix.ncols ≡ b.now.matrix.ncols) }
+    ensures matrix { IfOk result (λ made. made.matrix ≡ record { domain = a.now.matrix.domain; nrows = (if descriptor.tran then a.now.matrix.ncols else a.now.matrix.nrows); ncols = b.now.matrix.ncols; entries = selected_product semiring descriptor.structure (bounding descriptor.comp (option_map (λ m. m.now.matrix.entries) mask.entry)) (turned descriptor.tran a.now.matrix.entries) b.now.matrix.entries }) }
+    ensures assembled { IfOk result (λ made. made.assembled ≡ true) }
+{
+    if descriptor.tran {
+        let first = transposed(alloc, a)?;
+        return wanted_product(alloc, mask, semiring, &first, b, descriptor);
+    }
+    wanted_product(alloc, mask, semiring, a, b, descriptor)
+}
+
 /// The product of two matrices: at each row of `a` and each column of `b` the fold, by the semiring's monoid, of what its operator makes
 /// of both values where both are stored, and nothing where there is no such place; written into `output` by the accumulator, the mask
 /// and the descriptor. `AllocError` where memory is refused.
 ///
 /// All are of one domain, the mask aside; `b` has one row for each column of `a`, and the output and the mask have the rows of `a` and the
-/// columns of `b`. A mask that is given and not complemented bounds the work: sums are made at the cells that it selects alone, for the
+/// columns of `b`. Where the descriptor says `tran`, `a` stands here for its transposed, which is made first, as `grb_ops::transposed` does;
+/// else nothing is copied.
+///
+/// A mask that is given and not complemented bounds the work: sums are made at the cells that it selects alone, for the
 /// rows in which it stores something, in time in proportion to the products that are looked at and to the mask's entries. Else time is in
 /// proportion to the products that there are; for a row of `a` with many of them, one step for 64 columns is added.
 ///
@@ -393,15 +422,15 @@ pub fn mxm(
     requires semiring_domain { op_domain semiring.op ≡ output.now.matrix.domain }
     requires a_domain { a.now.matrix.domain ≡ output.now.matrix.domain }
     requires b_domain { b.now.matrix.domain ≡ output.now.matrix.domain }
-    requires a_rows { a.now.matrix.nrows ≡ output.now.matrix.nrows }
-    requires a_columns { a.now.matrix.ncols ≡ b.now.matrix.nrows }
+    requires a_rows { (if descriptor.tran then a.now.matrix.ncols else a.now.matrix.nrows) ≡ output.now.matrix.nrows }
+    requires a_columns { (if descriptor.tran then a.now.matrix.nrows else a.now.matrix.ncols) ≡ b.now.matrix.nrows }
     requires b_columns { b.now.matrix.ncols ≡ output.now.matrix.ncols }
     requires mask_rows { IfSome mask (λ m. m.now.matrix.nrows ≡ output.now.matrix.nrows) }
     requires mask_columns { IfSome mask (λ m. m.now.matrix.ncols ≡ output.now.matrix.ncols) }
-    ensures matrix { IfOk result (λ made. made.matrix ≡ edited_matrix (λ c. written cell_cmp (is_inside cell_cmp descriptor.structure descriptor.comp (option_map (λ m. m.now.matrix.entries) mask.entry)) descriptor.replace accum c (mxm_of semiring a.now.matrix.entries b.now.matrix.entries)) output.now.matrix) }
+    ensures matrix { IfOk result (λ made. made.matrix ≡ edited_matrix (λ c. written cell_cmp (is_inside cell_cmp descriptor.structure descriptor.comp (option_map (λ m. m.now.matrix.entries) mask.entry)) descriptor.replace accum c (mxm_of semiring (turned descriptor.tran a.now.matrix.entries) b.now.matrix.entries)) output.now.matrix) }
     ensures assembled { IfOk result (λ made. made.assembled ≡ true) }
 {
-    let computed = wanted_product(alloc, mask, semiring, a, b, descriptor)?;
+    let computed = turned_product(alloc, mask, semiring, a, b, descriptor)?;
     let made = write_masked_matrix(alloc, output, mask, accum, descriptor, computed)?;
     Ok(made)
 }

@@ -1,17 +1,19 @@
 -- What an operation makes of whole matrices is a whole matrix.
-use Rattle.std.proofs.Common.{◌≡◌, ℕ, Bool, refl, sym, subst}
-use Rattle.std.specs.Prelude.{IsTrue, Option}
+use Rattle.std.proofs.Common.{◌≡◌, ℕ, Bool, true, false, refl, sym, ap, subst, ◌∙◌}
+use Rattle.std.specs.Prelude.{IsTrue, Option, if◌then◌else◌}
 use Rattle.std.specs.FinMap.{is_sorted}
 use lib.Dec.{T}
 use Rattle.grb_core.specs.declared.domain.Domain.{Domain}
 use Rattle.grb_core.specs.declared.operator.BinaryOp.{BinaryOp}
 use Rattle.grb_core.specs.Operator.{op_domain, value_of_op}
 use Rattle.grb_core.specs.Entries.{Cell, MatrixEntries, cell_cmp}
-use Rattle.grb_core.specs.Contents.{Matrix, IsMatrix, IsDimension}
+use Rattle.grb_core.specs.declared.value.Value.{Value}
+use Rattle.grb_core.specs.Contents.{Matrix, IsMatrix, IsDimension, edited_matrix}
+use Rattle.grb_core.specs.Results.{transposed, turned}
 use Rattle.grb_core.specs.Written.{AccumulatesIn, pointwise, written}
 use Rattle.grb_core.specs.ResultLaws.{IsCellBelow, AreEntries}
 use Rattle.grb_core.proofs.Maps.{cell_cmp_total, cell_cmp-IsAntisymmetric}
-use Rattle.grb_core.proofs.ResultLaws.{ewise_makes_entries, written_makes_entries}
+use Rattle.grb_core.proofs.ResultLaws.{ewise_makes_entries, written_makes_entries, transposed_makes_entries}
 use Rattle.grb_kernels.specs.declared.pairing.Pairing.{Pairing}
 use Rattle.grb_kernels.specs.declared.pairing.Pairing.TheVariants.{Union, Intersection}
 use Rattle.grb_kernels.specs.Pairing.{paired}
@@ -61,3 +63,20 @@ in_order a m h e = subst (λ (k : MatrixEntries). IsTrue (is_sorted cell_cmp k))
 
 pub as_holds : (m : MatrixEntries) → IsTrue (is_sorted cell_cmp m) → T (is_sorted cell_cmp m)
 as_holds m h = subst T (sym h) tt
+
+-- a transposed matrix is a whole one
+pub transposed_whole : (a : Matrix) → IsMatrix a → IsMatrix (matrix_of a.domain a.ncols a.nrows (transposed a.entries))
+transposed_whole a h =
+    let turned = transposed_makes_entries a.nrows a.ncols a.domain a.entries (entries_are a h) in
+    whole a.domain a.ncols a.nrows (transposed a.entries) h.ncols h.nrows turned
+
+-- a transposed first matrix with another
+pub turned_pair : (f : Option Value → Option Value → Option Value) (tran : Bool) (a b first : Matrix) → tran ≡ true → first ≡ matrix_of a.domain a.ncols a.nrows (transposed a.entries) → a.domain ≡ b.domain
+    → b.nrows ≡ (if tran then a.ncols else a.nrows) → b.ncols ≡ (if tran then a.nrows else a.ncols)
+    → edited_matrix (λ m. pointwise cell_cmp f m b.entries) first ≡ edited_matrix (λ m. pointwise cell_cmp f (turned tran a.entries) m) b
+turned_pair f true a b first t is d r c =
+    ap (edited_matrix (λ m. pointwise cell_cmp f m b.entries)) is ∙ same_matrix _ _ _ _ _ _ _ _ d (sym r) (sym c) refl
+turned_pair f false a b first t is d r c = absurd (no t)
+  where
+    no : false ≡ true → ⊥
+    no t = cc

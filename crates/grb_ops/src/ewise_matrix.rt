@@ -1,5 +1,5 @@
 //! eWiseAdd and eWiseMult of matrices.
-ghost use Rattle.std.specs.Prelude.{◌≡◌, true, IsTrue, IfOk, IfSome};
+ghost use Rattle.std.specs.Prelude.{◌≡◌, true, IsTrue, IfOk, IfSome, if◌then◌else◌};
 ghost use Rattle.std.specs.Option.{option_map};
 ghost use Rattle.std.specs.FinMap.{is_sorted};
 ghost use Rattle.grb_core.specs.Operator.{op_domain, value_of_op};
@@ -7,11 +7,12 @@ ghost use Rattle.grb_core.specs.Entries.{cell_cmp};
 ghost use Rattle.grb_core.specs.Contents.{IsMatrix, edited_matrix};
 ghost use Rattle.grb_core.specs.Mask.{is_inside};
 ghost use Rattle.grb_core.specs.Written.{AccumulatesIn, pointwise, written};
-ghost use Rattle.grb_core.specs.Results.{ewise_add, ewise_mult};
+ghost use Rattle.grb_core.specs.Results.{ewise_add, ewise_mult, turned};
 ghost use Rattle.grb_kernels.specs.Pairing.{paired};
 ghost use Rattle.grb_rows.specs.Cells.{decoded};
 
 use crate::rows::merge_rows;
+use crate::transposing::transposed;
 use crate::typed_matrix::StoredRows;
 use crate::writing_matrix::write_masked_matrix;
 use grb_call::Descriptor;
@@ -171,10 +172,37 @@ pub(crate) fn pair_matrices(
     }
 }
 
+/// A matrix, transposed where `tran` says so, and another one combined by an operator of their domain. Where it is not, nothing is copied.
+fn pair_turned(
+    alloc: Global,
+    pairing: Pairing,
+    op: BinaryOp,
+    a: &SparseMatrix,
+    b: &SparseMatrix,
+    tran: bool,
+) -> Result<SparseMatrix, AllocError>
+    requires a_assembled { a.now.assembled ≡ true }
+    requires b_assembled { b.now.assembled ≡ true }
+    requires a_domain { a.now.matrix.domain ≡ op_domain op }
+    requires b_domain { b.now.matrix.domain ≡ op_domain op }
+    requires rows { b.now.matrix.nrows ≡ (if tran then a.now.matrix.ncols else a.now.matrix.nrows) }
+    requires columns { b.now.matrix.ncols ≡ (if tran then a.now.matrix.nrows else a.now.matrix.ncols) }
+    ensures matrix { IfOk result (λ made. made.matrix ≡ edited_matrix (λ m. pointwise cell_cmp (paired pairing (value_of_op op)) (turned tran a.now.matrix.entries) m) b.now.matrix) }
+    ensures assembled { IfOk result (λ made. made.assembled ≡ true) }
+{
+    if tran {
+        let first = transposed(alloc, a)?;
+        return pair_matrices(alloc, pairing, op, &first, b);
+    }
+    pair_matrices(alloc, pairing, op, a, b)
+}
+
 /// eWiseAdd: over the union of the cells of `a` and `b`, what the operator makes of both values, else the one value; written into
 /// `output` by the accumulator, the mask and the descriptor. `AllocError` where memory is refused.
 ///
-/// All are of one domain, the mask aside, and of the same dimensions. Time and memory are in proportion to the stored entries.
+/// All are of one domain, the mask aside, and of the same dimensions, those of `a` exchanged where the descriptor says `tran`: then `a`
+/// stands for its transposed, which is made first, as `transposed` does. Else nothing is copied, and time and memory are in proportion to
+/// the stored entries.
 ///
 /// Source: GraphBLAS C API 2.0, "eWiseAdd".
 pub fn ewise_add_matrix(
@@ -195,23 +223,25 @@ pub fn ewise_add_matrix(
     requires op_domain { op_domain op ≡ output.now.matrix.domain }
     requires a_domain { a.now.matrix.domain ≡ output.now.matrix.domain }
     requires b_domain { b.now.matrix.domain ≡ output.now.matrix.domain }
-    requires a_rows { a.now.matrix.nrows ≡ output.now.matrix.nrows }
-    requires a_columns { a.now.matrix.ncols ≡ output.now.matrix.ncols }
+    requires a_rows { (if descriptor.tran then a.now.matrix.ncols else a.now.matrix.nrows) ≡ output.now.matrix.nrows }
+    requires a_columns { (if descriptor.tran then a.now.matrix.nrows else a.now.matrix.ncols) ≡ output.now.matrix.ncols }
     requires b_rows { b.now.matrix.nrows ≡ output.now.matrix.nrows }
     requires b_columns { b.now.matrix.ncols ≡ output.now.matrix.ncols }
     requires mask_rows { IfSome mask (λ m. m.now.matrix.nrows ≡ output.now.matrix.nrows) }
     requires mask_columns { IfSome mask (λ m. m.now.matrix.ncols ≡ output.now.matrix.ncols) }
-    ensures matrix { IfOk result (λ made. made.matrix ≡ edited_matrix (λ c. written cell_cmp (is_inside cell_cmp descriptor.structure descriptor.comp (option_map (λ m. m.now.matrix.entries) mask.entry)) descriptor.replace accum c (ewise_add cell_cmp op a.now.matrix.entries b.now.matrix.entries)) output.now.matrix) }
+    ensures matrix { IfOk result (λ made. made.matrix ≡ edited_matrix (λ c. written cell_cmp (is_inside cell_cmp descriptor.structure descriptor.comp (option_map (λ m. m.now.matrix.entries) mask.entry)) descriptor.replace accum c (ewise_add cell_cmp op (turned descriptor.tran a.now.matrix.entries) b.now.matrix.entries)) output.now.matrix) }
     ensures assembled { IfOk result (λ made. made.assembled ≡ true) }
 {
-    let computed = pair_matrices(alloc, Pairing::Union, op, a, b)?;
+    let computed = pair_turned(alloc, Pairing::Union, op, a, b, descriptor.tran)?;
     write_masked_matrix(alloc, output, mask, accum, descriptor, computed)
 }
 
 /// eWiseMult: over the intersection of the cells of `a` and `b`, what the operator makes of both values; written into `output` by
 /// the accumulator, the mask and the descriptor. `AllocError` where memory is refused.
 ///
-/// All are of one domain, the mask aside, and of the same dimensions. Time and memory are in proportion to the stored entries.
+/// All are of one domain, the mask aside, and of the same dimensions, those of `a` exchanged where the descriptor says `tran`: then `a`
+/// stands for its transposed, which is made first, as `transposed` does. Else nothing is copied, and time and memory are in proportion to
+/// the stored entries.
 ///
 /// Source: GraphBLAS C API 2.0, "eWiseMult".
 pub fn ewise_mult_matrix(
@@ -232,15 +262,15 @@ pub fn ewise_mult_matrix(
     requires op_domain { op_domain op ≡ output.now.matrix.domain }
     requires a_domain { a.now.matrix.domain ≡ output.now.matrix.domain }
     requires b_domain { b.now.matrix.domain ≡ output.now.matrix.domain }
-    requires a_rows { a.now.matrix.nrows ≡ output.now.matrix.nrows }
-    requires a_columns { a.now.matrix.ncols ≡ output.now.matrix.ncols }
+    requires a_rows { (if descriptor.tran then a.now.matrix.ncols else a.now.matrix.nrows) ≡ output.now.matrix.nrows }
+    requires a_columns { (if descriptor.tran then a.now.matrix.nrows else a.now.matrix.ncols) ≡ output.now.matrix.ncols }
     requires b_rows { b.now.matrix.nrows ≡ output.now.matrix.nrows }
     requires b_columns { b.now.matrix.ncols ≡ output.now.matrix.ncols }
     requires mask_rows { IfSome mask (λ m. m.now.matrix.nrows ≡ output.now.matrix.nrows) }
     requires mask_columns { IfSome mask (λ m. m.now.matrix.ncols ≡ output.now.matrix.ncols) }
-    ensures matrix { IfOk result (λ made. made.matrix ≡ edited_matrix (λ c. written cell_cmp (is_inside cell_cmp descriptor.structure descriptor.comp (option_map (λ m. m.now.matrix.entries) mask.entry)) descriptor.replace accum c (ewise_mult cell_cmp op a.now.matrix.entries b.now.matrix.entries)) output.now.matrix) }
+    ensures matrix { IfOk result (λ made. made.matrix ≡ edited_matrix (λ c. written cell_cmp (is_inside cell_cmp descriptor.structure descriptor.comp (option_map (λ m. m.now.matrix.entries) mask.entry)) descriptor.replace accum c (ewise_mult cell_cmp op (turned descriptor.tran a.now.matrix.entries) b.now.matrix.entries)) output.now.matrix) }
     ensures assembled { IfOk result (λ made. made.assembled ≡ true) }
 {
-    let computed = pair_matrices(alloc, Pairing::Intersection, op, a, b)?;
+    let computed = pair_turned(alloc, Pairing::Intersection, op, a, b, descriptor.tran)?;
     write_masked_matrix(alloc, output, mask, accum, descriptor, computed)
 }

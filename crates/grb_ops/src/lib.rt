@@ -8,6 +8,7 @@
 mod ewise;
 mod ewise_matrix;
 mod rows;
+mod transposing;
 mod typed;
 mod typed_matrix;
 mod writing;
@@ -15,5 +16,6 @@ mod writing_matrix;
 
 pub use ewise::{ewise_add_vector, ewise_mult_vector};
 pub use ewise_matrix::{ewise_add_matrix, ewise_mult_matrix};
+pub use transposing::transposed;
 pub use writing::write_masked_vector;
 pub use writing_matrix::write_masked_matrix;

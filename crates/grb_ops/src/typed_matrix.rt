@@ -1,9 +1,9 @@
 //! The flat lists of a matrix in the Rust type of its domain.
-ghost use Rattle.std.specs.Prelude.{◌≡◌, ◌<◌, length, slice_index, IsTrue};
+ghost use Rattle.std.specs.Prelude.{◌≡◌, ◌<◌, length, map, slice_index, IsTrue};
 ghost use Rattle.std.specs.FinMap.{is_sorted};
 ghost use Rattle.grb_core.specs.declared.domain.Domain.TheVariants as domain;
 ghost use Rattle.grb_core.specs.declared.value.Value.TheVariants as value;
-ghost use Rattle.grb_core.specs.Entries.{cell_cmp};
+ghost use Rattle.grb_core.specs.Entries.{cell_cmp, values_of};
 ghost use Rattle.grb_core.specs.Results.{row_of};
 ghost use Rattle.grb_kernels.specs.Typed.{entries_of};
 ghost use Rattle.grb_rows.specs.Cells.{decoded, IsFlat};
@@ -21,6 +21,11 @@ pub(crate) trait StoredRows: Paired {
         requires ordered { IsTrue (is_sorted cell_cmp (decoded lists.now.entries)) }
         ensures { entries_of Self.value result.indices.now result.values.now ≡ row_of (slice_index lists.now.rows k) (decoded lists.now.entries) };
 
+    /// The values of all entries, in the order of their cells.
+    fn values(lists: &FlatRows) -> &[Self]
+        requires { lists.now.domain ≡ Self.domain }
+        ensures { map Self.value result.now ≡ values_of lists.now.entries };
+
     /// The flat lists of these rows, where each of them begins, and the column and the value of each entry. They are not copied.
     fn keep(rows: Vec<u32>, starts: Vec<usize>, columns: Vec<u32>, values: Vec<Self>) -> FlatRows
         requires flat { IsFlat rows.items starts.items columns.items }
@@ -36,6 +41,10 @@ impl StoredRows for bool {
             indices: lists.row_columns(k),
             values: lists.row_bools(k),
         }
+    }
+
+    fn values(lists: &FlatRows) -> &[bool] {
+        lists.bools()
     }
 
     fn keep(rows: Vec<u32>, starts: Vec<usize>, columns: Vec<u32>, values: Vec<bool>) -> FlatRows
@@ -55,6 +64,10 @@ impl StoredRows for u64 {
             indices: lists.row_columns(k),
             values: lists.row_numbers(k),
         }
+    }
+
+    fn values(lists: &FlatRows) -> &[u64] {
+        lists.numbers()
     }
 
     fn keep(rows: Vec<u32>, starts: Vec<usize>, columns: Vec<u32>, values: Vec<u64>) -> FlatRows

@@ -1,3 +1,7 @@
+pub mod WholePushes
+pub mod PushedColumns
+pub mod Columns
+pub mod Pushing
 pub mod Folds
 pub mod Lent
 pub mod RowByRow
@@ -6,3 +10,7 @@ pub mod Sums
 pub mod Ordered
 pub mod Marks
 pub mod Searching
+pub mod ByColumn
+pub mod NamedRise
+pub mod SumsByColumn
+pub mod ColumnFolds

@@ -52,7 +52,7 @@ row-sorted i (e ∷ a) h =
       | Greater ↦ λ t. rest
     ] refl)
 
-map_on-same : (ks : List ℕ) (f g : ℕ → Option Value) → ((k : ℕ) → f k ≡ g k) → map_on ks f ≡ map_on ks g
+pub map_on-same : (ks : List ℕ) (f g : ℕ → Option Value) → ((k : ℕ) → f k ≡ g k) → map_on ks f ≡ map_on ks g
 map_on-same [] f g h = refl
 map_on-same (k ∷ ks) f g h =
     ap (λ w. before_entries k w (map_on ks f)) (h k)

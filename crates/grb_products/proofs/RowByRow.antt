@@ -15,6 +15,7 @@ use Rattle.grb_core.proofs.Maps.{find-before, is_sorted-before, same_entries_at,
 use Rattle.grb_core.specs.Results.{row_of, each_row}
 use Rattle.grb_kernels.proofs.Lists.{before-append, append_nil}
 use Rattle.grb_kernels.proofs.Merges.{less}
+use Rattle.grb_products.specs.ColumnSums.{Rise}
 
 abbrev pub by_its_row : (ℕ × ℕ) × Value → ℕ × Value
 by_its_row e = (e.0.0, e.1)
@@ -54,10 +55,6 @@ find-each_row f none a q =
 pub is_sorted-each_row : (f : VectorEntries → Option Value) (a : MatrixEntries) → T (is_sorted nat_cmp (each_row f a))
 is_sorted-each_row f a = is_sorted-map_on_indices nat_cmp nat_cmp_total (λ i. f (row_of i a)) (by_row a)
 
--- rows that rise
-abbrev pub Rise : List ℕ → Type 0
-Rise ks = (i j : ℕ) → i < j → j < length ks → slice_index ks i < slice_index ks j
-
 rise_rest : (k : ℕ) (ks : List ℕ) → Rise (k ∷ ks) → Rise ks
 rise_rest k ks h i j l m = h (suc i) (suc j) (omega arith) (omega arith)
 
@@ -78,7 +75,7 @@ below-map_on x g (k ∷ ks) h =
     below_before None l r = r
     below_before (Some v) l r = and _ _ (less_is x k l) r
 
-is_sorted-map_rising : (g : ℕ → Option Value) (ks : List ℕ) → Rise ks → T (is_sorted nat_cmp (map_on ks g))
+pub is_sorted-map_rising : (g : ℕ → Option Value) (ks : List ℕ) → Rise ks → T (is_sorted nat_cmp (map_on ks g))
 is_sorted-map_rising g [] h = tt
 is_sorted-map_rising g (k ∷ ks) h =
     is_sorted-before nat_cmp k (g k) (map_on ks g) (below-map_on k g ks (λ j l. h zero (suc j) (omega arith) (omega arith))) (is_sorted-map_rising g ks (rise_rest k ks h))
@@ -87,7 +84,7 @@ all_apart : (q k : ℕ) (ks : List ℕ) → (nat_cmp q k ≡ Equal → ⊥) → 
 all_apart q k ks n apart zero l e = n (sym (nat_cmp_is q k Equal (sym e)))
 all_apart q k ks n apart (suc j) l e = apart j (omega arith) e
 
-find-map_rising : (g : ℕ → Option Value) (q : ℕ) (ks : List ℕ) → Rise ks → (((j : ℕ) → j < length ks → slice_index ks j ≢ q) → g q ≡ None) → find nat_cmp q (map_on ks g) ≡ g q
+pub find-map_rising : (g : ℕ → Option Value) (q : ℕ) (ks : List ℕ) → Rise ks → (((j : ℕ) → j < length ks → slice_index ks j ≢ q) → g q ≡ None) → find nat_cmp q (map_on ks g) ≡ g q
 find-map_rising g q [] h out = sym (out (λ j l. absurd (omega arith)))
 find-map_rising g q (k ∷ ks) h out =
     find-before nat_cmp nat_cmp_total k q (g k) (map_on ks g) (below-map_on k g ks (λ j l. h zero (suc j) (omega arith) (omega arith)))

@@ -118,7 +118,7 @@ pub record IsSumming (m : Monoid) (vs : List Value) (sum : Value) (any : Bool) :
   pub is_some : kept sum any ≡ fold_of_some m vs
 
 module _ (m : Monoid) where
-  fold_of_some-more : (vs : List Value) (v : Value) (us : List Value) → fold_of_some m (vs ++ v ∷ us) ≡ Some (fold_of m (vs ++ v ∷ us))
+  pub fold_of_some-more : (vs : List Value) (v : Value) (us : List Value) → fold_of_some m (vs ++ v ∷ us) ≡ Some (fold_of m (vs ++ v ∷ us))
   fold_of_some-more [] v us = refl
   fold_of_some-more (x ∷ vs) v us = refl
 

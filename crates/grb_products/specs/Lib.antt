@@ -1,2 +1,5 @@
+pub mod Pushes
 pub mod Products
 pub mod Open
+pub mod ColumnSums
+pub mod Numbers

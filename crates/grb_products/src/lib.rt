@@ -5,10 +5,15 @@
 //! lent is changed. Nothing here checks domains or dimensions, which the caller owes, and nothing here knows of stores or threads.
 #![tactic(auto)]
 
+mod column_folds;
+mod column_sums;
 mod folding;
 mod lookup;
 mod monoids;
 mod multiply;
+mod picks;
+mod push;
+mod pushes;
 mod row_folds;
 mod row_products;
 mod rows;
@@ -18,6 +23,7 @@ mod totals;
 pub use lookup::place_of;
 pub use monoids::MonoidOver;
 pub use multiply::{is_worth_opening, mxv};
+pub use pushes::vxm;
 pub use row_folds::reduce_rows;
 pub use rows::emit;
 pub use stored::Stored;

@@ -1,5 +1,5 @@
 //! The product of a matrix and a vector.
-ghost use Rattle.std.specs.Prelude.{◌≡◌, ◌<◌, ◌≤◌, ◌*◌, ◌+◌, ◌^◌, ℕ, true, false, length, All, IsTrue, IfOk, IfSome};
+ghost use Rattle.std.specs.Prelude.{◌≡◌, ◌<◌, ◌≤◌, ◌*◌, ◌+◌, ◌^◌, ℕ, true, false, length, All, IsTrue, IfOk, IfSome, if◌then◌else◌};
 ghost use Rattle.std.specs.Ordering.{nat_cmp};
 ghost use Rattle.std.specs.Option.{option_map};
 ghost use Rattle.std.specs.FinMap.{is_sorted};
@@ -11,13 +11,14 @@ ghost use Rattle.grb_core.specs.Fold.{fold_of_some};
 ghost use Rattle.grb_core.specs.Contents.{edited_vector};
 ghost use Rattle.grb_core.specs.Mask.{is_inside};
 ghost use Rattle.grb_core.specs.Written.{AccumulatesIn, written};
-ghost use Rattle.grb_core.specs.Results.{each_row, mxv_of};
+ghost use Rattle.grb_core.specs.Results.{each_row, mxv_of, turned};
 ghost use Rattle.grb_kernels.specs.Typed.{entries_of};
 ghost use Rattle.grb_rows.specs.Cells.{decoded};
 ghost use Rattle.grb_products.specs.Products.{products};
 
 use crate::lookup::{Lookup, Open, scatter};
 use crate::monoids::MonoidOver;
+use crate::pushes::transposed_product;
 use crate::row_products::RowTimesVector;
 use crate::rows::made_rows;
 use crate::stored::{Stored, keep_bools, keep_numbers};
@@ -258,6 +259,28 @@ fn product(
     }
 }
 
+/// The product of a matrix, transposed or not, and a vector.
+fn turned_product(
+    alloc: Global,
+    semiring: Semiring,
+    tran: bool,
+    a: &SparseMatrix,
+    u: &SparseVector,
+) -> Result<SparseVector, AllocError>
+    requires a_assembled { a.now.assembled ≡ true }
+    requires u_assembled { u.now.assembled ≡ true }
+    requires a_domain { a.now.matrix.domain ≡ op_domain semiring.op }
+    requires u_domain { u.now.vector.domain ≡ op_domain semiring.op }
+    requires columns { u.now.vector.size ≡ (if tran then a.now.matrix.nrows else a.now.matrix.ncols) }
+    ensures vector { IfOk result (λ made. made.vector ≡ record { domain = a.now.matrix.domain; size = if tran then a.now.matrix.ncols else a.now.matrix.nrows; entries = mxv_of semiring (turned tran a.now.matrix.entries) u.now.vector.entries }) }
+    ensures assembled { IfOk result (λ made. made.assembled ≡ true) }
+{
+    if tran {
+        return transposed_product(alloc, semiring, a, u);
+    }
+    product(alloc, semiring, a, u)
+}
+
 /// The product of a matrix and a vector: at each row the fold, by the semiring's monoid, of what its operator makes of the row's and
 /// the vector's values where both are stored, and nothing where there is no such place; written into `output` by the accumulator, the
 /// mask and the descriptor. `AllocError` where memory is refused.
@@ -285,12 +308,12 @@ pub fn mxv(
     requires semiring_domain { op_domain semiring.op ≡ output.now.vector.domain }
     requires a_domain { a.now.matrix.domain ≡ output.now.vector.domain }
     requires u_domain { u.now.vector.domain ≡ output.now.vector.domain }
-    requires a_rows { a.now.matrix.nrows ≡ output.now.vector.size }
-    requires a_columns { a.now.matrix.ncols ≡ u.now.vector.size }
+    requires a_rows { (if descriptor.tran then a.now.matrix.ncols else a.now.matrix.nrows) ≡ output.now.vector.size }
+    requires a_columns { (if descriptor.tran then a.now.matrix.nrows else a.now.matrix.ncols) ≡ u.now.vector.size }
     requires mask_size { IfSome mask (λ m. m.now.vector.size ≡ output.now.vector.size) }
-    ensures vector { IfOk result (λ made. made.vector ≡ edited_vector (λ w. written nat_cmp (is_inside nat_cmp descriptor.structure descriptor.comp (option_map (λ m. m.now.vector.entries) mask.entry)) descriptor.replace accum w (mxv_of semiring a.now.matrix.entries u.now.vector.entries)) output.now.vector) }
+    ensures vector { IfOk result (λ made. made.vector ≡ edited_vector (λ w. written nat_cmp (is_inside nat_cmp descriptor.structure descriptor.comp (option_map (λ m. m.now.vector.entries) mask.entry)) descriptor.replace accum w (mxv_of semiring (turned descriptor.tran a.now.matrix.entries) u.now.vector.entries)) output.now.vector) }
     ensures assembled { IfOk result (λ made. made.assembled ≡ true) }
 {
-    let computed = product(alloc, semiring, a, u)?;
+    let computed = turned_product(alloc, semiring, descriptor.tran, a, u)?;
     write_masked_vector(alloc, output, mask, accum, descriptor, computed)
 }

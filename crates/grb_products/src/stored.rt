@@ -45,6 +45,9 @@ pub trait Stored: Scalar {
         requires at { k < length lists.now.rows }
         requires domain { lists.now.domain ≡ Self.domain }
         ensures { map Self.value result.now ≡ values_of (row_of (slice_index lists.now.rows k) (decoded lists.now.entries)) };
+
+    /// A clone of a value is that value.
+    ghost same_clone: { (x y : Self) → Self.is_clone x y → y ≡ x };
 }
 
 impl Stored for bool {
@@ -70,6 +73,8 @@ impl Stored for bool {
     fn of_row(lists: &FlatRows, k: usize) -> &[bool] {
         lists.row_bools(k)
     }
+
+    ghost same_clone = { λ x y e. e };
 }
 
 impl Stored for u64 {
@@ -95,6 +100,8 @@ impl Stored for u64 {
     fn of_row(lists: &FlatRows, k: usize) -> &[u64] {
         lists.row_numbers(k)
     }
+
+    ghost same_clone = { λ x y e. e };
 }
 
 /// The vector of these truth values. They are not copied.

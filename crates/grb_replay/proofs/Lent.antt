@@ -1,17 +1,18 @@
 -- What an operation that is not refused is lent, and what it leaves of its output.
-use Rattle.std.proofs.Common.{◌≡◌, ℕ, zero, suc, true, List, [], ◌∷◌, refl, sym, ap, subst, ◌∙◌, Option, Some, None, IfSome, is_some}
-use Rattle.std.specs.Prelude.{map, Result, Ok, Err, IfOk}
+use Rattle.std.proofs.Common.{◌≡◌, ℕ, zero, suc, Bool, true, false, List, [], ◌∷◌, refl, sym, ap, subst, ◌∙◌, Option, Some, None, IfSome, is_some}
+use Rattle.std.specs.Prelude.{map, if◌then◌else◌, Result, Ok, Err, IfOk}
 use Rattle.std.specs.List.{list_all}
 use Rattle.std.specs.Option.{option_map, option_map_or}
 use Rattle.std.specs.Ordering.{nat_cmp}
 use Rattle.std.proofs.lemmas.Bool.{and_parts}
+use Rattle.grb_core.specs.declared.domain.Domain.{Domain}
 use Rattle.grb_core.specs.declared.operator.BinaryOp.{BinaryOp}
 use Rattle.grb_core.specs.Operator.{op_domain}
 use Rattle.grb_core.specs.Contents.{Matrix, Vector, edited_matrix, edited_vector}
 use Rattle.grb_core.specs.Entries.{cell_cmp, MatrixEntries, VectorEntries}
 use Rattle.grb_core.specs.Mask.{is_inside}
 use Rattle.grb_core.specs.Written.{written}
-use Rattle.grb_core.specs.Results.{ewise_add, ewise_mult}
+use Rattle.grb_core.specs.Results.{ewise_add, ewise_mult, turned}
 use Rattle.grb_sparse.specs.Matrix.{SparseMatrixView}
 use Rattle.grb_sparse.specs.Vector.{SparseVectorView}
 use Rattle.grb_call.specs.declared.call.Call.{Call}
@@ -29,7 +30,7 @@ use Rattle.grb_call.specs.Store.{Store, shapes_of, matrix_at, vector_at, matrix_
 use Rattle.grb_call.specs.After.{refused}
 use Rattle.grb_call.proofs.ShapesAfter.{object_at-map}
 use Rattle.grb_call.proofs.Passed.{has_passed}
-use Rattle.grb_call.proofs.Operations.{IsMatrixAt, IsVectorAt, IsMatrixMask, IsVectorMask, EwiseMatrices, EwiseVectors, ewise_matrices, ewise_vectors}
+use Rattle.grb_call.proofs.Operations.{IsMatrixAt, IsTurnedAt, IsVectorAt, IsMatrixMask, IsVectorMask, EwiseMatrices, EwiseVectors, ewise_matrices, ewise_vectors}
 use Rattle.grb_replay.specs.Operation.{is_elementwise}
 use Rattle.grb_replay.specs.State.{stored, stored_matrix, stored_vector}
 
@@ -53,10 +54,10 @@ held f g (Some x ∷ xs) zero e = refl
 held f g (o ∷ xs) (suc n) e = held f g xs n e
 
 -- the tests that an element-wise operation on matrices passed
-pub record MatrixTests (t : ObjectShapes) (c : MatrixId) (mask : Option MatrixId) (accum : Option BinaryOp) (op : BinaryOp) (a b : MatrixId) : Type 0 where
+pub record MatrixTests (t : ObjectShapes) (tran : Bool) (c : MatrixId) (mask : Option MatrixId) (accum : Option BinaryOp) (op : BinaryOp) (a b : MatrixId) : Type 0 where
   pub live : list_all (is_live t) (object.Matrix c ∷ object.Matrix a ∷ object.Matrix b ∷ matrix_mask mask) ≡ true
   pub one_domain : is_one_domain t (object.Matrix c ∷ object.Matrix a ∷ object.Matrix b ∷ []) (op_domain op ∷ accum_domains accum) ≡ true
-  pub fits : ewise_matrices_fit t c mask a b ≡ true
+  pub fits : ewise_matrices_fit t tran c mask a b ≡ true
 
 module _ (s : Store) (called : Call) (out : MatrixId) (c : MatrixId) (mask : Option MatrixId) (accum : Option BinaryOp) (op : BinaryOp) (a b : MatrixId) (d : Descriptor)
     (output : output_of called ≡ Some (object.Matrix out)) (accepted : refused s called ≡ None) where
@@ -72,12 +73,12 @@ module _ (s : Store) (called : Call) (out : MatrixId) (c : MatrixId) (mask : Opt
       let same : c ≡ out = cc in
       e ∙ ap (λ x. call.EwiseMultMatrix x mask accum op a b d) same
 
-  pub add_matrix-tests : called ≡ call.EwiseAddMatrix c mask accum op a b d → MatrixTests (shapes_of s) out mask accum op a b
+  pub add_matrix-tests : called ≡ call.EwiseAddMatrix c mask accum op a b d → MatrixTests (shapes_of s) d.tran out mask accum op a b
   add_matrix-tests e =
       let p = has_passed s (call.EwiseAddMatrix out mask accum op a b d) (subst (λ x. refused s x ≡ None) (add_matrix-is e) accepted) in
       record { live = p.initialized; one_domain = p.one_domain; fits = p.fits }
 
-  pub mult_matrix-tests : called ≡ call.EwiseMultMatrix c mask accum op a b d → MatrixTests (shapes_of s) out mask accum op a b
+  pub mult_matrix-tests : called ≡ call.EwiseMultMatrix c mask accum op a b d → MatrixTests (shapes_of s) d.tran out mask accum op a b
   mult_matrix-tests e =
       let p = has_passed s (call.EwiseMultMatrix out mask accum op a b d) (subst (λ x. refused s x ≡ None) (mult_matrix-is e) accepted) in
       record { live = p.initialized; one_domain = p.one_domain; fits = p.fits }
@@ -92,6 +93,19 @@ module _ (ms : List (Option SparseMatrixView)) (vs : List (Option SparseVectorVi
   pub matrix_is : (o : Option Matrix) (x y : Matrix) → o ≡ Some x → o ≡ Some y → x ≡ y
   matrix_is o x y e f = let same : Some x ≡ Some y = sym e ∙ f in cc
 
+  -- what is lent has the domain and the dimensions that are known of the object
+  pub lent_matrix_is : (a : MatrixId) (y : SparseMatrixView) → object_at ms a.0 ≡ Some y → (domain : Domain) (nrows ncols : ℕ) → IsMatrixAt (stored ms vs) a domain nrows ncols →
+      (y.matrix.domain ≡ domain) × (y.matrix.nrows ≡ nrows) × (y.matrix.ncols ≡ ncols)
+  lent_matrix_is a y at domain nrows ncols is =
+      let same = matrix_is (matrix_at (stored ms vs) a) is.matrix y.matrix is.at (at_matrix a y at) in
+      (ap (λ (m : Matrix). m.domain) (sym same) ∙ is.same_domain, ap (λ (m : Matrix). m.nrows) (sym same) ∙ is.same_nrows, ap (λ (m : Matrix). m.ncols) (sym same) ∙ is.same_ncols)
+
+  -- and the same of a first input, as it is turned
+  pub lent_turned_is : (a : MatrixId) (y : SparseMatrixView) → object_at ms a.0 ≡ Some y → (tran : Bool) (domain : Domain) (nrows ncols : ℕ) → IsTurnedAt (stored ms vs) tran a domain nrows ncols →
+      (y.matrix.domain ≡ domain) × ((if tran then y.matrix.ncols else y.matrix.nrows) ≡ nrows) × ((if tran then y.matrix.nrows else y.matrix.ncols) ≡ ncols)
+  lent_turned_is a y at true domain nrows ncols is = let same = lent_matrix_is a y at domain ncols nrows is in (same.0, same.2, same.1)
+  lent_turned_is a y at false domain nrows ncols is = lent_matrix_is a y at domain nrows ncols is
+
   -- a mask that is lent, as the view of what is lent
   module _ {B : Type 0} (now : B → SparseMatrixView) where
     pub lent_matrix_entries : (mask : Option MatrixId) (lent : Option B) → option_map (λ m. Some (now m)) lent ≡ option_map (λ x. object_at ms x.0) mask →
@@ -103,7 +117,7 @@ module _ (ms : List (Option SparseMatrixView)) (vs : List (Option SparseVectorVi
         let at : object_at ms x.0 ≡ Some (now b) = cc in
         ap (λ (es : MatrixEntries). Some es) (sym (matrix_entries-at x (now b) at))
 
-  module _ (c : MatrixId) (mask : Option MatrixId) (accum : Option BinaryOp) (op : BinaryOp) (a b : MatrixId) (tests : MatrixTests (shapes_of (stored ms vs)) c mask accum op a b) where
+  module _ {tran : Bool} (c : MatrixId) (mask : Option MatrixId) (accum : Option BinaryOp) (op : BinaryOp) (a b : MatrixId) (tests : MatrixTests (shapes_of (stored ms vs)) tran c mask accum op a b) where
     pub matrix_output-there : is_some (object_at ms c.0) ≡ true
     matrix_output-there = held stored_matrix matrix_shape ms c.0 (and_parts _ _ tests.live).0
 
@@ -124,19 +138,15 @@ module _ (ms : List (Option SparseMatrixView)) (vs : List (Option SparseVectorVi
         matrix_mask_held mask last.1
 
     module _ (x : SparseMatrixView) (at_output : object_at ms c.0 ≡ Some x) where
-      pub matrix_are : EwiseMatrices (stored ms vs) x.matrix mask accum op a b
-      matrix_are = ewise_matrices (stored ms vs) c x.matrix (at_matrix c x at_output) mask accum op a b tests.live tests.one_domain tests.fits
+      pub matrix_are : EwiseMatrices (stored ms vs) x.matrix tran mask accum op a b
+      matrix_are = ewise_matrices (stored ms vs) c x.matrix (at_matrix c x at_output) tran mask accum op a b tests.live tests.one_domain tests.fits
 
-      matrix_input_same : (z : MatrixId) (y : SparseMatrixView) → object_at ms z.0 ≡ Some y → IsMatrixAt (stored ms vs) z x.matrix.domain x.matrix.nrows x.matrix.ncols → (y.matrix.domain ≡ x.matrix.domain) × (y.matrix.nrows ≡ x.matrix.nrows) × (y.matrix.ncols ≡ x.matrix.ncols)
-      matrix_input_same z y at is =
-          let same = matrix_is (matrix_at (stored ms vs) z) is.matrix y.matrix is.at (at_matrix z y at) in
-          (ap (λ (m : Matrix). m.domain) (sym same) ∙ is.same_domain, ap (λ (m : Matrix). m.nrows) (sym same) ∙ is.same_nrows, ap (λ (m : Matrix). m.ncols) (sym same) ∙ is.same_ncols)
-
-      pub matrix_first-same : (y : SparseMatrixView) → object_at ms a.0 ≡ Some y → (y.matrix.domain ≡ x.matrix.domain) × (y.matrix.nrows ≡ x.matrix.nrows) × (y.matrix.ncols ≡ x.matrix.ncols)
-      matrix_first-same y at = matrix_input_same a y at matrix_are.first
+      pub matrix_first-same : (y : SparseMatrixView) → object_at ms a.0 ≡ Some y →
+          (y.matrix.domain ≡ x.matrix.domain) × ((if tran then y.matrix.ncols else y.matrix.nrows) ≡ x.matrix.nrows) × ((if tran then y.matrix.nrows else y.matrix.ncols) ≡ x.matrix.ncols)
+      matrix_first-same y at = lent_turned_is a y at tran x.matrix.domain x.matrix.nrows x.matrix.ncols matrix_are.first
 
       pub matrix_second-same : (y : SparseMatrixView) → object_at ms b.0 ≡ Some y → (y.matrix.domain ≡ x.matrix.domain) × (y.matrix.nrows ≡ x.matrix.nrows) × (y.matrix.ncols ≡ x.matrix.ncols)
-      matrix_second-same y at = matrix_input_same b y at matrix_are.second
+      matrix_second-same y at = lent_matrix_is b y at x.matrix.domain x.matrix.nrows x.matrix.ncols matrix_are.second
 
       module _ {B : Type 0} (now : B → SparseMatrixView) where
         matrix_lent_same : (mask : Option MatrixId) (lent : Option B) → option_map (λ m. Some (now m)) lent ≡ option_map (λ x. object_at ms x.0) mask → IsMatrixMask (stored ms vs) mask x.matrix.nrows x.matrix.ncols →
@@ -159,27 +169,27 @@ module _ (ms : List (Option SparseMatrixView)) (vs : List (Option SparseVectorVi
     abbrev matrix_write : Option MatrixEntries → MatrixEntries → Matrix
     matrix_write m computed = edited_matrix (λ old. written cell_cmp (is_inside cell_cmp d.structure d.comp m) d.replace accum old computed) x.matrix
 
-    pub add_matrix-left : called ≡ call.EwiseAddMatrix c mask accum op a b d → made ≡ matrix_write lent (ewise_add cell_cmp op y.matrix.entries z.matrix.entries) →
+    pub add_matrix-left : called ≡ call.EwiseAddMatrix c mask accum op a b d → made ≡ matrix_write lent (ewise_add cell_cmp op (turned d.tran y.matrix.entries) z.matrix.entries) →
         matrix_left (stored ms vs) called (matrix_at (stored ms vs) c) ≡ Some made
     add_matrix-left e is =
         let s = stored ms vs in
         ap (λ t. matrix_left s t (matrix_at s c)) e
         ∙ ap (λ (o : Option Matrix). matrix_left s (call.EwiseAddMatrix c mask accum op a b d) o) (at_matrix c x at_output)
         ∙ ap (λ (m : Matrix). Some m) (sym (is
-        ∙ ap (λ m. matrix_write m (ewise_add cell_cmp op y.matrix.entries z.matrix.entries)) same_mask
-        ∙ ap (λ es. matrix_write (option_map (matrix_entries s) mask) (ewise_add cell_cmp op es z.matrix.entries)) (sym (matrix_entries-at a y at_first))
-        ∙ ap (λ es. matrix_write (option_map (matrix_entries s) mask) (ewise_add cell_cmp op (matrix_entries s a) es)) (sym (matrix_entries-at b z at_second))))
+        ∙ ap (λ m. matrix_write m (ewise_add cell_cmp op (turned d.tran y.matrix.entries) z.matrix.entries)) same_mask
+        ∙ ap (λ es. matrix_write (option_map (matrix_entries s) mask) (ewise_add cell_cmp op (turned d.tran es) z.matrix.entries)) (sym (matrix_entries-at a y at_first))
+        ∙ ap (λ es. matrix_write (option_map (matrix_entries s) mask) (ewise_add cell_cmp op (turned d.tran (matrix_entries s a)) es)) (sym (matrix_entries-at b z at_second))))
 
-    pub mult_matrix-left : called ≡ call.EwiseMultMatrix c mask accum op a b d → made ≡ matrix_write lent (ewise_mult cell_cmp op y.matrix.entries z.matrix.entries) →
+    pub mult_matrix-left : called ≡ call.EwiseMultMatrix c mask accum op a b d → made ≡ matrix_write lent (ewise_mult cell_cmp op (turned d.tran y.matrix.entries) z.matrix.entries) →
         matrix_left (stored ms vs) called (matrix_at (stored ms vs) c) ≡ Some made
     mult_matrix-left e is =
         let s = stored ms vs in
         ap (λ t. matrix_left s t (matrix_at s c)) e
         ∙ ap (λ (o : Option Matrix). matrix_left s (call.EwiseMultMatrix c mask accum op a b d) o) (at_matrix c x at_output)
         ∙ ap (λ (m : Matrix). Some m) (sym (is
-        ∙ ap (λ m. matrix_write m (ewise_mult cell_cmp op y.matrix.entries z.matrix.entries)) same_mask
-        ∙ ap (λ es. matrix_write (option_map (matrix_entries s) mask) (ewise_mult cell_cmp op es z.matrix.entries)) (sym (matrix_entries-at a y at_first))
-        ∙ ap (λ es. matrix_write (option_map (matrix_entries s) mask) (ewise_mult cell_cmp op (matrix_entries s a) es)) (sym (matrix_entries-at b z at_second))))
+        ∙ ap (λ m. matrix_write m (ewise_mult cell_cmp op (turned d.tran y.matrix.entries) z.matrix.entries)) same_mask
+        ∙ ap (λ es. matrix_write (option_map (matrix_entries s) mask) (ewise_mult cell_cmp op (turned d.tran es) z.matrix.entries)) (sym (matrix_entries-at a y at_first))
+        ∙ ap (λ es. matrix_write (option_map (matrix_entries s) mask) (ewise_mult cell_cmp op (turned d.tran (matrix_entries s a)) es)) (sym (matrix_entries-at b z at_second))))
 
 -- the tests that an element-wise operation on vectors passed
 pub record VectorTests (t : ObjectShapes) (w : VectorId) (mask : Option VectorId) (accum : Option BinaryOp) (op : BinaryOp) (u v : VectorId) : Type 0 where

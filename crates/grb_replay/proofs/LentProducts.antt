@@ -12,7 +12,7 @@ use Rattle.grb_core.specs.Entries.{cell_cmp, MatrixEntries, VectorEntries}
 use Rattle.grb_core.specs.Mask.{is_inside}
 use Rattle.grb_core.specs.Written.{written}
 use Rattle.grb_core.specs.Semiring.{SemiringParts}
-use Rattle.grb_core.specs.Results.{mxv_of, mxm_of, reduce_rows_of}
+use Rattle.grb_core.specs.Results.{mxv_of, mxm_of, reduce_rows_of, turned, vxm_of}
 use Rattle.grb_sparse.specs.Matrix.{SparseMatrixView}
 use Rattle.grb_sparse.specs.Vector.{SparseVectorView}
 use Rattle.grb_call.specs.declared.call.Call.TheVariants as call
@@ -27,7 +27,7 @@ use Rattle.grb_call.specs.Store.{shapes_of, vector_at, matrix_at, matrix_entries
 use Rattle.grb_call.specs.After.{refused}
 use Rattle.grb_call.proofs.Passed.{HasPassed, has_passed}
 use Rattle.grb_call.proofs.Operations.{IsMatrixAt, IsVectorAt, IsMatrixMask, IsVectorMask}
-use Rattle.grb_call.proofs.Products.{MxvOperands, mxv_operands, MxmOperands, mxm_operands, ReduceRowsOperands, reduce_rows_operands}
+use Rattle.grb_call.proofs.Products.{MxvOperands, mxv_operands, MxmOperands, mxm_operands, ReduceRowsOperands, reduce_rows_operands, VxmOperands, vxm_operands}
 use Rattle.grb_replay.specs.State.{stored, stored_matrix, stored_vector}
 use Rattle.grb_replay.proofs.Lent.{held, at_matrix, at_vector, matrix_is, vector_is, matrix_entries-at, vector_entries-at}
 
@@ -36,13 +36,7 @@ module _ (ms : List (Option SparseMatrixView)) (vs : List (Option SparseVectorVi
   vector_mask_held None live = tt
   vector_mask_held (Some x) live = held stored_vector vector_shape vs x.0 (and_parts _ _ live).0
 
-  -- what is lent has the domain and the dimensions that are known of the object
-  pub lent_matrix_is : (a : MatrixId) (y : SparseMatrixView) → object_at ms a.0 ≡ Some y → (domain : Domain) (nrows ncols : ℕ) → IsMatrixAt (stored ms vs) a domain nrows ncols →
-      (y.matrix.domain ≡ domain) × (y.matrix.nrows ≡ nrows) × (y.matrix.ncols ≡ ncols)
-  lent_matrix_is a y at domain nrows ncols is =
-      let same = matrix_is ms vs (matrix_at (stored ms vs) a) is.matrix y.matrix is.at (at_matrix ms vs a y at) in
-      (ap (λ (m : Matrix). m.domain) (sym same) ∙ is.same_domain, ap (λ (m : Matrix). m.nrows) (sym same) ∙ is.same_nrows, ap (λ (m : Matrix). m.ncols) (sym same) ∙ is.same_ncols)
-
+  -- what is lent has the domain and the size that are known of the object
   pub lent_vector_is : (v : VectorId) (y : SparseVectorView) → object_at vs v.0 ≡ Some y → (domain : Domain) (size : ℕ) → IsVectorAt (stored ms vs) v domain size → (y.vector.domain ≡ domain) × (y.vector.size ≡ size)
   lent_vector_is v y at domain size is =
       let same = vector_is ms vs (vector_at (stored ms vs) v) is.vector y.vector is.at (at_vector ms vs v y at) in
@@ -79,8 +73,31 @@ module _ (ms : List (Option SparseMatrixView)) (vs : List (Option SparseVectorVi
         let rest = and_parts (is_live (shapes_of (stored ms vs)) (object.Matrix a)) _ (and_parts (is_live (shapes_of (stored ms vs)) (object.Vector w)) _ mxv_passed.initialized).1 in
         vector_mask_held mask (and_parts (is_live (shapes_of (stored ms vs)) (object.Vector u)) _ rest.1).1
 
-    pub mxv_are : (x : SparseVectorView) → object_at vs w.0 ≡ Some x → MxvOperands (stored ms vs) x.vector mask accum semiring a u
-    mxv_are x at = mxv_operands (stored ms vs) w x.vector (at_vector ms vs w x at) mask accum semiring a u mxv_passed.initialized mxv_passed.one_domain mxv_passed.fits
+    pub mxv_are : (x : SparseVectorView) → object_at vs w.0 ≡ Some x → MxvOperands (stored ms vs) x.vector d.tran mask accum semiring a u
+    mxv_are x at = mxv_operands (stored ms vs) w x.vector (at_vector ms vs w x at) d.tran mask accum semiring a u mxv_passed.initialized mxv_passed.one_domain mxv_passed.fits
+
+  -- vxm
+  module _ (w : VectorId) (mask : Option VectorId) (accum : Option BinaryOp) (semiring : SemiringParts) (u : VectorId) (a : MatrixId) (d : Descriptor)
+      (accepted : refused (stored ms vs) (call.Vxm w mask accum semiring u a d) ≡ None) where
+    vxm_passed : HasPassed (stored ms vs) (call.Vxm w mask accum semiring u a d)
+    vxm_passed = has_passed (stored ms vs) (call.Vxm w mask accum semiring u a d) accepted
+
+    pub vxm_output-there : is_some (object_at vs w.0) ≡ true
+    vxm_output-there = held stored_vector vector_shape vs w.0 (and_parts _ _ vxm_passed.initialized).0
+
+    pub vxm_vector-there : is_some (object_at vs u.0) ≡ true
+    vxm_vector-there = held stored_vector vector_shape vs u.0 (and_parts _ _ (and_parts _ _ vxm_passed.initialized).1).0
+
+    pub vxm_matrix-there : is_some (object_at ms a.0) ≡ true
+    vxm_matrix-there = held stored_matrix matrix_shape ms a.0 (and_parts _ _ (and_parts _ _ (and_parts _ _ vxm_passed.initialized).1).1).0
+
+    pub vxm_mask-there : IfSome mask (λ x. is_some (object_at vs x.0) ≡ true)
+    vxm_mask-there =
+        let rest = and_parts (is_live (shapes_of (stored ms vs)) (object.Vector u)) _ (and_parts (is_live (shapes_of (stored ms vs)) (object.Vector w)) _ vxm_passed.initialized).1 in
+        vector_mask_held mask (and_parts (is_live (shapes_of (stored ms vs)) (object.Matrix a)) _ rest.1).1
+
+    pub vxm_are : (x : SparseVectorView) → object_at vs w.0 ≡ Some x → VxmOperands (stored ms vs) x.vector mask accum semiring u a
+    vxm_are x at = vxm_operands (stored ms vs) w x.vector (at_vector ms vs w x at) mask accum semiring u a vxm_passed.initialized vxm_passed.one_domain vxm_passed.fits
 
   pub matrix_mask_held : (mask : Option MatrixId) → list_all (is_live (shapes_of (stored ms vs))) (matrix_mask mask) ≡ true → IfSome mask (λ x. is_some (object_at ms x.0) ≡ true)
   matrix_mask_held None live = tt
@@ -117,20 +134,20 @@ module _ (ms : List (Option SparseMatrixView)) (vs : List (Option SparseVectorVi
         let rest = and_parts (is_live (shapes_of (stored ms vs)) (object.Matrix a)) _ (and_parts (is_live (shapes_of (stored ms vs)) (object.Matrix c)) _ mxm_passed.initialized).1 in
         matrix_mask_held mask (and_parts (is_live (shapes_of (stored ms vs)) (object.Matrix b)) _ rest.1).1
 
-    pub mxm_are : (x : SparseMatrixView) → object_at ms c.0 ≡ Some x → MxmOperands (stored ms vs) x.matrix mask accum semiring a b
-    mxm_are x at = mxm_operands (stored ms vs) c x.matrix (at_matrix ms vs c x at) mask accum semiring a b mxm_passed.initialized mxm_passed.one_domain mxm_passed.fits
+    pub mxm_are : (x : SparseMatrixView) → object_at ms c.0 ≡ Some x → MxmOperands (stored ms vs) x.matrix d.tran mask accum semiring a b
+    mxm_are x at = mxm_operands (stored ms vs) c x.matrix (at_matrix ms vs c x at) d.tran mask accum semiring a b mxm_passed.initialized mxm_passed.one_domain mxm_passed.fits
 
     pub mxm-left : (x y z : SparseMatrixView) → object_at ms c.0 ≡ Some x → object_at ms a.0 ≡ Some y → object_at ms b.0 ≡ Some z → (lent : Option MatrixEntries) → lent ≡ option_map (matrix_entries (stored ms vs)) mask →
-        (made : Matrix) → made ≡ edited_matrix (λ old. written cell_cmp (is_inside cell_cmp d.structure d.comp lent) d.replace accum old (mxm_of semiring y.matrix.entries z.matrix.entries)) x.matrix →
+        (made : Matrix) → made ≡ edited_matrix (λ old. written cell_cmp (is_inside cell_cmp d.structure d.comp lent) d.replace accum old (mxm_of semiring (turned d.tran y.matrix.entries) z.matrix.entries)) x.matrix →
         matrix_left (stored ms vs) (call.Mxm c mask accum semiring a b d) (matrix_at (stored ms vs) c) ≡ Some made
     mxm-left x y z at_output at_first at_second lent same_mask made is =
         let s = stored ms vs in
         let write : Option MatrixEntries → MatrixEntries → Matrix = λ m computed. edited_matrix (λ old. written cell_cmp (is_inside cell_cmp d.structure d.comp m) d.replace accum old computed) x.matrix in
         ap (λ (o : Option Matrix). matrix_left s (call.Mxm c mask accum semiring a b d) o) (at_matrix ms vs c x at_output)
         ∙ ap (λ (m : Matrix). Some m) (sym (is
-        ∙ ap (λ m. write m (mxm_of semiring y.matrix.entries z.matrix.entries)) same_mask
-        ∙ ap (λ (es : MatrixEntries). write (option_map (matrix_entries s) mask) (mxm_of semiring es z.matrix.entries)) (sym (matrix_entries-at ms vs a y at_first))
-        ∙ ap (λ (es : MatrixEntries). write (option_map (matrix_entries s) mask) (mxm_of semiring (matrix_entries s a) es)) (sym (matrix_entries-at ms vs b z at_second))))
+        ∙ ap (λ m. write m (mxm_of semiring (turned d.tran y.matrix.entries) z.matrix.entries)) same_mask
+        ∙ ap (λ (es : MatrixEntries). write (option_map (matrix_entries s) mask) (mxm_of semiring (turned d.tran es) z.matrix.entries)) (sym (matrix_entries-at ms vs a y at_first))
+        ∙ ap (λ (es : MatrixEntries). write (option_map (matrix_entries s) mask) (mxm_of semiring (turned d.tran (matrix_entries s a)) es)) (sym (matrix_entries-at ms vs b z at_second))))
 
   -- a reduction of rows
   module _ (w : VectorId) (mask : Option VectorId) (accum : Option BinaryOp) (monoid : Monoid) (a : MatrixId) (d : Descriptor)
@@ -147,8 +164,8 @@ module _ (ms : List (Option SparseMatrixView)) (vs : List (Option SparseVectorVi
     pub rows_mask-there : IfSome mask (λ x. is_some (object_at vs x.0) ≡ true)
     rows_mask-there = vector_mask_held mask (and_parts _ _ (and_parts _ _ rows_passed.initialized).1).1
 
-    pub rows_are : (x : SparseVectorView) → object_at vs w.0 ≡ Some x → ReduceRowsOperands (stored ms vs) x.vector mask accum monoid a
-    rows_are x at = reduce_rows_operands (stored ms vs) w x.vector (at_vector ms vs w x at) mask accum monoid a rows_passed.initialized rows_passed.one_domain rows_passed.fits
+    pub rows_are : (x : SparseVectorView) → object_at vs w.0 ≡ Some x → ReduceRowsOperands (stored ms vs) x.vector d.tran mask accum monoid a
+    rows_are x at = reduce_rows_operands (stored ms vs) w x.vector (at_vector ms vs w x at) d.tran mask accum monoid a rows_passed.initialized rows_passed.one_domain rows_passed.fits
 
   -- what is left of the output, where this was computed and written
   module _ (w : VectorId) (mask : Option VectorId) (accum : Option BinaryOp) (d : Descriptor) (x : SparseVectorView) (at_output : object_at vs w.0 ≡ Some x)
@@ -157,21 +174,32 @@ module _ (ms : List (Option SparseMatrixView)) (vs : List (Option SparseVectorVi
     write m computed = edited_vector (λ old. written nat_cmp (is_inside nat_cmp d.structure d.comp m) d.replace accum old computed) x.vector
 
     pub mxv-left : (semiring : SemiringParts) (a : MatrixId) (u : VectorId) (y : SparseMatrixView) (z : SparseVectorView) → object_at ms a.0 ≡ Some y → object_at vs u.0 ≡ Some z →
-        made ≡ write lent (mxv_of semiring y.matrix.entries z.vector.entries) →
+        made ≡ write lent (mxv_of semiring (turned d.tran y.matrix.entries) z.vector.entries) →
         vector_left (stored ms vs) (call.Mxv w mask accum semiring a u d) (vector_at (stored ms vs) w) ≡ Some made
     mxv-left semiring a u y z at_matrix_input at_vector_input is =
         let s = stored ms vs in
         ap (λ (o : Option Vector). vector_left s (call.Mxv w mask accum semiring a u d) o) (at_vector ms vs w x at_output)
         ∙ ap (λ (v : Vector). Some v) (sym (is
-        ∙ ap (λ m. write m (mxv_of semiring y.matrix.entries z.vector.entries)) same_mask
-        ∙ ap (λ (es : MatrixEntries). write (option_map (vector_entries s) mask) (mxv_of semiring es z.vector.entries)) (sym (matrix_entries-at ms vs a y at_matrix_input))
-        ∙ ap (λ (es : VectorEntries). write (option_map (vector_entries s) mask) (mxv_of semiring (matrix_entries s a) es)) (sym (vector_entries-at ms vs u z at_vector_input))))
+        ∙ ap (λ m. write m (mxv_of semiring (turned d.tran y.matrix.entries) z.vector.entries)) same_mask
+        ∙ ap (λ (es : MatrixEntries). write (option_map (vector_entries s) mask) (mxv_of semiring (turned d.tran es) z.vector.entries)) (sym (matrix_entries-at ms vs a y at_matrix_input))
+        ∙ ap (λ (es : VectorEntries). write (option_map (vector_entries s) mask) (mxv_of semiring (turned d.tran (matrix_entries s a)) es)) (sym (vector_entries-at ms vs u z at_vector_input))))
 
-    pub rows-left : (monoid : Monoid) (a : MatrixId) (y : SparseMatrixView) → object_at ms a.0 ≡ Some y → made ≡ write lent (reduce_rows_of monoid y.matrix.entries) →
+    pub vxm-left : (semiring : SemiringParts) (u : VectorId) (a : MatrixId) (z : SparseVectorView) (y : SparseMatrixView) → object_at vs u.0 ≡ Some z → object_at ms a.0 ≡ Some y →
+        made ≡ write lent (vxm_of semiring z.vector.entries y.matrix.entries) →
+        vector_left (stored ms vs) (call.Vxm w mask accum semiring u a d) (vector_at (stored ms vs) w) ≡ Some made
+    vxm-left semiring u a z y at_vector_input at_matrix_input is =
+        let s = stored ms vs in
+        ap (λ (o : Option Vector). vector_left s (call.Vxm w mask accum semiring u a d) o) (at_vector ms vs w x at_output)
+        ∙ ap (λ (v : Vector). Some v) (sym (is
+        ∙ ap (λ m. write m (vxm_of semiring z.vector.entries y.matrix.entries)) same_mask
+        ∙ ap (λ (es : MatrixEntries). write (option_map (vector_entries s) mask) (vxm_of semiring z.vector.entries es)) (sym (matrix_entries-at ms vs a y at_matrix_input))
+        ∙ ap (λ (es : VectorEntries). write (option_map (vector_entries s) mask) (vxm_of semiring es (matrix_entries s a))) (sym (vector_entries-at ms vs u z at_vector_input))))
+
+    pub rows-left : (monoid : Monoid) (a : MatrixId) (y : SparseMatrixView) → object_at ms a.0 ≡ Some y → made ≡ write lent (reduce_rows_of monoid (turned d.tran y.matrix.entries)) →
         vector_left (stored ms vs) (call.ReduceRows w mask accum monoid a d) (vector_at (stored ms vs) w) ≡ Some made
     rows-left monoid a y at_matrix_input is =
         let s = stored ms vs in
         ap (λ (o : Option Vector). vector_left s (call.ReduceRows w mask accum monoid a d) o) (at_vector ms vs w x at_output)
         ∙ ap (λ (v : Vector). Some v) (sym (is
-        ∙ ap (λ m. write m (reduce_rows_of monoid y.matrix.entries)) same_mask
-        ∙ ap (λ (es : MatrixEntries). write (option_map (vector_entries s) mask) (reduce_rows_of monoid es)) (sym (matrix_entries-at ms vs a y at_matrix_input))))
+        ∙ ap (λ m. write m (reduce_rows_of monoid (turned d.tran y.matrix.entries))) same_mask
+        ∙ ap (λ (es : MatrixEntries). write (option_map (vector_entries s) mask) (reduce_rows_of monoid (turned d.tran es))) (sym (matrix_entries-at ms vs a y at_matrix_input))))

@@ -25,6 +25,7 @@ pub(crate) fn is_operation(call: &Call) -> bool
             | Call::EwiseMultMatrix { .. }
             | Call::EwiseMultVector { .. }
             | Call::Mxv { .. }
+            | Call::Vxm { .. }
             | Call::Mxm { .. }
             | Call::ReduceRows { .. }
     )

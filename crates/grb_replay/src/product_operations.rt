@@ -12,7 +12,7 @@ use crate::vectors::{lent_vector, lent_vector_mask};
 use grb_call::{Call, Descriptor, MatrixId, VectorId};
 use grb_core::{BinaryOp, Monoid, Semiring};
 use grb_multiply::mxm;
-use grb_products::{mxv, reduce_rows};
+use grb_products::{mxv, reduce_rows, vxm};
 use grb_sparse::{SparseMatrix, SparseVector};
 use std::alloc::{AllocError, Global};
 
@@ -38,6 +38,30 @@ pub(crate) fn multiplied_vector(
     let matrix = lent_matrix(matrices, a);
     let vector = lent_vector(vectors, u);
     mxv(alloc, output, inside, accum, semiring, matrix, vector, d)
+}
+
+/// The vector that vxm leaves of its output `w`. `AllocError` where memory is refused.
+pub(crate) fn pushed_vector(
+    alloc: Global,
+    matrices: &[Option<Shared<SparseMatrix>>],
+    vectors: &[Option<Shared<SparseVector>>],
+    w: VectorId,
+    mask: Option<VectorId>,
+    accum: Option<BinaryOp>,
+    semiring: Semiring,
+    u: VectorId,
+    a: MatrixId,
+    d: Descriptor,
+) -> Result<SparseVector, AllocError>
+    requires accepted { refused (stored matrices.now vectors.now) (Call.Vxm w mask accum semiring u a d) ≡ None }
+    requires assembled { AreAssembled matrices.now vectors.now (Call.Vxm w mask accum semiring u a d) }
+    ensures { IfOk result (λ made. vector_left (stored matrices.now vectors.now) (Call.Vxm w mask accum semiring u a d) (vector_at (stored matrices.now vectors.now) w) ≡ Some made.vector) }
+{
+    let output = lent_vector(vectors, w);
+    let inside = lent_vector_mask(vectors, mask);
+    let vector = lent_vector(vectors, u);
+    let matrix = lent_matrix(matrices, a);
+    vxm(alloc, output, inside, accum, semiring, vector, matrix, d)
 }
 
 /// The matrix that mxm leaves of its output `c`. `AllocError` where memory is refused.

@@ -7,7 +7,7 @@ ghost use Rattle.grb_call.specs.After.{refused};
 ghost use Rattle.grb_replay.specs.Operation.{is_operation, is_elementwise, AreAssembled};
 ghost use Rattle.grb_replay.specs.State.{stored};
 
-use crate::product_operations::{multiplied_vector, reduced_rows};
+use crate::product_operations::{multiplied_vector, pushed_vector, reduced_rows};
 use crate::shared::Shared;
 use crate::vectors::{lent_vector, lent_vector_mask};
 use grb_call::{Call, VectorId};
@@ -92,6 +92,17 @@ pub(crate) fn operated_vector(
                 alloc, matrices, vectors, *w, *mask, *accum, *semiring, *a, *u, *d,
             )
         }
+        Call::Vxm {
+            w,
+            mask,
+            accum,
+            semiring,
+            u,
+            a,
+            d,
+        } => pushed_vector(
+            alloc, matrices, vectors, *w, *mask, *accum, *semiring, *u, *a, *d,
+        ),
         Call::ReduceRows {
             w,
             mask,

@@ -9,13 +9,15 @@ use Rattle.std.proofs.lemmas.List.{length-map}
 use Rattle.std.proofs.lemmas.List.Splits.{length-slice_split}
 use Rattle.grb_words.specs.declared.section.Section.{Section}
 use Rattle.grb_words.specs.declared.section.Section.TheVariants as section
-use Rattle.grb_words.specs.Line.{Line, lines_from, lines_of, is_skipped, words_of}
+use Rattle.grb_words.specs.declared.version.Version.{Version}
+use Rattle.grb_words.specs.Line.{Line, lines_from, lines_of, words_of}
 use Rattle.grb_words.specs.declared.fault.FaultKind.{FaultKind}
 use Rattle.grb_script.specs.declared.command.Command.{Command}
 use Rattle.grb_script.specs.declared.command.Numbered.{Numbered}
 use Rattle.grb_script.specs.Command.{asking, commands_on}
 use Rattle.grb_script.specs.Names.{Name}
 use Rattle.grb_script.specs.Scope.{section_on, scope_of}
+use Rattle.grb_script.specs.Version.{version_by, says_nothing}
 use Rattle.grb_script.specs.Script.{with_before, numbered_on, asked_at, asked_in_section, thread_part, finally_part, threads_in, finally_in, Sections, sections_in, sections_of}
 
 length-with_before : (before lines : List Line) → length (with_before before lines) ≡ length lines
@@ -35,16 +37,16 @@ one_if_ok : (r : Result Command FaultKind) → length (option_to_list (result_ok
 one_if_ok (Ok s) = omega arith
 one_if_ok (Err kind) = omega arith
 
-none_or_one : (is_skipped : Bool) (r : Result Command FaultKind) → length (if is_skipped then [] else option_to_list (result_ok r)) ≤ 1
+none_or_one : (is_silent : Bool) (r : Result Command FaultKind) → length (if is_silent then [] else option_to_list (result_ok r)) ≤ 1
 none_or_one true r = omega arith
 none_or_one false r = one_if_ok r
 
-length-numbered_on : (number : ℕ) (names : List Name) (line : Line) → length (numbered_on number names line) ≤ 1
-length-numbered_on number names line =
+length-numbered_on : (number : ℕ) (settled : Option Version) (names : List Name) (line : Line) → length (numbered_on number settled names line) ≤ 1
+length-numbered_on number settled names line =
     omega (
       arith,
-      length-map {B = Numbered} (commands_on names line) (λ c. record { line = number; command = c }),
-      none_or_one (is_skipped (words_of line.bytes)) (asking names (words_of line.bytes)),
+      length-map {B = Numbered} (commands_on settled names line) (λ c. record { line = number; command = c }),
+      none_or_one (says_nothing settled (words_of line.bytes)) (asking (version_by settled (words_of line.bytes)) names (words_of line.bytes)),
     )
 
 -- how many commands the thread sections have
@@ -58,7 +60,7 @@ count_in s = length s.main + count_of s.threads + length s.finally
 
 count_with : (own : Option Section) (p : List Line × Line) (more : List (List Line × Line)) (rest : List Numbered) → count_in (sections_in more) ≤ length more → rest ≡ asked_in_section more
     → length (flat_map asked_at (cond (not (is_some own)) (p ∷ take_while (λ q. not (is_some (section_on q.1))) more) [])) + count_of (thread_part own rest ++ threads_in more) + length (finally_part own rest ++ finally_in more) ≤ length more + 1
-count_with None p more rest few is = omega (arith, few, length-numbered_on (length p.0 + 1) (scope_of p.0).names p.1, length-append (asked_at p) (asked_in_section more))
+count_with None p more rest few is = omega (arith, few, length-numbered_on (length p.0 + 1) (scope_of p.0).version (scope_of p.0).names p.1, length-append (asked_at p) (asked_in_section more))
 count_with (Some (section.Thread k)) p more rest few is = omega (arith, few, ap length is)
 count_with (Some section.Finally) p more rest few is = omega (arith, few, ap length is, length-append rest (finally_in more))
 

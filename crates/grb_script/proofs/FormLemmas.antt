@@ -18,8 +18,9 @@ use Rattle.grb_script.specs.declared.statement.Statement.{Statement as SaidState
 use Rattle.grb_words.specs.declared.indices.Indices.{Indices}
 use Rattle.grb_words.specs.Line.{Word}
 use Rattle.grb_script.specs.Names.{Name, name_found}
-use Rattle.grb_words.specs.Options.{options_of}
-use Rattle.grb_words.specs.Word.{is_name, keyword_of, monoid_of, operator_of, semiring_of, wait_mode_of}
+use Rattle.grb_words.specs.declared.version.Version.{Version}
+use Rattle.grb_words.specs.Options.{options_in, product_options}
+use Rattle.grb_words.specs.Word.{is_name, keyword_in, monoid_of, operator_of, semiring_of, wait_mode_of}
 use Rattle.grb_words.specs.Form.{Form, SetForm, BuildForm, EwiseForm, ProductForm, ReduceForm, TotalForm, WaitForm, ewise_form, product_form, reduce_form, total_form, wait_form, form_of_placed, indices_of, indices_and_value_of, values_in, matrix_form, vector_form, whole_form, placed_form, set_form, build_form, form_with, form_of}
 use Rattle.grb_script.specs.Reading.{reading, used, masked, mask_found, where_found, names_behind, set_at}
 use Rattle.grb_words.proofs.IndicesLemmas.{no_word}
@@ -71,20 +72,20 @@ three_and_more (a ∷ b ∷ []) l = absurd (omega arith)
 three_and_more (a ∷ b ∷ c ∷ more) l = ap (λ ws. a.now ∷ b.now ∷ c.now ∷ now_of ws) (sym (take_all (length (a ∷ b ∷ c ∷ more) - 3) more (omega arith)))
 
 -- words by their keyword and their name
-pub form_of-words : (words : List (Bor (List ℕ))) (k : Keyword) → 2 ≤ length words → is_name (get_or words 1 no_word).now ≡ true → keyword_of (get_or words 0 no_word).now ≡ Some k
-    → form_of (now_of words) ≡ form_with k (get_or words 1 no_word).now (others_of words)
-form_of-words [] k l n e = absurd (omega arith)
-form_of-words (a ∷ []) k l n e = absurd (omega arith)
-form_of-words (a ∷ b ∷ more) k l n e =
-    (λ j. if n j then option_and_then (λ k. form_with k b.now (now_of more)) (e j) else None)
-    ∙ ap (λ ws. form_with k b.now (now_of ws)) (sym (take_all (length (a ∷ b ∷ more) - 2) more (omega arith)))
+pub form_of-words : (version : Version) (words : List (Bor (List ℕ))) (k : Keyword) → 2 ≤ length words → is_name (get_or words 1 no_word).now ≡ true → keyword_in version (get_or words 0 no_word).now ≡ Some k
+    → form_of version (now_of words) ≡ form_with version k (get_or words 1 no_word).now (others_of words)
+form_of-words version [] k l n e = absurd (omega arith)
+form_of-words version (a ∷ []) k l n e = absurd (omega arith)
+form_of-words version (a ∷ b ∷ more) k l n e =
+    (λ j. if n j then option_and_then (λ k. form_with version k b.now (now_of more)) (e j) else None)
+    ∙ ap (λ ws. form_with version k b.now (now_of ws)) (sym (take_all (length (a ∷ b ∷ more) - 2) more (omega arith)))
 
 module _ (names : List Name) where
   -- fewer than two words have no form
-  pub reading-short : (words : List (Bor (List ℕ))) → (2 ≤ length words → ⊥) → reading names (form_of (now_of words)) ≡ Err Statement
-  reading-short [] h = refl
-  reading-short (a ∷ []) h = refl
-  reading-short (a ∷ b ∷ more) h = absurd (h (omega arith))
+  pub reading-short : (version : Version) (words : List (Bor (List ℕ))) → (2 ≤ length words → ⊥) → reading names (form_of version (now_of words)) ≡ Err Statement
+  reading-short version [] h = refl
+  reading-short version (a ∷ []) h = refl
+  reading-short version (a ∷ b ∷ more) h = absurd (h (omega arith))
 
   -- nor do words of a wrong number
   pub reading-matrix_form : (name : Word) (words : List (Bor (List ℕ))) → (length words ≡ 3 → ⊥) → reading names (matrix_form name (now_of words)) ≡ Err Statement
@@ -100,22 +101,22 @@ module _ (names : List Name) where
   reading-vector_form name (a ∷ b ∷ []) h = absurd (h refl)
   reading-vector_form name (a ∷ b ∷ c ∷ more) h = refl
 
-  pub reading-ewise_form : (w : Ewise) (output : Word) (words : List (Bor (List ℕ))) → (3 ≤ length words → ⊥) → reading names (ewise_form w output (now_of words)) ≡ Err Statement
-  reading-ewise_form w output [] h = refl
-  reading-ewise_form w output (a ∷ []) h = refl
-  reading-ewise_form w output (a ∷ b ∷ []) h = refl
-  reading-ewise_form w output (a ∷ b ∷ c ∷ more) h = absurd (h (omega arith))
+  pub reading-ewise_form : (version : Version) (w : Ewise) (output : Word) (words : List (Bor (List ℕ))) → (3 ≤ length words → ⊥) → reading names (ewise_form version w output (now_of words)) ≡ Err Statement
+  reading-ewise_form version w output [] h = refl
+  reading-ewise_form version w output (a ∷ []) h = refl
+  reading-ewise_form version w output (a ∷ b ∷ []) h = refl
+  reading-ewise_form version w output (a ∷ b ∷ c ∷ more) h = absurd (h (omega arith))
 
-  pub reading-product_form : (w : Multiply) (output : Word) (words : List (Bor (List ℕ))) → (3 ≤ length words → ⊥) → reading names (product_form w output (now_of words)) ≡ Err Statement
-  reading-product_form w output [] h = refl
-  reading-product_form w output (a ∷ []) h = refl
-  reading-product_form w output (a ∷ b ∷ []) h = refl
-  reading-product_form w output (a ∷ b ∷ c ∷ more) h = absurd (h (omega arith))
+  pub reading-product_form : (version : Version) (w : Multiply) (output : Word) (words : List (Bor (List ℕ))) → (3 ≤ length words → ⊥) → reading names (product_form version w output (now_of words)) ≡ Err Statement
+  reading-product_form version w output [] h = refl
+  reading-product_form version w output (a ∷ []) h = refl
+  reading-product_form version w output (a ∷ b ∷ []) h = refl
+  reading-product_form version w output (a ∷ b ∷ c ∷ more) h = absurd (h (omega arith))
 
-  pub reading-reduce_form : (output : Word) (words : List (Bor (List ℕ))) → (2 ≤ length words → ⊥) → reading names (reduce_form output (now_of words)) ≡ Err Statement
-  reading-reduce_form output [] h = refl
-  reading-reduce_form output (a ∷ []) h = refl
-  reading-reduce_form output (a ∷ b ∷ more) h = absurd (h (omega arith))
+  pub reading-reduce_form : (version : Version) (output : Word) (words : List (Bor (List ℕ))) → (2 ≤ length words → ⊥) → reading names (reduce_form version output (now_of words)) ≡ Err Statement
+  reading-reduce_form version output [] h = refl
+  reading-reduce_form version output (a ∷ []) h = refl
+  reading-reduce_form version output (a ∷ b ∷ more) h = absurd (h (omega arith))
 
   pub reading-total_form : (name : Word) (words : List (Bor (List ℕ))) → (length words ≡ 1 → ⊥) → reading names (total_form name (now_of words)) ≡ Err Statement
   reading-total_form name [] h = refl
@@ -183,30 +184,30 @@ module _ (names : List Name) where
   kept-where true o h = h
   kept-where false o h = refl
 
-  pub names_behind-ewise : (w : Ewise) (output : Word) (others : List Word) → names_behind names (ewise_form w output others) ≡ names
-  names_behind-ewise w output [] = refl
-  names_behind-ewise w output (left ∷ []) = refl
-  names_behind-ewise w output (left ∷ right ∷ []) = refl
-  names_behind-ewise w output (left ∷ right ∷ op ∷ options) =
+  pub names_behind-ewise : (version : Version) (w : Ewise) (output : Word) (others : List Word) → names_behind names (ewise_form version w output others) ≡ names
+  names_behind-ewise version w output [] = refl
+  names_behind-ewise version w output (left ∷ []) = refl
+  names_behind-ewise version w output (left ∷ right ∷ []) = refl
+  names_behind-ewise version w output (left ∷ right ∷ op ∷ options) =
       kept-where (is_name left) _
       (kept-where (is_name right) _
-      (kept-and_then (λ f. option_map (EwiseForm w output left right f) (options_of options)) (λ f. kept-map (EwiseForm w output left right f) (λ o. refl) (options_of options)) (operator_of op)))
+      (kept-and_then (λ f. option_map (EwiseForm w output left right f) (options_in version options)) (λ f. kept-map (EwiseForm w output left right f) (λ o. refl) (options_in version options)) (operator_of op)))
 
-  pub names_behind-product : (w : Multiply) (output : Word) (others : List Word) → names_behind names (product_form w output others) ≡ names
-  names_behind-product w output [] = refl
-  names_behind-product w output (left ∷ []) = refl
-  names_behind-product w output (left ∷ right ∷ []) = refl
-  names_behind-product w output (left ∷ right ∷ semiring ∷ options) =
+  pub names_behind-product : (version : Version) (w : Multiply) (output : Word) (others : List Word) → names_behind names (product_form version w output others) ≡ names
+  names_behind-product version w output [] = refl
+  names_behind-product version w output (left ∷ []) = refl
+  names_behind-product version w output (left ∷ right ∷ []) = refl
+  names_behind-product version w output (left ∷ right ∷ semiring ∷ options) =
       kept-where (is_name left) _
       (kept-where (is_name right) _
-      (kept-and_then (λ s. option_map (ProductForm w output left right s) (options_of options)) (λ s. kept-map (ProductForm w output left right s) (λ o. refl) (options_of options)) (semiring_of semiring)))
+      (kept-and_then (λ s. option_map (ProductForm w output left right s) (product_options version w options)) (λ s. kept-map (ProductForm w output left right s) (λ o. refl) (product_options version w options)) (semiring_of semiring)))
 
-  pub names_behind-reduce : (output : Word) (others : List Word) → names_behind names (reduce_form output others) ≡ names
-  names_behind-reduce output [] = refl
-  names_behind-reduce output (input ∷ []) = refl
-  names_behind-reduce output (input ∷ monoid ∷ options) =
+  pub names_behind-reduce : (version : Version) (output : Word) (others : List Word) → names_behind names (reduce_form version output others) ≡ names
+  names_behind-reduce version output [] = refl
+  names_behind-reduce version output (input ∷ []) = refl
+  names_behind-reduce version output (input ∷ monoid ∷ options) =
       kept-where (is_name input) _
-      (kept-and_then (λ m. option_map (ReduceForm output input m) (options_of options)) (λ m. kept-map (ReduceForm output input m) (λ o. refl) (options_of options)) (monoid_of monoid))
+      (kept-and_then (λ m. option_map (ReduceForm output input m) (options_in version options)) (λ m. kept-map (ReduceForm output input m) (λ o. refl) (options_in version options)) (monoid_of monoid))
 
   pub names_behind-total : (name : Word) (others : List Word) → names_behind names (total_form name others) ≡ names
   names_behind-total name [] = refl
@@ -219,16 +220,16 @@ module _ (names : List Name) where
   names_behind-wait name (a ∷ b ∷ more) = refl
 
   -- nor do the forms of all other keywords
-  pub names_behind-other : (k : Keyword) (name : Word) (others : List Word) → k ≢ keyword.Matrix → k ≢ keyword.Vector → k ≢ keyword.Dup → names_behind names (form_with k name others) ≡ names
-  names_behind-other keyword.Matrix name others m v d = absurd (m refl)
-  names_behind-other keyword.Vector name others m v d = absurd (v refl)
-  names_behind-other keyword.Dup name others m v d = absurd (d refl)
-  names_behind-other (keyword.Whole w) name others m v d = names_behind-whole w name others
-  names_behind-other (keyword.Placed w) name others m v d = names_behind-placed w name others
-  names_behind-other keyword.Set name others m v d = names_behind-set name others
-  names_behind-other keyword.Build name others m v d = names_behind-build name others
-  names_behind-other (keyword.Ewise w) name others m v d = names_behind-ewise w name others
-  names_behind-other (keyword.Multiply w) name others m v d = names_behind-product w name others
-  names_behind-other keyword.Reduce name others m v d = names_behind-reduce name others
-  names_behind-other keyword.Total name others m v d = names_behind-total name others
-  names_behind-other keyword.Wait name others m v d = names_behind-wait name others
+  pub names_behind-other : (version : Version) (k : Keyword) (name : Word) (others : List Word) → k ≢ keyword.Matrix → k ≢ keyword.Vector → k ≢ keyword.Dup → names_behind names (form_with version k name others) ≡ names
+  names_behind-other version keyword.Matrix name others m v d = absurd (m refl)
+  names_behind-other version keyword.Vector name others m v d = absurd (v refl)
+  names_behind-other version keyword.Dup name others m v d = absurd (d refl)
+  names_behind-other version (keyword.Whole w) name others m v d = names_behind-whole w name others
+  names_behind-other version (keyword.Placed w) name others m v d = names_behind-placed w name others
+  names_behind-other version keyword.Set name others m v d = names_behind-set name others
+  names_behind-other version keyword.Build name others m v d = names_behind-build name others
+  names_behind-other version (keyword.Ewise w) name others m v d = names_behind-ewise version w name others
+  names_behind-other version (keyword.Multiply w) name others m v d = names_behind-product version w name others
+  names_behind-other version keyword.Reduce name others m v d = names_behind-reduce version name others
+  names_behind-other version keyword.Total name others m v d = names_behind-total name others
+  names_behind-other version keyword.Wait name others m v d = names_behind-wait name others

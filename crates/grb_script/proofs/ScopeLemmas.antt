@@ -1,17 +1,19 @@
 -- Where the lines of a script stand, and what their words say.
-use Rattle.std.proofs.Common.{◌≡◌, ℕ, ◌≤◌, ◌==◌, Bool, true, false, ◌||◌, if◌then◌else◌, List, [], ◌∷◌, ◌++◌, length, take, get_or, Option, Some, None, refl, sym, ap, ◌∙◌, true≢false, arith, length-append}
-use Rattle.std.specs.Prelude.{codes}
+use Rattle.std.proofs.Common.{inl, inr, ◌≡◌, ℕ, ◌≤◌, ◌==◌, Bool, true, false, ◌||◌, if◌then◌else◌, List, [], ◌∷◌, ◌++◌, length, take, get_or, Option, Some, None, refl, sym, ap, ◌∙◌, true≢false, arith, length-append}
+use Rattle.std.specs.Prelude.{◌⊎◌, codes}
 use Rattle.std.specs.Option.{option_map, option_map_or, option_to_list}
 use Rattle.std.specs.Result.{result_err, result_ok}
 use Rattle.std.specs.Str.{bytes_eq}
-use Rattle.std.proofs.lemmas.Bool.{false_from_ne_true}
+use Rattle.std.proofs.lemmas.Bool.{false_from_ne_true, and_parts, or_cases}
 use Rattle.std.proofs.lemmas.List.{append-nil, take-append-le}
 use Rattle.std.proofs.lemmas.Slice.Eq.{bytes_eq-Decides}
 use Rattle.grb_words.specs.declared.section.Section.{Section}
 use Rattle.grb_words.specs.declared.section.Section.TheVariants as section
+use Rattle.grb_words.specs.declared.version.Version.{Version}
 use Rattle.grb_words.specs.Form.{Form, MatrixForm, VectorForm, DupForm, FreeForm, NvalsForm, SizeForm, ClearForm, RemoveForm, GetForm, ResizeForm, SetForm, BuildForm, EwiseForm, ProductForm, ReduceForm, TotalForm, WaitForm, form_of, load_of}
 use Rattle.grb_words.specs.Line.{Word, is_load, is_section, is_skipped}
 use Rattle.grb_words.specs.Section.{section_of}
+use Rattle.grb_words.specs.Version.{is_version_two}
 use Rattle.grb_words.specs.Word.{numeral_value}
 use Rattle.grb_script.specs.declared.command.Command.{Command}
 use Rattle.grb_script.specs.declared.line.Said.TheVariants as said
@@ -22,8 +24,9 @@ use Rattle.grb_script.specs.Command.{asking, names_asked, names_behind_load, nam
 use Rattle.grb_script.specs.Names.{Name, sort_of}
 use Rattle.grb_script.specs.Reading.{names_behind}
 use Rattle.grb_script.specs.Said.{IsRead}
-use Rattle.grb_script.specs.Scope.{Scope, begun, main_behind, main_kept, with_names, seen, IsKept}
-use Rattle.grb_script.specs.ScriptFault.{section_fault, wording_fault}
+use Rattle.grb_script.specs.Scope.{Scope, begun, main_behind, main_kept, with_names, with_version, seen, IsKept}
+use Rattle.grb_script.specs.ScriptFault.{section_fault, saying_fault, wording_fault}
+use Rattle.grb_script.specs.Version.{version_by, says_nothing}
 
 -- of words that are skipped none begins with the word of a section
 other_word : (word key : Word) → (get_or word 0 0 == 35) ≡ true → (get_or key 0 0 == 35) ≡ false → bytes_eq word key ≡ false
@@ -35,6 +38,25 @@ section_of-skipped [] h = refl
 section_of-skipped (word ∷ []) h = ap (λ b. if b then Some section.Finally else None) (other_word word (codes "finally") h refl)
 section_of-skipped (word ∷ k ∷ []) h = ap (λ b. if b then option_map section.Thread (numeral_value k) else None) (other_word word (codes "thread") h refl)
 section_of-skipped (word ∷ k ∷ x ∷ more) h = refl
+
+-- 'version 2' alone
+is_version_two-words : (words : List Word) → is_version_two words ≡ true → words ≡ codes "version" ∷ codes "2" ∷ []
+is_version_two-words [] h = cc
+is_version_two-words (first ∷ []) h = cc
+is_version_two-words (first ∷ number ∷ []) h =
+    let both = and_parts (bytes_eq first (codes "version")) (bytes_eq number (codes "2")) h in
+    λ j. (bytes_eq-Decides first (codes "version")).0 both.0 j ∷ (bytes_eq-Decides number (codes "2")).0 both.1 j ∷ []
+is_version_two-words (first ∷ number ∷ x ∷ more) h = cc
+
+-- words that say nothing begin no section
+pub section_of-silent : (settled : Option Version) (words : List Word) → says_nothing settled words ≡ true → section_of words ≡ None
+section_of-silent (Some version) words h = section_of-skipped words h
+section_of-silent None words h =
+    by (or_cases (is_skipped words) (is_version_two words) h)
+  where
+    by : (is_skipped words ≡ true) ⊎ (is_version_two words ≡ true) → section_of words ≡ None
+    by (inl skipped) = section_of-skipped words skipped
+    by (inr is) = ap section_of (is_version_two-words words is)
 
 neither : (a b : Bool) → (a || b) ≡ false → (a ≡ false) × (b ≡ false)
 neither false false h = (refl, refl)
@@ -87,8 +109,8 @@ one_of : (names : List Name) (b : Bool) (loaded said : List Name) → Extends na
 one_of names true loaded said l s = l
 one_of names false loaded said l s = s
 
-names_asked-extends : (names : List Name) (words : List Word) → Extends names (names_asked names words)
-names_asked-extends names words = one_of names (is_load words) _ _ (names_behind_load-extends names (load_of words)) (names_behind-extends names (form_of words))
+names_asked-extends : (version : Version) (names : List Name) (words : List Word) → Extends names (names_asked version names words)
+names_asked-extends version names words = one_of names (is_load words) _ _ (names_behind_load-extends names (load_of words)) (names_behind-extends names (form_of version words))
 
 main_behind-same : (here : Option Section) (count : ℕ) (names : List Name) → main_kept here count names ≡ main_behind here (main_kept here count names) names
 main_behind-same None count names = refl
@@ -98,48 +120,70 @@ main_behind-more : (here : Option Section) (count : ℕ) (names after : List Nam
 main_behind-more None count names after kept e = refl
 main_behind-more (Some section) count names after kept e = ap (take count) e.1 ∙ take-append-le count names e.0 kept
 
--- words that are skipped
-pub skipped-IsRead : (scope : Kept) (words : List Word) → is_skipped words ≡ true → IsRead (seen scope) words None (seen scope)
-skipped-IsRead scope words h = record {
-  faultless = ap (λ b. if b then None else (if is_section words then section_fault scope.section (section_of words) else result_err (asking scope.names words))) h;
-  says = (section_of-skipped words h, ap (λ b. if b then [] else option_to_list (result_ok (asking scope.names words))) h);
-  behind =
-      (λ j. record { section = scope.section; main = main_behind-same scope.section scope.main scope.names j; names = scope.names })
-      ∙ (λ j. with_names (seen scope) (if sym h j then scope.names else names_asked scope.names words))
-      ∙ (λ j. option_map_or (begun (seen scope)) (sym (section_of-skipped words h) j) (with_names (seen scope) (names_behind_words scope.names words)));
-}
+-- a line that stands here has these words, and is read in this version
+module _ (scope : Kept) (words : List Word) (version : Version) (is : version ≡ version_by scope.version words) where
+  -- as the scope is kept when the line settled the version
+  abbrev pub versioned : Kept
+  versioned = record { version = Some version; section = scope.section; main = scope.main; names = scope.names }
 
-module _ (words : List Word) (stays : is_skipped words ≡ false) where
-  -- words that begin none
-  module _ (begins : is_section words ≡ false) where
-    pub wording_fault-asked : (scope : Scope) → wording_fault scope words ≡ result_err (asking scope.names words)
-    wording_fault-asked scope =
-        (λ j. if stays j then None else (if begins j then section_fault scope.section (section_of words) else result_err (asking scope.names words)))
+  -- where that is
+  abbrev here : Scope
+  here = with_version (seen scope) (version_by scope.version words)
 
-    module _ (before after : Kept) (command : Command) (in_place : after.section ≡ before.section) (counts : after.main ≡ before.main) (kept : IsKept before) (asked : IsAsked before.names words command after.names) where
-      extends : Extends before.names after.names
-      extends = let e = names_asked-extends before.names words in (e.0, asked.behind ∙ e.1)
+  versioned-here : seen versioned ≡ here
+  versioned-here = ap (with_version (seen scope)) is
 
-      pub asked-IsKept : IsKept after
-      asked-IsKept = let e = extends in omega (arith, kept, counts, ap length e.1, length-append before.names e.0)
+  -- words that say nothing
+  pub silent-IsRead : says_nothing scope.version words ≡ true → IsRead (seen scope) words None (seen versioned)
+  silent-IsRead h = record {
+    faultless = ap (λ b. if b then None else saying_fault (version_by scope.version words) (seen scope) words) h;
+    says = (
+      section_of-silent scope.version words h,
+      ap (λ b. if b then [] else option_to_list (result_ok (asking (version_by scope.version words) scope.names words))) h,
+    );
+    behind =
+        versioned-here
+        ∙ (λ j. record { version = here.version; section = scope.section; main = main_behind-same scope.section scope.main scope.names j; names = scope.names })
+        ∙ (λ j. with_names here (if sym h j then scope.names else names_asked (version_by scope.version words) scope.names words))
+        ∙ (λ j. option_map_or (begun here) (sym (section_of-silent scope.version words h) j) (with_names here (names_behind_words scope.version scope.names words)));
+  }
 
-      main-stays : main_kept after.section after.main after.names ≡ main_behind before.section (main_kept before.section before.main before.names) after.names
-      main-stays = (λ j. main_kept (in_place j) (counts j) after.names) ∙ main_behind-more before.section before.main before.names after.names kept extends
+  -- words that say something and begin no section
+  module _ (stays : says_nothing scope.version words ≡ false) where
+    module _ (begins : is_section words ≡ false) where
+      pub wording_fault-asked : wording_fault (seen scope) words ≡ result_err (asking version scope.names words)
+      wording_fault-asked =
+          (λ j. if stays j then None else (if begins j then section_fault (version_by scope.version words) scope.section (section_of words) else result_err (asking (sym is j) scope.names words)))
 
-      after-with_names : seen after ≡ with_names (seen before) after.names
-      after-with_names = λ j. record { section = in_place j; main = main-stays j; names = after.names }
+      module _ (command : Command) (names : List Name) (kept : IsKept scope) (asked : IsAsked version scope.names words command names) where
+        -- as the scope is kept when the names are made too
+        abbrev behind_command : Kept
+        behind_command = record { version = Some version; section = scope.section; main = scope.main; names = names }
 
-      behind-words : after.names ≡ names_behind_words before.names words
-      behind-words = asked.behind ∙ ap (λ b. if b then before.names else names_asked before.names words) (sym stays)
+        extends : Extends scope.names names
+        extends = let e = names_asked-extends version scope.names words in (e.0, asked.behind ∙ e.1)
 
-      pub asked-IsRead : IsRead (seen before) words (Some (said.Command command)) (seen after)
-      asked-IsRead = record {
-        faultless = wording_fault-asked (seen before) ∙ ap result_err asked.says;
-        says = (
-          section_of-other words begins,
-          ap (λ b. if b then [] else option_to_list (result_ok (asking before.names words))) stays ∙ ap (λ r. option_to_list (result_ok r)) asked.says,
-        );
-        behind =
-            after-with_names ∙ ap (with_names (seen before)) behind-words
-            ∙ ap (λ s. option_map_or (begun (seen before)) s (with_names (seen before) (names_behind_words before.names words))) (sym (section_of-other words begins));
-      }
+        pub asked-IsKept : IsKept behind_command
+        asked-IsKept = let e = extends in omega (arith, kept, ap length e.1, length-append scope.names e.0)
+
+        behind_command-with_names : seen behind_command ≡ with_names here names
+        behind_command-with_names =
+            λ j. record { version = Some (is j); section = scope.section; main = main_behind-more scope.section scope.main scope.names names kept extends j; names = names }
+
+        behind-words : names ≡ names_behind_words scope.version scope.names words
+        behind-words =
+            asked.behind ∙ ap (λ v. names_asked v scope.names words) is
+            ∙ ap (λ b. if b then scope.names else names_asked (version_by scope.version words) scope.names words) (sym stays)
+
+        pub asked-IsRead : IsRead (seen scope) words (Some (said.Command command)) (seen behind_command)
+        asked-IsRead = record {
+          faultless = wording_fault-asked ∙ ap result_err asked.says;
+          says = (
+            section_of-other words begins,
+            ap (λ b. if b then [] else option_to_list (result_ok (asking (version_by scope.version words) scope.names words))) stays
+                ∙ ap (λ v. option_to_list (result_ok (asking v scope.names words))) (sym is) ∙ ap (λ r. option_to_list (result_ok r)) asked.says,
+          );
+          behind =
+              behind_command-with_names ∙ ap (with_names here) behind-words
+              ∙ ap (λ s. option_map_or (begun here) s (with_names here (names_behind_words scope.version scope.names words))) (sym (section_of-other words begins));
+        }

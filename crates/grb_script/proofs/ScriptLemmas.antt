@@ -8,6 +8,8 @@ use Rattle.std.proofs.lemmas.List.{append-nil}
 use Rattle.std.proofs.lemmas.List.Sums.{take_while-cons}
 use Rattle.grb_words.specs.declared.section.Section.{Section}
 use Rattle.grb_words.specs.declared.section.Section.TheVariants as section
+use Rattle.grb_words.specs.declared.version.Version.{Version}
+use Rattle.grb_words.specs.declared.version.Version.TheVariants.{One, Two}
 use Rattle.grb_words.specs.Line.{Line, ended, lines_of, words_of}
 use Rattle.grb_words.specs.Section.{section_of}
 use Rattle.grb_script.specs.declared.command.Command.{Command}
@@ -18,7 +20,8 @@ use Rattle.grb_script.specs.declared.line.Said.{Said}
 use Rattle.grb_script.specs.declared.line.Said.TheVariants as said
 use Rattle.grb_script.specs.Command.{commands_in, names_behind_words}
 use Rattle.grb_script.specs.Said.{IsTaken, Says}
-use Rattle.grb_script.specs.Scope.{Scope, at_start, begun, with_names, may_follow, section_on, scope_behind_line, scope_behind_lines, scope_behind_words, scope_of}
+use Rattle.grb_script.specs.Version.{version_by}
+use Rattle.grb_script.specs.Scope.{Scope, at_start, begun, with_names, with_version, most_threads, may_follow, section_on, scope_behind_line, scope_behind_lines, scope_behind_words, scope_of}
 use Rattle.grb_script.specs.Script.{with_before, asked_at, asked_in_section, thread_part, finally_part, main_part, part_of, threads_in, finally_in, Sections, nothing, sections_in, sections_of, joined}
 use Rattle.grb_script.specs.ScriptFault.{line_fault, first_fault, script_fault, IsWhyLineUnread, IsWhyTextUnread}
 
@@ -79,30 +82,36 @@ module _ (p : List Line × Line) (more : List (List Line × Line)) where
         finally = sym (append_assoc ended.finally (finally_part here asked) (finally_part (Some next) (asked_in_section more) ++ finally_in more)) j;
       })
 
--- the thread sections so far are numbered in their order, and there are at most 63
+-- no version has more thread sections than version 2
+most_threads-le : (version : Version) → most_threads version ≤ most_threads Two
+most_threads-le One = omega arith
+most_threads-le Two = omega arith
+
+-- the thread sections so far are numbered in their order, and there are at most as many as in version 2
 abbrev pub IsCounted : Option Section → ℕ → Type 0
 IsCounted None count = count ≡ 0
-IsCounted (Some (section.Thread k)) count = (count + 1 ≡ k) × (k ≤ 63)
-IsCounted (Some section.Finally) count = count ≤ 63
+IsCounted (Some (section.Thread k)) count = (count + 1 ≡ k) × (k ≤ most_threads Two)
+IsCounted (Some section.Finally) count = count ≤ most_threads Two
 
-counted-thread : (here : Option Section) (asked : List Numbered) (count k : ℕ) → IsCounted here count → may_follow here (section.Thread k) ≡ true → (count + length (thread_part here asked) + 1 ≡ k) × (k ≤ 63)
-counted-thread None asked count k c f = let e = eqb-true k 1 f in (omega (arith, c, e), omega (arith, e))
-counted-thread (Some (section.Thread n)) asked count k c f = (grind (arith, nat_tests), grind (arith, nat_tests))
-counted-thread (Some section.Finally) asked count k c f = absurd (true≢false (sym f))
+counted-thread : (version : Version) (here : Option Section) (asked : List Numbered) (count k : ℕ) → IsCounted here count → may_follow version here (section.Thread k) ≡ true
+    → (count + length (thread_part here asked) + 1 ≡ k) × (k ≤ most_threads Two)
+counted-thread version None asked count k c f = let e = eqb-true k 1 f in (omega (arith, c, e), omega (arith, e))
+counted-thread version (Some (section.Thread n)) asked count k c f = let most = most_threads-le version in (grind (arith, nat_tests), grind (arith, nat_tests))
+counted-thread version (Some section.Finally) asked count k c f = absurd (true≢false (sym f))
 
-counted-here : (here : Option Section) (asked : List Numbered) (count : ℕ) → IsCounted here count → count + length (thread_part here asked) ≤ 63
+counted-here : (here : Option Section) (asked : List Numbered) (count : ℕ) → IsCounted here count → count + length (thread_part here asked) ≤ most_threads Two
 counted-here None asked count c = omega (arith, c)
 counted-here (Some (section.Thread n)) asked count c = omega (arith, c.0, c.1)
 counted-here (Some section.Finally) asked count c = omega (arith, c)
 
 -- a section more
-pub IsCounted-next : (here : Option Section) (next : Section) (ended : Sections) (asked : List Numbered) → IsCounted here (length ended.threads) → may_follow here next ≡ true
+pub IsCounted-next : (version : Version) (here : Option Section) (next : Section) (ended : Sections) (asked : List Numbered) → IsCounted here (length ended.threads) → may_follow version here next ≡ true
     → IsCounted (Some next) (length (joined ended (part_of here asked)).threads)
-IsCounted-next here (section.Thread k) ended asked c f =
-    let t = counted-thread here asked (length ended.threads) k c f in (omega (arith, t.0, length-append ended.threads (thread_part here asked)), t.1)
-IsCounted-next here section.Finally ended asked c f = omega (arith, counted-here here asked (length ended.threads) c, length-append ended.threads (thread_part here asked))
+IsCounted-next version here (section.Thread k) ended asked c f =
+    let t = counted-thread version here asked (length ended.threads) k c f in (omega (arith, t.0, length-append ended.threads (thread_part here asked)), t.1)
+IsCounted-next version here section.Finally ended asked c f = omega (arith, counted-here here asked (length ended.threads) c, length-append ended.threads (thread_part here asked))
 
-pub few-threads : (here : Option Section) (ended : Sections) (asked : List Numbered) → IsCounted here (length ended.threads) → length (joined ended (part_of here asked)).threads ≤ 63
+pub few-threads : (here : Option Section) (ended : Sections) (asked : List Numbered) → IsCounted here (length ended.threads) → length (joined ended (part_of here asked)).threads ≤ most_threads Two
 few-threads here ended asked c = omega (arith, counted-here here asked (length ended.threads) c, length-append ended.threads (thread_part here asked))
 
 -- how far a text is read: these lines are, and the rest leaves the first fault and what the text asks for
@@ -144,6 +153,9 @@ module _ (text rest : List ℕ) (number : ℕ) (scope : Scope) (whole : Sections
     abbrev line : Line
     line = ended bytes
 
+    abbrev here : Scope
+    here = with_version scope (version_by scope.version (words_of bytes))
+
     abbrev later : List (List Line × Line)
     later = with_before (reached.before ++ line ∷ []) (lines_of after)
 
@@ -161,15 +173,15 @@ module _ (text rest : List ℕ) (number : ℕ) (scope : Scope) (whole : Sections
     so-far : total whole scope.section asked ((reached.before, line) ∷ later) ≡ sections_of text
     so-far = ap (λ ls. total whole scope.section asked (with_before reached.before ls)) (sym are) ∙ reached.sections
 
-    asked-is : asked_at (reached.before, line) ≡ map (λ c. record { line = number; command = c }) (commands_in scope.names (words_of bytes))
-    asked-is = λ j. map (λ c. record { line = sym reached.numbered j; command = c }) (commands_in (sym reached.stands j).names (words_of bytes))
+    asked-is : asked_at (reached.before, line) ≡ map (λ c. record { line = number; command = c }) (commands_in scope.version scope.names (words_of bytes))
+    asked-is = λ j. map (λ c. record { line = sym reached.numbered j; command = c }) (commands_in (sym reached.stands j).version (sym reached.stands j).names (words_of bytes))
 
     -- the line begins no section, and asks for these
-    next-asked : (commands : List Command) (next_asked : List Numbered) → section_of (words_of bytes) ≡ None → commands_in scope.names (words_of bytes) ≡ commands
+    next-asked : (commands : List Command) (next_asked : List Numbered) → section_of (words_of bytes) ≡ None → commands_in scope.version scope.names (words_of bytes) ≡ commands
         → next_asked ≡ asked ++ map (λ c. record { line = number; command = c }) commands → Reached text after (number + 1) next_scope whole next_asked
     next-asked commands next_asked none are_commands is =
         let same : next_scope.section ≡ scope.section =
-        ap (λ s. s.section) behind ∙ ap (λ o. (option_map_or (begun scope) o (with_names scope (names_behind_words scope.names (words_of bytes)))).section) none in
+        ap (λ s. s.section) behind ∙ ap (λ o. (option_map_or (begun here) o (with_names here (names_behind_words scope.version scope.names (words_of bytes)))).section) none in
         let own : next_asked ≡ asked ++ asked_at (reached.before, line) =
         is ∙ ap (λ cs. asked ++ map (λ c. record { line = number; command = c }) cs) (sym are_commands) ∙ ap (λ l. asked ++ l) (sym asked-is) in
         record {
@@ -182,18 +194,18 @@ module _ (text rest : List ℕ) (number : ℕ) (scope : Scope) (whole : Sections
         }
 
     -- the line begins a section
-    next-section : (next : Section) (next_whole : Sections) (next_asked : List Numbered) → section_of (words_of bytes) ≡ Some next → may_follow scope.section next ≡ true
+    next-section : (next : Section) (next_whole : Sections) (next_asked : List Numbered) → section_of (words_of bytes) ≡ Some next → may_follow (version_by scope.version (words_of bytes)) scope.section next ≡ true
         → next_whole ≡ joined whole (part_of scope.section asked) → next_asked ≡ [] → Reached text after (number + 1) next_scope next_whole next_asked
     next-section next next_whole next_asked is follows ends empty =
         let begins : next_scope.section ≡ Some next =
-        ap (λ s. s.section) behind ∙ ap (λ o. (option_map_or (begun scope) o (with_names scope (names_behind_words scope.names (words_of bytes)))).section) is in
+        ap (λ s. s.section) behind ∙ ap (λ o. (option_map_or (begun here) o (with_names here (names_behind_words scope.version scope.names (words_of bytes)))).section) is in
         record {
           before = reached.before ++ line ∷ [];
           stands = next-stands;
           numbered = next-numbered;
           fault = next-fault;
           sections = (λ j. total (ends j) (begins j) (empty j) later) ∙ sym (total-section (reached.before, line) later whole scope.section next asked is) ∙ so-far;
-          counted = rw (begins, ends) (IsCounted-next scope.section next whole asked reached.counted follows);
+          counted = rw (begins, ends) (IsCounted-next (version_by scope.version (words_of bytes)) scope.section next whole asked reached.counted follows);
         }
 
     -- one line more

@@ -7,7 +7,7 @@ use Rattle.grb_core.specs.declared.monoid.Monoid.TheVariants as monoid
 use Rattle.grb_core.specs.declared.operator.BinaryOp.TheVariants as op
 use Rattle.grb_core.specs.declared.value.Value.TheVariants as value
 use Rattle.grb_words.specs.declared.fault.FaultKind.{FaultKind}
-use Rattle.grb_words.specs.declared.fault.FaultKind.TheVariants.{UnendedLine, BadByte, Section, Statement, NameTaken, UnknownName, WrongKind}
+use Rattle.grb_words.specs.declared.fault.FaultKind.TheVariants.{UnendedLine, BadByte, Section, Statement, NameTaken, UnknownName, WrongKind, Semiring}
 use Rattle.grb_script.specs.declared.command.Command.TheVariants as command
 use Rattle.grb_script.specs.declared.command.Numbered.{Numbered}
 use Rattle.grb_script.specs.declared.names.Sort.TheVariants as sort
@@ -235,7 +235,7 @@ no_columns = refl
 
 -- element-wise statements
 abbrev plain : Descriptor
-plain = record { structure = false; comp = false; replace = false }
+plain = record { structure = false; comp = false; replace = false; tran = false }
 
 abbrev three : List ℕ
 three = ended (codes "vector c uint64 3") ++ ended (codes "vector a uint64 3") ++ ended (codes "matrix M uint64 3 3")
@@ -246,7 +246,7 @@ sums = three ++ ended (codes "ewiseadd c a c plus") ++ ended (codes "ewisemult M
 element_wise : (script_fault sums ≡ None) × (main_of sums ≡ says 1 (statement.Vector domain.Uint64 3) ∷ says 2 (statement.Vector domain.Uint64 3) ∷ says 3 (statement.Matrix domain.Uint64 3 3)
     ∷ says 4 (statement.EwiseAdd (record { sort = sort.Vector; output = 0; mask = None; accum = None; op = op.Plus; left = 1; right = 0; descriptor = plain }))
     ∷ says 5 (statement.EwiseMult (record { sort = sort.Matrix; output = 2; mask = Some 2; accum = Some op.Minus; op = op.First; left = 2; right = 2; descriptor = plain }))
-    ∷ says 6 (statement.EwiseAdd (record { sort = sort.Vector; output = 0; mask = Some 0; accum = Some op.Max; op = op.Second; left = 1; right = 1; descriptor = record { structure = true; comp = true; replace = true } })) ∷ [])
+    ∷ says 6 (statement.EwiseAdd (record { sort = sort.Vector; output = 0; mask = Some 0; accum = Some op.Max; op = op.Second; left = 1; right = 1; descriptor = record { structure = true; comp = true; replace = true; tran = false } })) ∷ [])
 element_wise = (refl, refl)
 
 options_out_of_order : IsFaulty (three ++ ended (codes "ewiseadd c a a plus comp structure")) 4 Statement
@@ -300,3 +300,100 @@ load_of_a_taken_name = refl
 index_of_a_loaded_vector : IsFaulty (ended (codes "load P a") ++ ended (codes "get P 1")) 2 WrongKind
 unfolding is_utf8 chars lib.Utf8.encode
 index_of_a_loaded_vector = refl
+
+-- `version 2` on line 1 asks for nothing, and spaces may stand there as on any line
+version_line : (script_fault (ended (codes "  version   2 ") ++ ended (codes "vector v bool 1")) ≡ None)
+    × (main_of (ended (codes "  version   2 ") ++ ended (codes "vector v bool 1")) ≡ says 2 (statement.Vector domain.Bool 1) ∷ [])
+version_line = (refl, refl)
+
+-- behind any line it is no statement, nor is another line that begins with `version`
+version_behind_a_comment : IsFaulty (ended (codes "# script") ++ ended (codes "version 2")) 2 Statement
+version_behind_a_comment = refl
+
+version_behind_an_empty_line : IsFaulty (ended [] ++ ended (codes "version 2")) 2 Statement
+version_behind_an_empty_line = refl
+
+version_twice : IsFaulty (ended (codes "version 2") ++ ended (codes "version 2")) 2 Statement
+version_twice = refl
+
+version_in_a_section : IsFaulty (ended (codes "version 2") ++ ended (codes "finally") ++ ended (codes "version 2")) 3 Statement
+version_in_a_section = refl
+
+version_one : IsFaulty (ended (codes "version 1")) 1 Statement
+version_one = refl
+
+version_without_number : IsFaulty (ended (codes "version")) 1 Statement
+version_without_number = refl
+
+version_with_more : IsFaulty (ended (codes "version 2 x")) 1 Statement
+version_with_more = refl
+
+unended_version : IsFaulty (codes "version 2") 1 UnendedLine
+unended_version = refl
+
+-- without that line there is neither `vxm` nor `tran`, whatever the names are; a name may be `tran`
+tran_without_version : IsFaulty (three ++ ended (codes "ewiseadd M M M plus tran")) 4 Statement
+tran_without_version = refl
+
+tran_of_a_product_without_version : IsFaulty (ended (codes "mxv w A u plus.times replace tran")) 1 Statement
+tran_of_a_product_without_version = refl
+
+tran_of_a_reduction_without_version : IsFaulty (ended (codes "reduce w A plus tran")) 1 Statement
+tran_of_a_reduction_without_version = refl
+
+vxm_without_version : IsFaulty (ended (codes "vxm w u A plus.times")) 1 Statement
+vxm_without_version = refl
+
+mask_tran : IsFaulty (three ++ ended (codes "ewiseadd c a a plus mask tran")) 4 UnknownName
+mask_tran = refl
+
+-- behind it there are both
+abbrev second : List ℕ
+second = ended (codes "version 2") ++ three
+
+abbrev turned : Descriptor
+turned = record { structure = false; comp = false; replace = false; tran = true }
+
+abbrev turns : List ℕ
+turns =
+    second ++ ended (codes "ewisemult M M M first tran") ++ ended (codes "mxv c M a plus.times tran") ++ ended (codes "vxm c a M min.minus mask a accum plus") ++ ended (codes "mxm M M M max.plus tran")
+    ++ ended (codes "reduce c M plus mask a structure comp accum min replace tran")
+
+turned_statements : (script_fault turns ≡ None) × (main_of turns ≡ says 2 (statement.Vector domain.Uint64 3) ∷ says 3 (statement.Vector domain.Uint64 3) ∷ says 4 (statement.Matrix domain.Uint64 3 3)
+    ∷ says 5 (statement.EwiseMult (record { sort = sort.Matrix; output = 2; mask = None; accum = None; op = op.First; left = 2; right = 2; descriptor = turned }))
+    ∷ says 6 (statement.Mxv (record { output = 0; mask = None; accum = None; semiring = record { monoid = monoid.Plus; op = op.Times }; left = 2; right = 1; descriptor = turned }))
+    ∷ says 7 (statement.Vxm (record { output = 0; mask = Some 1; accum = Some op.Plus; semiring = record { monoid = monoid.Min; op = op.Minus }; left = 1; right = 2; descriptor = plain }))
+    ∷ says 8 (statement.Mxm (record { output = 2; mask = None; accum = None; semiring = record { monoid = monoid.Max; op = op.Plus }; left = 2; right = 2; descriptor = turned }))
+    ∷ says 9 (statement.Reduce (record { output = 0; mask = Some 1; accum = Some op.Min; monoid = monoid.Plus; input = 2; descriptor = record { structure = true; comp = true; replace = true; tran = true } })) ∷ [])
+turned_statements = (refl, refl)
+
+tran_of_vxm : IsFaulty (second ++ ended (codes "vxm c x M plus.times tran")) 5 Statement
+tran_of_vxm = refl
+
+tran_twice : IsFaulty (second ++ ended (codes "mxv c M a plus.times tran tran")) 5 Statement
+tran_twice = refl
+
+tran_before_replace : IsFaulty (second ++ ended (codes "mxv c M a plus.times tran replace")) 5 Statement
+tran_before_replace = refl
+
+tran_of_vectors : IsFaulty (second ++ ended (codes "ewiseadd c a a plus tran")) 5 WrongKind
+tran_of_vectors = refl
+
+unknown_name_before_tran_of_vectors : IsFaulty (second ++ ended (codes "ewiseadd c a x plus tran")) 5 UnknownName
+unknown_name_before_tran_of_vectors = refl
+
+sorts_of_vxm : IsFaulty (second ++ ended (codes "vxm c M a plus.times")) 5 WrongKind
+sorts_of_vxm = refl
+
+output_of_vxm : IsFaulty (second ++ ended (codes "vxm M a M plus.times")) 5 WrongKind
+output_of_vxm = refl
+
+sorts_of_vxm_before_semiring : IsFaulty (second ++ ended (codes "vxm c M a plus.lor")) 5 WrongKind
+sorts_of_vxm_before_semiring = refl
+
+semiring_of_vxm : IsFaulty (second ++ ended (codes "vxm c a M plus.lor")) 5 Semiring
+semiring_of_vxm = refl
+
+-- sections are numbered from 1 there too
+section_in_version_two : IsFaulty (ended (codes "version 2") ++ ended (codes "thread 2")) 2 Section
+section_in_version_two = refl

@@ -6,3 +6,4 @@ pub mod Reading
 pub mod Scope
 pub mod Script
 pub mod ScriptFault
+pub mod Version

@@ -1,7 +1,7 @@
 -- believed: What a statement says where some names stand (own): the call that it makes, or the first of what is wrong with it: it
 -- has no form, it makes a name that stands, it uses one that does not, or one of another sort than its form asks for, or the two
 -- parts of its semiring differ in domain.
-use Rattle.std.specs.Prelude.{◌≡◌, ℕ, Bool, true, ◌&&◌, if◌then◌else◌, List, [], ◌∷◌, ◌++◌, Option, Some, None, Result, Ok, Err}
+use Rattle.std.specs.Prelude.{◌≡◌, ℕ, Bool, true, not, ◌&&◌, if◌then◌else◌, List, [], ◌∷◌, ◌++◌, Option, Some, None, Result, Ok, Err}
 use Rattle.std.specs.Option.{option_map, option_map_or}
 use Rattle.grb_core.specs.declared.monoid.Monoid.{Monoid}
 use Rattle.grb_core.specs.declared.operator.BinaryOp.{BinaryOp}
@@ -76,10 +76,15 @@ mask_is_of sort mask = option_map_or (λ m. same_sort sort m.1) mask true
 abbrev pub are_of : Sort → ℕ × Sort → ℕ × Sort → Option (ℕ × Sort) → Bool
 are_of sort left right mask = same_sort sort left.1 && same_sort sort right.1 && mask_is_of sort mask
 
+-- whether a statement on objects of this sort may say, or not, that its first input is transposed: that of vectors may not
+abbrev pub tran_fits : Sort → Bool → Bool
+tran_fits sort.Matrix tran = true
+tran_fits sort.Vector tran = not tran
+
 -- the same by the numbers and the sorts of its names, in the order output, first input, second input, mask
 abbrev pub ewise_on : Ewise → ℕ × Sort → ℕ × Sort → ℕ × Sort → Option (ℕ × Sort) → BinaryOp → OptionWords → Result Statement FaultKind
 ewise_on w output left right mask op o =
-    if are_of output.1 left right mask
+    if are_of output.1 left right mask && tran_fits output.1 o.descriptor.tran
     then Ok (ewise_statement w (record {
       sort = output.1;
       output = output.0;
@@ -95,12 +100,29 @@ ewise_on w output left right mask op o =
 -- the statement of a keyword that multiplies
 abbrev pub product_statement : Multiply → Product → Statement
 product_statement multiply.Mxv p = statement.Mxv p
+product_statement multiply.Vxm p = statement.Vxm p
 product_statement multiply.Mxm p = statement.Mxm p
 
--- the sort of the output and of the second input of a product. The first input is a matrix
-abbrev pub product_sort : Multiply → Sort
-product_sort multiply.Mxv = sort.Vector
-product_sort multiply.Mxm = sort.Matrix
+-- the sorts of the output of a product, of its first input and of its second input
+abbrev pub output_sort : Multiply → Sort
+output_sort multiply.Mxv = sort.Vector
+output_sort multiply.Vxm = sort.Vector
+output_sort multiply.Mxm = sort.Matrix
+
+abbrev pub left_sort : Multiply → Sort
+left_sort multiply.Mxv = sort.Matrix
+left_sort multiply.Vxm = sort.Vector
+left_sort multiply.Mxm = sort.Matrix
+
+abbrev pub right_sort : Multiply → Sort
+right_sort multiply.Mxv = sort.Vector
+right_sort multiply.Vxm = sort.Matrix
+right_sort multiply.Mxm = sort.Matrix
+
+-- whether the object of each of these names is of its sort in this product, and that of the mask, where one is given, of the output's
+abbrev pub are_of_product : Multiply → ℕ × Sort → ℕ × Sort → ℕ × Sort → Option (ℕ × Sort) → Bool
+are_of_product w output left right mask =
+    same_sort (output_sort w) output.1 && same_sort (left_sort w) left.1 && same_sort (right_sort w) right.1 && mask_is_of (output_sort w) mask
 
 -- the semiring of a monoid and an operator, where both are of one domain
 abbrev pub semiring_made : Monoid × BinaryOp → Result SemiringParts FaultKind
@@ -109,7 +131,7 @@ semiring_made s = if same_domain (monoid_domain s.0) (op_domain s.1) then Ok (re
 -- a product by the numbers and the sorts of its names, in the order output, first input, second input, mask
 abbrev pub product_on : Multiply → ℕ × Sort → ℕ × Sort → ℕ × Sort → Option (ℕ × Sort) → Monoid × BinaryOp → OptionWords → Result Statement FaultKind
 product_on w output left right mask s o =
-    if same_sort sort.Matrix left.1 && are_of (product_sort w) output right mask
+    if are_of_product w output left right mask
     then where_found
     (λ semiring. Ok (product_statement w (record {
       output = output.0;

@@ -13,12 +13,13 @@ use Rattle.grb_script.specs.Command.{commands_in}
 use Rattle.grb_script.specs.Scope.{Scope, may_follow, scope_behind_words}
 use Rattle.grb_script.specs.Script.{Sections, joined, part_of}
 use Rattle.grb_script.specs.ScriptFault.{wording_fault}
+use Rattle.grb_script.specs.Version.{version_by}
 
 -- what words say that stand here
 abbrev pub Says : Scope → List Word → Option Said → Type 0
-Says scope words None = (section_of words ≡ None) × (commands_in scope.names words ≡ [])
-Says scope words (Some (said.Section section)) = (section_of words ≡ Some section) × (may_follow scope.section section ≡ true)
-Says scope words (Some (said.Command command)) = (section_of words ≡ None) × (commands_in scope.names words ≡ command ∷ [])
+Says scope words None = (section_of words ≡ None) × (commands_in scope.version scope.names words ≡ [])
+Says scope words (Some (said.Section section)) = (section_of words ≡ Some section) × (may_follow (version_by scope.version words) scope.section section ≡ true)
+Says scope words (Some (said.Command command)) = (section_of words ≡ None) × (commands_in scope.version scope.names words ≡ command ∷ [])
 
 -- these words have no fault, and say this; and where the next line stands
 pub record IsRead (scope : Scope) (words : List Word) (said : Option Said) (after : Scope) : Type 0 where

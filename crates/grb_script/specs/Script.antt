@@ -1,11 +1,12 @@
--- believed: What a script asks for (own): one command for each line that is not skipped and begins no section, with the number of
--- the line and the numbers of its names; the commands of main, of each thread section and of 'finally'.
+-- believed: What a script asks for (own): one command for each line that is not skipped, says no version and begins no section, with
+-- the number of the line and the numbers of its names; the commands of main, of each thread section and of 'finally'.
 use Rattle.std.specs.Prelude.{ℕ, ◌+◌, not, List, [], ◌∷◌, ◌++◌, Option, Some, None, length, map, is_some}
 use Rattle.std.specs.List.{flat_map, take_while}
 use Rattle.grb_script.specs.declared.command.Numbered.{Numbered}
 use Rattle.grb_script.specs.declared.script.Script.{Script}
 use Rattle.grb_words.specs.declared.section.Section.{Section}
 use Rattle.grb_words.specs.declared.section.Section.TheVariants as section
+use Rattle.grb_words.specs.declared.version.Version.{Version}
 use Rattle.grb_words.specs.Line.{Line, lines_of}
 use Rattle.grb_script.specs.Command.{commands_on}
 use Rattle.grb_script.specs.Names.{Name}
@@ -17,12 +18,12 @@ with_before before [] = []
 with_before before (line ∷ more) = (before, line) ∷ with_before (before ++ line ∷ []) more
 
 -- what the line of this number asks for, if it asks for something
-abbrev pub numbered_on : ℕ → List Name → Line → List Numbered
-numbered_on number names line = map (λ c. record { line = number; command = c }) (commands_on names line)
+abbrev pub numbered_on : ℕ → Option Version → List Name → Line → List Numbered
+numbered_on number settled names line = map (λ c. record { line = number; command = c }) (commands_on settled names line)
 
 -- what a line asks for behind the lines before it, which count from 1
 abbrev pub asked_at : List Line × Line → List Numbered
-asked_at p = numbered_on (length p.0 + 1) (scope_of p.0).names p.1
+asked_at p = numbered_on (length p.0 + 1) (scope_of p.0).version (scope_of p.0).names p.1
 
 -- what lines ask for, up to the first that begins a section
 abbrev pub asked_in_section : List (List Line × Line) → List Numbered

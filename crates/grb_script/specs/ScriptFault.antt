@@ -10,23 +10,28 @@ use Rattle.grb_script.specs.declared.fault.ReadFault.{ReadFault}
 use Rattle.grb_script.specs.declared.fault.ReadFault.TheVariants as read
 use Rattle.grb_words.specs.declared.fault.Unread.{Unread}
 use Rattle.grb_words.specs.declared.fault.Unread.TheVariants as unread
-use Rattle.grb_words.specs.Line.{Line, Word, lines_of, words_of, has_allowed_bytes, is_skipped, is_section}
+use Rattle.grb_words.specs.declared.version.Version.{Version}
+use Rattle.grb_words.specs.Line.{Line, Word, lines_of, words_of, has_allowed_bytes, is_section}
 use Rattle.grb_words.specs.Section.{section_of}
 use Rattle.grb_words.specs.declared.section.Section.{Section}
 use Rattle.grb_script.specs.Command.{asking}
 use Rattle.grb_script.specs.Scope.{Scope, may_follow, scope_of}
 use Rattle.grb_script.specs.Script.{with_before}
+use Rattle.grb_script.specs.Version.{version_by, says_nothing}
 
 -- what is wrong with words that begin with a word of sections: they must spell a section that may follow the one where they stand
-abbrev pub section_fault : Option Section → Option Section → Option FaultKind
-section_fault here None = Some SectionFault
-section_fault here (Some next) = if may_follow here next then None else Some SectionFault
+abbrev pub section_fault : Version → Option Section → Option Section → Option FaultKind
+section_fault version here None = Some SectionFault
+section_fault version here (Some next) = if may_follow version here next then None else Some SectionFault
+
+-- what is wrong with words that say something in a script of this version
+abbrev pub saying_fault : Version → Scope → List Word → Option FaultKind
+saying_fault version scope words =
+    if is_section words then section_fault version scope.section (section_of words) else result_err (asking version scope.names words)
 
 -- what is wrong with the words of a line
 abbrev pub wording_fault : Scope → List Word → Option FaultKind
-wording_fault scope words =
-    if is_skipped words then None
-    else (if is_section words then section_fault scope.section (section_of words) else result_err (asking scope.names words))
+wording_fault scope words = if says_nothing scope.version words then None else saying_fault (version_by scope.version words) scope words
 
 -- what is wrong with a line that stands here
 abbrev pub line_fault : Scope → Line → Option FaultKind

@@ -4,7 +4,7 @@ ghost use Rattle.grb_script.specs.Command.{IsLoading, IsWhyUnloaded, IsAsked, Is
 
 use crate::names::{Names, Sort};
 use crate::statement::{Statement, read_statement};
-use grb_words::{FaultKind, Unread, is_load, load_of};
+use grb_words::{FaultKind, Unread, Version, is_load, load_of};
 use std::alloc::{AllocError, Global};
 use std::marker::Model;
 
@@ -48,7 +48,7 @@ pub enum Command {
     Load(FilePath),
 }
 
-/// A line of a script that is not skipped.
+/// A line of a script that asks for something.
 #[derive(Debug, Drop)]
 pub struct Numbered {
     /// The number of the line, from 1.
@@ -73,19 +73,21 @@ fn read_load(alloc: Global, words: &[&[u8]], names: &mut Names) -> Result<FilePa
     Ok(path)
 }
 
-/// What these words ask for where these names stand, or what is wrong with them. The name that they make joins the names.
+/// What these words ask for in a script of this version where these names stand, or what is wrong with them. The name that they make joins
+/// the names.
 pub(crate) fn read_command(
     alloc: Global,
+    version: Version,
     words: &[&[u8]],
     names: &mut Names,
 ) -> Result<Command, Unread>
-    ensures read { IfOk result (λ c. IsAsked names.old (map (λ word. word.now) words.now) c names.new) }
-    ensures fault { IfErr result (IsWhyUnasked names.old (map (λ word. word.now) words.now)) }
+    ensures read { IfOk result (λ c. IsAsked version names.old (map (λ word. word.now) words.now) c names.new) }
+    ensures fault { IfErr result (IsWhyUnasked version names.old (map (λ word. word.now) words.now)) }
 {
     if is_load(words) {
         let path = read_load(alloc, words, names)?;
         return Ok(Command::Load(path));
     }
-    let statement = read_statement(alloc, words, names)?;
+    let statement = read_statement(alloc, version, words, names)?;
     Ok(Command::Statement(statement))
 }

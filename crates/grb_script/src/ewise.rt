@@ -3,13 +3,13 @@ ghost use Rattle.std.specs.Option.{ok_or, option_map, option_map_or};
 ghost use Rattle.grb_words.specs.Form.{EwiseForm, ewise_form};
 ghost use Rattle.grb_script.specs.Names.{same_sort};
 ghost use Rattle.grb_words.specs.Options.{spelled};
-ghost use Rattle.grb_script.specs.Reading.{reading, saying, mask_found, mask_is_of, are_of, ewise_on, ewise_statement};
+ghost use Rattle.grb_script.specs.Reading.{reading, saying, mask_found, mask_is_of, are_of, tran_fits, ewise_on, ewise_statement};
 
 use crate::names::{Names, Sort};
 use crate::statement::{Statement, used};
 use grb_call::Descriptor;
 use grb_core::BinaryOp;
-use grb_words::{Ewise, FaultKind, Options, options_of, word};
+use grb_words::{Ewise, FaultKind, Options, Version, options_in, word};
 
 /// What an element-wise statement says. All its objects are of one sort, and stand by the numbers of their names.
 #[derive(Clone, Copy, Debug, PartialEq, Eq)]
@@ -28,7 +28,7 @@ pub struct Elementwise {
     pub left: usize,
     /// The name of the second input.
     pub right: usize,
-    /// How the mask is read and the output written.
+    /// How the first input and the mask are read and the output is written. `tran` is false where the sort is that of vectors.
     pub descriptor: Descriptor,
 }
 
@@ -62,6 +62,16 @@ pub(crate) fn are_of(
     ensures { result ≡ are_of sort left right mask }
 {
     is_same_sort(sort, left.1) && is_same_sort(sort, right.1) && mask_is_of(sort, mask)
+}
+
+/// Whether a statement on objects of this sort may say, or not, that its first input is transposed: that of vectors may not.
+fn tran_fits(sort: Sort, tran: bool) -> bool
+    ensures { result ≡ tran_fits sort tran }
+{
+    match sort {
+        Sort::Matrix => true,
+        Sort::Vector => !tran,
+    }
 }
 
 fn statement_of(ewise: Ewise, says: Elementwise) -> Statement
@@ -98,7 +108,8 @@ fn ewise_on(
 ) -> Result<Statement, FaultKind>
     ensures { result ≡ ewise_on ewise output left right mask op (spelled options.now) }
 {
-    if !are_of(output.1, left, right, mask) {
+    let fits = tran_fits(output.1, options.descriptor.tran);
+    if !are_of(output.1, left, right, mask) || !fits {
         return Err(FaultKind::WrongKind);
     }
     let says = Elementwise {
@@ -135,6 +146,7 @@ fn ewise_of(
 
 /// `ewiseadd NAME NAME NAME OP OPTIONS` or `ewisemult NAME NAME NAME OP OPTIONS`, by each of its words.
 fn ewise_by_words(
+    version: Version,
     ewise: Ewise,
     output: &[u8],
     left: &[u8],
@@ -143,7 +155,7 @@ fn ewise_by_words(
     options: &[&[u8]],
     names: &Names,
 ) -> Result<Statement, FaultKind>
-    ensures { result ≡ reading names.now (ewise_form ewise output.now (left.now ∷ right.now ∷ op.now ∷ map (λ word. word.now) options.now)) }
+    ensures { result ≡ reading names.now (ewise_form version ewise output.now (left.now ∷ right.now ∷ op.now ∷ map (λ word. word.now) options.now)) }
 {
     if !word::is_name(left) || !word::is_name(right) {
         return Err(FaultKind::Statement);
@@ -151,23 +163,25 @@ fn ewise_by_words(
     let Some(op) = word::operator(op) else {
         return Err(FaultKind::Statement);
     };
-    let Some(options) = options_of(options) else {
+    let Some(options) = options_in(version, options) else {
         return Err(FaultKind::Statement);
     };
     ewise_of(ewise, output, left, right, op, &options, names)
 }
 
-/// `ewiseadd NAME NAME NAME OP OPTIONS` or `ewisemult NAME NAME NAME OP OPTIONS`, where `output` is the first name.
+/// `ewiseadd NAME NAME NAME OP OPTIONS` or `ewisemult NAME NAME NAME OP OPTIONS`, where `output` is the first name, in a script of this
+/// version.
 pub(crate) fn ewise(
+    version: Version,
     ewise: Ewise,
     output: &[u8],
     others: &[&[u8]],
     names: &Names,
 ) -> Result<Statement, FaultKind>
-    ensures { result ≡ reading names.now (ewise_form ewise output.now (map (λ word. word.now) others.now)) }
+    ensures { result ≡ reading names.now (ewise_form version ewise output.now (map (λ word. word.now) others.now)) }
 {
     let [left, right, op, options @ ..] = others else {
         return Err(FaultKind::Statement);
     };
-    ewise_by_words(ewise, output, left, right, op, options, names)
+    ewise_by_words(version, ewise, output, left, right, op, options, names)
 }

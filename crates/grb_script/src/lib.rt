@@ -15,6 +15,7 @@ mod product;
 mod scope;
 mod script;
 mod statement;
+mod version;
 
 pub use command::{Command, FilePath, Numbered};
 pub use ewise::Elementwise;

@@ -1,18 +1,20 @@
 ghost use Rattle.std.specs.Prelude.{◌≡◌, true, false, Some, None, IfOk, IfErr, OnOk, map};
-ghost use Rattle.grb_words.specs.Line.{ended, words_of, is_skipped, is_section};
-ghost use Rattle.grb_script.specs.Scope.{seen, IsKept};
+ghost use Rattle.grb_words.specs.Line.{ended, words_of, is_section};
+ghost use Rattle.grb_words.specs.Section.{section_of};
+ghost use Rattle.grb_script.specs.Scope.{begun, may_follow, seen, IsKept};
 ghost use Rattle.grb_script.specs.Said.{IsRead, IsWhyNotRead};
-ghost use Rattle.grb_script.specs.ScriptFault.{fault_at, line_fault, wording_fault, IsWhyLineUnread};
+ghost use Rattle.grb_script.specs.ScriptFault.{fault_at, line_fault, section_fault, IsWhyLineUnread};
 
 use crate::command::{Command, read_command};
 use crate::fault::{ReadFault, ScriptFault};
 use crate::scope::{Scope, may_follow};
+use crate::version::{says_nothing, version_by};
 use grb_words::{
-    FaultKind, Section, Unread, has_allowed_bytes, is_section, is_skipped, section_of, words,
+    FaultKind, Section, Unread, Version, has_allowed_bytes, is_section, section_of, words,
 };
 use std::alloc::Global;
 
-/// What a line of a script says that is not skipped.
+/// What a line of a script says that says something.
 #[derive(Drop)]
 pub(crate) enum Said {
     /// A section begins.
@@ -37,38 +39,41 @@ fn fault_at(line: u64, unread: Unread) -> ReadFault
     }
 }
 
-/// The section that begins with these words, which begin with a word of sections.
-fn begin_section(words: &[&[u8]], scope: &mut Scope) -> Result<Section, FaultKind>
+/// Begins the section that these words spell, in a script of this version.
+fn begin_section(version: Version, words: &[&[u8]], scope: &mut Scope) -> Result<Section, FaultKind>
     requires kept { IsKept scope.old }
-    requires skipped { is_skipped (map (λ word. word.now) words.now) ≡ false }
-    requires section { is_section (map (λ word. word.now) words.now) ≡ true }
-    ensures read { IfOk result (λ section. IsRead (seen scope.old) (map (λ word. word.now) words.now) (Some (Said.Section section)) (seen scope.new)) }
+    ensures section { IfOk result (λ section. section_of (map (λ word. word.now) words.now) ≡ Some section) }
+    ensures follows { IfOk result (λ section. may_follow version scope.old.section section ≡ true) }
+    ensures begun { IfOk result (λ section. seen scope.new ≡ begun (seen scope.old) section) }
     ensures kept { OnOk result (IsKept scope.new) }
-    ensures fault { IfErr result (λ kind. wording_fault (seen scope.old) (map (λ word. word.now) words.now) ≡ Some kind) }
+    ensures fault { IfErr result (λ kind. section_fault version scope.old.section (section_of (map (λ word. word.now) words.now)) ≡ Some kind) }
 {
     let section = section_of(words).ok_or(FaultKind::Section)?;
-    if !may_follow(scope.section, section) {
+    if !may_follow(version, scope.section, section) {
         return Err(FaultKind::Section);
     }
     scope.begin(section);
     Ok(section)
 }
 
-/// What these words say. The name that they make joins the names, and a section that they begin begins.
+/// What these words say. The version is settled then, the name that they make joins the names, and a section that they begin begins.
 fn read_words(alloc: Global, words: &[&[u8]], scope: &mut Scope) -> Result<Option<Said>, Unread>
     requires kept { IsKept scope.old }
     ensures read { IfOk result (λ said. IsRead (seen scope.old) (map (λ word. word.now) words.now) said (seen scope.new)) }
     ensures kept { OnOk result (IsKept scope.new) }
     ensures fault { IfErr result (IsWhyNotRead (seen scope.old) (map (λ word. word.now) words.now)) }
 {
-    if is_skipped(words) {
+    let is_silent = says_nothing(scope.version, words);
+    let version = version_by(scope.version, words);
+    scope.version = Some(version);
+    if is_silent {
         return Ok(None);
     }
     if is_section(words) {
-        let section = begin_section(words, scope)?;
+        let section = begin_section(version, words, scope)?;
         return Ok(Some(Said::Section(section)));
     }
-    let command = read_command(alloc, words, &mut scope.names)?;
+    let command = read_command(alloc, version, words, &mut scope.names)?;
     Ok(Some(Said::Command(command)))
 }
 

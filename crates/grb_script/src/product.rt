@@ -1,19 +1,19 @@
 ghost use Rattle.std.specs.Prelude.{◌≡◌, ◌∷◌, map};
-ghost use Rattle.grb_script.specs.Reading.{reading, saying, product_sort, product_statement, semiring_made, product_on};
+ghost use Rattle.grb_script.specs.Reading.{reading, saying, output_sort, left_sort, right_sort, are_of_product, product_statement, semiring_made, product_on};
 ghost use Rattle.grb_words.specs.Form.{ProductForm, ReduceForm, product_form, reduce_form};
 ghost use Rattle.grb_words.specs.Options.{spelled};
 
-use crate::ewise::{are_of, is_same_sort, mask_is_of, used_mask};
+use crate::ewise::{is_same_sort, mask_is_of, used_mask};
 use crate::names::{Names, Sort};
 use crate::statement::{Statement, used};
 use grb_call::Descriptor;
 use grb_core::{BinaryOp, Monoid, Semiring};
-use grb_words::{FaultKind, Multiply, Options, options_of, word};
+use grb_words::{FaultKind, Multiply, Options, Version, options_in, product_options, word};
 
 /// What a statement says that multiplies. All its objects stand by the numbers of their names.
 #[derive(Clone, Copy, Debug, PartialEq, Eq)]
 pub struct Product {
-    /// The name of the output: a vector at `mxv`, and a matrix at `mxm`.
+    /// The name of the output: a vector at `mxv` and `vxm`, and a matrix at `mxm`.
     pub output: usize,
     /// The name of the mask, where one is given. Its object is of the sort of the output.
     pub mask: Option<usize>,
@@ -21,11 +21,11 @@ pub struct Product {
     pub accum: Option<BinaryOp>,
     /// What combines the inputs.
     pub semiring: Semiring,
-    /// The name of the first input, a matrix.
+    /// The name of the first input: a vector at `vxm`, and a matrix at `mxv` and `mxm`.
     pub left: usize,
-    /// The name of the second input. Its object is of the sort of the output.
+    /// The name of the second input: a vector at `mxv`, and a matrix at `vxm` and `mxm`.
     pub right: usize,
-    /// How the mask is read and the output written.
+    /// How the first input and the mask are read and the output is written. `tran` is false at `vxm`.
     pub descriptor: Descriptor,
 }
 
@@ -42,17 +42,51 @@ pub struct Reduction {
     pub monoid: Monoid,
     /// The name of the input, a matrix.
     pub input: usize,
-    /// How the mask is read and the output written.
+    /// How the input and the mask are read and the output is written.
     pub descriptor: Descriptor,
 }
 
-fn product_sort(multiply: Multiply) -> Sort
-    ensures { result ≡ product_sort multiply }
+fn output_sort(multiply: Multiply) -> Sort
+    ensures { result ≡ output_sort multiply }
+{
+    match multiply {
+        Multiply::Mxv | Multiply::Vxm => Sort::Vector,
+        Multiply::Mxm => Sort::Matrix,
+    }
+}
+
+fn left_sort(multiply: Multiply) -> Sort
+    ensures { result ≡ left_sort multiply }
+{
+    match multiply {
+        Multiply::Vxm => Sort::Vector,
+        Multiply::Mxv | Multiply::Mxm => Sort::Matrix,
+    }
+}
+
+fn right_sort(multiply: Multiply) -> Sort
+    ensures { result ≡ right_sort multiply }
 {
     match multiply {
         Multiply::Mxv => Sort::Vector,
-        Multiply::Mxm => Sort::Matrix,
+        Multiply::Vxm | Multiply::Mxm => Sort::Matrix,
     }
+}
+
+/// Whether these objects, and that of the mask where one is given, are of their sorts in this product.
+fn are_of_product(
+    multiply: Multiply,
+    output: (usize, Sort),
+    left: (usize, Sort),
+    right: (usize, Sort),
+    mask: Option<(usize, Sort)>,
+) -> bool
+    ensures { result ≡ are_of_product multiply output left right mask }
+{
+    is_same_sort(output_sort(multiply), output.1)
+        && is_same_sort(left_sort(multiply), left.1)
+        && is_same_sort(right_sort(multiply), right.1)
+        && mask_is_of(output_sort(multiply), mask)
 }
 
 fn statement_of(multiply: Multiply, says: Product) -> Statement
@@ -60,6 +94,7 @@ fn statement_of(multiply: Multiply, says: Product) -> Statement
 {
     match multiply {
         Multiply::Mxv => Statement::Mxv(says),
+        Multiply::Vxm => Statement::Vxm(says),
         Multiply::Mxm => Statement::Mxm(says),
     }
 }
@@ -86,8 +121,7 @@ fn product_on(
 ) -> Result<Statement, FaultKind>
     ensures { result ≡ product_on multiply output left right mask semiring (spelled options.now) }
 {
-    let sort = product_sort(multiply);
-    if !is_same_sort(Sort::Matrix, left.1) || !are_of(sort, output, right, mask) {
+    if !are_of_product(multiply, output, left, right, mask) {
         return Err(FaultKind::WrongKind);
     }
     let says = Product {
@@ -121,8 +155,9 @@ fn product_of(
     product_on(multiply, output, left, right, mask, semiring, options)
 }
 
-/// `mxv NAME NAME NAME SEMIRING OPTIONS` or `mxm NAME NAME NAME SEMIRING OPTIONS`, by each of its words.
+/// `mxv NAME NAME NAME SEMIRING OPTIONS`, or the same of `vxm` or `mxm`, by each of its words.
 fn product_by_words(
+    version: Version,
     multiply: Multiply,
     output: &[u8],
     left: &[u8],
@@ -131,7 +166,7 @@ fn product_by_words(
     options: &[&[u8]],
     names: &Names,
 ) -> Result<Statement, FaultKind>
-    ensures { result ≡ reading names.now (product_form multiply output.now (left.now ∷ right.now ∷ semiring.now ∷ map (λ word. word.now) options.now)) }
+    ensures { result ≡ reading names.now (product_form version multiply output.now (left.now ∷ right.now ∷ semiring.now ∷ map (λ word. word.now) options.now)) }
 {
     if !word::is_name(left) || !word::is_name(right) {
         return Err(FaultKind::Statement);
@@ -139,25 +174,28 @@ fn product_by_words(
     let Some(semiring) = word::semiring(semiring) else {
         return Err(FaultKind::Statement);
     };
-    let Some(options) = options_of(options) else {
+    let Some(options) = product_options(version, multiply, options) else {
         return Err(FaultKind::Statement);
     };
     product_of(multiply, output, left, right, semiring, &options, names)
 }
 
-/// `mxv NAME NAME NAME SEMIRING OPTIONS` or `mxm NAME NAME NAME SEMIRING OPTIONS`, where `output` is the first name.
+/// `mxv NAME NAME NAME SEMIRING OPTIONS`, or the same of `vxm` or `mxm`, where `output` is the first name, in a script of this version.
 pub(crate) fn read_product(
+    version: Version,
     multiply: Multiply,
     output: &[u8],
     others: &[&[u8]],
     names: &Names,
 ) -> Result<Statement, FaultKind>
-    ensures { result ≡ reading names.now (product_form multiply output.now (map (λ word. word.now) others.now)) }
+    ensures { result ≡ reading names.now (product_form version multiply output.now (map (λ word. word.now) others.now)) }
 {
     let [left, right, semiring, options @ ..] = others else {
         return Err(FaultKind::Statement);
     };
-    product_by_words(multiply, output, left, right, semiring, options, names)
+    product_by_words(
+        version, multiply, output, left, right, semiring, options, names,
+    )
 }
 
 /// What the words of a reduction say where these names stand.
@@ -191,13 +229,14 @@ fn reduction_of(
 
 /// `reduce NAME NAME MONOID OPTIONS`, by each of its words.
 fn reduction_by_words(
+    version: Version,
     output: &[u8],
     input: &[u8],
     monoid: &[u8],
     options: &[&[u8]],
     names: &Names,
 ) -> Result<Statement, FaultKind>
-    ensures { result ≡ reading names.now (reduce_form output.now (input.now ∷ monoid.now ∷ map (λ word. word.now) options.now)) }
+    ensures { result ≡ reading names.now (reduce_form version output.now (input.now ∷ monoid.now ∷ map (λ word. word.now) options.now)) }
 {
     if !word::is_name(input) {
         return Err(FaultKind::Statement);
@@ -205,22 +244,23 @@ fn reduction_by_words(
     let Some(monoid) = word::monoid(monoid) else {
         return Err(FaultKind::Statement);
     };
-    let Some(options) = options_of(options) else {
+    let Some(options) = options_in(version, options) else {
         return Err(FaultKind::Statement);
     };
     reduction_of(output, input, monoid, &options, names)
 }
 
-/// `reduce NAME NAME MONOID OPTIONS`, where `output` is the first name.
+/// `reduce NAME NAME MONOID OPTIONS`, where `output` is the first name, in a script of this version.
 pub(crate) fn read_reduction(
+    version: Version,
     output: &[u8],
     others: &[&[u8]],
     names: &Names,
 ) -> Result<Statement, FaultKind>
-    ensures { result ≡ reading names.now (reduce_form output.now (map (λ word. word.now) others.now)) }
+    ensures { result ≡ reading names.now (reduce_form version output.now (map (λ word. word.now) others.now)) }
 {
     let [input, monoid, options @ ..] = others else {
         return Err(FaultKind::Statement);
     };
-    reduction_by_words(output, input, monoid, options, names)
+    reduction_by_words(version, output, input, monoid, options, names)
 }

@@ -1,16 +1,15 @@
 ghost use Rattle.std.specs.Prelude.{◌≡◌};
-ghost use Rattle.grb_script.specs.Scope.{at_start, begun, may_follow, seen, IsKept};
+ghost use Rattle.grb_script.specs.Scope.{at_start, begun, most_threads, may_follow, seen, IsKept};
 
 use crate::names::Names;
-use grb_words::Section;
+use grb_words::{Section, Version};
 use std::alloc::Global;
 
-/// How many thread sections a script may have.
-const MAX_THREADS: u64 = 63;
-
-/// Where a line of a script stands: its section, and the names that stand there. Those of main come first.
+/// Where a line of a script stands: the version of the script, the section, and the names that stand there. Those of main come first.
 #[derive(Drop)]
 pub(crate) struct Scope {
+    /// The version, and `None` on line 1, which settles it.
+    pub(crate) version: Option<Version>,
     /// The section, and `None` in main.
     pub(crate) section: Option<Section>,
     /// How many of the names are of main, where a section began.
@@ -19,13 +18,25 @@ pub(crate) struct Scope {
     pub(crate) names: Names,
 }
 
-/// Whether this section may stand behind that one, or behind main.
-pub(crate) fn may_follow(here: Option<Section>, next: Section) -> bool
-    ensures { result ≡ may_follow here next }
+/// How many thread sections a script of this version may have.
+fn most_threads(version: Version) -> u64
+    ensures { result ≡ most_threads version }
+{
+    match version {
+        Version::One => 63,
+        Version::Two => 63,
+    }
+}
+
+/// Whether this section may stand behind that one, or behind main, in a script of this version.
+pub(crate) fn may_follow(version: Version, here: Option<Section>, next: Section) -> bool
+    ensures { result ≡ may_follow version here next }
 {
     match (here, next) {
         (None, Section::Thread(k)) => k == 1,
-        (Some(Section::Thread(last)), Section::Thread(k)) => last < MAX_THREADS && k == last + 1,
+        (Some(Section::Thread(last)), Section::Thread(k)) => {
+            last < most_threads(version) && k == last + 1
+        }
         (None | Some(Section::Thread(_)), Section::Finally) => true,
         (Some(Section::Finally), _) => false,
     }
@@ -38,6 +49,7 @@ impl Scope {
         ensures kept { IsKept result }
     {
         Scope {
+            version: None,
             section: None,
             main: 0,
             names: Names::new(alloc, text),

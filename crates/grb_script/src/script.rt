@@ -1,6 +1,7 @@
 ghost use Rattle.std.specs.Prelude.{◌≡◌, ◌≤◌, [], None, IfOk, IfErr, OnOk, length};
 ghost use Rattle.grb_words.specs.Line.{ended, words_of};
-ghost use Rattle.grb_script.specs.Scope.{at_start, seen, IsKept};
+ghost use Rattle.grb_words.specs.declared.version.Version.TheVariants as versions;
+ghost use Rattle.grb_script.specs.Scope.{at_start, most_threads, seen, IsKept};
 ghost use Rattle.grb_script.specs.Script.{listed, joined, nothing, part_of, sections_of};
 ghost use Rattle.grb_script.specs.Said.{IsLineTaken, IsTaken};
 ghost use Rattle.grb_script.specs.ScriptFault.{line_fault, script_fault, IsWhyLineUnread, IsWhyTextUnread};
@@ -101,7 +102,7 @@ fn read_lines(
     requires none { listed script.old ≡ nothing }
     requires none_asked { asked.old.items ≡ [] }
     ensures read { OnOk result ((script_fault text.now ≡ None) × (listed script.new ≡ sections_of text.now)) }
-    ensures few { OnOk result (length script.new.threads.items ≤ 63) }
+    ensures few { OnOk result (length script.new.threads.items ≤ most_threads versions.Two) }
     ensures fault { IfErr result (IsWhyTextUnread text.now) }
 {
     let mut rest = text;
@@ -120,10 +121,11 @@ fn read_lines(
 /// What a script asks for, section by section and line by line, or its first fault. Takes time linear in the text.
 ///
 /// A line ends with a byte 0x0A, and its words are parted by spaces. A line without words and a comment, whose first byte other
-/// than a space is a `#`, are skipped (own).
+/// than a space is a `#`, are skipped (own). Where the words of line 1 are `version 2`, it asks for nothing, and the script is written in
+/// version 2 (own).
 pub fn read_script(alloc: Global, text: &[u8]) -> Result<Script, ReadFault>
     ensures read { IfOk result (λ script. (script_fault text.now ≡ None) × (listed script ≡ sections_of text.now)) }
-    ensures few { IfOk result (λ script. length script.threads.items ≤ 63) }
+    ensures few { IfOk result (λ script. length script.threads.items ≤ most_threads versions.Two) }
     ensures fault { IfErr result (IsWhyTextUnread text.now) }
 {
     let mut scope = Scope::new(alloc, text);

@@ -11,7 +11,7 @@ use crate::product::{Product, Reduction, read_product, read_reduction};
 use grb_call::{MatrixTuples, VectorTuples, WaitMode};
 use grb_core::{Domain, Monoid, Value};
 use grb_words::{
-    FaultKind, Indices, Keyword, Placed, Unread, Whole, indices_and_value_of, indices_of,
+    FaultKind, Indices, Keyword, Placed, Unread, Version, Whole, indices_and_value_of, indices_of,
     matrix_tuples, values, vector_tuples, word,
 };
 use std::alloc::Global;
@@ -120,6 +120,8 @@ pub enum Statement {
     EwiseMult(Elementwise),
     /// `mxv NAME NAME NAME SEMIRING OPTIONS`.
     Mxv(Product),
+    /// `vxm NAME NAME NAME SEMIRING OPTIONS`.
+    Vxm(Product),
     /// `mxm NAME NAME NAME SEMIRING OPTIONS`.
     Mxm(Product),
     /// `reduce NAME NAME MONOID OPTIONS`.
@@ -412,9 +414,10 @@ fn wait(name: &[u8], others: &[&[u8]], names: &Names) -> Result<Statement, Fault
     Ok(Statement::Wait { name, sort, mode })
 }
 
-/// The statement that this keyword, this name and the words behind them spell where these names stand, or what is wrong with it. It makes
-/// no name, and its words are all that it says.
+/// The statement that this keyword, this name and the words behind them spell in a script of this version where these names stand, or what
+/// is wrong with it. It makes no name, and its words are all that it says.
 fn statement_on(
+    version: Version,
     keyword: Keyword,
     name: &[u8],
     others: &[&[u8]],
@@ -424,50 +427,53 @@ fn statement_on(
     requires vector { keyword ≢ keywords.Vector }
     requires dup { keyword ≢ keywords.Dup }
     requires build { keyword ≢ keywords.Build }
-    ensures { result ≡ reading names.now (form_with keyword name.now (map (λ word. word.now) others.now)) }
+    ensures { result ≡ reading names.now (form_with version keyword name.now (map (λ word. word.now) others.now)) }
 {
     match keyword {
         Keyword::Whole(word) => whole(word, name, others, names),
         Keyword::Placed(word) => placed(word, name, others, names),
         Keyword::Set => set(name, others, names),
-        Keyword::Ewise(word) => ewise(word, name, others, names),
-        Keyword::Multiply(word) => read_product(word, name, others, names),
-        Keyword::Reduce => read_reduction(name, others, names),
+        Keyword::Ewise(word) => ewise(version, word, name, others, names),
+        Keyword::Multiply(word) => read_product(version, word, name, others, names),
+        Keyword::Reduce => read_reduction(version, name, others, names),
         Keyword::Total => total(name, others, names),
         Keyword::Wait => wait(name, others, names),
         Keyword::Matrix | Keyword::Vector | Keyword::Dup | Keyword::Build => unreachable!(),
     }
 }
 
-/// The statement that this keyword, this name and the words behind them spell where these names stand, or what is wrong with it. The name
-/// that it makes joins the names.
+/// The statement that this keyword, this name and the words behind them spell in a script of this version where these names stand, or what
+/// is wrong with it. The name that it makes joins the names.
 fn statement_with(
     alloc: Global,
+    version: Version,
     keyword: Keyword,
     name: &[u8],
     others: &[&[u8]],
     names: &mut Names,
 ) -> Result<Statement, Unread>
-    ensures read { IfOk result (λ s. IsReading names.old (form_with keyword name.now (map (λ word. word.now) others.now)) s names.new) }
-    ensures fault { IfErr result (IsWhyUnread names.old (form_with keyword name.now (map (λ word. word.now) others.now))) }
+    ensures read { IfOk result (λ s. IsReading names.old (form_with version keyword name.now (map (λ word. word.now) others.now)) s names.new) }
+    ensures fault { IfErr result (IsWhyUnread names.old (form_with version keyword name.now (map (λ word. word.now) others.now))) }
 {
     match keyword {
         Keyword::Matrix => matrix(name, others, names),
         Keyword::Vector => vector(name, others, names),
         Keyword::Dup => dup(name, others, names),
         Keyword::Build => build(alloc, name, others, names),
-        _ => Ok(statement_on(keyword, name, others, names)?),
+        _ => Ok(statement_on(version, keyword, name, others, names)?),
     }
 }
 
-/// The statement that these words spell where these names stand, or what is wrong with it. The name that it makes joins the names.
+/// The statement that these words spell in a script of this version where these names stand, or what is wrong with it. The name that it
+/// makes joins the names.
 pub(crate) fn read_statement(
     alloc: Global,
+    version: Version,
     words: &[&[u8]],
     names: &mut Names,
 ) -> Result<Statement, Unread>
-    ensures read { IfOk result (λ s. IsReading names.old (form_of (map (λ word. word.now) words.now)) s names.new) }
-    ensures fault { IfErr result (IsWhyUnread names.old (form_of (map (λ word. word.now) words.now))) }
+    ensures read { IfOk result (λ s. IsReading names.old (form_of version (map (λ word. word.now) words.now)) s names.new) }
+    ensures fault { IfErr result (IsWhyUnread names.old (form_of version (map (λ word. word.now) words.now))) }
 {
     let [first, name, others @ ..] = words else {
         return Err(Unread::Fault(FaultKind::Statement));
@@ -475,8 +481,8 @@ pub(crate) fn read_statement(
     if !word::is_name(name) {
         return Err(Unread::Fault(FaultKind::Statement));
     }
-    let Some(keyword) = word::keyword(first) else {
+    let Some(keyword) = word::keyword_in(version, first) else {
         return Err(Unread::Fault(FaultKind::Statement));
     };
-    statement_with(alloc, keyword, name, others, names)
+    statement_with(alloc, version, keyword, name, others, names)
 }

@@ -15,7 +15,7 @@ use Rattle.grb_core.specs.Contents.{Matrix, Vector, edited_matrix, edited_vector
 use Rattle.grb_core.specs.Entries.{cell_cmp, MatrixEntries, VectorEntries, nvals_of}
 use Rattle.grb_core.specs.Mask.{is_inside}
 use Rattle.grb_core.specs.Written.{written}
-use Rattle.grb_core.specs.Results.{ewise_add, ewise_mult, mxv_of, mxm_of, reduce_rows_of}
+use Rattle.grb_core.specs.Results.{ewise_add, ewise_mult, mxv_of, mxm_of, reduce_rows_of, turned, vxm_of}
 use Rattle.grb_call.specs.declared.call.Call.{Call}
 use Rattle.grb_call.specs.declared.call.Call.TheVariants as call
 use Rattle.grb_call.specs.declared.descriptor.Descriptor.{Descriptor}
@@ -217,19 +217,21 @@ own-at s (call.ResizeVector v size) = edited_v s v (call.ResizeVector v size) _ 
 own-at s (call.BuildMatrix a tuples dup) = built_m s a tuples dup (matrix_at s a) refl
 own-at s (call.BuildVector v tuples dup) = built_v s v tuples dup (vector_at s v) refl
 own-at s (call.EwiseAddMatrix c mask accum op a b d) =
-    edited_m s c (call.EwiseAddMatrix c mask accum op a b d) _ (λ m. written_m s mask accum d _ _ m (two_m s (ewise_add cell_cmp op) a b))
+    edited_m s c (call.EwiseAddMatrix c mask accum op a b d) _ (λ m. written_m s mask accum d _ _ m (two_m s (λ x y. ewise_add cell_cmp op (turned d.tran x) y) a b))
 own-at s (call.EwiseMultMatrix c mask accum op a b d) =
-    edited_m s c (call.EwiseMultMatrix c mask accum op a b d) _ (λ m. written_m s mask accum d _ _ m (two_m s (ewise_mult cell_cmp op) a b))
+    edited_m s c (call.EwiseMultMatrix c mask accum op a b d) _ (λ m. written_m s mask accum d _ _ m (two_m s (λ x y. ewise_mult cell_cmp op (turned d.tran x) y) a b))
 own-at s (call.EwiseAddVector w mask accum op u v d) =
     edited_v s w (call.EwiseAddVector w mask accum op u v d) _ (λ x. written_v s mask accum d _ _ x (two_v s (ewise_add nat_cmp op) u v))
 own-at s (call.EwiseMultVector w mask accum op u v d) =
     edited_v s w (call.EwiseMultVector w mask accum op u v d) _ (λ x. written_v s mask accum d _ _ x (two_v s (ewise_mult nat_cmp op) u v))
 own-at s (call.Mxv w mask accum semiring a u d) =
-    edited_v s w (call.Mxv w mask accum semiring a u d) _ (λ x. written_v s mask accum d _ _ x (both s (mxv_of semiring) a u))
+    edited_v s w (call.Mxv w mask accum semiring a u d) _ (λ x. written_v s mask accum d _ _ x (both s (λ x y. mxv_of semiring (turned d.tran x) y) a u))
+own-at s (call.Vxm w mask accum semiring u a d) =
+    edited_v s w (call.Vxm w mask accum semiring u a d) _ (λ x. written_v s mask accum d _ _ x (both s (λ z y. vxm_of semiring y z) a u))
 own-at s (call.Mxm c mask accum semiring a b d) =
-    edited_m s c (call.Mxm c mask accum semiring a b d) _ (λ m. written_m s mask accum d _ _ m (two_m s (mxm_of semiring) a b))
+    edited_m s c (call.Mxm c mask accum semiring a b d) _ (λ m. written_m s mask accum d _ _ m (two_m s (λ x y. mxm_of semiring (turned d.tran x) y) a b))
 own-at s (call.ReduceRows w mask accum monoid a d) =
-    edited_v s w (call.ReduceRows w mask accum monoid a d) _ (λ x. written_v s mask accum d _ _ x (ap (reduce_rows_of monoid) (in_m s a)))
+    edited_v s w (call.ReduceRows w mask accum monoid a d) _ (λ x. written_v s mask accum d _ _ x (ap (λ (z : MatrixEntries). reduce_rows_of monoid (turned d.tran z)) (in_m s a)))
 own-at s _ = tt
 
 if_some-at : {X : Type 0} (P : X → Type 0) (o : Option X) (x : X) → o ≡ Some x → IfSome o P → P x
@@ -269,6 +271,7 @@ module _ (s : Store) where
   other_v (call.EwiseAddVector w mask accum op u p d) v other = object_at-set_other s.vectors w.0 v.0 _ (λ e. other (ap (λ n. Some (object.Vector (record { 0 = n }))) e))
   other_v (call.EwiseMultVector w mask accum op u p d) v other = object_at-set_other s.vectors w.0 v.0 _ (λ e. other (ap (λ n. Some (object.Vector (record { 0 = n }))) e))
   other_v (call.Mxv w mask accum semiring b u d) v other = object_at-set_other s.vectors w.0 v.0 _ (λ e. other (ap (λ n. Some (object.Vector (record { 0 = n }))) e))
+  other_v (call.Vxm w mask accum semiring u b d) v other = object_at-set_other s.vectors w.0 v.0 _ (λ e. other (ap (λ n. Some (object.Vector (record { 0 = n }))) e))
   other_v (call.ReduceRows w mask accum monoid b d) v other = object_at-set_other s.vectors w.0 v.0 _ (λ e. other (ap (λ n. Some (object.Vector (record { 0 = n }))) e))
   other_v _ v other = refl
 
@@ -379,6 +382,22 @@ module _ (r t : Contents) where
       (λ x. is r x ∙ (wrote_v mask accum d (f (matrix_in r a) (vector_in r u)) (f (matrix_in t a) (vector_in t u)) x rest same ∙ sym (is t x)))
       (agree_first (object.Vector o) (object.Matrix a ∷ object.Vector u ∷ vector_mask mask) agree)
 
+  -- and of a vector and a matrix
+  of_turned_both : (f : VectorEntries → MatrixEntries → VectorEntries) (c : Call) (o u : VectorId) (a : MatrixId) (mask : Option VectorId) (accum : Option BinaryOp) (d : Descriptor) →
+      ((q : Contents) (m : Matrix) → filled_matrix q c m ≡ m) → ((q : Contents) (x : Vector) → filled_vector q c x ≡ written_vector (entries_held q) mask accum d (f (vector_in q u) (matrix_in q a)) x) →
+      AgreeOn (is_among (object.Vector o ∷ object.Vector u ∷ object.Matrix a ∷ vector_mask mask)) r t →
+      option_map (content_made r c) (r (object.Vector o)) ≡ option_map (content_made t c) (t (object.Vector o))
+  of_turned_both f c o u a mask accum d matrix is agree =
+      let first = agree_next (object.Vector o) (object.Vector u ∷ object.Matrix a ∷ vector_mask mask) agree in
+      let second = agree_next (object.Vector u) (object.Matrix a ∷ vector_mask mask) first in
+      let rest = agree_next (object.Matrix a) (vector_mask mask) second in
+      let same : f (vector_in r u) (matrix_in r a) ≡ f (vector_in t u) (matrix_in t a) =
+      ap (λ p. f (held_by_vector p) (matrix_in r a)) (agree_first (object.Vector u) (object.Matrix a ∷ vector_mask mask) first)
+      ∙ ap (λ p. f (vector_in t u) (held_by_matrix p)) (agree_first (object.Matrix a) (vector_mask mask) second) in
+      framed c (object.Vector o) (λ m. matrix r m ∙ sym (matrix t m))
+      (λ x. is r x ∙ (wrote_v mask accum d (f (vector_in r u) (matrix_in r a)) (f (vector_in t u) (matrix_in t a)) x rest same ∙ sym (is t x)))
+      (agree_first (object.Vector o) (object.Vector u ∷ object.Matrix a ∷ vector_mask mask) agree)
+
   -- a call on a vector of a matrix
   of_one : (f : MatrixEntries → VectorEntries) (c : Call) (o : VectorId) (a : MatrixId) (mask : Option VectorId) (accum : Option BinaryOp) (d : Descriptor) →
       ((q : Contents) (m : Matrix) → filled_matrix q c m ≡ m) → ((q : Contents) (x : Vector) → filled_vector q c x ≡ written_vector (entries_held q) mask accum d (f (matrix_in q a)) x) →
@@ -406,17 +425,19 @@ frame r t (call.ResizeVector v size) agree = framed r t (call.ResizeVector v siz
 frame r t (call.BuildMatrix a tuples dup) agree = framed r t (call.BuildMatrix a tuples dup) (object.Matrix a) (λ _. refl) (λ _. refl) (agree_first (object.Matrix a) [] agree)
 frame r t (call.BuildVector v tuples dup) agree = framed r t (call.BuildVector v tuples dup) (object.Vector v) (λ _. refl) (λ _. refl) (agree_first (object.Vector v) [] agree)
 frame r t (call.EwiseAddMatrix c mask accum op a b d) agree =
-    of_two_m r t (ewise_add cell_cmp op) (call.EwiseAddMatrix c mask accum op a b d) c a b mask accum d (λ _ _. refl) (λ _ _. refl) agree
+    of_two_m r t (λ x y. ewise_add cell_cmp op (turned d.tran x) y) (call.EwiseAddMatrix c mask accum op a b d) c a b mask accum d (λ _ _. refl) (λ _ _. refl) agree
 frame r t (call.EwiseMultMatrix c mask accum op a b d) agree =
-    of_two_m r t (ewise_mult cell_cmp op) (call.EwiseMultMatrix c mask accum op a b d) c a b mask accum d (λ _ _. refl) (λ _ _. refl) agree
+    of_two_m r t (λ x y. ewise_mult cell_cmp op (turned d.tran x) y) (call.EwiseMultMatrix c mask accum op a b d) c a b mask accum d (λ _ _. refl) (λ _ _. refl) agree
 frame r t (call.EwiseAddVector w mask accum op u v d) agree =
     of_two_v r t (ewise_add nat_cmp op) (call.EwiseAddVector w mask accum op u v d) w u v mask accum d (λ _ _. refl) (λ _ _. refl) agree
 frame r t (call.EwiseMultVector w mask accum op u v d) agree =
     of_two_v r t (ewise_mult nat_cmp op) (call.EwiseMultVector w mask accum op u v d) w u v mask accum d (λ _ _. refl) (λ _ _. refl) agree
 frame r t (call.Mxv w mask accum semiring a u d) agree =
-    of_both r t (mxv_of semiring) (call.Mxv w mask accum semiring a u d) w u a mask accum d (λ _ _. refl) (λ _ _. refl) agree
+    of_both r t (λ x y. mxv_of semiring (turned d.tran x) y) (call.Mxv w mask accum semiring a u d) w u a mask accum d (λ _ _. refl) (λ _ _. refl) agree
+frame r t (call.Vxm w mask accum semiring u a d) agree =
+    of_turned_both r t (vxm_of semiring) (call.Vxm w mask accum semiring u a d) w u a mask accum d (λ _ _. refl) (λ _ _. refl) agree
 frame r t (call.Mxm c mask accum semiring a b d) agree =
-    of_two_m r t (mxm_of semiring) (call.Mxm c mask accum semiring a b d) c a b mask accum d (λ _ _. refl) (λ _ _. refl) agree
+    of_two_m r t (λ x y. mxm_of semiring (turned d.tran x) y) (call.Mxm c mask accum semiring a b d) c a b mask accum d (λ _ _. refl) (λ _ _. refl) agree
 frame r t (call.ReduceRows w mask accum monoid a d) agree =
-    of_one r t (reduce_rows_of monoid) (call.ReduceRows w mask accum monoid a d) w a mask accum d (λ _ _. refl) (λ _ _. refl) agree
+    of_one r t (λ x. reduce_rows_of monoid (turned d.tran x)) (call.ReduceRows w mask accum monoid a d) w a mask accum d (λ _ _. refl) (λ _ _. refl) agree
 frame r t _ agree = refl

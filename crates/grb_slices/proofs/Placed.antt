@@ -58,6 +58,7 @@ output_among (call.EwiseAddVector w mask accum op u v d) o e = first (object.Vec
 output_among (call.EwiseMultMatrix c mask accum op a b d) o e = first (object.Matrix c) (object.Matrix a ∷ object.Matrix b ∷ []) o e
 output_among (call.EwiseMultVector w mask accum op u v d) o e = first (object.Vector w) (object.Vector u ∷ object.Vector v ∷ []) o e
 output_among (call.Mxv w mask accum semiring a u d) o e = first (object.Vector w) (object.Matrix a ∷ object.Vector u ∷ []) o e
+output_among (call.Vxm w mask accum semiring u a d) o e = first (object.Vector w) (object.Vector u ∷ object.Matrix a ∷ []) o e
 output_among (call.Mxm c mask accum semiring a b d) o e = first (object.Matrix c) (object.Matrix a ∷ object.Matrix b ∷ []) o e
 output_among (call.ReduceRows w mask accum monoid a d) o e = first (object.Vector w) (object.Matrix a ∷ []) o e
 output_among (call.ReduceMatrix a monoid) o e = cc

@@ -1,5 +1,5 @@
 -- Why a call is refused is a matter of what it reads.
-use Rattle.std.proofs.Common.{◌≡◌, ℕ, Bool, true, not, ◌&&◌, nat_lt, if◌then◌else◌, List, [], ◌∷◌, refl, sym, ap, ◌∙◌, Option, Some, None, option_map, is_some}
+use Rattle.std.proofs.Common.{◌≡◌, ℕ, Bool, true, false, not, ◌&&◌, nat_lt, if◌then◌else◌, List, [], ◌∷◌, refl, sym, ap, ◌∙◌, Option, Some, None, option_map, is_some}
 use Rattle.std.specs.Prelude.{◌==◌}
 use Rattle.std.specs.List.{list_all}
 use Rattle.std.specs.Option.{option_map_or}
@@ -15,7 +15,7 @@ use Rattle.grb_call.specs.declared.ids.Object.{Object}
 use Rattle.grb_call.specs.declared.ids.Object.TheVariants as object
 use Rattle.grb_call.specs.Operands.{given_domains, masks, matrix_mask, objects_read, operands, vector_mask}
 use Rattle.grb_call.specs.Shapes.{ObjectShapes, MatrixShape, VectorShape, matrix_shape_at, vector_shape_at, is_live, domain_at, nrows_at, ncols_at, size_at}
-use Rattle.grb_call.specs.Refused.{is_initialized, has_valid_values, has_valid_index, has_one_domain, has_fitting_dims, same_domain, are_of_domain, is_one_domain, matrix_mask_fits, vector_mask_fits, refused_by_shapes}
+use Rattle.grb_call.specs.Refused.{is_initialized, has_valid_values, has_valid_index, has_one_domain, has_fitting_dims, same_domain, are_of_domain, is_one_domain, matrix_mask_fits, vector_mask_fits, refused_by_shapes, turned_ncols, turned_nrows}
 use Rattle.grb_call.specs.Store.{Store, shapes_of, matrix_shape, vector_shape, matrix_at, vector_at}
 use Rattle.grb_call.proofs.ShapesAfter.{object_at-map}
 use Rattle.grb_slices.specs.Content.{Content, MatrixContent, VectorContent, content_at}
@@ -109,20 +109,26 @@ module _ (s t : ObjectShapes) where
   vector_mask_same None w x same = refl
   vector_mask_same (Some m) w x same = sizes m w (first (object.Vector m) [] same) x
 
-  rows_rows : (a b : MatrixId) → SameAt s t (object.Matrix a) → SameAt s t (object.Matrix b) → (nrows_at s a == nrows_at s b) ≡ (nrows_at t a == nrows_at t b)
-  rows_rows a b x y = ap (λ n. n == nrows_at s b) (rows a x) ∙ ap (λ n. nrows_at t a == n) (rows b y)
-
   columns_columns : (a b : MatrixId) → SameAt s t (object.Matrix a) → SameAt s t (object.Matrix b) → (ncols_at s a == ncols_at s b) ≡ (ncols_at t a == ncols_at t b)
   columns_columns a b x y = ap (λ n. n == ncols_at s b) (columns a x) ∙ ap (λ n. ncols_at t a == n) (columns b y)
-
-  columns_rows : (a b : MatrixId) → SameAt s t (object.Matrix a) → SameAt s t (object.Matrix b) → (ncols_at s a == nrows_at s b) ≡ (ncols_at t a == nrows_at t b)
-  columns_rows a b x y = ap (λ n. n == nrows_at s b) (columns a x) ∙ ap (λ n. ncols_at t a == n) (rows b y)
 
   rows_size : (a : MatrixId) (v : VectorId) → SameAt s t (object.Matrix a) → SameAt s t (object.Vector v) → (nrows_at s a == size_at s v) ≡ (nrows_at t a == size_at t v)
   rows_size a v x y = ap (λ n. n == size_at s v) (rows a x) ∙ ap (λ n. nrows_at t a == n) (size v y)
 
   columns_size : (a : MatrixId) (v : VectorId) → SameAt s t (object.Matrix a) → SameAt s t (object.Vector v) → (ncols_at s a == size_at s v) ≡ (ncols_at t a == size_at t v)
   columns_size a v x y = ap (λ n. n == size_at s v) (columns a x) ∙ ap (λ n. ncols_at t a == n) (size v y)
+
+  -- a first input, as it is turned
+  turned_rows : (tran : Bool) (a : MatrixId) → SameAt s t (object.Matrix a) → turned_nrows s tran a ≡ turned_nrows t tran a
+  turned_rows true a e = columns a e
+  turned_rows false a e = rows a e
+
+  turned_columns : (tran : Bool) (a : MatrixId) → SameAt s t (object.Matrix a) → turned_ncols s tran a ≡ turned_ncols t tran a
+  turned_columns true a e = rows a e
+  turned_columns false a e = columns a e
+
+  same_number : (k m n o : ℕ) → k ≡ m → n ≡ o → (k == n) ≡ (m == o)
+  same_number k m n o x y = ap (λ i. i == n) x ∙ ap (λ i. m == i) y
 
   both : (a b x y : Bool) → a ≡ x → b ≡ y → (a && b) ≡ (x && y)
   both a b x y e f = ap (λ n. n && b) e ∙ ap (λ n. x && n) f
@@ -131,11 +137,11 @@ module _ (s t : ObjectShapes) where
   fitting (call.EwiseAddMatrix c mask accum op a b d) same masked =
       let one = first (object.Matrix c) (object.Matrix a ∷ object.Matrix b ∷ []) same in let rest = next (object.Matrix c) (object.Matrix a ∷ object.Matrix b ∷ []) same in
       let two = first (object.Matrix a) (object.Matrix b ∷ []) rest in let three = first (object.Matrix b) [] (next (object.Matrix a) (object.Matrix b ∷ []) rest) in
-      both _ _ _ _ (dims a c two one) (both _ _ _ _ (dims b c three one) (matrix_mask_same mask c one masked))
+      both _ _ _ _ (both _ _ _ _ (same_number _ _ _ _ (turned_rows d.tran a two) (rows c one)) (same_number _ _ _ _ (turned_columns d.tran a two) (columns c one))) (both _ _ _ _ (dims b c three one) (matrix_mask_same mask c one masked))
   fitting (call.EwiseMultMatrix c mask accum op a b d) same masked =
       let one = first (object.Matrix c) (object.Matrix a ∷ object.Matrix b ∷ []) same in let rest = next (object.Matrix c) (object.Matrix a ∷ object.Matrix b ∷ []) same in
       let two = first (object.Matrix a) (object.Matrix b ∷ []) rest in let three = first (object.Matrix b) [] (next (object.Matrix a) (object.Matrix b ∷ []) rest) in
-      both _ _ _ _ (dims a c two one) (both _ _ _ _ (dims b c three one) (matrix_mask_same mask c one masked))
+      both _ _ _ _ (both _ _ _ _ (same_number _ _ _ _ (turned_rows d.tran a two) (rows c one)) (same_number _ _ _ _ (turned_columns d.tran a two) (columns c one))) (both _ _ _ _ (dims b c three one) (matrix_mask_same mask c one masked))
   fitting (call.EwiseAddVector w mask accum op u v d) same masked =
       let one = first (object.Vector w) (object.Vector u ∷ object.Vector v ∷ []) same in let rest = next (object.Vector w) (object.Vector u ∷ object.Vector v ∷ []) same in
       let two = first (object.Vector u) (object.Vector v ∷ []) rest in let three = first (object.Vector v) [] (next (object.Vector u) (object.Vector v ∷ []) rest) in
@@ -147,14 +153,18 @@ module _ (s t : ObjectShapes) where
   fitting (call.Mxv w mask accum semiring a u d) same masked =
       let one = first (object.Vector w) (object.Matrix a ∷ object.Vector u ∷ []) same in let rest = next (object.Vector w) (object.Matrix a ∷ object.Vector u ∷ []) same in
       let two = first (object.Matrix a) (object.Vector u ∷ []) rest in let three = first (object.Vector u) [] (next (object.Matrix a) (object.Vector u ∷ []) rest) in
-      both _ _ _ _ (rows_size a w two one) (both _ _ _ _ (columns_size a u two three) (vector_mask_same mask w one masked))
+      both _ _ _ _ (same_number _ _ _ _ (turned_rows d.tran a two) (size w one)) (both _ _ _ _ (same_number _ _ _ _ (turned_columns d.tran a two) (size u three)) (vector_mask_same mask w one masked))
+  fitting (call.Vxm w mask accum semiring u a d) same masked =
+      let one = first (object.Vector w) (object.Vector u ∷ object.Matrix a ∷ []) same in let rest = next (object.Vector w) (object.Vector u ∷ object.Matrix a ∷ []) same in
+      let two = first (object.Vector u) (object.Matrix a ∷ []) rest in let three = first (object.Matrix a) [] (next (object.Vector u) (object.Matrix a ∷ []) rest) in
+      both _ _ _ _ (columns_size a w three one) (both _ _ _ _ (rows_size a u three two) (vector_mask_same mask w one masked))
   fitting (call.Mxm c mask accum semiring a b d) same masked =
       let one = first (object.Matrix c) (object.Matrix a ∷ object.Matrix b ∷ []) same in let rest = next (object.Matrix c) (object.Matrix a ∷ object.Matrix b ∷ []) same in
       let two = first (object.Matrix a) (object.Matrix b ∷ []) rest in let three = first (object.Matrix b) [] (next (object.Matrix a) (object.Matrix b ∷ []) rest) in
-      both _ _ _ _ (rows_rows a c two one) (both _ _ _ _ (columns_columns b c three one) (both _ _ _ _ (columns_rows a b two three) (matrix_mask_same mask c one masked)))
+      both _ _ _ _ (same_number _ _ _ _ (turned_rows d.tran a two) (rows c one)) (both _ _ _ _ (columns_columns b c three one) (both _ _ _ _ (same_number _ _ _ _ (turned_columns d.tran a two) (rows b three)) (matrix_mask_same mask c one masked)))
   fitting (call.ReduceRows w mask accum monoid a d) same masked =
       let one = first (object.Vector w) (object.Matrix a ∷ []) same in let two = first (object.Matrix a) [] (next (object.Vector w) (object.Matrix a ∷ []) same) in
-      both _ _ _ _ (rows_size a w two one) (vector_mask_same mask w one masked)
+      both _ _ _ _ (same_number _ _ _ _ (turned_rows d.tran a two) (size w one)) (vector_mask_same mask w one masked)
   fitting _ same masked = refl
 
   refusal_same : (c : Call) → SameOn s t (objects_read c) → refused_by_shapes s c ≡ refused_by_shapes t c

@@ -99,20 +99,28 @@ semiring_same : (s t : SemiringParts) → semiring_ghosts.eq s t ≡ true → s 
 semiring_same s t e =
     let p = and_parts (monoid_ghosts.eq s.monoid t.monoid) (op_ghosts.eq s.op t.op) e in λ i. record { monoid = monoid_same s.monoid t.monoid p.0 i; op = op_same s.op t.op p.1 i }
 
--- a descriptor is its three truth values
-flags_same : (a b c d e f : Bool) → descriptor_ghosts.eq (record { structure = a; comp = c; replace = e }) (record { structure = b; comp = d; replace = f }) ≡ true → Path Descriptor (record { structure = a; comp = c; replace = e }) (record { structure = b; comp = d; replace = f })
-flags_same true true true true true true h = refl
-flags_same true true true true false false h = refl
-flags_same true true false false true true h = refl
-flags_same true true false false false false h = refl
-flags_same false false true true true true h = refl
-flags_same false false true true false false h = refl
-flags_same false false false false true true h = refl
-flags_same false false false false false false h = refl
-flags_same a b c d e f h = absurd (no h)
+-- a descriptor is its four truth values
+flags_same : (a b c d e f g h : Bool) → descriptor_ghosts.eq (record { structure = a; comp = c; replace = e; tran = g }) (record { structure = b; comp = d; replace = f; tran = h }) ≡ true → Path Descriptor (record { structure = a; comp = c; replace = e; tran = g }) (record { structure = b; comp = d; replace = f; tran = h })
+flags_same true true true true true true true true is = refl
+flags_same true true true true true true false false is = refl
+flags_same true true true true false false true true is = refl
+flags_same true true true true false false false false is = refl
+flags_same true true false false true true true true is = refl
+flags_same true true false false true true false false is = refl
+flags_same true true false false false false true true is = refl
+flags_same true true false false false false false false is = refl
+flags_same false false true true true true true true is = refl
+flags_same false false true true true true false false is = refl
+flags_same false false true true false false true true is = refl
+flags_same false false true true false false false false is = refl
+flags_same false false false false true true true true is = refl
+flags_same false false false false true true false false is = refl
+flags_same false false false false false false true true is = refl
+flags_same false false false false false false false false is = refl
+flags_same a b c d e f g h is = absurd (no is)
 
 descriptor_same : (d e : Descriptor) → descriptor_ghosts.eq d e ≡ true → d ≡ e
-descriptor_same d e h = flags_same d.structure e.structure d.comp e.comp d.replace e.replace h
+descriptor_same d e h = flags_same d.structure e.structure d.comp e.comp d.replace e.replace d.tran e.tran h
 
 mode_same : (m n : WaitMode) → mode_ghosts.eq m n ≡ true → m ≡ n
 mode_same Complete Complete h = refl
@@ -200,6 +208,8 @@ same (call.EwiseMultVector x0 x1 x2 x3 x4 x5 x6) (call.EwiseMultVector y0 y1 y2 
     let p0 = and_parts (nat_eq x0.0 y0.0) ((option_eq eq_vector x1 y1 && (option_eq op_ghosts.eq x2 y2 && (op_ghosts.eq x3 y3 && (nat_eq x4.0 y4.0 && (nat_eq x5.0 y5.0 && descriptor_ghosts.eq x6 y6)))))) e in let p1 = and_parts (option_eq eq_vector x1 y1) ((option_eq op_ghosts.eq x2 y2 && (op_ghosts.eq x3 y3 && (nat_eq x4.0 y4.0 && (nat_eq x5.0 y5.0 && descriptor_ghosts.eq x6 y6))))) p0.1 in let p2 = and_parts (option_eq op_ghosts.eq x2 y2) ((op_ghosts.eq x3 y3 && (nat_eq x4.0 y4.0 && (nat_eq x5.0 y5.0 && descriptor_ghosts.eq x6 y6)))) p1.1 in let p3 = and_parts (op_ghosts.eq x3 y3) ((nat_eq x4.0 y4.0 && (nat_eq x5.0 y5.0 && descriptor_ghosts.eq x6 y6))) p2.1 in let p4 = and_parts (nat_eq x4.0 y4.0) ((nat_eq x5.0 y5.0 && descriptor_ghosts.eq x6 y6)) p3.1 in let p5 = and_parts (nat_eq x5.0 y5.0) (descriptor_ghosts.eq x6 y6) p4.1 in λ i. call.EwiseMultVector (vector_same x0 y0 p0.0 i) (option_same eq_vector vector_same x1 y1 p1.0 i) (option_same op_ghosts.eq op_same x2 y2 p2.0 i) (op_same x3 y3 p3.0 i) (vector_same x4 y4 p4.0 i) (vector_same x5 y5 p5.0 i) (descriptor_same x6 y6 p5.1 i)
 same (call.Mxv x0 x1 x2 x3 x4 x5 x6) (call.Mxv y0 y1 y2 y3 y4 y5 y6) e =
     let p0 = and_parts (nat_eq x0.0 y0.0) ((option_eq eq_vector x1 y1 && (option_eq op_ghosts.eq x2 y2 && (semiring_ghosts.eq x3 y3 && (nat_eq x4.0 y4.0 && (nat_eq x5.0 y5.0 && descriptor_ghosts.eq x6 y6)))))) e in let p1 = and_parts (option_eq eq_vector x1 y1) ((option_eq op_ghosts.eq x2 y2 && (semiring_ghosts.eq x3 y3 && (nat_eq x4.0 y4.0 && (nat_eq x5.0 y5.0 && descriptor_ghosts.eq x6 y6))))) p0.1 in let p2 = and_parts (option_eq op_ghosts.eq x2 y2) ((semiring_ghosts.eq x3 y3 && (nat_eq x4.0 y4.0 && (nat_eq x5.0 y5.0 && descriptor_ghosts.eq x6 y6)))) p1.1 in let p3 = and_parts (semiring_ghosts.eq x3 y3) ((nat_eq x4.0 y4.0 && (nat_eq x5.0 y5.0 && descriptor_ghosts.eq x6 y6))) p2.1 in let p4 = and_parts (nat_eq x4.0 y4.0) ((nat_eq x5.0 y5.0 && descriptor_ghosts.eq x6 y6)) p3.1 in let p5 = and_parts (nat_eq x5.0 y5.0) (descriptor_ghosts.eq x6 y6) p4.1 in λ i. call.Mxv (vector_same x0 y0 p0.0 i) (option_same eq_vector vector_same x1 y1 p1.0 i) (option_same op_ghosts.eq op_same x2 y2 p2.0 i) (semiring_same x3 y3 p3.0 i) (matrix_same x4 y4 p4.0 i) (vector_same x5 y5 p5.0 i) (descriptor_same x6 y6 p5.1 i)
+same (call.Vxm x0 x1 x2 x3 x4 x5 x6) (call.Vxm y0 y1 y2 y3 y4 y5 y6) e =
+    let p0 = and_parts (nat_eq x0.0 y0.0) ((option_eq eq_vector x1 y1 && (option_eq op_ghosts.eq x2 y2 && (semiring_ghosts.eq x3 y3 && (nat_eq x4.0 y4.0 && (nat_eq x5.0 y5.0 && descriptor_ghosts.eq x6 y6)))))) e in let p1 = and_parts (option_eq eq_vector x1 y1) ((option_eq op_ghosts.eq x2 y2 && (semiring_ghosts.eq x3 y3 && (nat_eq x4.0 y4.0 && (nat_eq x5.0 y5.0 && descriptor_ghosts.eq x6 y6))))) p0.1 in let p2 = and_parts (option_eq op_ghosts.eq x2 y2) ((semiring_ghosts.eq x3 y3 && (nat_eq x4.0 y4.0 && (nat_eq x5.0 y5.0 && descriptor_ghosts.eq x6 y6)))) p1.1 in let p3 = and_parts (semiring_ghosts.eq x3 y3) ((nat_eq x4.0 y4.0 && (nat_eq x5.0 y5.0 && descriptor_ghosts.eq x6 y6))) p2.1 in let p4 = and_parts (nat_eq x4.0 y4.0) ((nat_eq x5.0 y5.0 && descriptor_ghosts.eq x6 y6)) p3.1 in let p5 = and_parts (nat_eq x5.0 y5.0) (descriptor_ghosts.eq x6 y6) p4.1 in λ i. call.Vxm (vector_same x0 y0 p0.0 i) (option_same eq_vector vector_same x1 y1 p1.0 i) (option_same op_ghosts.eq op_same x2 y2 p2.0 i) (semiring_same x3 y3 p3.0 i) (vector_same x4 y4 p4.0 i) (matrix_same x5 y5 p5.0 i) (descriptor_same x6 y6 p5.1 i)
 same (call.Mxm x0 x1 x2 x3 x4 x5 x6) (call.Mxm y0 y1 y2 y3 y4 y5 y6) e =
     let p0 = and_parts (nat_eq x0.0 y0.0) ((option_eq eq_matrix x1 y1 && (option_eq op_ghosts.eq x2 y2 && (semiring_ghosts.eq x3 y3 && (nat_eq x4.0 y4.0 && (nat_eq x5.0 y5.0 && descriptor_ghosts.eq x6 y6)))))) e in let p1 = and_parts (option_eq eq_matrix x1 y1) ((option_eq op_ghosts.eq x2 y2 && (semiring_ghosts.eq x3 y3 && (nat_eq x4.0 y4.0 && (nat_eq x5.0 y5.0 && descriptor_ghosts.eq x6 y6))))) p0.1 in let p2 = and_parts (option_eq op_ghosts.eq x2 y2) ((semiring_ghosts.eq x3 y3 && (nat_eq x4.0 y4.0 && (nat_eq x5.0 y5.0 && descriptor_ghosts.eq x6 y6)))) p1.1 in let p3 = and_parts (semiring_ghosts.eq x3 y3) ((nat_eq x4.0 y4.0 && (nat_eq x5.0 y5.0 && descriptor_ghosts.eq x6 y6))) p2.1 in let p4 = and_parts (nat_eq x4.0 y4.0) ((nat_eq x5.0 y5.0 && descriptor_ghosts.eq x6 y6)) p3.1 in let p5 = and_parts (nat_eq x5.0 y5.0) (descriptor_ghosts.eq x6 y6) p4.1 in λ i. call.Mxm (matrix_same x0 y0 p0.0 i) (option_same eq_matrix matrix_same x1 y1 p1.0 i) (option_same op_ghosts.eq op_same x2 y2 p2.0 i) (semiring_same x3 y3 p3.0 i) (matrix_same x4 y4 p4.0 i) (matrix_same x5 y5 p5.0 i) (descriptor_same x6 y6 p5.1 i)
 same (call.ReduceRows x0 x1 x2 x3 x4 x5) (call.ReduceRows y0 y1 y2 y3 y4 y5) e =

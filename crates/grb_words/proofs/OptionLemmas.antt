@@ -9,7 +9,7 @@ use Rattle.grb_core.specs.declared.operator.BinaryOp.{BinaryOp}
 use Rattle.grb_core.specs.declared.operator.BinaryOp.TheVariants.{Lor, Land, Lxor, Lxnor, FirstBool, SecondBool, Plus, Times, Min, Max, Minus, First, Second}
 use Rattle.grb_words.specs.Line.{Word}
 use Rattle.grb_words.specs.Word.{is_name, operators, operator_of, operator_word}
-use Rattle.grb_words.specs.Options.{OptionWords, word_if, mask_words, accum_words, options_words, IsNamed, flag, name_first, operator_first, mask_option, accum_option, where_none_left, options_of}
+use Rattle.grb_words.specs.Options.{OptionWords, word_if, mask_words, accum_words, last_flags, options_words, IsNamed, flag, name_first, operator_first, mask_option, accum_option, where_none_left, options_of}
 
 -- what comes of a value, where there is one
 pub and_then-some : {X Y : Type 0} (f : X → Option Y) (o : Option X) (y : Y) → option_and_then f o ≡ Some y → (x : X) × (o ≡ Some x) × (f x ≡ Some y)
@@ -108,15 +108,16 @@ accum-words words accum rest e =
     let f = flag words (codes "accum") in flag-words words (codes "accum") ∙ accumulated-words f.0 f.1 accum rest e
 
 -- no word is left
-left-none : (words : List Word) (o p : OptionWords) → where_none_left words o ≡ Some p → (words ≡ []) × (o ≡ p)
-left-none [] o p e = (refl, (cc))
-left-none (word ∷ more) o p e = cc
+left-none : (words : List Word) (flags : Bool × Bool) (f : Bool × Bool → OptionWords) (o : OptionWords) → option_map f (where_none_left words flags) ≡ Some o → (words ≡ []) × (f flags ≡ o)
+left-none [] flags f o e = (refl, (cc))
+left-none (word ∷ more) flags f o e = cc
 
 -- the options behind the accumulator, and those behind the mask
+abbrev with_flags : Option Word → Bool → Bool → Option BinaryOp → Bool × Bool → OptionWords
+with_flags mask structure comp accum last = record { mask = mask; accum = accum; descriptor = record { structure = structure; comp = comp; replace = last.0; tran = last.1 } }
+
 abbrev behind_accum : Option Word → Bool → Bool → Option BinaryOp × List Word → Option OptionWords
-behind_accum mask structure comp accum =
-    let replace = flag accum.1 (codes "replace") in
-    where_none_left replace.1 (record { mask = mask; accum = accum.0; descriptor = record { structure = structure; comp = comp; replace = replace.0 } })
+behind_accum mask structure comp accum = option_map (with_flags mask structure comp accum.0) (last_flags accum.1)
 
 abbrev behind_mask : Option Word × List Word → Option OptionWords
 behind_mask mask =
@@ -131,7 +132,8 @@ options_are_spelled words o e =
     let comp = flag structure.1 (codes "comp") in
     let accum = and_then-some (behind_accum mask.0.0 structure.0 comp.0) (accum_option comp.1) o mask.2 in
     let replace = flag accum.0.1 (codes "replace") in
-    let end = left-none replace.1 _ o accum.2 in
+    let tran = flag replace.1 (codes "tran") in
+    let end = left-none tran.1 (replace.0, tran.0) (with_flags mask.0.0 structure.0 comp.0 accum.0.0) o accum.2 in
     mask-words words mask.0.0 mask.0.1 mask.1
     ∙ ap (λ rest. mask_words mask.0.0 ++ rest)
     (flag-words mask.0.1 (codes "structure")
@@ -139,7 +141,8 @@ options_are_spelled words o e =
     (flag-words structure.1 (codes "comp")
     ∙ ap (λ rest. word_if comp.0 (codes "comp") ++ rest)
     (accum-words comp.1 accum.0.0 accum.0.1 accum.1
-    ∙ ap (λ rest. accum_words accum.0.0 ++ rest) (flag-words accum.0.1 (codes "replace") ∙ ap (λ rest. word_if replace.0 (codes "replace") ++ rest) end.0 ∙ last_word replace.0 (codes "replace")))))
+    ∙ ap (λ rest. accum_words accum.0.0 ++ rest) (flag-words accum.0.1 (codes "replace") ∙ ap (λ rest. word_if replace.0 (codes "replace") ++ rest)
+    (flag-words replace.1 (codes "tran") ∙ ap (λ rest. word_if tran.0 (codes "tran") ++ rest) end.0 ∙ last_word tran.0 (codes "tran"))))))
     ∙ ap options_words end.1
   where
     last_word : (b : Bool) (word : Word) → word_if b word ++ [] ≡ word_if b word
@@ -154,9 +157,9 @@ flag-given : (b : Bool) (key : Word) (rest : List Word) → flag rest key ≡ (f
 flag-given true key rest absent = ap (λ b. if b then (true, rest) else (false, key ∷ rest)) (same_word key)
 flag-given false key rest absent = absent
 
-module _ (replace : Bool) where
+module _ (replace tran : Bool) where
   abbrev last : List Word
-  last = word_if replace (codes "replace")
+  last = word_if replace (codes "replace") ++ word_if tran (codes "tran")
 
   module _ (accum : Option BinaryOp) where
     abbrev from_accum : List Word
@@ -170,47 +173,58 @@ module _ (replace : Bool) where
         abbrev from_structure : List Word
         from_structure = word_if structure (codes "structure") ++ from_comp
 
-no_comp : (replace : Bool) (accum : Option BinaryOp) → flag (from_accum replace accum) (codes "comp") ≡ (false, from_accum replace accum)
-no_comp true None = refl
-no_comp false None = refl
-no_comp replace (Some op) = refl
+no_comp : (replace tran : Bool) (accum : Option BinaryOp) → flag (from_accum replace tran accum) (codes "comp") ≡ (false, from_accum replace tran accum)
+no_comp true tran None = refl
+no_comp false true None = refl
+no_comp false false None = refl
+no_comp replace tran (Some op) = refl
 
-no_structure : (replace : Bool) (accum : Option BinaryOp) (comp : Bool) → flag (from_comp replace accum comp) (codes "structure") ≡ (false, from_comp replace accum comp)
-no_structure true None false = refl
-no_structure false None false = refl
-no_structure replace (Some op) false = refl
-no_structure replace accum true = refl
+no_structure : (replace tran : Bool) (accum : Option BinaryOp) (comp : Bool) → flag (from_comp replace tran accum comp) (codes "structure") ≡ (false, from_comp replace tran accum comp)
+no_structure true tran None false = refl
+no_structure false true None false = refl
+no_structure false false None false = refl
+no_structure replace tran (Some op) false = refl
+no_structure replace tran accum true = refl
 
-mask-read : (mask : Option Word) (replace : Bool) (accum : Option BinaryOp) (comp structure : Bool) → IsNamed mask
-    → mask_option (mask_words mask ++ from_structure replace accum comp structure) ≡ Some (mask, from_structure replace accum comp structure)
-mask-read (Some name) replace accum comp structure is =
-    ap (λ b. if b then Some (Some name, from_structure replace accum comp structure) else None) is
-mask-read None replace accum comp true is = refl
-mask-read None replace accum true false is = refl
-mask-read None replace (Some op) false false is = refl
-mask-read None true None false false is = refl
-mask-read None false None false false is = refl
+mask-read : (mask : Option Word) (replace tran : Bool) (accum : Option BinaryOp) (comp structure : Bool) → IsNamed mask
+    → mask_option (mask_words mask ++ from_structure replace tran accum comp structure) ≡ Some (mask, from_structure replace tran accum comp structure)
+mask-read (Some name) replace tran accum comp structure is =
+    ap (λ b. if b then Some (Some name, from_structure replace tran accum comp structure) else None) is
+mask-read None replace tran accum comp true is = refl
+mask-read None replace tran accum true false is = refl
+mask-read None replace tran (Some op) false false is = refl
+mask-read None true tran None false false is = refl
+mask-read None false true None false false is = refl
+mask-read None false false None false false is = refl
 
-accum-read : (replace : Bool) (accum : Option BinaryOp) → accum_option (from_accum replace accum) ≡ Some (accum, last replace)
-accum-read replace (Some op) = ap (option_map (λ op. (Some op, last replace))) (operator_of-word op)
-accum-read true None = refl
-accum-read false None = refl
+accum-read : (replace tran : Bool) (accum : Option BinaryOp) → accum_option (from_accum replace tran accum) ≡ Some (accum, last replace tran)
+accum-read replace tran (Some op) = ap (option_map (λ op. (Some op, last replace tran))) (operator_of-word op)
+accum-read true tran None = refl
+accum-read false true None = refl
+accum-read false false None = refl
 
-flag-last : (replace : Bool) → flag (last replace) (codes "replace") ≡ (replace, [])
-flag-last true = refl
-flag-last false = refl
+flag-replace : (replace tran : Bool) → flag (last replace tran) (codes "replace") ≡ (replace, word_if tran (codes "tran"))
+flag-replace true tran = refl
+flag-replace false true = refl
+flag-replace false false = refl
+
+flag-tran : (tran : Bool) → flag (word_if tran (codes "tran")) (codes "tran") ≡ (tran, [])
+flag-tran true = refl
+flag-tran false = refl
 
 pub spelled_options_are_read : (o : OptionWords) → IsNamed o.mask → options_of (options_words o) ≡ Some o
 spelled_options_are_read o is =
     let structure = o.descriptor.structure in
     let comp = o.descriptor.comp in
     let replace = o.descriptor.replace in
-    ap (option_and_then behind_mask) (mask-read o.mask replace o.accum comp structure is)
+    let tran = o.descriptor.tran in
+    ap (option_and_then behind_mask) (mask-read o.mask replace tran o.accum comp structure is)
     ∙ ap (λ (s : Bool × List Word). option_and_then (behind_accum o.mask s.0 (flag s.1 (codes "comp")).0) (accum_option (flag s.1 (codes "comp")).1))
-    (flag-given structure (codes "structure") (from_comp replace o.accum comp) (no_structure replace o.accum comp))
+    (flag-given structure (codes "structure") (from_comp replace tran o.accum comp) (no_structure replace tran o.accum comp))
     ∙ ap (λ (c : Bool × List Word). option_and_then (behind_accum o.mask structure c.0) (accum_option c.1))
-    (flag-given comp (codes "comp") (from_accum replace o.accum) (no_comp replace o.accum))
-    ∙ ap (option_and_then (behind_accum o.mask structure comp)) (accum-read replace o.accum)
+    (flag-given comp (codes "comp") (from_accum replace tran o.accum) (no_comp replace tran o.accum))
+    ∙ ap (option_and_then (behind_accum o.mask structure comp)) (accum-read replace tran o.accum)
     ∙ ap
-    (λ (r : Bool × List Word). where_none_left r.1 (record { mask = o.mask; accum = o.accum; descriptor = record { structure = structure; comp = comp; replace = r.0 } }))
-    (flag-last replace)
+    (λ (r : Bool × List Word). let t = flag r.1 (codes "tran") in option_map (with_flags o.mask structure comp o.accum) (where_none_left t.1 (r.0, t.0)))
+    (flag-replace replace tran)
+    ∙ ap (λ (t : Bool × List Word). option_map (with_flags o.mask structure comp o.accum) (where_none_left t.1 (replace, t.0))) (flag-tran tran)

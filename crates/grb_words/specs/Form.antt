@@ -1,4 +1,4 @@
--- believed: The forms of statements (own): what the words of a line say, whatever its names stand for.
+-- believed: The forms of statements (own): what the words of a line say in a script of a version, whatever its names stand for.
 use Rattle.std.specs.Prelude.{ℕ, ◌&&◌, if◌then◌else◌, List, [], ◌∷◌, Option, Some, None}
 use Rattle.std.specs.Option.{option_and_then, option_map}
 use Rattle.std.specs.Str.{is_utf8}
@@ -17,15 +17,16 @@ use Rattle.grb_words.specs.declared.keyword.Whole.{Whole}
 use Rattle.grb_words.specs.declared.keyword.Whole.TheVariants as whole
 use Rattle.grb_words.specs.declared.indices.Indices.{Indices}
 use Rattle.grb_words.specs.declared.indices.Indices.TheVariants as indices
+use Rattle.grb_words.specs.declared.version.Version.{Version}
 use Rattle.grb_words.specs.Line.{Word}
-use Rattle.grb_words.specs.Options.{OptionWords, options_of}
-use Rattle.grb_words.specs.Word.{is_name, numeral_value, domain_of, value_of, monoid_of, operator_of, semiring_of, wait_mode_of, keyword_of}
+use Rattle.grb_words.specs.Options.{OptionWords, options_in, product_options}
+use Rattle.grb_words.specs.Word.{is_name, numeral_value, domain_of, value_of, monoid_of, operator_of, semiring_of, wait_mode_of, keyword_in}
 
 -- 'matrix NAME DOMAIN R C', 'vector NAME DOMAIN N', 'dup NAME NAME', 'free NAME', 'nvals NAME', 'size NAME', 'clear NAME',
 -- 'remove NAME INDICES', 'get NAME INDICES', 'resize NAME INDICES', 'set NAME INDICES VALUE', 'build NAME MONOID ..',
--- 'ewiseadd NAME NAME NAME OP OPTIONS', 'ewisemult NAME NAME NAME OP OPTIONS', 'mxv NAME NAME NAME SEMIRING OPTIONS' and
--- 'mxm NAME NAME NAME SEMIRING OPTIONS' with output, first input and second input, 'reduce NAME NAME MONOID OPTIONS' with output and
--- input, 'total NAME MONOID' and 'wait NAME MODE'
+-- 'ewiseadd NAME NAME NAME OP OPTIONS', 'ewisemult NAME NAME NAME OP OPTIONS', 'mxv NAME NAME NAME SEMIRING OPTIONS',
+-- 'vxm NAME NAME NAME SEMIRING OPTIONS' and 'mxm NAME NAME NAME SEMIRING OPTIONS' with output, first input and second input,
+-- 'reduce NAME NAME MONOID OPTIONS' with output and input, 'total NAME MONOID' and 'wait NAME MODE'
 pub data Form : Type 0 where
   MatrixForm : Word → Domain → ℕ → ℕ → Form
   VectorForm : Word → Domain → ℕ → Form
@@ -106,20 +107,20 @@ abbrev pub build_form : Word → List Word → Option Form
 build_form name [] = None
 build_form name (monoid ∷ values) = option_and_then (λ dup. option_map (BuildForm name dup) (values_in values)) (monoid_of monoid)
 
-abbrev pub ewise_form : Ewise → Word → List Word → Option Form
-ewise_form w output (left ∷ right ∷ op ∷ options) =
-    where_name left (where_name right (option_and_then (λ f. option_map (EwiseForm w output left right f) (options_of options)) (operator_of op)))
-ewise_form w output _ = None
+abbrev pub ewise_form : Version → Ewise → Word → List Word → Option Form
+ewise_form version w output (left ∷ right ∷ op ∷ options) =
+    where_name left (where_name right (option_and_then (λ f. option_map (EwiseForm w output left right f) (options_in version options)) (operator_of op)))
+ewise_form version w output _ = None
 
-abbrev pub product_form : Multiply → Word → List Word → Option Form
-product_form w output (left ∷ right ∷ semiring ∷ options) =
-    where_name left (where_name right (option_and_then (λ s. option_map (ProductForm w output left right s) (options_of options)) (semiring_of semiring)))
-product_form w output _ = None
+abbrev pub product_form : Version → Multiply → Word → List Word → Option Form
+product_form version w output (left ∷ right ∷ semiring ∷ options) =
+    where_name left (where_name right (option_and_then (λ s. option_map (ProductForm w output left right s) (product_options version w options)) (semiring_of semiring)))
+product_form version w output _ = None
 
-abbrev pub reduce_form : Word → List Word → Option Form
-reduce_form output (input ∷ monoid ∷ options) =
-    where_name input (option_and_then (λ m. option_map (ReduceForm output input m) (options_of options)) (monoid_of monoid))
-reduce_form output _ = None
+abbrev pub reduce_form : Version → Word → List Word → Option Form
+reduce_form version output (input ∷ monoid ∷ options) =
+    where_name input (option_and_then (λ m. option_map (ReduceForm output input m) (options_in version options)) (monoid_of monoid))
+reduce_form version output _ = None
 
 abbrev pub total_form : Word → List Word → Option Form
 total_form name (monoid ∷ []) = option_map (TotalForm name) (monoid_of monoid)
@@ -129,25 +130,25 @@ abbrev pub wait_form : Word → List Word → Option Form
 wait_form name (mode ∷ []) = option_map (WaitForm name) (wait_mode_of mode)
 wait_form name _ = None
 
--- the form that a keyword, a name and the words behind them have, if they have one
-abbrev pub form_with : Keyword → Word → List Word → Option Form
-form_with keyword.Matrix name others = matrix_form name others
-form_with keyword.Vector name others = vector_form name others
-form_with keyword.Dup name others = dup_form name others
-form_with (keyword.Whole w) name others = whole_form w name others
-form_with (keyword.Placed w) name others = placed_form w name others
-form_with keyword.Set name others = set_form name others
-form_with keyword.Build name others = build_form name others
-form_with (keyword.Ewise w) name others = ewise_form w name others
-form_with (keyword.Multiply w) name others = product_form w name others
-form_with keyword.Reduce name others = reduce_form name others
-form_with keyword.Total name others = total_form name others
-form_with keyword.Wait name others = wait_form name others
+-- the form that a keyword, a name and the words behind them have in a script of this version, if they have one
+abbrev pub form_with : Version → Keyword → Word → List Word → Option Form
+form_with version keyword.Matrix name others = matrix_form name others
+form_with version keyword.Vector name others = vector_form name others
+form_with version keyword.Dup name others = dup_form name others
+form_with version (keyword.Whole w) name others = whole_form w name others
+form_with version (keyword.Placed w) name others = placed_form w name others
+form_with version keyword.Set name others = set_form name others
+form_with version keyword.Build name others = build_form name others
+form_with version (keyword.Ewise w) name others = ewise_form version w name others
+form_with version (keyword.Multiply w) name others = product_form version w name others
+form_with version keyword.Reduce name others = reduce_form version name others
+form_with version keyword.Total name others = total_form name others
+form_with version keyword.Wait name others = wait_form name others
 
--- the form that these words have, if they have one
-abbrev pub form_of : List Word → Option Form
-form_of (word ∷ name ∷ others) = where_name name (option_and_then (λ k. form_with k name others) (keyword_of word))
-form_of _ = None
+-- the form that these words have in a script of this version, if they have one
+abbrev pub form_of : Version → List Word → Option Form
+form_of version (word ∷ name ∷ others) = where_name name (option_and_then (λ k. form_with version k name others) (keyword_in version word))
+form_of version _ = None
 
 -- the name and the path of 'load NAME PATH', where PATH is any word that is UTF-8: on a line of allowed bytes each word is
 abbrev pub load_of : List Word → Option (Word × Word)

@@ -4,4 +4,5 @@ pub mod Line
 pub mod Options
 pub mod Section
 pub mod Tuples
+pub mod Version
 pub mod Word

@@ -1,11 +1,15 @@
--- believed: The options behind a statement that writes an output (own): 'mask NAME', 'structure', 'comp', 'accum OP' and 'replace',
--- in this order, each at most once.
+-- believed: The options behind a statement that writes an output (own): 'mask NAME', 'structure', 'comp', 'accum OP', 'replace' and 'tran',
+-- in this order, each at most once. The last is of version 2.
 use Rattle.std.specs.Prelude.{◌≡◌, Bool, true, false, if◌then◌else◌, List, [], ◌∷◌, ◌++◌, Option, Some, None, codes}
 use Rattle.std.specs.Option.{option_and_then, option_map}
 use Rattle.std.specs.Str.{bytes_eq}
 use Rattle.grb_core.specs.declared.operator.BinaryOp.{BinaryOp}
 use Rattle.grb_call.specs.declared.descriptor.Descriptor.{Descriptor}
+use Rattle.grb_words.specs.declared.keyword.Multiply.{Multiply}
+use Rattle.grb_words.specs.declared.keyword.Multiply.TheVariants as multiply
 use Rattle.grb_words.specs.declared.options.Options.{Options}
+use Rattle.grb_words.specs.declared.version.Version.{Version}
+use Rattle.grb_words.specs.declared.version.Version.TheVariants.{One, Two}
 use Rattle.grb_words.specs.Line.{Word}
 use Rattle.grb_words.specs.Word.{is_name, operator_of, operator_word}
 
@@ -33,7 +37,7 @@ abbrev pub options_words : OptionWords → List Word
 options_words o =
     mask_words o.mask
     ++ (word_if o.descriptor.structure (codes "structure")
-    ++ (word_if o.descriptor.comp (codes "comp") ++ (accum_words o.accum ++ word_if o.descriptor.replace (codes "replace"))))
+    ++ (word_if o.descriptor.comp (codes "comp") ++ (accum_words o.accum ++ (word_if o.descriptor.replace (codes "replace") ++ word_if o.descriptor.tran (codes "tran")))))
 
 -- the mask is a name, where one is given
 abbrev pub IsNamed : Option Word → Type 0
@@ -63,10 +67,14 @@ mask_option words = let f = flag words (codes "mask") in if f.0 then name_first 
 abbrev pub accum_option : List Word → Option (Option BinaryOp × List Word)
 accum_option words = let f = flag words (codes "accum") in if f.0 then operator_first f.1 else Some (None, f.1)
 
--- these options, where no word is left
-abbrev pub where_none_left : List Word → OptionWords → Option OptionWords
-where_none_left [] o = Some o
-where_none_left (word ∷ more) o = None
+-- these flags, where no word is left
+abbrev pub where_none_left : List Word → Bool × Bool → Option (Bool × Bool)
+where_none_left [] flags = Some flags
+where_none_left (word ∷ more) flags = None
+
+-- whether 'replace' and whether 'tran' is given by these words, if they spell nothing else
+abbrev pub last_flags : List Word → Option (Bool × Bool)
+last_flags words = let replace = flag words (codes "replace") in let tran = flag replace.1 (codes "tran") in where_none_left tran.1 (replace.0, tran.0)
 
 -- the options that these words spell, if they spell them and nothing else
 abbrev pub options_of : List Word → Option OptionWords
@@ -77,15 +85,31 @@ options_of words =
     let comp = flag structure.1 (codes "comp") in
     option_and_then
     (λ accum.
-    let replace = flag accum.1 (codes "replace") in
-    where_none_left replace.1
-    (record {
+    option_map
+    (λ last.
+    record {
       mask = mask.0;
       accum = accum.0;
-      descriptor = record { structure = structure.0; comp = comp.0; replace = replace.0 };
-    }))
+      descriptor = record { structure = structure.0; comp = comp.0; replace = last.0; tran = last.1 };
+    })
+    (last_flags accum.1))
     (accum_option comp.1))
     (mask_option words)
+
+-- these options, if 'tran' is not among them
+abbrev pub without_tran : OptionWords → Option OptionWords
+without_tran o = if o.descriptor.tran then None else Some o
+
+-- the options that these words spell in a script of this version: 'tran' is of version 2
+abbrev pub options_in : Version → List Word → Option OptionWords
+options_in One words = option_and_then without_tran (options_of words)
+options_in Two words = options_of words
+
+-- the same behind a product: 'vxm' has no 'tran' in any version
+abbrev pub product_options : Version → Multiply → List Word → Option OptionWords
+product_options version multiply.Mxv words = options_in version words
+product_options version multiply.Vxm words = options_in One words
+product_options version multiply.Mxm words = options_in version words
 
 -- options as they are read, by what their words are
 abbrev pub spelled : Options → OptionWords

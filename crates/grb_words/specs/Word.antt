@@ -22,6 +22,8 @@ use Rattle.grb_words.specs.declared.keyword.Keyword.TheVariants as keyword
 use Rattle.grb_words.specs.declared.keyword.Multiply.TheVariants as multiply
 use Rattle.grb_words.specs.declared.keyword.Placed.TheVariants as placed
 use Rattle.grb_words.specs.declared.keyword.Whole.TheVariants as whole
+use Rattle.grb_words.specs.declared.version.Version.{Version}
+use Rattle.grb_words.specs.declared.version.Version.TheVariants.{One, Two}
 use Rattle.grb_words.specs.Line.{Word}
 
 abbrev pub is_digit : ℕ → Bool
@@ -132,7 +134,7 @@ wait_mode_of word =
 abbrev pub operation_keywords : List (Word × Keyword)
 operation_keywords =
     (codes "ewiseadd", keyword.Ewise ewise.Add) ∷ (codes "ewisemult", keyword.Ewise ewise.Mult)
-    ∷ (codes "mxv", keyword.Multiply multiply.Mxv) ∷ (codes "mxm", keyword.Multiply multiply.Mxm)
+    ∷ (codes "mxv", keyword.Multiply multiply.Mxv) ∷ (codes "vxm", keyword.Multiply multiply.Vxm) ∷ (codes "mxm", keyword.Multiply multiply.Mxm)
     ∷ (codes "reduce", keyword.Reduce) ∷ (codes "total", keyword.Total) ∷ (codes "wait", keyword.Wait) ∷ []
 
 abbrev pub entry_keywords : List (Word × Keyword)
@@ -148,3 +150,8 @@ keywords =
 
 abbrev pub keyword_of : Word → Option Keyword
 keyword_of word = lookup (bytes_eq word) keywords
+
+-- the same in a script of this version: 'vxm' is of version 2
+abbrev pub keyword_in : Version → Word → Option Keyword
+keyword_in One word = if bytes_eq word (codes "vxm") then None else keyword_of word
+keyword_in Two word = keyword_of word

@@ -65,6 +65,8 @@ pub enum Ewise {
 pub enum Multiply {
     /// `mxv NAME NAME NAME SEMIRING OPTIONS`, a matrix by a vector.
     Mxv,
+    /// `vxm NAME NAME NAME SEMIRING OPTIONS`, a vector by a matrix.
+    Vxm,
     /// `mxm NAME NAME NAME SEMIRING OPTIONS`, a matrix by a matrix.
     Mxm,
 }

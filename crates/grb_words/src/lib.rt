@@ -13,6 +13,7 @@ mod load;
 mod options;
 mod section;
 mod tuples;
+mod version;
 pub mod word;
 
 pub use fault::{FaultKind, Unread};
@@ -21,6 +22,7 @@ pub use keyword::{Ewise, Keyword, Multiply, Placed, Whole};
 pub use laws::{options_are_read_as_spelled, semirings_are_read_as_spelled};
 pub use line::{has_allowed_bytes, is_load, is_section, is_skipped, next_line, words};
 pub use load::load_of;
-pub use options::{Options, options_of};
+pub use options::{Options, options_in, product_options};
 pub use section::{Section, section_of};
 pub use tuples::{matrix_tuples, values, vector_tuples};
+pub use version::{Version, is_version_two};

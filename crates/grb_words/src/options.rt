@@ -1,7 +1,9 @@
 ghost use Rattle.std.specs.Prelude.{◌≡◌, map};
 ghost use Rattle.std.specs.Option.{option_map};
-ghost use Rattle.grb_words.specs.Options.{flag, mask_option, accum_option, options_of, spelled};
+ghost use Rattle.grb_words.specs.Options.{flag, mask_option, accum_option, last_flags, options_of, options_in, product_options, spelled};
 
+use crate::keyword::Multiply;
+use crate::version::Version;
 use crate::word::{is_name, operator};
 use grb_call::Descriptor;
 use grb_core::BinaryOp;
@@ -55,19 +57,28 @@ fn accum_option<'a>(words: &'a [&'a [u8]]) -> Option<(Option<BinaryOp>, &'a [&'a
     Some((Some(op), others))
 }
 
-/// The options that the words spell, if they spell them and nothing else: `mask NAME`, `structure`, `comp`, `accum OP` and `replace`, in
-/// this order, each at most once (own).
-pub fn options_of<'a>(words: &'a [&'a [u8]]) -> Option<Options<'a>>
+/// Whether `replace` and whether `tran` is given, where the words spell nothing else.
+fn last_flags(words: &[&[u8]]) -> Option<(bool, bool)>
+    ensures { result ≡ last_flags (map (λ word. word.now) words.now) }
+{
+    let (replace, words) = flag(words, b"replace");
+    let (tran, words) = flag(words, b"tran");
+    if !words.is_empty() {
+        return None;
+    }
+    Some((replace, tran))
+}
+
+/// The options that the words spell, if they spell them and nothing else: `mask NAME`, `structure`, `comp`, `accum OP`, `replace` and
+/// `tran`, in this order, each at most once (own).
+fn options_of<'a>(words: &'a [&'a [u8]]) -> Option<Options<'a>>
     ensures { option_map spelled result ≡ options_of (map (λ word. word.now) words.now) }
 {
     let (mask, words) = mask_option(words)?;
     let (structure, words) = flag(words, b"structure");
     let (comp, words) = flag(words, b"comp");
     let (accum, words) = accum_option(words)?;
-    let (replace, words) = flag(words, b"replace");
-    if !words.is_empty() {
-        return None;
-    }
+    let (replace, tran) = last_flags(words)?;
     Some(Options {
         mask,
         accum,
@@ -75,6 +86,33 @@ pub fn options_of<'a>(words: &'a [&'a [u8]]) -> Option<Options<'a>>
             structure,
             comp,
             replace,
+            tran,
         },
     })
+}
+
+/// The options that the words spell in a script of this version, if they spell them and nothing else: `mask NAME`, `structure`, `comp`,
+/// `accum OP`, `replace` and, in version 2, `tran`, in this order, each at most once (own).
+pub fn options_in<'a>(version: Version, words: &'a [&'a [u8]]) -> Option<Options<'a>>
+    ensures { option_map spelled result ≡ options_in version (map (λ word. word.now) words.now) }
+{
+    let options = options_of(words)?;
+    match version {
+        Version::One if options.descriptor.tran => None,
+        Version::One | Version::Two => Some(options),
+    }
+}
+
+/// The same behind a statement that multiplies: `vxm` has no `tran` in any version.
+pub fn product_options<'a>(
+    version: Version,
+    multiply: Multiply,
+    words: &'a [&'a [u8]],
+) -> Option<Options<'a>>
+    ensures { option_map spelled result ≡ product_options version multiply (map (λ word. word.now) words.now) }
+{
+    match multiply {
+        Multiply::Mxv | Multiply::Mxm => options_in(version, words),
+        Multiply::Vxm => options_in(Version::One, words),
+    }
 }

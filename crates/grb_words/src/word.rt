@@ -1,11 +1,12 @@
 ghost use Rattle.std.specs.Prelude.{◌≡◌};
 ghost use Rattle.std.specs.Option.{option_map};
 ghost use Rattle.std.specs.List.{list_all};
-ghost use Rattle.grb_words.specs.Word.{is_digit, is_name_byte, is_name, is_numeral, numeral_value, value_of, domain_of, monoid_of, operator_of, at_dot, semiring_of, wait_mode_of, operation_keywords, entry_keywords, uint64_operators, keyword_of};
+ghost use Rattle.grb_words.specs.Word.{is_digit, is_name_byte, is_name, is_numeral, numeral_value, value_of, domain_of, monoid_of, operator_of, at_dot, semiring_of, wait_mode_of, operation_keywords, entry_keywords, uint64_operators, keyword_of, keyword_in};
 ghost use Rattle.std.specs.Map.{lookup};
 ghost use Rattle.std.specs.Str.{bytes_eq};
 
 use crate::keyword::{Ewise, Keyword, Multiply, Placed, Whole};
+use crate::version::Version;
 use grb_call::WaitMode;
 use grb_core::{BinaryOp, Domain, Monoid, Value};
 use memchr::memchr;
@@ -202,6 +203,8 @@ fn operation_keyword(word: &[u8]) -> Option<Keyword>
         Some(Keyword::Ewise(Ewise::Mult))
     } else if word == b"mxv".as_slice() {
         Some(Keyword::Multiply(Multiply::Mxv))
+    } else if word == b"vxm".as_slice() {
+        Some(Keyword::Multiply(Multiply::Vxm))
     } else if word == b"mxm".as_slice() {
         Some(Keyword::Multiply(Multiply::Mxm))
     } else if word == b"reduce".as_slice() {
@@ -234,8 +237,8 @@ fn entry_keyword(word: &[u8]) -> Option<Keyword>
     }
 }
 
-/// The keyword that the word is, if it is one.
-pub fn keyword(word: &[u8]) -> Option<Keyword>
+/// The keyword that the word is in any version, if it is one.
+fn keyword(word: &[u8]) -> Option<Keyword>
     ensures { result ≡ keyword_of word.now }
 {
     if word == b"matrix".as_slice() {
@@ -254,5 +257,15 @@ pub fn keyword(word: &[u8]) -> Option<Keyword>
         Some(Keyword::Whole(Whole::Clear))
     } else {
         entry_keyword(word)
+    }
+}
+
+/// The keyword that the word is in a script of this version, if it is one: `vxm` is one in version 2 alone.
+pub fn keyword_in(version: Version, word: &[u8]) -> Option<Keyword>
+    ensures { result ≡ keyword_in version word.now }
+{
+    match version {
+        Version::One if word == b"vxm".as_slice() => None,
+        Version::One | Version::Two => keyword(word),
     }
 }

@@ -20,6 +20,7 @@ pub(crate) enum Operation {
     AddMatrix,
     MultMatrix,
     Mxv,
+    Vxm,
     Mxm,
     ReduceRows,
 }
@@ -34,6 +35,17 @@ pub(crate) struct Choice {
     pub(crate) descriptor: Descriptor,
 }
 
+impl Choice {
+    /// Whether the first input is read transposed, which is so of matrices alone.
+    pub(crate) fn is_turned(self) -> bool {
+        let is_of_matrix = !matches!(
+            self.operation,
+            Operation::AddVector | Operation::MultVector | Operation::Vxm
+        );
+        self.descriptor.tran && is_of_matrix
+    }
+}
+
 /// The numbers of the objects of an operation. A reduction of rows has no second input.
 #[derive(Clone, Copy, Debug)]
 pub(crate) struct Operands {
@@ -43,11 +55,12 @@ pub(crate) struct Operands {
     pub(crate) second: u32,
 }
 
-/// No mask is turned round or read by its structure alone, and nothing is replaced.
+/// No mask is turned round or read by its structure alone, nothing is replaced, and no input is transposed.
 pub(crate) const PLAIN: Descriptor = Descriptor {
     structure: false,
     comp: false,
     replace: false,
+    tran: false,
 };
 
 fn of_vectors(choice: Choice, operands: Operands) -> Call {
@@ -122,7 +135,7 @@ fn of_both(choice: Choice, operands: Operands, semiring: Semiring) -> Call {
         VectorId(operands.output),
         operands.mask.map(|m| VectorId(m)),
     );
-    let (a, u) = (MatrixId(operands.first), VectorId(operands.second));
+    let (first, second) = (operands.first, operands.second);
     let (accum, monoid, d) = (choice.accum, choice.monoid, choice.descriptor);
     match choice.operation {
         Operation::Mxv => Call::Mxv {
@@ -130,8 +143,17 @@ fn of_both(choice: Choice, operands: Operands, semiring: Semiring) -> Call {
             mask,
             accum,
             semiring,
-            a,
-            u,
+            a: MatrixId(first),
+            u: VectorId(second),
+            d,
+        },
+        Operation::Vxm => Call::Vxm {
+            w,
+            mask,
+            accum,
+            semiring,
+            u: VectorId(first),
+            a: MatrixId(second),
             d,
         },
         _ => Call::ReduceRows {
@@ -139,7 +161,7 @@ fn of_both(choice: Choice, operands: Operands, semiring: Semiring) -> Call {
             mask,
             accum,
             monoid,
-            a,
+            a: MatrixId(first),
             d,
         },
     }
@@ -152,7 +174,9 @@ pub(crate) fn operation_call(rt: &impl Abort, choice: Choice, operands: Operands
     };
     match choice.operation {
         Operation::AddVector | Operation::MultVector => of_vectors(choice, operands),
-        Operation::Mxv | Operation::ReduceRows => of_both(choice, operands, semiring),
+        Operation::Mxv | Operation::Vxm | Operation::ReduceRows => {
+            of_both(choice, operands, semiring)
+        }
         _ => of_matrices(choice, operands, semiring),
     }
 }

@@ -94,6 +94,7 @@ impl Draw {
             structure: self.truth(),
             comp: self.truth(),
             replace: self.truth(),
+            tran: self.truth(),
         }
     }
 }

@@ -128,12 +128,13 @@ fn call_on_matrix(alloc: Global, draw: &mut Draw, domain: Domain) -> Result<Call
     })
 }
 
-const OPERATIONS: [Operation; 7] = [
+const OPERATIONS: [Operation; 8] = [
     Operation::AddVector,
     Operation::MultVector,
     Operation::AddMatrix,
     Operation::MultMatrix,
     Operation::Mxv,
+    Operation::Vxm,
     Operation::Mxm,
     Operation::ReduceRows,
 ];
@@ -141,7 +142,7 @@ const OPERATIONS: [Operation; 7] = [
 /// An operation, whose mask may be of either domain.
 fn drawn_operation(rt: &impl Abort, draw: &mut Draw, domain: Domain) -> Call {
     let choice = Choice {
-        operation: OPERATIONS[draw.below(7) as usize],
+        operation: OPERATIONS[draw.below(8) as usize],
         monoid: draw.monoid(domain),
         op: draw.op(domain),
         accum: draw.accum(domain),

@@ -3,7 +3,7 @@
 //! A contract says what an operation makes by definitions of the proof's own language; that these say what the standard does, no contract
 //! can say. Nor does one say that memory is there, which an operation may always lack. The draw reaches each way that the kernels have:
 //! work arrays and ranks of columns, tables and searches of rows, few and many words of marks. It also reaches changes that still wait in
-//! an input, and one object in several parts.
+//! an input, a first input that is read transposed, and one object in several parts.
 ghost use Rattle.std.specs.Prelude.{◌≡◌, ◌<◌, false};
 ghost use Rattle.grb_call.specs.Kinds.{enters, is_size};
 
@@ -60,7 +60,17 @@ fn sorts(operation: Operation) -> (bool, bool, bool) {
     match operation {
         Operation::AddVector | Operation::MultVector => (false, false, false),
         Operation::Mxv | Operation::ReduceRows => (false, true, false),
+        Operation::Vxm => (false, false, true),
         _ => (true, true, true),
+    }
+}
+
+/// A shape with its rows and columns exchanged.
+fn turned(shape: Shape) -> Shape {
+    Shape {
+        rows: shape.columns,
+        columns: shape.rows,
+        ..shape
     }
 }
 
@@ -73,13 +83,23 @@ fn shapes(case: &Case) -> (Shape, Shape, Shape) {
         columns,
     };
     let output = shape(output, case.rows, case.columns);
-    match case.choice.operation {
-        Operation::Mxv | Operation::Mxm | Operation::ReduceRows => {
-            let first = shape(first, case.rows, case.inner);
-            (output, first, shape(second, case.inner, case.columns))
-        }
-        _ => (output, output, output),
-    }
+    let (first, second) = match case.choice.operation {
+        Operation::Mxv | Operation::Mxm | Operation::ReduceRows => (
+            shape(first, case.rows, case.inner),
+            shape(second, case.inner, case.columns),
+        ),
+        Operation::Vxm => (
+            shape(first, case.inner, ONE),
+            shape(second, case.inner, case.rows),
+        ),
+        _ => (output, output),
+    };
+    let is_turned = case.choice.is_turned();
+    (
+        output,
+        if is_turned { turned(first) } else { first },
+        second,
+    )
 }
 
 // ---- what is drawn
@@ -188,12 +208,14 @@ fn drawn_tables(alloc: Global, draw: &mut Draw, case: &Case) -> Result<Tables, A
         second: drawn_table(alloc, draw, case.domain, second)?,
     };
     if case.is_aliased {
-        tables.second = tables.output.clone()?;
         if tables.mask.is_some() {
             tables.mask = Some(tables.output.clone()?);
         }
         if first.is_matrix == output.is_matrix {
             tables.first = tables.output.clone()?;
+        }
+        if second.is_matrix == output.is_matrix {
+            tables.second = tables.output.clone()?;
         }
     }
     Ok(tables)
@@ -347,7 +369,7 @@ fn make_operands(
     if !case.is_aliased || first.is_matrix != output.is_matrix {
         operands.first = made.make(alloc, first, domain, &tables.first, draw.truth())?;
     }
-    if !case.is_aliased {
+    if !case.is_aliased || second.is_matrix != output.is_matrix {
         operands.second = made.make(alloc, second, domain, &tables.second, draw.truth())?;
     }
     Ok(operands)
@@ -497,6 +519,7 @@ fn element_wise_operations_answer_as_plain_loops_do(rt: HostRuntime) -> Result<(
 #[test]
 fn products_and_reductions_answer_as_plain_loops_do(rt: HostRuntime) -> Result<(), AllocError> {
     expect_drawn(&rt, rt.alloc(), 7_919, Operation::Mxv)?;
+    expect_drawn(&rt, rt.alloc(), 65_537, Operation::Vxm)?;
     expect_drawn(&rt, rt.alloc(), 104_729, Operation::Mxm)?;
     expect_drawn(&rt, rt.alloc(), 31_337, Operation::ReduceRows)
 }

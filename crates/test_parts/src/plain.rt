@@ -7,7 +7,8 @@ use std::alloc::{AllocError, Global};
 pub(crate) type Table = Vec<Option<u64>>;
 
 /// How many places the objects have down and across: the output `rows` and `columns`, the first input of a product `rows` and `inner`,
-/// and the second `inner` and `columns`. A vector has one column.
+/// and the second `inner` and `columns`. A vector has one column. A first input that is read transposed has its two numbers exchanged.
+/// Of a product of a vector and a matrix the matrix has `inner` and `rows`.
 #[derive(Clone, Copy, Debug)]
 pub(crate) struct Dims {
     pub(crate) rows: u64,
@@ -121,15 +122,38 @@ pub(crate) fn total(monoid: Monoid, table: &[Option<u64>]) -> u64 {
     sum.unwrap_or(neutral(monoid))
 }
 
+/// What a table of so many columns stores at a row and a column.
+fn at_cell(table: &[Option<u64>], columns: u64, i: u64, j: u64) -> Option<u64> {
+    stored(table, i.wrapping_mul(columns).wrapping_add(j))
+}
+
+/// What the first input stores at a row and a column as the operation reads it, where it has so many columns then.
+fn first_at(
+    choice: Choice,
+    dims: Dims,
+    tables: &Tables,
+    columns: u64,
+    i: u64,
+    j: u64,
+) -> Option<u64> {
+    if choice.is_turned() {
+        return at_cell(&tables.first, dims.rows, j, i);
+    }
+    at_cell(&tables.first, columns, i, j)
+}
+
 /// What a product stores at a row and a column, or the fold of the row.
 fn summed_at(choice: Choice, dims: Dims, tables: &Tables, i: u64, j: u64) -> Option<u64> {
     let mut sum = None;
     for k in 0..dims.inner {
-        let x = stored(&tables.first, i.wrapping_mul(dims.inner).wrapping_add(k));
-        let y = stored(&tables.second, k.wrapping_mul(dims.columns).wrapping_add(j));
+        let x = match choice.operation {
+            Operation::Vxm => stored(&tables.first, k),
+            _ => first_at(choice, dims, tables, dims.inner, i, k),
+        };
         let number = match choice.operation {
             Operation::ReduceRows => x,
-            _ => both(choice.op, x, y),
+            Operation::Vxm => both(choice.op, x, at_cell(&tables.second, dims.rows, k, i)),
+            _ => both(choice.op, x, at_cell(&tables.second, dims.columns, k, j)),
         };
         sum = summed(choice.monoid, sum, number);
     }
@@ -138,14 +162,16 @@ fn summed_at(choice: Choice, dims: Dims, tables: &Tables, i: u64, j: u64) -> Opt
 
 /// What the operation computes at a place of the output.
 fn computed(choice: Choice, dims: Dims, tables: &Tables, at: u64) -> Option<u64> {
-    let (x, y) = (stored(&tables.first, at), stored(&tables.second, at));
+    let columns = dims.columns.max(1);
+    let (i, j) = (at / columns, at % columns);
+    let (x, y) = (
+        first_at(choice, dims, tables, columns, i, j),
+        stored(&tables.second, at),
+    );
     match choice.operation {
         Operation::AddVector | Operation::AddMatrix => either(choice.op, x, y),
         Operation::MultVector | Operation::MultMatrix => both(choice.op, x, y),
-        _ => {
-            let columns = dims.columns.max(1);
-            summed_at(choice, dims, tables, at / columns, at % columns)
-        }
+        _ => summed_at(choice, dims, tables, i, j),
     }
 }
 

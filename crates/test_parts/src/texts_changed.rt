@@ -5,7 +5,7 @@ use crate::draw::Draw;
 use std::alloc::{AllocError, Global};
 
 /// Words of scripts and of Market texts, numbers at their limits, and what stands in neither.
-static PIECES: [&[u8]; 76] = [
+static PIECES: [&[u8]; 80] = [
     b"matrix",
     b"vector",
     b"dup",
@@ -21,6 +21,7 @@ static PIECES: [&[u8]; 76] = [
     b"ewiseadd",
     b"ewisemult",
     b"mxv",
+    b"vxm",
     b"mxm",
     b"reduce",
     b"total",
@@ -28,11 +29,14 @@ static PIECES: [&[u8]; 76] = [
     b"load",
     b"thread",
     b"finally",
+    b"version",
+    b"version 2",
     b"mask",
     b"structure",
     b"comp",
     b"accum",
     b"replace",
+    b"tran",
     b"materialize",
     b"complete",
     b"bool",
@@ -85,7 +89,7 @@ static PIECES: [&[u8]; 76] = [
 ];
 
 fn piece(draw: &mut Draw) -> &'static [u8] {
-    PIECES[draw.below(76) as usize]
+    PIECES[draw.below(80) as usize]
 }
 
 /// A place in a text of this length, or its end.

@@ -55,6 +55,27 @@ const SCRIPT: &[u8] = b"# each statement\n\
     finally\n\
     wait v complete\n";
 
+/// A script of the second version, with each statement that it has more.
+const SECOND: &[u8] = b"version 2\n\
+    vector v uint64 5\n\
+    vector b bool 5\n\
+    matrix A uint64 5 5\n\
+    matrix B bool 5 5\n\
+    build A plus 0 1 2 1 2 3\n\
+    vxm v v A min.plus accum min\n\
+    vxm b b B lor.land mask b structure comp replace\n\
+    mxv v A v plus.minus tran\n\
+    mxm A A A plus.times mask A tran\n\
+    ewiseadd A A A first tran\n\
+    ewisemult B B B lxor accum lor replace tran\n\
+    reduce v A plus tran\n\
+    thread 1\n\
+    vxm v v A max.first\n\
+    finally\n\
+    total A plus\n";
+
+static SCRIPTS: [&[u8]; 2] = [SCRIPT, SECOND];
+
 static MARKETS: [&[u8]; 4] = [
     b"%%MatrixMarket matrix coordinate integer general\n% a comment\n3 4 5\n1 1 5\n3 4 0\n2 2 18446744073709551615\n1 4 7\n2 1 1\n",
     b"%%MatrixMarket matrix coordinate integer symmetric\n%\n3 3 4\n1 1 5\n3 3 6\n3 1 7\n2 1 8\n",
@@ -260,9 +281,11 @@ fn expect_met(rt: &impl Abort, met: &Met, kinds: usize) {
 fn a_hostile_script_has_a_fault_or_says_the_same_again(rt: HostRuntime) -> Result<(), AllocError> {
     let mut draw = Draw { state: 1 };
     let mut met = Met::none();
-    for _ in 0..4_000 {
-        let text = hostile_text(rt.alloc(), &mut draw, SCRIPT)?;
-        expect_script(&rt, rt.alloc(), &text, &mut met)?;
+    for _ in 0..2_000 {
+        for valid in SCRIPTS {
+            let text = hostile_text(rt.alloc(), &mut draw, valid)?;
+            expect_script(&rt, rt.alloc(), &text, &mut met)?;
+        }
     }
     expect_met(&rt, &met, 8);
     Ok(())

@@ -45,9 +45,8 @@ fn sum(w: u32, u: u32, v: u32, mask: Option<u32>, accum: Option<BinaryOp>, d: De
 }
 
 const REPLACE: Descriptor = Descriptor {
-    structure: false,
-    comp: false,
     replace: true,
+    ..PLAIN
 };
 
 fn call_of(step: Step) -> Call {

@@ -8,8 +8,8 @@ use std::alloc::{AllocError, Global};
 use std::process::Abort;
 
 /// Makes vectors and matrices of size 4, one of each at a time: two of numbers, one of truth values, and an empty one of numbers. The calls
-/// that are tried stand after `finally`: each variant of a call, and a wait in both of its modes.
-pub(super) const ALL: &str = "
+/// that are tried stand after `finally`: each variant of a call, by `tran` too where that is read, and a wait in both of its modes.
+pub(super) const ALL: &str = "version 2
     vector u uint64 4
     matrix A uint64 4 4
     vector v uint64 4
@@ -53,9 +53,15 @@ pub(super) const ALL: &str = "
     ewiseadd B A B times mask M accum plus
     ewisemult e u v plus accum plus
     ewisemult E B B plus mask M
+    ewiseadd B A B times tran
+    ewisemult E B B plus tran
     mxv e B u plus.times mask m
+    mxv e B u plus.minus tran
+    vxm e u B plus.times mask m
     mxm E A B plus.times
+    mxm E A B plus.times mask M tran
     reduce e A plus
+    reduce e A plus tran
     get v 2
     get B 2 3
     nvals v

@@ -26,6 +26,7 @@ pub(super) const PLAIN: Descriptor = Descriptor {
     structure: false,
     comp: false,
     replace: false,
+    tran: false,
 };
 
 /// What an operation writes, its mask, its accumulator and its descriptor.
@@ -64,6 +65,7 @@ pub(super) enum Asked {
     EwiseMultMatrix(IntoMatrix, BinaryOp, MatrixId, MatrixId),
     EwiseMultVector(IntoVector, BinaryOp, VectorId, VectorId),
     Mxv(IntoVector, Monoid, BinaryOp, MatrixId, VectorId),
+    Vxm(IntoVector, Monoid, BinaryOp, VectorId, MatrixId),
     Mxm(IntoMatrix, Monoid, BinaryOp, MatrixId, MatrixId),
     ReduceRows(IntoVector, Monoid, MatrixId),
     ReduceMatrix(MatrixId, Monoid),
@@ -127,6 +129,10 @@ fn operate(context: &Context, pass: &mut Pass, asked: Asked) -> Answer
         }
         Asked::Mxv((w, mask, accum, d), monoid, op, a, u) => match Semiring::new(monoid, op) {
             Ok(semiring) => context.mxv(pass, w, mask, accum, semiring, a, u, d),
+            Err(refusal) => Err(refusal),
+        },
+        Asked::Vxm((w, mask, accum, d), monoid, op, u, a) => match Semiring::new(monoid, op) {
+            Ok(semiring) => context.vxm(pass, w, mask, accum, semiring, u, a, d),
             Err(refusal) => Err(refusal),
         },
         Asked::Mxm((c, mask, accum, d), monoid, op, a, b) => match Semiring::new(monoid, op) {

@@ -164,6 +164,7 @@ impl Draw {
             structure: self.below(2) == 0,
             comp: self.below(2) == 0,
             replace: self.below(2) == 0,
+            tran: self.below(2) == 0,
         }
     }
 
@@ -234,9 +235,10 @@ impl Draw {
     fn product(&mut self) -> Asked {
         let (u, a, b) = (self.vector(), self.matrix(), self.matrix());
         let (monoid, op) = (self.monoid(), self.op());
-        match self.below(3) {
+        match self.below(4) {
             0 => Asked::Mxv(self.into_vector(), monoid, op, a, u),
-            1 => Asked::Mxm(self.into_matrix(), monoid, op, a, b),
+            1 => Asked::Vxm(self.into_vector(), monoid, op, u, a),
+            2 => Asked::Mxm(self.into_matrix(), monoid, op, a, b),
             _ => Asked::ReduceRows(self.into_vector(), monoid, a),
         }
     }
@@ -280,6 +282,7 @@ impl Draw {
                 Asked::EwiseAddVector((w, ..), ..)
                 | Asked::EwiseMultVector((w, ..), ..)
                 | Asked::Mxv((w, ..), ..)
+                | Asked::Vxm((w, ..), ..)
                 | Asked::ReduceRows((w, ..), ..),
                 Ok(Reply::Done),
             ) => self.vector_written = w,

@@ -16,11 +16,15 @@ const U: VectorId = VectorId(0);
 
 const W: VectorId = VectorId(1);
 
+const X: VectorId = VectorId(2);
+
 const INTO_A: IntoMatrix = (A, None, None, PLAIN);
 
 const INTO_U: IntoVector = (U, None, None, PLAIN);
 
 const INTO_W: IntoVector = (W, None, None, PLAIN);
+
+const INTO_X: IntoVector = (X, None, None, PLAIN);
 
 const NUMBERS: Domain = Domain::Uint64;
 
@@ -46,7 +50,7 @@ const IS_24: Answer = Ok(Reply::Value(Value::Uint64(24)));
 
 const TWO: Answer = Ok(Reply::Count(2));
 
-static METHODS: [Row; 42] = [
+static METHODS: [Row; 45] = [
     (P, Asks(NewMatrix(NUMBERS, 2, 3), Ok(Reply::MadeMatrix(A)))),
     (P, Asks(SizeMatrix(A), Ok(Reply::Dims(2, 3)))),
     (
@@ -84,6 +88,13 @@ static METHODS: [Row; 42] = [
     (P, Asks(GetVector(W, 0), IS_6)),
     (P, Asks(ReduceRows(INTO_W, Monoid::Plus, A), DONE)),
     (P, Asks(GetVector(W, 0), IS_8)),
+    (P, Asks(DupVector(U), Ok(Reply::MadeVector(X)))),
+    // 8 times 3 in the second column
+    (
+        P,
+        Asks(Vxm(INTO_X, Monoid::Plus, BinaryOp::Times, W, A), DONE),
+    ),
+    (P, Asks(GetVector(X, 1), IS_24)),
     (P, Asks(SetMatrix(B, 1, 0, FOUR), DONE)),
     // 3 times 4 in the first column
     (

@@ -3,6 +3,7 @@ use Rattle.std.specs.Option.{option_map}
 use Rattle.grb_core.specs.Entries.{MatrixEntries, cell_cmp}
 use Rattle.grb_core.specs.Contents.{edited_matrix}
 use Rattle.grb_core.specs.Mask.{is_inside}
+use Rattle.grb_core.specs.Results.{turned}
 use Rattle.grb_core.specs.Written.{written}
 use Rattle.grb_multiply.proofs.MaskedProduct.{written-bounded}
 use Rattle.grb_multiply.proofs.multiply.mxm.Goals as goal
@@ -15,4 +16,4 @@ returns-clause-matrix c =
     c.in_ok-made.ensures.matrix
     ∙ ap (λ (m : MatrixEntries). edited_matrix (λ c. m) w)
     (ap (written cell_cmp (is_inside cell_cmp d.structure d.comp mask) d.replace c.args.accum w.entries) (ap (λ x. x.entries) c.in_ok-computed.ensures.matrix)
-    ∙ written-bounded c.args.semiring d.structure d.comp d.replace c.args.accum mask w.entries c.args.a.now.matrix.entries c.args.b.now.matrix.entries)
+    ∙ written-bounded c.args.semiring d.structure d.comp d.replace c.args.accum mask w.entries (turned d.tran c.args.a.now.matrix.entries) c.args.b.now.matrix.entries)

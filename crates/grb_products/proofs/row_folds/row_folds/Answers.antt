@@ -1,4 +1,5 @@
-use Rattle.std.proofs.Common.{ℕ, Bool, ap, sym, ◌∙◌}
+use Rattle.std.proofs.Common.{◌≡◌, ℕ, Bool, ap, sym, ◌∙◌}
+use Rattle.std.specs.Prelude.{if◌then◌else◌}
 use Rattle.grb_core.specs.declared.domain.Domain.TheVariants as domain
 use Rattle.grb_core.specs.declared.value.Value.TheVariants as value
 use Rattle.grb_kernels.specs.Typed.{entries_of}
@@ -10,10 +11,12 @@ pub keep_bools-requires : goal.keep_bools-requires
 keep_bools-requires c =
     let made = c.in_ok-entries-in-Bool.entries in
     let a = c.args.a.now.matrix in
+    let rows : c.turned_rows-size.result ≡ (if c.args.tran then a.ncols else a.nrows) =
+    c.turned_rows-size.ensures ∙ ap (λ n. if c.args.tran then n else c.dims-nrows.result.0) (ap (λ p. p.1) c.dims-nrows.ensures.dims) ∙ ap (λ n. if c.args.tran then a.ncols else n) (ap (λ p. p.0) c.dims-nrows.ensures.dims) in
     record {
-      whole = row_folds_whole c.args.monoid domain.Bool c.dims-nrows.result.0 a (decoded c.lists-lists.result.now.entries)
+      whole = row_folds_whole c.args.tran c.args.monoid domain.Bool c.turned_rows-size.result a (decoded c.lists-lists.result.now.entries)
           (entries_of (λ (b : Bool). value.Bool b) made.indices.items made.values.items) c.lists-lists.ensures.whole c.requires.domain
-          (sym c.in-Bool.is ∙ c.domain.ensures ∙ c.lists-lists.ensures.domain) (ap (λ p. p.0) c.dims-nrows.ensures.dims) c.lists-lists.ensures.entries
+          (sym c.in-Bool.is ∙ c.domain.ensures ∙ c.lists-lists.ensures.domain) rows c.lists-lists.ensures.entries
           c.in_ok-entries-in-Bool.ensures;
     }
 
@@ -21,9 +24,11 @@ pub keep_numbers-requires : goal.keep_numbers-requires
 keep_numbers-requires c =
     let made = c.in_ok-entries-in-Uint64.entries in
     let a = c.args.a.now.matrix in
+    let rows : c.turned_rows-size.result ≡ (if c.args.tran then a.ncols else a.nrows) =
+    c.turned_rows-size.ensures ∙ ap (λ n. if c.args.tran then n else c.dims-nrows.result.0) (ap (λ p. p.1) c.dims-nrows.ensures.dims) ∙ ap (λ n. if c.args.tran then a.ncols else n) (ap (λ p. p.0) c.dims-nrows.ensures.dims) in
     record {
-      whole = row_folds_whole c.args.monoid domain.Uint64 c.dims-nrows.result.0 a (decoded c.lists-lists.result.now.entries)
+      whole = row_folds_whole c.args.tran c.args.monoid domain.Uint64 c.turned_rows-size.result a (decoded c.lists-lists.result.now.entries)
           (entries_of (λ (n : ℕ). value.Uint64 n) made.indices.items made.values.items) c.lists-lists.ensures.whole c.requires.domain
-          (sym c.in-Uint64.is ∙ c.domain.ensures ∙ c.lists-lists.ensures.domain) (ap (λ p. p.0) c.dims-nrows.ensures.dims) c.lists-lists.ensures.entries
+          (sym c.in-Uint64.is ∙ c.domain.ensures ∙ c.lists-lists.ensures.domain) rows c.lists-lists.ensures.entries
           c.in_ok-entries-in-Uint64.ensures;
     }

@@ -1,6 +1,6 @@
 use Rattle.std.proofs.Common.{sym, ◌∙◌}
-use Rattle.grb_replay.proofs.Lent.{if_ok, if_both-0, if_both-1, lent_matrix_entries}
-use Rattle.grb_replay.proofs.LentProducts.{lent_matrix_is, lent_matrix_mask_is, mxm_output-there, mxm_first-there, mxm_second-there, mxm_mask-there, mxm_are, mxm-left}
+use Rattle.grb_replay.proofs.Lent.{if_ok, if_both-0, if_both-1, lent_matrix_entries, lent_matrix_is, lent_turned_is}
+use Rattle.grb_replay.proofs.LentProducts.{lent_matrix_mask_is, mxm_output-there, mxm_first-there, mxm_second-there, mxm_mask-there, mxm_are, mxm-left}
 use Rattle.grb_replay.proofs.product_operations.multiplied_matrix.Goals as goal
 
 pub lent_matrix-output-requires : goal.lent_matrix-output-requires
@@ -31,7 +31,7 @@ pub mxm-requires-clause-a_domain : goal.mxm-requires-clause-a_domain
 mxm-requires-clause-a_domain c =
     let f = c.args in
     let are = mxm_are f.matrices.now f.vectors.now f.c f.mask f.accum f.semiring f.a f.b f.d c.requires.accepted c.lent_matrix-output.result.now c.lent_matrix-output.ensures in
-    (lent_matrix_is f.matrices.now f.vectors.now f.a c.lent_matrix-first.result.now c.lent_matrix-first.ensures _ _ _ are.first).0
+    (lent_turned_is f.matrices.now f.vectors.now f.a c.lent_matrix-first.result.now c.lent_matrix-first.ensures f.d.tran _ _ _ are.first).0
 
 pub mxm-requires-clause-b_domain : goal.mxm-requires-clause-b_domain
 mxm-requires-clause-b_domain c =
@@ -43,13 +43,13 @@ pub mxm-requires-clause-a_rows : goal.mxm-requires-clause-a_rows
 mxm-requires-clause-a_rows c =
     let f = c.args in
     let are = mxm_are f.matrices.now f.vectors.now f.c f.mask f.accum f.semiring f.a f.b f.d c.requires.accepted c.lent_matrix-output.result.now c.lent_matrix-output.ensures in
-    (lent_matrix_is f.matrices.now f.vectors.now f.a c.lent_matrix-first.result.now c.lent_matrix-first.ensures _ _ _ are.first).1
+    (lent_turned_is f.matrices.now f.vectors.now f.a c.lent_matrix-first.result.now c.lent_matrix-first.ensures f.d.tran _ _ _ are.first).1
 
 pub mxm-requires-clause-a_columns : goal.mxm-requires-clause-a_columns
 mxm-requires-clause-a_columns c =
     let f = c.args in
     let are = mxm_are f.matrices.now f.vectors.now f.c f.mask f.accum f.semiring f.a f.b f.d c.requires.accepted c.lent_matrix-output.result.now c.lent_matrix-output.ensures in
-    (lent_matrix_is f.matrices.now f.vectors.now f.a c.lent_matrix-first.result.now c.lent_matrix-first.ensures _ _ _ are.first).2 ∙ sym (lent_matrix_is f.matrices.now f.vectors.now f.b c.lent_matrix-second.result.now c.lent_matrix-second.ensures _ _ _ are.second).1
+    (lent_turned_is f.matrices.now f.vectors.now f.a c.lent_matrix-first.result.now c.lent_matrix-first.ensures f.d.tran _ _ _ are.first).2 ∙ sym (lent_matrix_is f.matrices.now f.vectors.now f.b c.lent_matrix-second.result.now c.lent_matrix-second.ensures _ _ _ are.second).1
 
 pub mxm-requires-clause-b_columns : goal.mxm-requires-clause-b_columns
 mxm-requires-clause-b_columns c =

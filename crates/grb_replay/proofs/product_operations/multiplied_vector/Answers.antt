@@ -1,6 +1,6 @@
 use Rattle.std.proofs.Common.{sym, ◌∙◌}
-use Rattle.grb_replay.proofs.Lent.{if_ok, lent_vector_entries}
-use Rattle.grb_replay.proofs.LentProducts.{lent_matrix_is, lent_vector_is, lent_mask_is, mxv_output-there, mxv_matrix-there, mxv_vector-there, mxv_mask-there, mxv_are, mxv-left}
+use Rattle.grb_replay.proofs.Lent.{if_ok, lent_turned_is, lent_vector_entries}
+use Rattle.grb_replay.proofs.LentProducts.{lent_vector_is, lent_mask_is, mxv_output-there, mxv_matrix-there, mxv_vector-there, mxv_mask-there, mxv_are, mxv-left}
 use Rattle.grb_replay.proofs.product_operations.multiplied_vector.Goals as goal
 
 pub lent_vector-output-requires : goal.lent_vector-output-requires
@@ -29,7 +29,7 @@ pub mxv-requires-clause-a_domain : goal.mxv-requires-clause-a_domain
 mxv-requires-clause-a_domain c =
     let f = c.args in
     let are = mxv_are f.matrices.now f.vectors.now f.w f.mask f.accum f.semiring f.a f.u f.d c.requires.accepted c.lent_vector-output.result.now c.lent_vector-output.ensures in
-    (lent_matrix_is f.matrices.now f.vectors.now f.a c.lent_matrix-matrix.result.now c.lent_matrix-matrix.ensures _ _ _ are.matrix).0
+    (lent_turned_is f.matrices.now f.vectors.now f.a c.lent_matrix-matrix.result.now c.lent_matrix-matrix.ensures f.d.tran _ _ _ are.matrix).0
 
 pub mxv-requires-clause-u_domain : goal.mxv-requires-clause-u_domain
 mxv-requires-clause-u_domain c =
@@ -41,13 +41,13 @@ pub mxv-requires-clause-a_rows : goal.mxv-requires-clause-a_rows
 mxv-requires-clause-a_rows c =
     let f = c.args in
     let are = mxv_are f.matrices.now f.vectors.now f.w f.mask f.accum f.semiring f.a f.u f.d c.requires.accepted c.lent_vector-output.result.now c.lent_vector-output.ensures in
-    (lent_matrix_is f.matrices.now f.vectors.now f.a c.lent_matrix-matrix.result.now c.lent_matrix-matrix.ensures _ _ _ are.matrix).1
+    (lent_turned_is f.matrices.now f.vectors.now f.a c.lent_matrix-matrix.result.now c.lent_matrix-matrix.ensures f.d.tran _ _ _ are.matrix).1
 
 pub mxv-requires-clause-a_columns : goal.mxv-requires-clause-a_columns
 mxv-requires-clause-a_columns c =
     let f = c.args in
     let are = mxv_are f.matrices.now f.vectors.now f.w f.mask f.accum f.semiring f.a f.u f.d c.requires.accepted c.lent_vector-output.result.now c.lent_vector-output.ensures in
-    (lent_matrix_is f.matrices.now f.vectors.now f.a c.lent_matrix-matrix.result.now c.lent_matrix-matrix.ensures _ _ _ are.matrix).2
+    (lent_turned_is f.matrices.now f.vectors.now f.a c.lent_matrix-matrix.result.now c.lent_matrix-matrix.ensures f.d.tran _ _ _ are.matrix).2
     ∙ sym (lent_vector_is f.matrices.now f.vectors.now f.u c.lent_vector-vector.result.now c.lent_vector-vector.ensures _ _ are.vector).1
 
 pub mxv-requires-clause-mask_size : goal.mxv-requires-clause-mask_size

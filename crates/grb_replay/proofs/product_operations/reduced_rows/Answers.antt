@@ -1,5 +1,5 @@
-use Rattle.grb_replay.proofs.Lent.{if_ok, lent_vector_entries}
-use Rattle.grb_replay.proofs.LentProducts.{lent_matrix_is, lent_mask_is, rows_output-there, rows_matrix-there, rows_mask-there, rows_are, rows-left}
+use Rattle.grb_replay.proofs.Lent.{if_ok, lent_turned_is, lent_vector_entries}
+use Rattle.grb_replay.proofs.LentProducts.{lent_mask_is, rows_output-there, rows_matrix-there, rows_mask-there, rows_are, rows-left}
 use Rattle.grb_replay.proofs.product_operations.reduced_rows.Goals as goal
 
 pub lent_vector-output-requires : goal.lent_vector-output-requires
@@ -25,13 +25,13 @@ pub reduce_rows-requires-clause-a_domain : goal.reduce_rows-requires-clause-a_do
 reduce_rows-requires-clause-a_domain c =
     let f = c.args in
     let are = rows_are f.matrices.now f.vectors.now f.w f.mask f.accum f.monoid f.a f.d c.requires.accepted c.lent_vector-output.result.now c.lent_vector-output.ensures in
-    (lent_matrix_is f.matrices.now f.vectors.now f.a c.lent_matrix-matrix.result.now c.lent_matrix-matrix.ensures _ _ _ are.matrix).0
+    (lent_turned_is f.matrices.now f.vectors.now f.a c.lent_matrix-matrix.result.now c.lent_matrix-matrix.ensures f.d.tran _ _ _ are.matrix).0
 
 pub reduce_rows-requires-clause-a_rows : goal.reduce_rows-requires-clause-a_rows
 reduce_rows-requires-clause-a_rows c =
     let f = c.args in
     let are = rows_are f.matrices.now f.vectors.now f.w f.mask f.accum f.monoid f.a f.d c.requires.accepted c.lent_vector-output.result.now c.lent_vector-output.ensures in
-    (lent_matrix_is f.matrices.now f.vectors.now f.a c.lent_matrix-matrix.result.now c.lent_matrix-matrix.ensures _ _ _ are.matrix).1
+    (lent_turned_is f.matrices.now f.vectors.now f.a c.lent_matrix-matrix.result.now c.lent_matrix-matrix.ensures f.d.tran _ _ _ are.matrix).1
 
 pub reduce_rows-requires-clause-mask_size : goal.reduce_rows-requires-clause-mask_size
 reduce_rows-requires-clause-mask_size c =

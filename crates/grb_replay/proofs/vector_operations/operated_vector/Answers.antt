@@ -21,6 +21,19 @@ returns-in-Mxv c =
     let f = c.in-Mxv in
     if_ok _ _ c.multiplied_vector.result (λ made. vector_left_as (stored c.args.matrices.now c.args.vectors.now) c.args.call.now (call.Mxv f.w f.mask f.accum f.semiring f.a f.u f.d) f.is c.args.w f.w c.requires.output refl (Some made.vector)) c.multiplied_vector.ensures
 
+pub pushed_vector-requires : goal.pushed_vector-requires
+pushed_vector-requires c =
+    let ms = c.args.matrices.now in let vs = c.args.vectors.now in
+    record {
+      accepted = subst (λ (x : Call). refused (stored ms vs) x ≡ None) c.in-Vxm.is c.requires.accepted;
+      assembled = subst (λ (x : Call). AreAssembled ms vs x) c.in-Vxm.is c.requires.assembled;
+    }
+
+pub returns-in-Vxm : goal.returns-in-Vxm
+returns-in-Vxm c =
+    let f = c.in-Vxm in
+    if_ok _ _ c.pushed_vector.result (λ made. vector_left_as (stored c.args.matrices.now c.args.vectors.now) c.args.call.now (call.Vxm f.w f.mask f.accum f.semiring f.u f.a f.d) f.is c.args.w f.w c.requires.output refl (Some made.vector)) c.pushed_vector.ensures
+
 pub reduced_rows-requires : goal.reduced_rows-requires
 reduced_rows-requires c =
     let ms = c.args.matrices.now in let vs = c.args.vectors.now in

@@ -3,7 +3,7 @@ use Rattle.grb_script.proofs.FormLemmas.{reading-ewise_form, three_and_more}
 use Rattle.grb_script.proofs.ewise.ewise.Goals as goal
 
 pub returns-in_default : goal.returns-in_default
-returns-in_default c = sym (reading-ewise_form c.args.names.now c.args.ewise c.args.output.now c.args.others.now (λ l. absurd (omega arith)))
+returns-in_default c = sym (reading-ewise_form c.args.names.now c.args.version c.args.ewise c.args.output.now c.args.others.now (λ l. absurd (omega arith)))
 
 pub returns : goal.returns
 returns c = rw (three_and_more c.args.others.now (omega arith)) c.ewise_by_words.ensures

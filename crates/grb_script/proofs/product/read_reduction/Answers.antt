@@ -3,7 +3,7 @@ use Rattle.grb_script.proofs.FormLemmas.{reading-reduce_form, two_and_more}
 use Rattle.grb_script.proofs.product.read_reduction.Goals as goal
 
 pub returns-in_default : goal.returns-in_default
-returns-in_default c = sym (reading-reduce_form c.args.names.now c.args.output.now c.args.others.now (λ l. absurd (omega arith)))
+returns-in_default c = sym (reading-reduce_form c.args.names.now c.args.version c.args.output.now c.args.others.now (λ l. absurd (omega arith)))
 
 pub returns : goal.returns
 returns c = rw (two_and_more c.args.others.now (omega arith)) c.reduction_by_words.ensures

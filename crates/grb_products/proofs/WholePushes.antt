@@ -1,0 +1,52 @@
+-- What a vector makes of the rows that it picks is a whole vector.
+use Rattle.std.proofs.Common.{◌≡◌, ℕ, ◌<◌, Bool, true, false, refl, sym, ap, subst, ◌∙◌}
+use Rattle.std.specs.Prelude.{All, IsTrue, Option}
+use Rattle.std.specs.List.{AllByRecursion}
+use Rattle.std.specs.Ordering.{nat_cmp}
+use Rattle.std.proofs.lemmas.List.Elements.{recursion_from_All, All-from_recursion}
+use lib.Dec.{T}
+use Rattle.grb_core.specs.declared.domain.Domain.{Domain}
+use Rattle.grb_core.specs.declared.monoid.Monoid.{Monoid}
+use Rattle.grb_core.specs.declared.value.Value.{Value}
+use Rattle.grb_core.specs.Value.{IsValueOf}
+use Rattle.grb_core.specs.Monoid.{monoid_domain}
+use Rattle.grb_core.specs.Fold.{fold_of_some}
+use Rattle.grb_core.specs.Entries.{cell_cmp, VectorEntries, MatrixEntries, values_of}
+use Rattle.grb_core.specs.Contents.{Vector, Matrix, IsVector, IsMatrix}
+use Rattle.grb_core.specs.Written.{pointwise, both_values}
+use Rattle.grb_core.specs.Results.{column_of, columns_of}
+use Rattle.grb_core.specs.ResultLaws.{IsBelow, IsCellBelow, AreEntries}
+use Rattle.grb_core.proofs.Made.{Holds, all-weaker, holds_both, holds_fold, of-column, of-map_on, of-pointwise, of-values, within-columns, within-map_on}
+use Rattle.grb_products.specs.Pushes.{pushed_of}
+use Rattle.grb_products.proofs.Columns.{is_sorted-each_column}
+use Rattle.grb_products.proofs.WholeResults.{matrix_entries, whole}
+
+module _ (m : Monoid) (f : Value → Value → Value) (d : Domain) (closed : (x y : Value) → IsValueOf d x → IsValueOf d y → IsValueOf d (f x y)) (md : monoid_domain m ≡ d) where
+  pushed_is : (u c : VectorEntries) → AllByRecursion (λ e. IsValueOf d e.1) u → AllByRecursion (λ e. IsValueOf d e.1) c → Holds (IsValueOf d) (fold_of_some m (values_of (pointwise nat_cmp (both_values f) u c)))
+  pushed_is u c g h =
+      let products : VectorEntries = pointwise nat_cmp (both_values f) u c in
+      let is = of-values (IsValueOf d) products (of-pointwise nat_cmp (IsValueOf d) (both_values f) (holds_both (IsValueOf d) f closed) u c g h) in
+      subst (λ w. Holds (IsValueOf w) (fold_of_some m (values_of products))) md
+      (holds_fold m (values_of products) (subst (λ w. AllByRecursion (IsValueOf w) (values_of products)) (sym md) is))
+
+  pushed_makes_entries : (nrows ncols : ℕ) (u : VectorEntries) (a : MatrixEntries) → AllByRecursion (λ e. IsValueOf d e.1) u → AreEntries cell_cmp (IsCellBelow nrows ncols) d a
+      → AreEntries nat_cmp (IsBelow ncols) d (pushed_of m f u a)
+  pushed_makes_entries nrows ncols u a g h =
+      let made : ℕ → Option Value = λ j. fold_of_some m (values_of (pointwise nat_cmp (both_values f) u (column_of j a))) in
+      let below = all-weaker (λ (e : (ℕ × ℕ) × Value). e.0.1 < ncols) (λ e. (e.0.0 < nrows) × (e.0.1 < ncols)) (λ e q. q.1) a (recursion_from_All _ a h.within) in
+      record {
+        ordered = passes _ (is_sorted-each_column (λ c. fold_of_some m (values_of (pointwise nat_cmp (both_values f) u c))) a);
+        within = All-from_recursion (λ (e : ℕ × Value). e.0 < ncols) _ (within-map_on (λ j. j < ncols) made (columns_of a) (within-columns (λ j. j < ncols) a below));
+        of_domain = All-from_recursion (λ (e : ℕ × Value). IsValueOf d e.1) _
+            (of-map_on (IsValueOf d) made (λ j. pushed_is u (column_of j a) g (of-column (IsValueOf d) j a (recursion_from_All _ a h.of_domain))) (columns_of a));
+      }
+    where
+      passes : (b : Bool) → T b → IsTrue b
+      passes true h = refl
+      passes false h = absurd h
+
+  pub pushed_whole : (e : Domain) (size : ℕ) (u : Vector) (a : Matrix) (v : VectorEntries) (k : MatrixEntries) (made : VectorEntries) → IsVector u → IsMatrix a → u.domain ≡ d → a.domain ≡ d
+      → e ≡ d → size ≡ a.ncols → v ≡ u.entries → k ≡ a.entries → made ≡ pushed_of m f v k → IsVector (record { domain = e; size = size; entries = made })
+  pushed_whole e size u a v k made g h ud ad ed z r p q =
+      whole e d size a.ncols made (pushed_of m f u.entries a.entries) h.ncols z ed (q ∙ ap (λ (x : MatrixEntries). pushed_of m f v x) p ∙ ap (λ (x : VectorEntries). pushed_of m f x a.entries) r)
+      (pushed_makes_entries a.nrows a.ncols u.entries a.entries (recursion_from_All _ u.entries (subst (λ x. All (λ e. IsValueOf x e.1) u.entries) ud g.of_domain)) (matrix_entries a d h ad))

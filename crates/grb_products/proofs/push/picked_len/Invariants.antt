@@ -1,0 +1,12 @@
+use Rattle.std.proofs.Common.{◌≡◌, ◌+◌, ◌-◌, ◌^◌, ◌≤◌, length, min, drop}
+use Rattle.grb_rows.specs.Cells.{decoded}
+use Rattle.grb_products.specs.Pushes.{columns_at}
+use Rattle.grb_products.proofs.push.picked_len.Given as goal
+
+-- the rows so far, and those that are left
+abbrev pub invariant-rows : goal.invariant-rows
+invariant-rows l = record {
+  count : l.count ≤ 2 ^ 64 - 1;
+  so_far : min (l.count + length (columns_at l.lists.rows (drop l.place-index l.places) (decoded l.lists.entries))) (2 ^ 64 - 1)
+      ≡ min (length (columns_at l.lists.rows l.places (decoded l.lists.entries))) (2 ^ 64 - 1);
+}

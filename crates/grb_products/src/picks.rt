@@ -1,0 +1,134 @@
+//! The rows of a matrix that the entries of a vector pick.
+ghost use Rattle.std.specs.Prelude.{◌≡◌, ◌≢◌, ◌<◌, ◌≤◌, ℕ, true, false, length, slice_index, All, IfOk};
+ghost use Rattle.grb_core.specs.declared.value.Value.{Value};
+ghost use Rattle.grb_kernels.specs.Typed.{entries_of, first_entries};
+ghost use Rattle.grb_rows.specs.Cells.{decoded};
+ghost use Rattle.grb_products.specs.ColumnSums.{Rise};
+ghost use Rattle.grb_products.specs.Pushes.{pushed, at_numbers};
+
+use crate::stored::Stored;
+use grb_kernels::EntrySlice;
+use grb_rows::FlatRows;
+use std::alloc::{AllocError, Global};
+
+/// Two places between which the numbers that are not below another begin, each step twice as long as the one before.
+fn gallop(numbers: &[u32], from: usize, number: u32) -> (usize, usize)
+    requires rising { Rise numbers.now }
+    requires from { from ≤ length numbers.now }
+    requires passed { (q : ℕ) → q < from → slice_index numbers.now q < number }
+    ensures after { from ≤ result.0 }
+    ensures order { result.0 ≤ result.1 }
+    ensures within { result.1 ≤ length numbers.now }
+    ensures below { (q : ℕ) → q < result.0 → slice_index numbers.now q < number }
+    ensures above { (q : ℕ) → result.1 ≤ q → q < length numbers.now → number ≤ slice_index numbers.now q }
+{
+    let mut low = from;
+    let mut end = from;
+    'gallop: while end < numbers.len() && numbers[end] < number {
+        low = end + 1;
+        end = low + (low - from).min(numbers.len() - low);
+    }
+    (low, end)
+}
+
+/// Where the numbers that are not below another begin, between two places.
+fn bisect(numbers: &[u32], low: usize, end: usize, number: u32) -> usize
+    requires rising { Rise numbers.now }
+    requires order { low ≤ end }
+    requires within { end ≤ length numbers.now }
+    requires below { (q : ℕ) → q < low → slice_index numbers.now q < number }
+    requires above { (q : ℕ) → end ≤ q → q < length numbers.now → number ≤ slice_index numbers.now q }
+    ensures after { low ≤ result }
+    ensures within { result ≤ length numbers.now }
+    ensures below { (q : ℕ) → q < result → slice_index numbers.now q < number }
+    ensures above { (q : ℕ) → result ≤ q → q < length numbers.now → number ≤ slice_index numbers.now q }
+{
+    let mut low = low;
+    let mut end = end;
+    'halves: while low < end {
+        let middle = low + (end - low) / 2;
+        if numbers[middle] < number {
+            low = middle + 1;
+        } else {
+            end = middle;
+        }
+    }
+    low
+}
+
+/// Where the numbers that are not below another begin. Those before `from` are known to be below it, and the time is the logarithm of how
+/// many more are.
+fn next_place(numbers: &[u32], from: usize, number: u32) -> usize
+    requires rising { Rise numbers.now }
+    requires from { from ≤ length numbers.now }
+    requires passed { (q : ℕ) → q < from → slice_index numbers.now q < number }
+    ensures after { from ≤ result }
+    ensures within { result ≤ length numbers.now }
+    ensures below { (q : ℕ) → q < result → slice_index numbers.now q < number }
+    ensures above { (q : ℕ) → result ≤ q → q < length numbers.now → number ≤ slice_index numbers.now q }
+{
+    let (low, end) = gallop(numbers, from, number);
+    bisect(numbers, low, end, number)
+}
+
+/// Whether a number stands at a place.
+fn is_at(numbers: &[u32], place: usize, number: u32) -> bool
+    ensures here { result ≡ true → (place < length numbers.now) × (slice_index numbers.now place ≡ number) }
+    ensures not_here { result ≡ false → place < length numbers.now → slice_index numbers.now place ≢ number }
+{
+    place < numbers.len() && numbers[place] == number
+}
+
+/// The entries of a vector at whose rows a matrix stores something: the place of each among these rows, and its value.
+#[derive(Drop)]
+pub(crate) struct Picks<T> {
+    pub(crate) places: Vec<usize>,
+    pub(crate) values: Vec<T>,
+    ghost same: { length places.items ≡ length values.items },
+}
+
+/// Writes them to the front of `places` and `values`. Answers how many there are.
+fn pick_into<T: Stored>(
+    lists: &FlatRows,
+    u: &EntrySlice<T>,
+    places: &mut [usize],
+    values: &mut [T],
+) -> usize
+    requires room { length u.now.indices.now ≤ length places.old }
+    requires room_same { length places.old ≡ length values.old }
+    ensures most { result ≤ length u.now.indices.now }
+    ensures within { (q : ℕ) → q < result → slice_index places.new q < length lists.now.rows }
+    ensures picked { (f : Value → Value → Value) → pushed f (at_numbers lists.now.rows (first_entries T.value result places.new values.new)) (decoded lists.now.entries) ≡ pushed f (entries_of T.value u.now.indices.now u.now.values.now) (decoded lists.now.entries) }
+{
+    let rows = lists.rows();
+    let mut from = 0;
+    let mut k = 0;
+    'entries: for i in 0..u.indices.len() {
+        let (index, value) = (u.indices[i], u.values[i]);
+        from = next_place(rows, from, index);
+        if is_at(rows, from, index) {
+            places[k] = from;
+            values[k] = value;
+            k += 1;
+        }
+    }
+    k
+}
+
+/// The rows that the entries of a vector pick. Takes memory for as many as the vector has entries.
+pub(crate) fn pick_rows<T: Stored + Drop>(
+    alloc: Global,
+    lists: &FlatRows,
+    u: &EntrySlice<T>,
+) -> Result<Picks<T>, AllocError>
+    ensures within { IfOk result (λ picks. All (λ p. p < length lists.now.rows) picks.places.items) }
+    ensures picked { IfOk result (λ picks. (f : Value → Value → Value) → pushed f (at_numbers lists.now.rows (entries_of T.value picks.places.items picks.values.items)) (decoded lists.now.entries) ≡ pushed f (entries_of T.value u.now.indices.now u.now.values.now) (decoded lists.now.entries)) }
+{
+    let room = u.indices.len();
+    let mut places = vec![in alloc; 0usize; room]?;
+    let mut values = vec![in alloc; T::any(); room]?;
+    let count = pick_into(lists, u, places.as_mut_slice(), values.as_mut_slice());
+    places.truncate(count);
+    values.truncate(count);
+    Ok(Picks { places, values })
+}

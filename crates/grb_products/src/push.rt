@@ -1,0 +1,229 @@
+//! The product of a vector and a matrix by the rows that the vector picks: each is read once and added by column.
+ghost use Rattle.std.specs.Prelude.{◌≡◌, ◌-◌, ◌<◌, ◌^◌, [], length, min, All, IsTrue, IfOk};
+ghost use Rattle.std.specs.FinMap.{is_sorted};
+ghost use Rattle.grb_core.specs.declared.value.Value.{Value};
+ghost use Rattle.grb_core.specs.declared.operator.BinaryOp.{BinaryOp};
+ghost use Rattle.grb_core.specs.Value.{IsValueOf};
+ghost use Rattle.grb_core.specs.Operator.{op_domain, value_of_op};
+ghost use Rattle.grb_core.proofs.Made.{op_closed};
+ghost use Rattle.std.specs.Ordering.{nat_cmp};
+ghost use Rattle.grb_core.specs.Entries.{cell_cmp, built_from};
+ghost use Rattle.grb_kernels.specs.Typed.{entries_of};
+ghost use Rattle.grb_rows.specs.Cells.{decoded};
+ghost use Rattle.grb_products.specs.ColumnSums.{AreSums, column_folds};
+ghost use Rattle.grb_products.specs.Pushes.{pushed, pushed_of, at_numbers, columns_at};
+
+use crate::column_sums::{
+    AllColumns, Columns, NamedColumns, OpenSums, Term, add_entries, close_sums, distinct, open_sums,
+};
+use crate::monoids::MonoidOver;
+use crate::multiply::is_worth_opening;
+use crate::picks::{Picks, pick_rows};
+use crate::stored::Stored;
+use grb_kernels::{EntryList, EntrySlice, Operator, Scalar};
+use grb_rows::FlatRows;
+use std::alloc::{AllocError, Global};
+use std::marker::PhantomData;
+
+/// Which value an operator takes first.
+pub(crate) trait Side {
+    /// What an operator makes of a value of the vector and one of the matrix.
+    ghost makes: { BinaryOp → Value → Value → Value };
+
+    /// Makes it, of the vector's value `x` and the matrix's value `y`.
+    fn product<T: Scalar, O: Operator<T>>(x: T, y: T) -> T
+        ensures { T.value result ≡ makes O.op (T.value x) (T.value y) };
+
+    /// Of two values of the operator's domain it is one of that domain.
+    ghost closed: { (op : BinaryOp) (x y : Value) → IsValueOf (op_domain op) x → IsValueOf (op_domain op) y → IsValueOf (op_domain op) (makes op x y) };
+}
+
+/// The vector's value comes first, as in vxm.
+pub(crate) struct VectorFirst;
+
+impl Side for VectorFirst {
+    ghost makes = { λ op. λ x. λ y. value_of_op op x y };
+
+    fn product<T: Scalar, O: Operator<T>>(x: T, y: T) -> T {
+        O::apply(x, y)
+    }
+
+    ghost closed = { λ op x y p q. op_closed op x y p q };
+}
+
+/// The matrix's value comes first, as in mxv.
+pub(crate) struct MatrixFirst;
+
+impl Side for MatrixFirst {
+    ghost makes = { λ op. λ x. λ y. value_of_op op y x };
+
+    fn product<T: Scalar, O: Operator<T>>(x: T, y: T) -> T {
+        O::apply(y, x)
+    }
+
+    ghost closed = { λ op x y p q. op_closed op y x q p };
+}
+
+/// A value of the vector, of which the products with those of a row are made.
+#[derive(Drop)]
+struct Product<T, O, S> {
+    x: T,
+    of: PhantomData<(O, S)>,
+}
+
+impl<T: Scalar, O: Operator<T>, S: Side> Term<T> for Product<T, O, S> {
+    ghost gives = { λ term. λ y. S.makes O.op (T.value term.x) y };
+
+    fn of(&self, value: T) -> T {
+        S::product::<T, O>(self.x, value)
+    }
+}
+
+/// How many entries the rows at these places have; 2^64 - 1, where they are more.
+fn picked_len(lists: &FlatRows, places: &[usize]) -> usize
+    requires within { All (λ p. p < length lists.now.rows) places.now }
+    ensures { result ≡ min (length (columns_at lists.now.rows places.now (decoded lists.now.entries))) (2 ^ 64 - 1) }
+{
+    let mut count = 0usize;
+    'rows: for place in places {
+        count = count.saturating_add(lists.row_columns(*place).len());
+    }
+    count
+}
+
+/// The columns of the rows at these places, row by row. Takes memory for `room`, and for more if they are more.
+fn picked_columns(
+    alloc: Global,
+    lists: &FlatRows,
+    places: &[usize],
+    room: usize,
+) -> Result<Vec<u32>, AllocError>
+    requires within { All (λ p. p < length lists.now.rows) places.now }
+    ensures { IfOk result (λ columns. columns.items ≡ columns_at lists.now.rows places.now (decoded lists.now.entries)) }
+{
+    let mut columns = Vec::with_capacity(alloc, room)?;
+    'rows: for place in places {
+        columns.extend_from_slice(lists.row_columns(*place))?;
+    }
+    Ok(columns)
+}
+
+/// Adds the picked rows, each with the products of its pick's value, to sums of which none lies open.
+fn add_rows<T: Stored, M: MonoidOver<T>, O: Operator<T>, S: Side, C: Columns>(
+    columns: &C,
+    lists: &FlatRows,
+    picks: &Picks<T>,
+    marks: &mut [bool],
+    sums: &mut [T],
+)
+    requires domain { lists.now.domain ≡ T.domain }
+    requires within { All (λ p. p < length lists.now.rows) picks.now.places.items }
+    requires in_range { All (λ e. e.0.1 < C.below columns.now) (decoded lists.now.entries) }
+    requires none { AreSums T.value M.monoid (C.names columns.now) [] marks.old sums.old }
+    ensures { AreSums T.value M.monoid (C.names columns.now) (pushed (S.makes O.op) (at_numbers lists.now.rows (entries_of T.value picks.now.places.items picks.now.values.items)) (decoded lists.now.entries)) marks.new sums.new }
+{
+    'rows: for i in 0..picks.places.len() {
+        let place = picks.places[i];
+        let term: Product<T, O, S> = Product {
+            x: picks.values[i],
+            of: PhantomData,
+        };
+        add_entries::<T, M, C, Product<T, O, S>>(
+            columns,
+            &term,
+            lists.row_columns(place),
+            T::of_row(lists, place),
+            marks,
+            sums,
+        );
+    }
+}
+
+/// The sums of the picked rows at these columns. Takes memory for as many places as there are columns.
+fn sum_rows<T: Stored + Drop, M: MonoidOver<T>, O: Operator<T>, S: Side, C: Columns>(
+    alloc: Global,
+    columns: &C,
+    lists: &FlatRows,
+    picks: &Picks<T>,
+) -> Result<EntryList<T>, AllocError>
+    requires domain { lists.now.domain ≡ T.domain }
+    requires within { All (λ p. p < length lists.now.rows) picks.now.places.items }
+    requires in_range { All (λ e. e.0.1 < C.below columns.now) (decoded lists.now.entries) }
+    ensures { IfOk result (λ made. entries_of T.value made.indices.items made.values.items ≡ column_folds M.monoid (C.names columns.now) (pushed (S.makes O.op) (at_numbers lists.now.rows (entries_of T.value picks.now.places.items picks.now.values.items)) (decoded lists.now.entries))) }
+{
+    let open = open_sums::<T, M>(alloc, columns.count())?;
+    let OpenSums {
+        mut marks,
+        mut sums,
+    } = open;
+    add_rows::<T, M, O, S, C>(
+        columns,
+        lists,
+        picks,
+        marks.as_mut_slice(),
+        sums.as_mut_slice(),
+    );
+    close_sums(alloc, columns, marks.as_slice(), sums.as_slice())
+}
+
+/// The sums of the picked rows, by a place for each of `ncols` columns.
+fn sum_all<T: Stored + Drop, M: MonoidOver<T>, O: Operator<T>, S: Side>(
+    alloc: Global,
+    ncols: u32,
+    lists: &FlatRows,
+    picks: &Picks<T>,
+) -> Result<EntryList<T>, AllocError>
+    requires domain { lists.now.domain ≡ T.domain }
+    requires within { All (λ p. p < length lists.now.rows) picks.now.places.items }
+    requires in_range { All (λ e. e.0.1 < ncols) (decoded lists.now.entries) }
+    ensures { IfOk result (λ made. entries_of T.value made.indices.items made.values.items ≡ built_from nat_cmp M.monoid (pushed (S.makes O.op) (at_numbers lists.now.rows (entries_of T.value picks.now.places.items picks.now.values.items)) (decoded lists.now.entries))) }
+{
+    let all = AllColumns { ncols };
+    let made = sum_rows::<T, M, O, S, AllColumns>(alloc, &all, lists, picks)?;
+    Ok(made)
+}
+
+/// The same by a place for each column that the picked rows have. These rows have `count` entries.
+fn sum_named<T: Stored + Drop, M: MonoidOver<T>, O: Operator<T>, S: Side>(
+    alloc: Global,
+    lists: &FlatRows,
+    picks: &Picks<T>,
+    count: usize,
+) -> Result<EntryList<T>, AllocError>
+    requires domain { lists.now.domain ≡ T.domain }
+    requires within { All (λ p. p < length lists.now.rows) picks.now.places.items }
+    requires in_range { All (λ e. e.0.1 < 2 ^ 32) (decoded lists.now.entries) }
+    ensures { IfOk result (λ made. entries_of T.value made.indices.items made.values.items ≡ built_from nat_cmp M.monoid (pushed (S.makes O.op) (at_numbers lists.now.rows (entries_of T.value picks.now.places.items picks.now.values.items)) (decoded lists.now.entries))) }
+{
+    let columns = picked_columns(alloc, lists, picks.places.as_slice(), count)?;
+    let names = distinct(alloc, columns.as_slice())?;
+    let named = NamedColumns {
+        names: names.as_slice(),
+    };
+    let made = sum_rows::<T, M, O, S, NamedColumns>(alloc, &named, lists, picks)?;
+    Ok(made)
+}
+
+/// The product of a vector and a matrix by a monoid and an operator as types: at each column the fold of the products where both store
+/// something. Time and memory are in proportion to the entries of the vector and of the rows that it picks.
+pub(crate) fn push<T: Stored + Drop, M: MonoidOver<T>, O: Operator<T>, S: Side>(
+    alloc: Global,
+    ncols: u64,
+    u: &EntrySlice<T>,
+    lists: &FlatRows,
+) -> Result<EntryList<T>, AllocError>
+    requires domain { lists.now.domain ≡ T.domain }
+    requires few { ncols < 2 ^ 32 }
+    requires ordered { IsTrue (is_sorted cell_cmp (decoded lists.now.entries)) }
+    requires in_range { All (λ e. e.0.1 < ncols) (decoded lists.now.entries) }
+    ensures { IfOk result (λ made. entries_of T.value made.indices.items made.values.items ≡ pushed_of M.monoid (S.makes O.op) (entries_of T.value u.now.indices.now u.now.values.now) (decoded lists.now.entries)) }
+{
+    let picks = pick_rows(alloc, lists, u)?;
+    let count = picked_len(lists, picks.places.as_slice());
+    if is_worth_opening(ncols, count) {
+        let made = sum_all::<T, M, O, S>(alloc, ncols as u32, lists, &picks)?;
+        return Ok(made);
+    }
+    let made = sum_named::<T, M, O, S>(alloc, lists, &picks, count)?;
+    Ok(made)
+}
