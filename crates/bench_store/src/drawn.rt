@@ -41,7 +41,13 @@ pub(crate) const SIDE: u64 = 16_384;
 const LEVELS: u32 = 14;
 
 /// The cells that are drawn; some are drawn twice.
-const DRAWS: u32 = 275_000;
+const DRAWS: u64 = 275_000;
+
+/// A row that has about as many entries of a drawn matrix as rows have on average.
+const TYPICAL: u64 = 341;
+
+/// The columns of an eighth.
+const EIGHTH: u64 = SIDE / 8;
 
 /// What a drawn matrix is.
 #[derive(Clone, Copy)]
@@ -52,16 +58,24 @@ pub(crate) enum Shape {
     Ones,
     /// A one below the diagonal for each drawn cell: in it, in the one across, or for the diagonal in the next one down or across.
     Below,
+    /// Numbers below 8 in eight cells of each row, one in each eighth of the columns.
+    Eight,
 }
 
-/// A cell.
-fn cell(numbers: &mut Numbers) -> (u64, u64)
-    ensures row { result.0 < 16384 }
-    ensures column { result.1 < 16384 }
-{
+/// Which indices of a vector store something.
+#[derive(Clone, Copy)]
+pub(crate) enum Places {
+    /// One of so many, as they are drawn; all where it is 1.
+    Drawn(u64),
+    /// One of so many, from `TYPICAL` on in both directions.
+    Each(u64),
+}
+
+/// A cell, after so many halvings of the rows and the columns.
+pub(crate) fn halved(numbers: &mut Numbers, levels: u32) -> (u64, u64) {
     let mut i = 0u64;
     let mut j = 0u64;
-    for _ in 0..LEVELS {
+    for _ in 0..levels {
         let (down, right) = match numbers.below(100) {
             0..57 => (0, 0),
             57..76 => (0, 1),
@@ -71,11 +85,20 @@ fn cell(numbers: &mut Numbers) -> (u64, u64)
         i = i.wrapping_mul(2).wrapping_add(down);
         j = j.wrapping_mul(2).wrapping_add(right);
     }
+    (i, j)
+}
+
+/// A cell of a matrix.
+fn cell(numbers: &mut Numbers) -> (u64, u64)
+    ensures row { result.0 < 16384 }
+    ensures column { result.1 < 16384 }
+{
+    let (i, j) = halved(numbers, LEVELS);
     (i % SIDE, j % SIDE)
 }
 
-/// A tuple.
-fn tuple(numbers: &mut Numbers, shape: Shape) -> (u64, u64, Value)
+/// The tuple at this place of the list.
+fn tuple(numbers: &mut Numbers, shape: Shape, at: u64) -> (u64, u64, Value)
     ensures row { result.0 < 16384 }
     ensures column { result.1 < 16384 }
     ensures domain { value_domain result.2 ≡ Domain.Uint64 }
@@ -89,6 +112,19 @@ fn tuple(numbers: &mut Numbers, shape: Shape) -> (u64, u64, Value)
             let i = if i == j { (i + 1) % SIDE } else { i };
             (i.max(j), i.min(j), Value::Uint64(1))
         }
+        Shape::Eight => (
+            at / 8 % SIDE,
+            at % 8 * EIGHTH + j % EIGHTH,
+            Value::Uint64(number % 8),
+        ),
+    }
+}
+
+/// How many tuples are drawn.
+fn draws_of(shape: Shape) -> u64 {
+    match shape {
+        Shape::Eight => 8 * SIDE,
+        _ => DRAWS,
     }
 }
 
@@ -102,18 +138,27 @@ pub(crate) fn tuples(
     ensures columns { IfOk result (λ tuples. All (λ e. e.1 < 16384) tuples.items) }
     ensures domain { IfOk result (λ tuples. All (λ e. value_domain e.2 ≡ Domain.Uint64) tuples.items) }
 {
-    let mut tuples = Vec::with_capacity(alloc, DRAWS as usize)?;
-    'draws: for _ in 0..DRAWS {
-        tuples.push(tuple(numbers, shape))?;
+    let draws = draws_of(shape);
+    let mut tuples = Vec::with_capacity(alloc, draws as usize)?;
+    'draws: for at in 0..draws {
+        tuples.push(tuple(numbers, shape, at))?;
     }
     Ok(tuples)
 }
 
-/// The tuples of a vector that stores something at one index of so many, or at all where it is 1.
+/// Whether an index stores something.
+fn is_taken(numbers: &mut Numbers, places: Places, i: u64) -> bool {
+    match places {
+        Places::Drawn(one_of) => numbers.below(one_of.max(1)) == 0,
+        Places::Each(stride) => i % stride.max(1) == TYPICAL % stride.max(1),
+    }
+}
+
+/// The tuples of a vector.
 pub(crate) fn tuples_of_vector(
     alloc: Global,
     numbers: &mut Numbers,
-    one_of: u64,
+    places: Places,
 ) -> Result<Vec<(u64, Value)>, AllocError>
     ensures indices { IfOk result (λ tuples. All (λ e. e.0 < 16384) tuples.items) }
     ensures domain { IfOk result (λ tuples. All (λ e. value_domain e.1 ≡ Domain.Uint64) tuples.items) }
@@ -121,7 +166,7 @@ pub(crate) fn tuples_of_vector(
     let mut tuples = Vec::with_capacity(alloc, SIDE as usize)?;
     'indices: for i in 0..SIDE {
         let number = numbers.next();
-        if numbers.below(one_of.max(1)) == 0 {
+        if is_taken(numbers, places, i) {
             tuples.push((i, Value::Uint64(number % 8)))?;
         }
     }

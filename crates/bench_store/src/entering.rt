@@ -14,7 +14,7 @@ use std::thread::{Threads, map_indices, map_vec};
 use std::time::Instant;
 
 /// The sets of a run; the vector takes the rest of the room.
-const SETS: u32 = ROOM - 1;
+pub(crate) const SETS: u32 = ROOM - 1;
 
 /// Takes sets until it is full.
 trait Takes: Drop {
@@ -65,8 +65,8 @@ impl<R: Wait, T: Takes> Takes for Locked<'_, R, T> {
     }
 }
 
-/// What one thread did in a run: how many sets it entered, and how many nanoseconds it took.
-type Share = (u32, u64);
+/// What one thread did in a run: how many sets it entered, and when it began and ended, in nanoseconds since all were started.
+type Share = (u32, u64, u64);
 
 /// Enters one set after another until there is no room; how many were entered.
 fn fill<T: Takes>(mut taker: T) -> Result<u32, Refusal> {
@@ -81,36 +81,44 @@ fn fill<T: Takes>(mut taker: T) -> Result<u32, Refusal> {
     Ok(entered)
 }
 
+/// What the threads of a run have together: the moment that they were started, and where they wait until all are there.
+#[derive(Drop)]
+struct Start<'a> {
+    at: Instant,
+    all: &'a Barrier,
+}
+
 /// The share of a thread, from the moment that all threads are there; none where a set was refused with room left.
-fn timed_fill<R: Clock + Wait, T: Takes>(rt: &R, all: &Barrier, taker: T) -> Option<Share> {
-    all.wait(rt);
-    let start = Instant::now(rt);
+fn timed_fill<R: Clock + Wait, T: Takes>(rt: &R, start: &Start<'_>, taker: T) -> Option<Share> {
+    start.all.wait(rt);
+    let began = nanos_since(rt, Ok(start.at));
     let filled = fill(taker);
-    let nanos = nanos_since(rt, start);
+    let ended = nanos_since(rt, Ok(start.at));
     match filled {
-        Ok(entered) => Some((entered, nanos)),
+        Ok(entered) => Some((entered, began, ended)),
         Err(_) => None,
     }
 }
 
-/// The longest of the threads' times; none where a share is missing, or there is room left.
-fn longest(shares: &[Option<Share>]) -> Option<u64> {
+/// From where the first of the threads began to where the last ended; none where a share is missing, or there is room left.
+fn whole_time(shares: &[Option<Share>]) -> Option<u64> {
     let mut entered = 0u32;
-    let mut longest = 0u64;
+    let (mut began, mut ended) = (u64::MAX, 0u64);
     for share in shares {
         let Some(share) = share else {
             return None;
         };
         entered = entered.wrapping_add(share.0);
-        longest = longest.max(share.1);
+        began = began.min(share.1);
+        ended = ended.max(share.2);
     }
-    (entered == SETS).then_some(longest)
+    (entered == SETS).then_some(ended.saturating_sub(began))
 }
 
 /// The share of a pass that sets entries of this vector.
 fn timed_sets<R: Clock + Wait>(
     rt: &R,
-    all: &Barrier,
+    start: &Start<'_>,
     context: &Context,
     pass: Pass,
     v: VectorId,
@@ -118,20 +126,28 @@ fn timed_sets<R: Clock + Wait>(
     requires { IsPassOf context.now pass }
 {
     let store = Store { context, pass };
-    timed_fill(rt, all, Setting { store, v })
+    timed_fill(rt, start, Setting { store, v })
 }
 
 /// Fills the order by so many passes, each on a thread of its own. The vector is made by one more.
-fn by_passes<R>(rt: &R, threads: u32) -> Result<Option<u64>, Fail>
+pub(crate) fn by_passes<R>(rt: &R, threads: u32) -> Result<Option<u64>, Fail>
 where
     R: Clock + Threads + Wait + Sync + AllocGlobal,
 {
-    let threads = threads.clamp(1, 63);
+    let threads = threads.clamp(1, 255);
     let (context, mut passes) = Context::open(rt.alloc(), ROOM, threads + 1)?;
     let v = Store::last(&context, &mut passes).make(u64::from(ROOM))?;
     let all = Barrier::new(threads as usize);
-    let shares = map_vec(rt, passes, &|pass| timed_sets(rt, &all, &context, pass, v))?;
-    Ok(longest(&shares))
+    let start = Start {
+        at: Instant::now(rt)?,
+        all: &all,
+    };
+    let shares = map_vec(
+        rt,
+        passes,
+        &|pass| timed_sets(rt, &start, &context, pass, v),
+    )?;
+    Ok(whole_time(&shares))
 }
 
 /// Fills this under a mutex by so many threads.
@@ -141,13 +157,17 @@ where
 {
     let inner = &Mutex::new(taker);
     let all = Barrier::new(threads as usize);
+    let start = Start {
+        at: Instant::now(rt)?,
+        all: &all,
+    };
     let shares = map_indices(
         rt,
         rt.alloc(),
         threads as usize,
-        &|_| timed_fill(rt, &all, Locked { rt, inner }),
+        &|_| timed_fill(rt, &start, Locked { rt, inner }),
     )?;
-    Ok(longest(&shares))
+    Ok(whole_time(&shares))
 }
 
 /// Fills a store with one pass under a mutex.

@@ -7,13 +7,18 @@
 #![tactic(auto)]
 
 mod bench;
+mod by_column;
 mod by_hand;
 mod drawn;
 mod entering;
 mod objects;
 mod operations;
 mod passes;
+mod searches;
+mod shared;
+mod sizes;
 mod texts;
+mod turned;
 
 use crate::bench::Bench;
 use std::env;
@@ -45,10 +50,16 @@ where
     println!(rt; "passes: {} as was set", bench.take_count())?;
     bench.run_sections()?;
     println!(rt; "sections: {} as expected", bench.take_count())?;
+    bench.run_shared()?;
+    println!(rt; "shared: {} as in one section", bench.take_count())?;
+    bench.run_sizes()?;
+    println!(rt; "sizes: {} as was set", bench.take_count())?;
     bench.run_market()?;
     println!(rt; "market: {} as stated", bench.take_count())?;
     bench.run_operations()?;
     println!(rt; "operations: {} as by hand", bench.take_count())?;
+    bench.run_searches()?;
+    println!(rt; "searches: {} as by hand", bench.take_count())?;
     Ok(())
 }
 

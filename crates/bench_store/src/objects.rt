@@ -3,7 +3,7 @@ ghost use Rattle.std.specs.Prelude.{◌≡◌, ◌≤◌, true, length, OnOk};
 ghost use Rattle.grb_core.specs.declared.domain.Domain.{Domain};
 
 use crate::bench::Made;
-use crate::drawn::{Numbers, SIDE, Shape, tuples, tuples_of_vector};
+use crate::drawn::{Numbers, Places, SIDE, Shape, tuples, tuples_of_vector};
 use grb_core::{Domain, Monoid, Value};
 use grb_sparse::{SparseMatrix, SparseVector};
 use std::alloc::{AllocError, Global};
@@ -35,7 +35,7 @@ fn count_in(starts: &mut [usize], row: u64) {
 }
 
 /// Makes counts of rows the places where they begin.
-fn add_up(starts: &mut [usize]) {
+pub(crate) fn add_up(starts: &mut [usize]) {
     let mut all = 0usize;
     for start in starts.iter_mut() {
         all = all.wrapping_add(*start);
@@ -202,9 +202,9 @@ pub(crate) struct Vector {
 }
 
 impl Vector {
-    /// A vector that stores something at one index of so many, or at all where it is 1.
-    pub(crate) fn drawn(alloc: Global, one_of: u64) -> Result<Vector, AllocError> {
-        let tuples = tuples_of_vector(alloc, &mut Numbers::new(), one_of)?;
+    /// A vector that stores something at these indices.
+    pub(crate) fn drawn(alloc: Global, places: Places) -> Result<Vector, AllocError> {
+        let tuples = tuples_of_vector(alloc, &mut Numbers::new(), places)?;
         let mut object = SparseVector::new(alloc, Domain::Uint64, SIDE);
         object.build(&tuples, Monoid::Max)?;
         let plain = List::of(alloc, &object)?;

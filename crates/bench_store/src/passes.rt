@@ -1,19 +1,20 @@
 //! What passes do: sets and gets in turn, reads that make only what they need, first reads by a version, dups, meetings and openings.
-ghost use Rattle.std.specs.Prelude.{◌≡◌, ◌+◌, ◌<◌, All, length};
+ghost use Rattle.std.specs.Prelude.{◌≡◌, ◌+◌, ◌<◌, ◌≤◌, All, length};
+ghost use Rattle.grb_order.specs.declared.limits.TheConstants.{MOST_ROOM};
 ghost use Rattle.grb_context.specs.Known.{IsPassOf};
 
 use crate::bench::{Bench, nanos_since};
 use crate::drawn::{Numbers, SIDE, Shape, tuples};
 use crate::objects::Matrix;
 use grb_call::{MatrixId, MatrixTuples, Reply, VectorId, VectorTuples, WaitMode};
-use grb_context::{Context, Pass};
+use grb_context::{Context, MOST_ROOM, Pass};
 use grb_core::{Domain, Monoid, Refusal, Value};
 use std::alloc::{AllocError, Global};
 use std::rt::Clock;
 use std::test::Fail;
 use std::time::Instant;
 
-/// The calls that a run has room for, which is the most there can be.
+/// The calls that a run has room for, but for the longest.
 pub(crate) const ROOM: u32 = 4096;
 
 /// The turns of a run: a set and a get of one index each.
@@ -23,7 +24,14 @@ const TURNS: u32 = 2000;
 const OTHERS: u32 = 4000;
 
 /// The size of a vector.
-const SIZE: u64 = 4_294_967_295;
+pub(crate) const SIZE: u64 = 4_294_967_295;
+
+/// Room for so many calls and 96 more, at most as much as there can be.
+pub(crate) fn room_for(calls: u32) -> u32
+    ensures { (0 < result) × (result ≤ MOST_ROOM) }
+{
+    calls.saturating_add(96).clamp(1, MOST_ROOM)
+}
 
 /// An entry: its row, its column and its value.
 type Entry = (u64, u64, Value);
@@ -75,7 +83,7 @@ impl<'a> Store<'a> {
     }
 
     /// Sets the first so many entries.
-    fn set_first(&mut self, v: VectorId, count: u32) -> Result<(), Refusal> {
+    pub(crate) fn set_first(&mut self, v: VectorId, count: u32) -> Result<(), Refusal> {
         for i in 0..count {
             self.set(v, u64::from(i))?;
         }
@@ -94,7 +102,7 @@ impl<'a> Store<'a> {
     }
 
     /// Whether the entry at an index is read as it was set.
-    fn is_read(&mut self, v: VectorId, i: u64) -> Result<bool, Refusal> {
+    pub(crate) fn is_read(&mut self, v: VectorId, i: u64) -> Result<bool, Refusal> {
         let reply = self.context.get_vector(&mut self.pass, v, i)?;
         Ok(reply == Reply::Value(Value::Uint64(i)))
     }
@@ -194,8 +202,8 @@ fn turns<R: Clock + AllocGlobal>(rt: &R, entries: u32) -> Result<Option<u64>, Fa
 }
 
 /// The times of reads in a new store.
-fn reads<R: Clock + AllocGlobal>(rt: &R, others: u32) -> Result<[Option<u64>; 3], Fail> {
-    let (context, mut passes) = Context::open(rt.alloc(), ROOM, 1)?;
+pub(crate) fn reads<R: Clock + AllocGlobal>(rt: &R, others: u32) -> Result<[Option<u64>; 3], Fail> {
+    let (context, mut passes) = Context::open(rt.alloc(), room_for(others), 1)?;
     let mut store = Store::last(&context, &mut passes);
     Ok(store.read_in_turn(rt, others)?)
 }
@@ -208,8 +216,8 @@ fn first_read<R: Clock + AllocGlobal>(rt: &R, waits: bool) -> Result<Option<u64>
     Ok(reading.read(rt, v, i)?)
 }
 
-/// Makes a vector with drawn entries.
-fn fill_drawn(context: &Context, pass: &mut Pass) -> Result<VectorId, Refusal>
+/// Makes a vector with drawn entries by so many calls.
+fn fill_drawn(context: &Context, pass: &mut Pass, calls: u32) -> Result<VectorId, Refusal>
     requires { IsPassOf context.now pass.old }
     ensures { IsPassOf context.now pass.new }
 {
@@ -218,20 +226,21 @@ fn fill_drawn(context: &Context, pass: &mut Pass) -> Result<VectorId, Refusal>
         .new_vector(pass, Domain::Uint64, SIZE)?
         .vector()
         .unwrap();
-    'sets: for _ in 1..OTHERS {
+    'sets: for _ in 1..calls {
         let i = numbers.below(100_000);
         context.set_vector(pass, v, i, Value::Uint64(i))?;
     }
     Ok(v)
 }
 
-/// The time in which a pass comes to know the calls of another, which made this vector: by a meeting, or by a call of its own.
+/// The time in which a pass comes to know so many calls of another, which made this vector: by a meeting, or by a call of its own.
 fn learn(
     rt: &impl Clock,
     context: &Context,
     learning: &mut Pass,
     knowing: &mut Pass,
     v: VectorId,
+    calls: u32,
     meets: bool,
 ) -> Result<Option<u64>, Refusal>
     requires learning { IsPassOf context.now learning.old }
@@ -244,19 +253,23 @@ fn learn(
         context.size_vector(learning, v)?;
     }
     let nanos = nanos_since(rt, start);
-    Ok((learning.known() == OTHERS).then_some(nanos))
+    Ok((learning.known() == calls).then_some(nanos))
 }
 
-/// The time in which a pass comes to know the calls of another, in a new store.
-fn learning<R: Clock + AllocGlobal>(rt: &R, meets: bool) -> Result<Option<u64>, Fail> {
-    let (context, mut passes) = Context::open(rt.alloc(), ROOM, 2)?;
+/// The time in which a pass comes to know so many calls of another, in a new store.
+pub(crate) fn learning<R: Clock + AllocGlobal>(
+    rt: &R,
+    calls: u32,
+    meets: bool,
+) -> Result<Option<u64>, Fail> {
+    let (context, mut passes) = Context::open(rt.alloc(), room_for(calls), 2)?;
     let mut learning = last_pass(&context, &mut passes);
     let mut knowing = last_pass(&context, &mut passes);
-    let v = fill_drawn(&context, &mut knowing)?;
-    Ok(learn(rt, &context, &mut learning, &mut knowing, v, meets)?)
+    let v = fill_drawn(&context, &mut knowing, calls)?;
+    Ok(learn(rt, &context, &mut learning, &mut knowing, v, calls, meets)?)
 }
 
-/// The time of an opening with so many passes, from 1 to 64, and as much room as there can be.
+/// The time of an opening with so many passes, from 1 to 64.
 fn opening<R: Clock + AllocGlobal>(rt: &R, passes: u32) -> Result<Option<u64>, Fail> {
     let passes = passes.clamp(1, 64);
     let start = Instant::now(rt);
@@ -336,7 +349,12 @@ impl<R: Clock + Eprint + AllocGlobal> Bench<'_, R> {
         let names = ["first read by a version", "without"];
         self.compare(names, 1, [true, false], &|waits| first_read(rt, waits))?;
         let names = ["meet", "learn by a call"];
-        self.compare(names, OTHERS, [true, false], &|meets| learning(rt, meets))
+        self.compare(
+            names,
+            OTHERS,
+            [true, false],
+            &|meets| learning(rt, OTHERS, meets),
+        )
     }
 
     /// Times openings.

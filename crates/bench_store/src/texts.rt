@@ -5,6 +5,7 @@ ghost use Rattle.std.specs.Prelude.{◌≡◌, ◌≤◌, Some, None, length};
 use crate::bench::{Bench, Made, nanos_since};
 use crate::drawn::{Numbers, SIDE, Shape};
 use crate::objects::{Matrix, number_of};
+use crate::passes::room_for;
 use grb_core::Value;
 use grb_driver::{MAX_SCRIPT, OpenGate, Source, SourceFault, run_script};
 use grb_market::{Sink, SinkFault, read, write};
@@ -29,13 +30,13 @@ const STEP: u64 = 17_179;
 
 /// Gives a text once as the script, and no file.
 #[derive(Drop)]
-struct Script {
+pub(crate) struct Script {
     text: Option<Vec<u8>>,
     faults: u64,
 }
 
 impl Script {
-    fn new(text: String) -> Script
+    pub(crate) fn new(text: String) -> Script
         ensures { result.faults ≡ 0 }
     {
         Script {
@@ -70,13 +71,13 @@ impl Source for Script {
 
 /// Keeps what it is given.
 #[derive(Drop)]
-struct Kept {
+pub(crate) struct Kept {
     taken: Vec<u8>,
     failures: u64,
 }
 
 impl Kept {
-    fn new(alloc: Global) -> Kept
+    pub(crate) fn new(alloc: Global) -> Kept
         ensures { result.failures ≡ 0 }
     {
         Kept {
@@ -100,31 +101,34 @@ impl Sink for Kept {
     }
 }
 
-/// A script that sets all entries of a vector, each so many of them in a thread section, or all in its first section where it is 0.
-fn script_of(alloc: Global, each: u32) -> Result<String, AllocError> {
+/// A script that sets all entries of a vector of this size, each so many of them in a thread section, or all in its first section where
+/// that is 0.
+fn script_of(alloc: Global, sets: u32, each: u32) -> Result<String, AllocError> {
     let mut text = String::new(alloc);
-    write!(text, "vector v uint64 {SETS}\n")?;
-    for i in 0..SETS {
+    write!(text, "vector v uint64 {sets}\n")?;
+    for i in 0..sets {
         if each > 0 && i % each == 0 {
             write!(text, "thread {}\n", (i / each).wrapping_add(1))?;
         }
-        write!(text, "set v {i} {i}\n")?;
+        write!(text, "set v {i} {}\n", i % 1000)?;
     }
     text.push_str("finally\nnvals v\n")?;
     Ok(text)
 }
 
 /// The time of a run of such a script, from its bytes to the bytes of its lines, of which the last counts all entries.
-fn timed_script<R>(rt: &R, each: u32) -> Result<Option<u64>, Fail>
+pub(crate) fn timed_script<R>(rt: &R, sets: u32, each: u32) -> Result<Option<u64>, Fail>
 where
     R: Clock + AllocGlobal + Threads + Wait + Sync,
 {
-    let mut source = Script::new(script_of(rt.alloc(), each)?);
+    let mut source = Script::new(script_of(rt.alloc(), sets, each)?);
     let mut lines = Kept::new(rt.alloc());
     let start = Instant::now(rt);
-    run_script(rt, rt.alloc(), 4096, &mut source, &mut lines, &OpenGate)?;
+    let room = room_for(sets);
+    run_script(rt, rt.alloc(), room, &mut source, &mut lines, &OpenGate)?;
     let nanos = nanos_since(rt, start);
-    Ok(lines.taken.ends_with(b"count 4000\n").then_some(nanos))
+    let last = format!(in rt.alloc(); "count {sets}\n")?;
+    Ok(lines.taken.ends_with(last.as_bytes()).then_some(nanos))
 }
 
 impl<R: Clock + Eprint + AllocGlobal + Threads + Wait + Sync> Bench<'_, R> {
@@ -132,7 +136,7 @@ impl<R: Clock + Eprint + AllocGlobal + Threads + Wait + Sync> Bench<'_, R> {
     pub(crate) fn run_sections(&mut self) -> Result<(), Fail> {
         let rt = self.rt;
         let names = ["set in 4 thread sections", "in one section"];
-        self.compare(names, SETS, [1000, 0], &|each| timed_script(rt, each))
+        self.compare(names, SETS, [1000, 0], &|each| timed_script(rt, SETS, each))
     }
 }
 
@@ -245,6 +249,12 @@ fn timed_read<R: Clock + AllocGlobal>(
                 && tuple.2 == Value::Uint64(line.2)
         });
     Ok(holds.then_some(nanos))
+}
+
+impl Made<Kept> for Kept {
+    fn is_same(&self, _alloc: Global, other: &Kept) -> Result<bool, Fail> {
+        Ok(self.taken.as_slice() == other.taken.as_slice())
+    }
 }
 
 impl Made<String> for Kept {

@@ -6,6 +6,7 @@ use Rattle.std.specs.Borrow.{Bor}
 use Rattle.std.specs.Str.Parse.{ExplainsUnsignedError, HasUnsignedDigitsIfOk, ParsesUnsigned}
 use Rattle.std.specs.Str.{bytes_eq}
 use Rattle.std.proofs.lemmas.List.{get_or-map, length-map}
+use Rattle.grb_order.specs.declared.limits.TheConstants.{MOST_ROOM}
 use Rattle.clap.specs.Facts.{args_of, unwrap_or_range}
 use Rattle.clap.specs.Built.{IsParsedFrom, IsPlain}
 use Rattle.clap.specs.Lexer.{without_minus}
@@ -92,7 +93,7 @@ one_value : (range : Option ValueRange) → range ≡ None → 1 ≤ (unwrap_or_
 one_value range e = rw e (omega arith)
 
 room_reads : (program : Text) (c : Command) (m : ArgMatches) → app_of c ≡ command_line program → IsParsedFrom c m
-    → (t : List ℕ) × (one_text (found_of m) (codes "room") ≡ Some (without_minus t)) × IsSignedIn (pos 1) (pos 4096) t
+    → (t : List ℕ) × (one_text (found_of m) (codes "room") ≡ Some (without_minus t)) × IsSignedIn (pos 1) (pos MOST_ROOM) t
 room_reads program c m e p =
     let is = is_command_line program c e in
     let lt : 0 < length (args_of c) = rw is.count (omega arith) in
@@ -111,7 +112,7 @@ room_reads program c m e p =
       | inl h ↦ let bad : 104 ≡ 114 = first _ h in absurd (omega arith)
       | inr h ↦ let bad : 118 ≡ 114 = first _ h in absurd (omega arith)
     ])
-    (parser.Signed (pos 1) (pos 4096)) (ap (λ (r : Rule). r.parser) room) in
+    (parser.Signed (pos 1) (pos MOST_ROOM)) (ap (λ (r : Rule). r.parser) room) in
     (got.0, subst (λ (w : List ℕ). one_text (found_of m) w ≡ Some (without_minus got.0)) is_id got.1, got.2)
 
 script_has_value : (program : Text) (c : Command) (m : ArgMatches) → app_of c ≡ command_line program → IsParsedFrom c m
@@ -145,12 +146,12 @@ pub room_given : (program : Text) (c : Command) (m : ArgMatches) (words : List T
     → HasMatchesOf (app_of c) words m
     → ((t : List ℕ) → one_text (found_of m) (codes "room") ≡ Some t
     → ReadsOne (λ bs x. ParsesUnsigned 32 10 bs x × ExplainsUnsignedError 10 bs x × HasUnsignedDigitsIfOk bs x) t r)
-    → (n : ℕ) × (r ≡ Some n) × (1 ≤ n) × (n ≤ 4096) × (option_map number_spelled (one_of (codes "room") (matches_of (command_line program) words)) ≡ Some n)
+    → (n : ℕ) × (r ≡ Some n) × (1 ≤ n) × (n ≤ MOST_ROOM) × (option_map number_spelled (one_of (codes "room") (matches_of (command_line program) words)) ≡ Some n)
 room_given program c m words r e p has reads =
     let text = room_reads program c m e p in
     let read = reads (without_minus text.0) text.1 in
     let got = signed_reads _ (λ bs x. ParsesUnsigned 32 10 bs x × ExplainsUnsignedError 10 bs x × HasUnsignedDigitsIfOk bs x)
-    32 1 4096 text.0 r read (λ u x g. g.0) (omega arith) text.2 in
+    32 1 MOST_ROOM text.0 r read (λ u x g. g.0) (omega arith) text.2 in
     let numeral = (rw got.1 at read).0 in
     let given : one_of (codes "room") (matches_of (command_line program) words) ≡ Some (without_minus text.0) =
     ap (one_of (codes "room")) (sym (rows_are program c m words e has)) ∙ (sym (one_text-rows (found_of m) (codes "room")) ∙ text.1) in

@@ -20,7 +20,7 @@ room_before : Gives (codes "--room" ∷ codes "1" ∷ codes "x" ∷ []) 1 (codes
 unfolding Gives command_line clap_on_literals
 room_before = (refl, refl, refl)
 
-room_behind : Gives (codes "x" ∷ codes "--room=4096" ∷ []) 4096 (codes "x")
+room_behind : Gives (codes "x" ∷ codes "--room=65536" ∷ []) 65536 (codes "x")
 unfolding Gives command_line clap_on_literals
 room_behind = (refl, refl, refl)
 
@@ -28,7 +28,7 @@ no_room : faults_of (codes "grbrun") (codes "--room" ∷ codes "0" ∷ codes "x"
 unfolding command_line clap_on_literals
 no_room = refl
 
-too_much_room : faults_of (codes "grbrun") (codes "--room" ∷ codes "4097" ∷ codes "x" ∷ []) ≡ ValueValidation ∷ []
+too_much_room : faults_of (codes "grbrun") (codes "--room" ∷ codes "65537" ∷ codes "x" ∷ []) ≡ ValueValidation ∷ []
 unfolding command_line clap_on_literals
 too_much_room = refl
 

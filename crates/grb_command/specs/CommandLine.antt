@@ -4,6 +4,7 @@ use Rattle.std.specs.Option.{option_map}
 use Rattle.std.specs.declared.io.ErrorKind.{ErrorKind as IoErrorKind}
 use Rattle.std.specs.declared.io.ErrorKind.TheVariants as io_kind
 use Rattle.std.specs.Str.Parse.{digits_value, without_leading_plus}
+use Rattle.grb_order.specs.declared.limits.TheConstants.{MOST_ROOM}
 use Rattle.clap.specs.Words.{App, HasKind, Kinds, Rule, Text, fault_of, first_of, kind_of, matches_of, new_app, new_rule, one_of, with_rule}
 use Rattle.clap.specs.Simple.{on_top}
 use Rattle.clap.specs.declared.builder.action.ArgAction.TheVariants.{Set}
@@ -14,14 +15,14 @@ use Rattle.clap.specs.declared.error.kind.ErrorKind.TheVariants.{DisplayHelp, Di
 use Rattle.grb_driver.specs.declared.fault.RunFault.{RunFault}
 use Rattle.grb_command.specs.declared.arguments.Options.{Options}
 
--- '--room N', with N from 1 to 4096, and 4096 where it is not given
+-- '--room N', with N from 1 to the most that an order has room for, and 4096 where it is not given
 abbrev pub room_option : Rule
 room_option = record (new_rule (codes "room")) {
   long = Some (codes "room");
   action = Some Set;
   value_names = 1;
   defaults = codes "4096" ∷ [];
-  parser = Some (parser.Signed (pos 1) (pos 4096));
+  parser = Some (parser.Signed (pos 1) (pos MOST_ROOM));
 }
 
 -- SCRIPT, which has to be given

@@ -1,4 +1,5 @@
 ghost use Rattle.std.specs.Prelude.{◌≡◌, ◌<◌, ◌≤◌, IfOk, is_ok, map, if◌then◌else◌};
+ghost use Rattle.grb_order.specs.declared.limits.TheConstants.{MOST_ROOM};
 ghost use Rattle.clap.specs.Words.{FailsBy, app_of, kind_of};
 ghost use Rattle.grb_command.specs.CommandLine.{GivesOptions, command_line, faults_of, named_command, status_of_kind};
 
@@ -6,6 +7,7 @@ use crate::arguments::Options;
 use clap::error::ErrorKind;
 use clap::{Arg, ArgAction, Command, Error, value_parser};
 use grb_driver::RunFault;
+use grb_order::MOST_ROOM;
 use std::alloc::{AllocError, Global};
 
 /// The version of the programs, of which `--version` prints `grbrun 1.0.0`.
@@ -29,9 +31,9 @@ fn command<'a>(alloc: Global, program: &'a str) -> Result<Command<'a>, AllocErro
         .long("room")
         .value_name("N")
         .action(ArgAction::Set)
-        .value_parser(value_parser!(u32).range(1..=4096))
+        .value_parser(value_parser!(u32).range(1..=i64::from(MOST_ROOM)))
         .default_value("4096")
-        .help("How many calls may change the store, two of each load, from 1 to 4096");
+        .help("How many calls may change the store, two of each load, from 1 to 65536");
     let script = Arg::new(alloc, "script")
         .value_name("SCRIPT")
         .action(ArgAction::Set)
@@ -46,7 +48,7 @@ fn command<'a>(alloc: Global, program: &'a str) -> Result<Command<'a>, AllocErro
     named(alloc, program).arg(room)?.arg(script)
 }
 
-/// The options that these words give, which are the words after the program's name: `[--room N] SCRIPT`, with N from 1 to 4096, and
+/// The options that these words give, which are the words after the program's name: `[--room N] SCRIPT`, with N from 1 to `MOST_ROOM`, and
 /// 4096 where it is not given (own).
 ///
 /// An error of the kind `DisplayHelp` is a request for help, and one of the kind `DisplayVersion` for the version; each holds its text.
@@ -56,7 +58,7 @@ pub fn options<'a>(
     program: &'a str,
     words: &'a [&'a str],
 ) -> Result<Options<'a>, Error>
-    ensures room { IfOk result (λ o. (0 < o.room) × (o.room ≤ 4096)) }
+    ensures room { IfOk result (λ o. (0 < o.room) × (o.room ≤ MOST_ROOM)) }
     ensures given { IfOk result (GivesOptions program.now (map (λ w. w.now) words.entry.now)) }
     ensures faults { FailsBy (faults_of program.now (map (λ w. w.now) words.entry.now)) result }
 {

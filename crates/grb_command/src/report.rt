@@ -1,5 +1,6 @@
 ghost use Rattle.std.specs.Prelude.{◌≡◌, ◌⊎◌, ◌<◌, ◌≤◌, is_ok, if◌then◌else◌, map};
 ghost use Rattle.std.specs.IoError.{error_kind};
+ghost use Rattle.grb_order.specs.declared.limits.TheConstants.{MOST_ROOM};
 ghost use Rattle.clap.specs.Words.{kind_of};
 ghost use Rattle.grb_command.specs.CommandLine.{IsExit, status_of_kind, status_of_unread};
 ghost use Rattle.grb_command.specs.declared.arguments.Options.{Options};
@@ -39,7 +40,7 @@ pub fn run_words<'a, R, F>(rt: &R, program: &'a str, words: &'a [&'a str], run: 
 where
     R: Print + Eprint + AllocGlobal,
     F: FnOnce(Options<'a>) -> Result<(), RunFault>,
-    requires room { (o : Options) → 0 < o.room → o.room ≤ 4096 → F.pre run o }
+    requires room { (o : Options) → 0 < o.room → o.room ≤ MOST_ROOM → F.pre run o }
     ensures exit { IsExit program.now (map (λ w. w.now) words.entry.now) (F.post run) result }
 {
     match options(rt.alloc(), program, words) {

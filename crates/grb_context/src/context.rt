@@ -1,4 +1,5 @@
-ghost use Rattle.std.specs.Prelude.{◌≡◌, ◌<◌, ◌≤◌, All, IfOk};
+ghost use Rattle.std.specs.Prelude.{◌≡◌, ◌<◌, ◌≤◌, ◌*◌, All, IfOk};
+ghost use Rattle.grb_order.specs.declared.limits.TheConstants.{MOST_PASSES, MOST_ROOM, MOST_SEATS};
 ghost use Rattle.grb_order.specs.Order.{room_of};
 ghost use Rattle.grb_records.specs.Token.{HasRows};
 ghost use Rattle.grb_context.specs.Known.{AreNew, HasNoStatus, IsPassOf};
@@ -28,13 +29,14 @@ impl Model for Context {
 }
 
 impl Context {
-    /// A context whose history takes `room` calls, from 1 to 4,096, and its passes, from 1 to 64, which know no call and have no status: the one
-    /// at index k has the number k. After this memory is taken for the records of entered calls, for the evaluation of reads and builds, by
+    /// A context whose history takes `room` calls, from 1 to `MOST_ROOM`, and its passes, from 1 to `MOST_PASSES`, which know no call and
+    /// have no status: the one at index k has the number k. `room` times `passes` is at most `MOST_SEATS`. After this memory is taken for the records of entered calls, for the evaluation of reads and builds, by
     /// a wait for all objects for what it keeps for other passes, and by `run` for its answers and for its copies of builds' lists.
     /// `AllocError` where memory is refused.
     pub fn open(alloc: Global, room: u32, passes: u32) -> Result<(Context, Vec<Pass>), AllocError>
-        requires room { (0 < room) × (room ≤ 4096) }
-        requires passes { (0 < passes) × (passes ≤ 64) }
+        requires room { (0 < room) × (room ≤ MOST_ROOM) }
+        requires passes { (0 < passes) × (passes ≤ MOST_PASSES) }
+        requires seats { room * passes ≤ MOST_SEATS }
         ensures room { IfOk result (λ opened. room_of opened.0.order ≡ room) }
         ensures records { IfOk result (λ opened. HasRows passes room opened.0.records) }
         ensures passes { IfOk result (λ opened. AreNew opened.0.order passes opened.1.items passes) }
@@ -75,5 +77,27 @@ impl Context {
         ensures other { other.new ≡ other.old }
     {
         self.shared.meet(pass, other)
+    }
+
+    /// Lets the pass learn all that the other knows, as [`Context::meet`] does, and then go on from what the other has evaluated: an answer
+    /// makes what is left. Both share those objects until one of them changes one; no entry is copied before. Takes memory for a place of
+    /// each object; where it is refused, the pass evaluates for itself. `Panic` as of `meet` (own).
+    pub fn adopt(&self, pass: &mut Pass, other: &mut Pass) -> Result<(), Refusal>
+        requires pass { IsPassOf self.now pass.old }
+        requires other { IsPassOf self.now other.old }
+        ensures met { Met self.now pass.old pass.new other.old result }
+        ensures other { other.new ≡ other.old }
+    {
+        self.shared.adopt(pass, other)
+    }
+
+    /// Evaluates the calls that the pass knows, where that is dear, so that passes that adopt it have no work of their own with that. It
+    /// learns nothing, changes no answer and no status, and does not wait. Takes memory for the evaluation; where it is refused, less is
+    /// evaluated, and nothing is lost (own).
+    pub fn prepare(&self, pass: &mut Pass)
+        requires { IsPassOf self.now pass.old }
+        ensures { pass.new ≡ pass.old }
+    {
+        self.shared.prepare(pass);
     }
 }

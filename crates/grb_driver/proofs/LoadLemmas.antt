@@ -1,8 +1,9 @@
 -- Steps of lines, one more at their end, and a load that ends with a fault.
-use Rattle.std.proofs.Common.{◌≡◌, ℕ, List, [], ◌∷◌, ◌++◌, length, refl, sym, ap, ◌∙◌, subst, append_assoc, append-nil, arith}
+use Rattle.std.proofs.Common.{◌≡◌, ◌≤◌, ℕ, List, [], ◌∷◌, ◌++◌, length, refl, sym, ap, ◌∙◌, subst, append_assoc, append-nil, arith}
 use Rattle.std.specs.List.{flat_map}
 use Rattle.std.proofs.lemmas.Grind.{flat_map-append}
 use Rattle.std.specs.Prelude.{Option, None, Err}
+use Rattle.grb_order.specs.declared.limits.TheConstants.{MOST_SEATS}
 use Rattle.grb_script.specs.declared.command.Command.{Command}
 use Rattle.grb_script.specs.declared.command.Command.TheVariants as command
 use Rattle.grb_script.specs.declared.command.Numbered.{Numbered}
@@ -14,7 +15,7 @@ use Rattle.grb_driver.specs.declared.loads.Step.{Step}
 use Rattle.grb_driver.specs.declared.source.TheConstants.{MAX_SCRIPT}
 use Rattle.grb_driver.specs.Loads.{Files, IsStep, AreSteps, IsStepFault, StopsWith, IsWhyNotLoaded, AreThreadSteps, Steps, AreScriptSteps, all_of}
 use Rattle.grb_script.specs.Script.{Sections, sections_of}
-use Rattle.grb_driver.specs.Run.{EndsWith, sink_failures_after}
+use Rattle.grb_driver.specs.Run.{EndsWith, seats_of, sink_failures_after}
 use Rattle.grb_driver.specs.Source.{IsGiven}
 
 module _ (files : Files) where
@@ -55,6 +56,7 @@ module _ (files : Files) where
   pub why_not : (commands : List Numbered) (fault : RunFault) → StopsWith files commands fault → IsWhyNotLoaded files commands fault
   why_not commands (run.Script line kind) stops = stops
   why_not commands (run.Load line fault) stops = stops
+  why_not commands run.TooManySections stops = stops
   why_not commands run.CannotReadScript stops = stops
   why_not commands (run.CannotReadFile line) stops = stops
   why_not commands run.ScriptTooLong stops = stops
@@ -82,6 +84,7 @@ module _ (files : Files) where
       → IsWhyNotLoaded files (fs ++ bs ++ cs) fault
   why_more fs bs cs xs (run.Script line kind) loaded why = stops_more fs bs cs xs (run.Script line kind) loaded why
   why_more fs bs cs xs (run.Load line fault) loaded why = stops_more fs bs cs xs (run.Load line fault) loaded why
+  why_more fs bs cs xs run.TooManySections loaded why = stops_more fs bs cs xs run.TooManySections loaded why
   why_more fs bs cs xs run.CannotReadScript loaded why = stops_more fs bs cs xs run.CannotReadScript loaded why
   why_more fs bs cs xs (run.CannotReadFile line) loaded why = stops_more fs bs cs xs (run.CannotReadFile line) loaded why
   why_more fs bs cs xs run.ScriptTooLong loaded why = stops_more fs bs cs xs run.ScriptTooLong loaded why
@@ -155,6 +158,10 @@ module _ (files : Files) where
   no_script_fault at line kind (command.Statement s) stops = stops
   no_script_fault at line kind (command.Load path) stops = stops
 
+  no_crowd : (at : ℕ) (c : Command) → IsStepFault files at c run.TooManySections → ⊥
+  no_crowd at (command.Statement s) stops = stops
+  no_crowd at (command.Load path) stops = stops
+
   no_sink_fault : (at : ℕ) (c : Command) → IsStepFault files at c run.CannotWrite → ⊥
   no_sink_fault at (command.Statement s) stops = stops
   no_sink_fault at (command.Load path) stops = stops
@@ -168,22 +175,24 @@ module _ (files : Files) where
   no_panic_fault at (command.Load path) stops = stops
 
   -- what is written where a load ends with a fault: nothing
-  pub ends : (room : ℕ) (told : Option (List ℕ)) (text : List ℕ) (before after : Option (List ℕ)) → IsGiven told MAX_SCRIPT text → script_fault text ≡ None → after ≡ before
+  pub ends : (room : ℕ) (told : Option (List ℕ)) (text : List ℕ) (before after : Option (List ℕ)) → IsGiven told MAX_SCRIPT text → script_fault text ≡ None → seats_of room text ≤ MOST_SEATS → after ≡ before
       → (fault : RunFault) → IsWhyNotLoaded files (all_of (sections_of text)) fault → EndsWith room told files fault before after
-  ends room told text before after given none same (run.Script line kind) why = absurd (no_script_fault why.asked.line line kind why.asked.command why.stops)
-  ends room told text before after given none same (run.Load line fault) why = (record { text = text; given = given; faultless = none; stops = why }, same)
-  ends room told text before after given none same run.CannotReadScript why = same
-  ends room told text before after given none same (run.CannotReadFile line) why = (record { text = text; given = given; faultless = none; stops = why }, same)
-  ends room told text before after given none same run.ScriptTooLong why = same
-  ends room told text before after given none same (run.FileTooLong line) why = (record { text = text; given = given; faultless = none; stops = why }, same)
-  ends room told text before after given none same run.OutOfMemory why = same
-  ends room told text before after given none same run.NoThread why = absurd (no_thread_fault why.asked.line why.asked.command why.stops)
-  ends room told text before after given none same run.Panic why = absurd (no_panic_fault why.asked.line why.asked.command why.stops)
-  ends room told text before after given none same run.CannotWrite why = absurd (no_sink_fault why.asked.line why.asked.command why.stops)
+  ends room told text before after given none fits same (run.Script line kind) why = absurd (no_script_fault why.asked.line line kind why.asked.command why.stops)
+  ends room told text before after given none fits same (run.Load line fault) why = (record { text = text; given = given; faultless = none; fits = fits; stops = why }, same)
+  ends room told text before after given none fits same run.TooManySections why = absurd (no_crowd why.asked.line why.asked.command why.stops)
+  ends room told text before after given none fits same run.CannotReadScript why = same
+  ends room told text before after given none fits same (run.CannotReadFile line) why = (record { text = text; given = given; faultless = none; fits = fits; stops = why }, same)
+  ends room told text before after given none fits same run.ScriptTooLong why = same
+  ends room told text before after given none fits same (run.FileTooLong line) why = (record { text = text; given = given; faultless = none; fits = fits; stops = why }, same)
+  ends room told text before after given none fits same run.OutOfMemory why = same
+  ends room told text before after given none fits same run.NoThread why = absurd (no_thread_fault why.asked.line why.asked.command why.stops)
+  ends room told text before after given none fits same run.Panic why = absurd (no_panic_fault why.asked.line why.asked.command why.stops)
+  ends room told text before after given none fits same run.CannotWrite why = absurd (no_sink_fault why.asked.line why.asked.command why.stops)
 
   pub no_failure : (failures : ℕ) (commands : List Numbered) (fault : RunFault) → IsWhyNotLoaded files commands fault → failures ≡ sink_failures_after failures (Err fault)
   no_failure failures commands (run.Script line kind) why = refl
   no_failure failures commands (run.Load line fault) why = refl
+  no_failure failures commands run.TooManySections why = refl
   no_failure failures commands run.CannotReadScript why = refl
   no_failure failures commands (run.CannotReadFile line) why = refl
   no_failure failures commands run.ScriptTooLong why = refl

@@ -125,6 +125,7 @@ module _ (context : Shared) where
 pub stop_of : (threads : List (List Step)) (fault : RunFault) → threads ≢ [] → IsStop fault → IsStopOf threads fault
 stop_of threads (run.Script line kind) some is = absurd is
 stop_of threads (run.Load line fault) some is = absurd is
+stop_of threads run.TooManySections some is = absurd is
 stop_of threads run.CannotReadScript some is = absurd is
 stop_of threads (run.CannotReadFile line) some is = absurd is
 stop_of threads run.ScriptTooLong some is = absurd is

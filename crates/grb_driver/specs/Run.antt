@@ -1,8 +1,9 @@
 -- believed: What a run of a script leaves (own): what was written by how the run ended, and which faults of the source and the sink
 -- it met.
-use Rattle.std.specs.Prelude.{◌≡◌, ◌≢◌, ℕ, ◌+◌, ◌⊎◌, List, [], ◌++◌, All, Option, Some, None, Result, Ok, Err}
+use Rattle.std.specs.Prelude.{◌≡◌, ◌≢◌, ℕ, ◌+◌, ◌*◌, ◌<◌, ◌≤◌, length, ◌⊎◌, List, [], ◌++◌, All, Option, Some, None, Result, Ok, Err}
 use Rattle.std.specs.List.{flat_map}
 use Rattle.std.specs.Io.KnownBytes.{Appends}
+use Rattle.grb_order.specs.declared.limits.TheConstants.{MOST_SEATS}
 use Rattle.grb_words.specs.declared.fault.FaultKind.{FaultKind}
 use Rattle.grb_driver.specs.declared.fault.RunFault.{RunFault}
 use Rattle.grb_driver.specs.declared.fault.RunFault.TheVariants as run
@@ -17,6 +18,10 @@ use Rattle.grb_lines.specs.ReplyLine.{reply_line}
 use Rattle.grb_market.specs.Sink.{AppendsBeginning}
 use Rattle.grb_driver.specs.Source.{FaultCounts, counted, IsGiven}
 
+-- how many calls the passes of a script have places for, with room for so many each: main's pass, and one for each thread section
+abbrev pub seats_of : ℕ → List ℕ → ℕ
+seats_of room text = room * (length (sections_of text).threads + 1)
+
 -- The file of each load of the script spells a matrix, the lines of the script's answers were written, and no byte more. Where the script
 -- has no thread sections, they are those of main and the last section as one run, and where neither memory nor a record was refused, no
 -- other text
@@ -29,19 +34,21 @@ pub record Wrote (room : ℕ) (files : Files) (text : List ℕ) (before after : 
   pub written : Appends before after (flat_map reply_line (in_order answers))
   pub exact : script.threads ≡ [] → All WasServed (in_order answers) → Appends before after (printed room (script.main ++ script.finally))
 
--- a script was given that has no fault, and the lines of its answers were written
+-- a script was given that has no fault, its sections are not too many for the room, and the lines of its answers were written
 pub record WroteAll (room : ℕ) (told : Option (List ℕ)) (files : Files) (before after : Option (List ℕ)) : Type 0 where
   pub text : List ℕ
   pub given : IsGiven told MAX_SCRIPT text
   pub faultless : script_fault text ≡ None
+  pub fits : seats_of room text ≤ MOST_SEATS
   pub lines : Wrote room files text before after
 
--- a script was given that has no fault, the file of each of its loads spells a matrix, and a beginning of the lines of its answers was
+-- a script was given that has no fault, its sections are not too many for the room, the file of each of its loads spells a matrix, and a beginning of the lines of its answers was
 -- written
 pub record WroteBeginning (room : ℕ) (told : Option (List ℕ)) (files : Files) (before after : Option (List ℕ)) : Type 0 where
   pub text : List ℕ
   pub given : IsGiven told MAX_SCRIPT text
   pub faultless : script_fault text ≡ None
+  pub fits : seats_of room text ≤ MOST_SEATS
   pub script : Steps
   pub loaded : AreScriptSteps files (sections_of text) script
   pub answers : Answers
@@ -55,18 +62,27 @@ pub record IsFirstFault (told : Option (List ℕ)) (line : ℕ) (kind : FaultKin
   pub given : IsGiven told MAX_SCRIPT text
   pub fault : script_fault text ≡ Some (record { line = line; kind = kind })
 
--- a script was given that has no fault, and the first of its loads that ends with a fault does so with this one
-pub record StopsAtLoad (told : Option (List ℕ)) (files : Files) (fault : RunFault) : Type 0 where
+-- a script was given that has no fault, and it has too many thread sections for so much room
+pub record IsCrowded (room : ℕ) (told : Option (List ℕ)) : Type 0 where
   pub text : List ℕ
   pub given : IsGiven told MAX_SCRIPT text
   pub faultless : script_fault text ≡ None
+  pub crowded : MOST_SEATS < seats_of room text
+
+-- a script was given that has no fault, its sections are not too many for the room, and the first of its loads that ends with a fault does so with this one
+pub record StopsAtLoad (room : ℕ) (told : Option (List ℕ)) (files : Files) (fault : RunFault) : Type 0 where
+  pub text : List ℕ
+  pub given : IsGiven told MAX_SCRIPT text
+  pub faultless : script_fault text ≡ None
+  pub fits : seats_of room text ≤ MOST_SEATS
   pub stops : StopsWith files (all_of (sections_of text)) fault
 
--- a script was given that has no fault, the file of each of its loads spells a matrix, and it has thread sections
-pub record IsThreaded (told : Option (List ℕ)) (files : Files) : Type 0 where
+-- a script was given that has no fault, its sections are not too many for the room, the file of each of its loads spells a matrix, and it has thread sections
+pub record IsThreaded (room : ℕ) (told : Option (List ℕ)) (files : Files) : Type 0 where
   pub text : List ℕ
   pub given : IsGiven told MAX_SCRIPT text
   pub faultless : script_fault text ≡ None
+  pub fits : seats_of room text ≤ MOST_SEATS
   pub script : Steps
   pub loaded : AreScriptSteps files (sections_of text) script
   pub threaded : script.threads ≢ []
@@ -74,14 +90,15 @@ pub record IsThreaded (told : Option (List ℕ)) (files : Files) : Type 0 where
 -- what a run that ended with this fault wrote: nothing, but where the sink failed
 abbrev pub EndsWith : ℕ → Option (List ℕ) → Files → RunFault → Option (List ℕ) → Option (List ℕ) → Type 0
 EndsWith room told files (run.Script line kind) before after = IsFirstFault told line kind × (after ≡ before)
-EndsWith room told files (run.Load line fault) before after = StopsAtLoad told files (run.Load line fault) × (after ≡ before)
+EndsWith room told files (run.Load line fault) before after = StopsAtLoad room told files (run.Load line fault) × (after ≡ before)
+EndsWith room told files run.TooManySections before after = IsCrowded room told × (after ≡ before)
 EndsWith room told files run.CannotReadScript before after = after ≡ before
-EndsWith room told files (run.CannotReadFile line) before after = StopsAtLoad told files (run.CannotReadFile line) × (after ≡ before)
+EndsWith room told files (run.CannotReadFile line) before after = StopsAtLoad room told files (run.CannotReadFile line) × (after ≡ before)
 EndsWith room told files run.ScriptTooLong before after = after ≡ before
-EndsWith room told files (run.FileTooLong line) before after = StopsAtLoad told files (run.FileTooLong line) × (after ≡ before)
+EndsWith room told files (run.FileTooLong line) before after = StopsAtLoad room told files (run.FileTooLong line) × (after ≡ before)
 EndsWith room told files run.OutOfMemory before after = after ≡ before
-EndsWith room told files run.NoThread before after = IsThreaded told files × (after ≡ before)
-EndsWith room told files run.Panic before after = IsThreaded told files × (after ≡ before)
+EndsWith room told files run.NoThread before after = IsThreaded room told files × (after ≡ before)
+EndsWith room told files run.Panic before after = IsThreaded room told files × (after ≡ before)
 EndsWith room told files run.CannotWrite before after = WroteBeginning room told files before after
 
 -- how often the sink has failed behind a run: once more where it could not write, and no more where it did not

@@ -1,4 +1,5 @@
-ghost use Rattle.std.specs.Prelude.{◌≡◌, ℕ, ◌+◌, ◌-◌, ◌^◌, ◌<◌, ◌≤◌, List, ◌∷◌, length, map, All, OnOk, IfOk, IfErr};
+ghost use Rattle.std.specs.Prelude.{◌≡◌, ℕ, ◌+◌, ◌-◌, ◌*◌, ◌^◌, ◌<◌, ◌≤◌, List, ◌∷◌, length, map, All, OnOk, IfOk, IfErr};
+ghost use Rattle.grb_order.specs.declared.limits.TheConstants.{MOST_PASSES, MOST_ROOM, MOST_SEATS};
 ghost use Rattle.grb_order.specs.Order.{room_of};
 ghost use Rattle.grb_context.specs.Known.{AreNew, IsPassOf};
 ghost use Rattle.grb_driver.specs.Loads.{steps_listed};
@@ -12,7 +13,7 @@ use crate::gate::Gate;
 use crate::loads::{ScriptSteps, script_steps};
 use crate::section::answers_by;
 use crate::source::Source;
-use crate::threads::run_threads;
+use crate::threads::{check_sections, run_threads};
 use grb_context::{Context, Pass};
 use grb_lines::{Answer, text_of};
 use grb_market::{Sink, put_all};
@@ -27,8 +28,9 @@ fn open_store(
     room: u32,
     threads: usize,
 ) -> Result<(Context, Pass, Vec<Pass>), AllocError>
-    requires room { (0 < room) × (room ≤ 4096) }
-    requires threads { threads ≤ 63 }
+    requires room { (0 < room) × (room ≤ MOST_ROOM) }
+    requires threads { threads < MOST_PASSES }
+    requires seats { room * (threads + 1) ≤ MOST_SEATS }
     ensures room { IfOk result (λ opened. room_of opened.0.order ≡ room) }
     ensures main { IfOk result (λ opened. IsPassOf opened.0 opened.1) }
     ensures passes { IfOk result (λ opened. All (IsPassOf opened.0) opened.2.items) }
@@ -90,8 +92,9 @@ fn answers_to<R: Threads + Wait + Sync, G: Gate + Sync>(
     script: ScriptSteps,
     gate: &G,
 ) -> Result<Vec<Answer>, RunFault>
-    requires room { (0 < room) × (room ≤ 4096) }
-    requires threads { length script.threads.items ≤ 63 }
+    requires room { (0 < room) × (room ≤ MOST_ROOM) }
+    requires threads { length script.threads.items < MOST_PASSES }
+    requires seats { room * (length script.threads.items + 1) ≤ MOST_SEATS }
     ensures answers { IfOk result (λ answers. AreAnswers room (steps_listed script) answers.items) }
     ensures fault { IfErr result (IsStopOf (map (λ steps. steps.items) script.threads.items)) }
 {
@@ -102,7 +105,8 @@ fn answers_to<R: Threads + Wait + Sync, G: Gate + Sync>(
 /// Runs the script of a source in a new store with room for `room` calls, and puts a line for each statement into the sink: main's, those
 /// of the thread sections by their numbers, and those of the last section.
 ///
-/// The script is read whole, and then the file of each of its loads, in their order; where one has a fault, nothing is run. Main runs
+/// The script is read whole. Then `room` times the number of its passes, main's and one for each thread section, is held against
+/// `MOST_SEATS`, and then the file of each of its loads is read, in their order; where one has a fault, nothing is run. Main runs
 /// first. Then each thread section runs on a thread and with a pass of its own, all at the same time, and when all have ended the last
 /// section runs with main's pass. All memory is taken before the first byte is put: where it is refused outside of the calls nothing is
 /// written. A call for which it is refused is answered so, in its line. The gate is called round each statement, with the number of its
@@ -115,7 +119,7 @@ pub fn run_script<R: Threads + Wait + Sync, S: Source, W: Sink, G: Gate + Sync>(
     sink: &mut W,
     gate: &G,
 ) -> Result<(), RunFault>
-    requires room { (0 < room) × (room ≤ 4096) }
+    requires room { (0 < room) × (room ≤ MOST_ROOM) }
     requires source { AreCountable (S.faults source.old) }
     requires sink { W.failures sink.old < 2 ^ 64 - 1 }
     ensures ok { OnOk result (WroteAll room (S.script_bytes source.old) (S.file_bytes source.old) (W.taken sink.old) (W.taken sink.new)) }
@@ -127,6 +131,7 @@ pub fn run_script<R: Threads + Wait + Sync, S: Source, W: Sink, G: Gate + Sync>(
 {
     let text = source.script()?;
     let script = read_script(alloc, &text)?;
+    check_sections(room, script.threads.len())?;
     let steps = script_steps(alloc, source, script)?;
     let answers = answers_to(rt, alloc, room, steps, gate)?;
     let lines = text_of(alloc, &answers)?;

@@ -18,6 +18,10 @@ pub enum RunFault {
         line: u64,
         kind: FaultKind,
     },
+    /// The script has no fault, but the room times the number of its passes is above 1,048,576: main's pass and one for each thread
+    /// section. Nothing was run or written, and no file was read.
+    #[error("too many sections for the room")]
+    TooManySections,
     /// The file of the load on this line has a fault, and this is the first. The script and the files of the loads before it have none.
     /// Nothing was run or written.
     #[error("line {line}: load: line {}: {}", .fault.line, .fault.kind)]

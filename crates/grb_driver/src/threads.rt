@@ -1,4 +1,6 @@
-ghost use Rattle.std.specs.Prelude.{◌≡◌, length, map, All, Ok, IfOk, IfErr, OnOk, OnErr};
+ghost use Rattle.std.specs.Prelude.{◌≡◌, ◌+◌, ◌*◌, ◌<◌, ◌≤◌, length, map, All, Ok, IfOk, IfErr, OnOk, OnErr};
+ghost use Rattle.grb_order.specs.declared.limits.TheConstants.{MOST_PASSES, MOST_ROOM, MOST_SEATS};
+ghost use Rattle.grb_driver.specs.declared.fault.RunFault.TheVariants as run;
 ghost use Rattle.grb_context.specs.Known.{IsPassOf};
 ghost use Rattle.grb_context.specs.Meeting.{Met};
 ghost use Rattle.grb_driver.specs.Threads.{IsJob, AreJobs, IsEnded, AreEnded, AreAsked, IsGathered, AreGathered, AreThreadsRun, IsStop};
@@ -8,13 +10,29 @@ use crate::gate::Gate;
 use crate::loads::Step;
 use crate::section::answers_by;
 use grb_call::Object;
-use grb_context::{Context, Pass};
+use grb_context::{Context, MOST_SEATS, Pass};
 use grb_lines::Answer;
+use grb_script::Statement;
 use std::alloc::{AllocError, Global};
 use std::snapshot::Snapshot;
 use std::sync::Wait;
 use std::thread;
 use std::thread::{Promise, PromisedHandle, Scope, Threads};
+
+/// Whether the passes of a script with so many thread sections have places for so many calls each, main's pass too.
+pub(crate) fn check_sections(room: u32, threads: usize) -> Result<(), RunFault>
+    requires room { room ≤ MOST_ROOM }
+    requires threads { threads < MOST_PASSES }
+    ensures fits { OnOk result (room * (threads + 1) ≤ MOST_SEATS) }
+    ensures crowded { IfErr result (λ fault. (fault ≡ run.TooManySections) × (MOST_SEATS < room * (threads + 1))) }
+{
+    let passes = threads as u32 + 1;
+    if room * passes > MOST_SEATS {
+        Err(RunFault::TooManySections)
+    } else {
+        Ok(())
+    }
+}
 
 /// A thread section that is to run: its pass, which has met main's, what main's names stand for, and its steps.
 #[derive(Drop)]
@@ -64,7 +82,7 @@ fn run_job<G: Gate>(
     Ok(Ended { pass, answers })
 }
 
-/// Lets a thread section's pass meet main's, and gives the names that the section begins with.
+/// Lets a thread section's pass adopt main's, and gives the names that the section begins with.
 fn names_for(
     alloc: Global,
     context: &Context,
@@ -80,7 +98,7 @@ fn names_for(
     ensures names { IfOk result (λ names. names.items ≡ objects.now) }
     ensures fault { IfErr result IsStop }
 {
-    match context.meet(pass, main) {
+    match context.adopt(pass, main) {
         Ok(()) => {}
         Err(_) => return Err(RunFault::Panic),
     }
@@ -212,7 +230,7 @@ fn run_jobs<R: Threads + Wait + Sync, G: Gate + Sync>(
     )
 }
 
-/// Lets main's pass learn what a thread section's pass knows, and moves the answers of the section behind these.
+/// Lets main's pass adopt what a thread section's pass knows, and moves the answers of the section behind these.
 fn gather_from(
     context: &Context,
     main: &mut Pass,
@@ -225,7 +243,7 @@ fn gather_from(
     ensures gathered { OnOk result (IsGathered context.now main.old answers.old.items ended.old main.new answers.new.items) }
     ensures fault { IfErr result IsStop }
 {
-    match context.meet(main, &mut ended.pass) {
+    match context.adopt(main, &mut ended.pass) {
         Ok(()) => {}
         Err(_) => return Err(RunFault::Panic),
     }
@@ -268,8 +286,52 @@ fn gather_all(
     Ok(())
 }
 
+/// Whether a statement of the section asks for entries, or checks them.
+fn asks(steps: &[Step]) -> bool {
+    for step in steps {
+        if let Step::Statement(statement) = step {
+            match statement {
+                Statement::Nvals { .. }
+                | Statement::GetMatrix { .. }
+                | Statement::GetVector { .. }
+                | Statement::BuildMatrix { .. }
+                | Statement::BuildVector { .. }
+                | Statement::Total { .. }
+                | Statement::Wait { .. } => return true,
+                _ => {}
+            }
+        }
+    }
+    false
+}
+
+/// Whether several sections ask for entries.
+fn several_ask(threads: &[Vec<Step>]) -> bool {
+    let mut one = false;
+    for steps in threads {
+        if asks(steps) {
+            if one {
+                return true;
+            }
+            one = true;
+        }
+    }
+    false
+}
+
+/// Lets main's pass evaluate what main left, where several sections ask for entries.
+fn prepare_main(context: &Context, main: &mut Pass, threads: &[Vec<Step>])
+    requires { IsPassOf context.now main.old }
+    ensures { main.new ≡ main.old }
+{
+    if several_ask(threads) {
+        context.prepare(main);
+    }
+}
+
 /// Runs the thread sections of a script, all at the same time, each on a thread and by one of these passes, and puts their answers behind
-/// those of main. Where there is none, nothing is done.
+/// those of main. Where there is none, nothing is done. Where several ask for entries, main's pass first evaluates what main left, and each section
+/// goes on from there.
 pub(crate) fn run_threads<R: Threads + Wait + Sync, G: Gate + Sync>(
     rt: &R,
     alloc: Global,
@@ -292,6 +354,7 @@ pub(crate) fn run_threads<R: Threads + Wait + Sync, G: Gate + Sync>(
     if threads.is_empty() {
         return Ok(());
     }
+    prepare_main(context, main, &threads);
     let jobs = jobs_of(alloc, context, main, objects, passes, threads)?;
     let ended = run_jobs(rt, alloc, context, jobs, gate)?;
     gather_all(context, main, answers, ended)

@@ -5,6 +5,7 @@ use native.Mathlib.Decide.{ℕ_discrete, dec_le}
 use Rattle.std.specs.Prelude.{Some, slice_get}
 use Rattle.std.specs.List.{All}
 use Rattle.atomic_table.specs.Seated.{TableId}
+use Rattle.grb_order.specs.declared.limits.TheConstants.{MOST_PASSES}
 use Rattle.grb_order.specs.Holding.{Holding}
 use Rattle.grb_order.specs.Order.{AreFresh}
 use Rattle.grb_order.specs.Steps.{placed}
@@ -116,7 +117,7 @@ fresh_more order passes places upto p are is = record {
 }
 
 -- a place that has just been dealt
-pub seated_fresh : (tag room capacity passes : ℕ) → tag < passes → passes ≤ 64 → room ≤ capacity → IsSeated tag room [] capacity (placed tag passes)
+pub seated_fresh : (tag room capacity passes : ℕ) → tag < passes → passes ≤ MOST_PASSES → room ≤ capacity → IsSeated tag room [] capacity (placed tag passes)
 seated_fresh tag room capacity passes few small roomy = record {
   role = refl;
   number_is = refl;

@@ -1,5 +1,6 @@
 -- believed: What ties the parts of a place.
 use Rattle.std.specs.Prelude.{◌≡◌, ℕ, ◌≤◌, List, vec_capacity}
+use Rattle.grb_order.specs.declared.limits.TheConstants.{MOST_PASSES}
 use Rattle.grb_order.specs.View.{IsSound}
 use Rattle.grb_order.specs.Holding.{Holding}
 use Rattle.grb_order.specs.declared.standing.Standing.{Standing}
@@ -13,7 +14,7 @@ holding p = record { table_id = p.seat.table_id; view = p.seat.me.0.view }
 pub record IsSeated (tag room : ℕ) (words : List ℕ) (capacity : ℕ) (v : Standing) : Type 0 where
   pub role : v.role ≡ Placed
   pub number_is : tag ≡ v.view.number
-  pub passes : v.view.passes ≤ 64
+  pub passes : v.view.passes ≤ MOST_PASSES
   pub words_are : words ≡ v.view.words
   pub roomy : room ≤ capacity
   pub sound : IsSound room v.view

@@ -10,6 +10,7 @@
 #![tactic(auto)]
 
 pub mod laws;
+mod limits;
 mod order;
 mod place;
 mod rule;
@@ -18,6 +19,7 @@ mod step;
 mod view;
 mod word;
 
+pub use limits::{MOST_PASSES, MOST_ROOM, MOST_SEATS};
 pub use order::Order;
 pub use place::Place;
 pub use step::{Entered, Look};

@@ -1,4 +1,5 @@
-ghost use Rattle.std.specs.Prelude.{◌≡◌, ◌<◌, ◌≤◌, [], IfOk};
+ghost use Rattle.std.specs.Prelude.{◌≡◌, ◌<◌, ◌≤◌, ◌*◌, [], IfOk};
+ghost use Rattle.grb_order.specs.declared.limits.TheConstants.{MOST_PASSES, MOST_ROOM, MOST_SEATS};
 ghost use Rattle.grb_order.specs.Steps.{dealing};
 ghost use Rattle.grb_order.specs.Order.{AreFresh};
 
@@ -34,7 +35,7 @@ type Row = Shared<(), Standing, Size, Rule>;
 fn deal(alloc: Global, row: &Row, mut dealer: Seat, size: Size) -> Result<Vec<Place>, AllocError>
     requires row { (row.now.key ≡ size) × (row.now.table_id.words ≡ size.room) × (0 < size.room) }
     requires dealer { (dealer.table_id ≡ row.now.table_id) × (dealer.me ≡ (dealing 0 size.passes, [])) }
-    requires passes { size.passes ≤ 64 }
+    requires passes { size.passes ≤ MOST_PASSES }
     ensures { IfOk result (λ places. AreFresh row.now.table_id size.passes places.items size.passes) }
 {
     let mut places = Vec::with_capacity(alloc, size.passes as usize)?;
@@ -53,12 +54,13 @@ fn deal(alloc: Global, row: &Row, mut dealer: Seat, size: Size) -> Result<Vec<Pl
 impl Order {
     ghost use Rattle.grb_order.specs.Order.{room_of};
 
-    /// An order with `room` vacant words, from 1 to 4,096, and a place for each of `passes` passes, from 1 to 64: the one at index k has
-    /// the number k and has learnt no word. All memory is taken here, the room for each place's words too. `AllocError` where it is
-    /// refused.
+    /// An order with `room` vacant words, from 1 to `MOST_ROOM`, and a place for each of `passes` passes, from 1 to `MOST_PASSES`, where
+    /// `room` times `passes` is at most `MOST_SEATS`: the one at index k has the number k and has learnt no word. All memory is taken
+    /// here, the room for each place's words too. `AllocError` where it is refused.
     pub fn open(alloc: Global, room: u32, passes: u32) -> Result<(Order, Vec<Place>), AllocError>
-        requires room { (0 < room) × (room ≤ 4096) }
-        requires passes { (0 < passes) × (passes ≤ 64) }
+        requires room { (0 < room) × (room ≤ MOST_ROOM) }
+        requires passes { (0 < passes) × (passes ≤ MOST_PASSES) }
+        requires seats { room * passes ≤ MOST_SEATS }
         ensures room { IfOk result (λ opened. room_of opened.0 ≡ room) }
         ensures places { IfOk result (λ opened. AreFresh opened.0 passes opened.1.items passes) }
     {

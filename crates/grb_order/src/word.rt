@@ -1,12 +1,13 @@
 ghost use Rattle.std.specs.Prelude.{◌≡◌, ◌^◌, ◌<◌, ◌≤◌};
 ghost use Rattle.grb_order.specs.Word.{order_word, number_of, index_of};
+ghost use Rattle.grb_order.specs.declared.limits.TheConstants.{MOST_PASSES};
 
 /// How many records a pass may have, and the weight of the pass's number in a word.
 const RECORDS: u64 = 1 << 48;
 
 /// The word of a pass and a record: `(number + 1) * 2^48 + index`.
 pub(crate) fn order_word(number: u32, index: u64) -> u64
-    requires { (number < 64) × (index < 2 ^ 48) }
+    requires { (number < MOST_PASSES) × (index < 2 ^ 48) }
     ensures { result ≡ order_word number index }
 {
     (u64::from(number) + 1) * RECORDS + index

@@ -2,6 +2,7 @@
 use Rattle.std.proofs.Common.{◌≡◌, ℕ, ◌+◌, ◌^◌, ◌<◌, ◌≤◌, List, [], ◌∷◌, ◌++◌, length, refl, sym, ap, ◌∙◌, subst, arith, length-append}
 use Rattle.std.proofs.lemmas.List.{append-nil, length_push}
 use Rattle.std.proofs.lemmas.List.Elements.{All-nil}
+use Rattle.grb_order.specs.declared.limits.TheConstants.{MOST_ROOM}
 use Rattle.grb_order.specs.View.{learns, enters_word, LookedLast}
 use Rattle.grb_order.specs.Steps.{Looks}
 use Rattle.grb_order.specs.declared.view.View.{View}
@@ -44,7 +45,7 @@ pub counts_then : (a b c : Knowing) → Counts a b → Counts b c → Counts a c
 counts_then a b c first next = omega (arith, first, next)
 
 -- the steps while no look was added: no more than the words
-pub steps_few : (a b : Knowing) → Counts a b → b.view.looks ≡ a.view.looks → a.steps < 2 ^ 30 → length b.view.words ≤ 4096 → b.steps < 2 ^ 31
+pub steps_few : (a b : Knowing) → Counts a b → b.view.looks ≡ a.view.looks → a.steps < 2 ^ 30 → length b.view.words ≤ MOST_ROOM → b.steps < 2 ^ 31
 steps_few a b counts looks few small = let k : length b.view.looks ≡ length a.view.looks = ap length looks in omega (arith, counts)
 
 -- what a call counts, by its looks
@@ -162,11 +163,11 @@ counts_begun room old now new is e =
     }
 
 -- the steps of a call that has learnt to the end, and is about to try first
-pub steps_first : (room : ℕ) (old mid : Knowing) → Counts old mid → old.steps ≡ 0 → LooksAtEnd room old mid → length mid.view.words ≤ 4096 → mid.steps < 2 ^ 28
+pub steps_first : (room : ℕ) (old mid : Knowing) → Counts old mid → old.steps ≡ 0 → LooksAtEnd room old mid → length mid.view.words ≤ MOST_ROOM → mid.steps < 2 ^ 28
 steps_first room old mid counts begun looks small = let k : length mid.view.looks ≤ length old.view.looks + 1 = looks_number room old.view.looks (length mid.view.words) mid looks in omega (arith, counts)
 
 -- the steps of a call that is about to try once more
-pub steps_near : (old mid : Knowing) → Learns old mid → Counts old mid → old.steps < 2 ^ 28 → LookedLast old.view → AreLost old mid → length mid.view.words ≤ 4096 → mid.steps < 2 ^ 29
+pub steps_near : (old mid : Knowing) → Learns old mid → Counts old mid → old.steps < 2 ^ 28 → LookedLast old.view → AreLost old mid → length mid.view.words ≤ MOST_ROOM → mid.steps < 2 ^ 29
 steps_near old mid l counts begun looked tried small =
     let looks : length mid.view.looks + length old.view.words ≤ length old.view.looks + length mid.view.words = tried_few looked.0 old.view mid.view (learnt_more old mid l) (tried looked.0 looked.1) l.own looked.1 in omega (arith, counts)
 

@@ -13,9 +13,10 @@ use Rattle.grb_call.specs.After.{after}
 use Rattle.grb_call.specs.History.{Entry, History, calls_of, after_all, store_of}
 use Rattle.grb_call.proofs.Counted.{matrices_after_all, vectors_after_all}
 use Rattle.grb_call.proofs.Runs.{after_all-append}
-use Rattle.grb_values.specs.Partial.{ArePartial}
+use Rattle.grb_values.specs.Partial.{ArePartial, PartialStoresView}
 use Rattle.grb_values.proofs.Partial.{partial_more}
 use Rattle.grb_pass.specs.Known.{Knowing, known, spelled}
+use Rattle.grb_pass.specs.Laws.{Begins}
 use Rattle.grb_pass.specs.Learning.{Enters, Learns}
 use Rattle.grb_pass.specs.Evaluated.{EvaluatedView, IsEvaluatedFor, IsStoreFor}
 use Rattle.grb_replay.specs.Evaluated.{IsEvaluated}
@@ -130,3 +131,23 @@ module _ (p : Knowing) (s : Store) (is : s ≡ store_of (known p)) where
   vectors_known =
       let most : length (store_of (known p)).vectors ≤ 0 + length (calls_of (known p)) = vectors_after_all empty_store (calls_of (known p)) in
       subst (λ (t : Store). length t.vectors ≤ length (known p)) (sym is) (omega (arith, most, length-calls_of (known p)))
+
+-- what another pass has evaluated, where what it knows begins what this one knows
+pub taken_over : (p q : Knowing) (e f now : EvaluatedView) → Begins (known q) (known p) → IsEvaluatedFor p e → IsEvaluatedFor q f → e.count < f.count → now.count ≡ f.count → now.state.store ≡ f.state.store
+    → room_of p.order ≤ now.state.room + f.count → now.objects ≡ e.objects → IsEvaluatedFor p now
+taken_over p q e f now begins mine theirs less count same room objects =
+    let n : length (known p) ≡ length (known q) + length begins.0 = ap length begins.1 ∙ length-append (known q) begins.0 in
+    let at : IsEvaluated (calls_of (known p)) f.count f.state.store =
+    subst (λ (cs : List Call). IsEvaluated cs f.count f.state.store) (sym (ap calls_of begins.1 ∙ calls_of-append (known q) begins.0)) (calls_more (calls_of (known q)) (calls_of begins.0) f.count f.state.store theirs.store.state_is) in
+    let within : f.count ≤ length (calls_of (known q)) = theirs.store.state_is.within in
+    let size : length (calls_of (known q)) ≡ length (known q) = length-calls_of (known q) in
+    record {
+      store = record {
+        state_is = subst (λ (k : ℕ). IsEvaluated (calls_of (known p)) k now.state.store) (sym count) (subst (λ (s : Store). IsEvaluated (calls_of (known p)) f.count s) (sym same) at);
+        room = omega (arith, room, count);
+        settled = omega (arith, mine.store.settled, less, count);
+        assembled = λ all. absurd (omega (arith, all, mine.store.settled, less, within, size, n));
+      };
+      objects = subst (λ (o : PartialStoresView). ArePartial (calls_of (known p)) o) (sym objects) mine.objects;
+      room_is = ap (λ (o : PartialStoresView). o.room) objects ∙ mine.room_is;
+    }

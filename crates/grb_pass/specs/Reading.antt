@@ -1,5 +1,6 @@
 -- believed: What ties the parts of a pass (own).
 use Rattle.std.specs.Prelude.{◌≡◌, ℕ, ◌+◌, ◌≤◌, true, List, length, drop, All, vec_capacity, Some, None, Result, Ok, Err}
+use Rattle.grb_order.specs.declared.limits.TheConstants.{MOST_ROOM}
 use Rattle.grb_core.specs.declared.refusal.Refusal.{Refusal}
 use Rattle.grb_core.specs.declared.refusal.Refusal.TheVariants.{OutOfMemory}
 use Rattle.grb_order.specs.View.{IsOthers, IsSound}
@@ -32,7 +33,7 @@ pub record IsReaderWith (number size : ℕ) (place : Holding) (shown : List Show
   pub room : walk.shapes.room + length shown ≡ place.table_id.words
   pub roomy : place.table_id.words ≤ capacity
   pub room_is : size ≡ place.table_id.words
-  pub small : place.table_id.words ≤ 4096
+  pub small : place.table_id.words ≤ MOST_ROOM
 
 abbrev pub IsReader : Inside → Type 0
 IsReader r = IsReaderWith r.number r.statuses.room r.place r.tokens.items (vec_capacity r.tokens) r.targets

@@ -14,15 +14,16 @@ ghost use Rattle.grb_replay.specs.State.{is_assembled};
 ghost use Rattle.grb_values.specs.Partial.{ArePartial};
 ghost use Rattle.grb_pass.specs.Evaluated.{IsAssembledWhereSettled, IsEvaluatedFor, IsStoreFor};
 ghost use Rattle.grb_pass.specs.Known.{known};
+ghost use Rattle.grb_pass.specs.Laws.{Begins};
 ghost use Rattle.grb_pass.specs.Settled.{is_materialize};
 
 use crate::reader::Reader;
-use grb_call::{Call, Object, Reply, WaitMode};
+use grb_call::{Call, MatrixId, Object, Reply, VectorId, WaitMode};
 use grb_core::Refusal;
 use grb_records::Records;
 use grb_replay::State;
 use grb_slices::CallList;
-use grb_values::PartialStores;
+use grb_values::{Amount, Effort, PartialStores};
 use grb_versions::Versions;
 use std::alloc::{AllocError, Global};
 use std::marker::Model;
@@ -30,6 +31,13 @@ use std::sync::Arc;
 
 /// How many calls more are known where a pass asks for a version again, and how many are to be made where it asks at once (own).
 const MANY: usize = 64;
+
+/// From how much on calls are dear, as a number of sets: a pass asks for a version before it makes them, and offers their store when it has
+/// made them (own).
+const DEAR: u64 = 4096;
+
+/// How many entries of a store are copied in the time of a set, about, where the passes that share it change its objects (own).
+const COPIED: u64 = 64;
 
 /// What a pass has evaluated of the calls that it knows: the store after the first of them, and, where not all were evaluated, the objects
 /// that it read, each in a partial store. It goes on from the versions that passes share, and offers its store where all known calls were
@@ -41,10 +49,14 @@ pub(crate) struct Evaluated {
     count: usize,
     objects: PartialStores,
     versions: Arc<Versions>,
+    // Whether the context has no other pass.
+    alone: bool,
     // How many calls are known where it asks for a version next.
     next: usize,
-    // How many calls the last call of the pass made in the state.
-    made: u32,
+    // How much work those calls are that were made in the state.
+    amount: Amount,
+    // What the calls took that were made.
+    effort: Effort,
 }
 
 impl Model for Evaluated {
@@ -72,6 +84,15 @@ fn lent_calls<'a>(records: &'a Records, reader: &mut Reader) -> Result<Vec<&'a C
     Ok(calls)
 }
 
+/// Adds the work of the calls from a place on, up to another.
+fn add_calls(amount: &mut Amount, calls: &[&Call], from: usize, upto: usize) {
+    for at in from..upto {
+        if let Some(call) = calls.get(at) {
+            amount.add(call);
+        }
+    }
+}
+
 /// Goes on from the longest version that a pass offered of the first known calls, where it has more of them than were evaluated. Where
 /// memory is refused to that, the store stays as it was evaluated.
 fn advance(
@@ -80,6 +101,7 @@ fn advance(
     reader: &mut Reader,
     state: &mut State,
     count: &mut usize,
+    amount: &mut Amount,
 )
     requires store { IsStoreFor reader.old state.old count.old }
     requires of { All (IsOf records.now) reader.old.shown }
@@ -93,17 +115,20 @@ fn advance(
         return;
     };
     let room = reader.room();
-    *count = versions.advance(calls.as_slice(), state, *count, room);
+    let before = *count;
+    *count = versions.advance(calls.as_slice(), state, before, room);
+    add_calls(amount, &calls, before, *count);
 }
 
-/// Applies the calls of the records that were not yet evaluated, and counts each among those made. Where memory is refused, those before
-/// stay evaluated.
+/// Applies the calls of the records that were not yet evaluated, and counts the effort of each. Where memory is refused, those before stay
+/// evaluated.
 fn evaluate(
     records: &Records,
     reader: &mut Reader,
     state: &mut State,
     count: &mut usize,
-    made: &mut u32,
+    amount: &mut Amount,
+    effort: &mut Effort,
 ) -> Result<(), AllocError>
     requires store { IsStoreFor reader.old state.old count.old }
     requires of { All (IsOf records.now) reader.old.shown }
@@ -114,8 +139,9 @@ fn evaluate(
     ensures memory { OnErr result (reader.old.settled < length (known reader.old)) }
 {
     'calls: while *count < reader.known() as usize {
-        *made = made.saturating_add(1);
-        state.apply(reader.call_at(records, *count))?;
+        let call = reader.call_at(records, *count);
+        effort.make(state, call)?;
+        amount.add(call);
         *count += 1;
     }
     Ok(())
@@ -153,6 +179,52 @@ fn offer(
     let calls = lent_calls(records, reader)?;
     let copy = state.try_clone(0)?;
     versions.offer(calls.as_slice(), copy)
+}
+
+/// Has all changes done that wait, where all known calls are evaluated; where these are settled none wait. `AllocError` where memory is
+/// refused.
+fn assemble(reader: &Reader, state: &mut State) -> Result<(), AllocError>
+    requires assembled { IsAssembledWhereSettled reader.now state.old }
+    ensures store { state.new.store ≡ state.old.store }
+    ensures room { state.new.room ≡ state.old.room }
+    ensures assembled { IsAssembledWhereSettled reader.now state.new }
+    ensures all { OnOk result (AreAllAssembled (is_assembled state.new.matrices state.new.vectors)) }
+{
+    if reader.settled() < reader.known() {
+        state.materialize()?;
+    }
+    Ok(())
+}
+
+/// How many entries the objects of the store have.
+fn entries_of(state: &State) -> u64 {
+    let mut entries: u64 = 0;
+    for number in 0..state.matrices() {
+        entries = entries.saturating_add(state.nvals(Object::Matrix(MatrixId(number))));
+    }
+    for number in 0..state.vectors() {
+        entries = entries.saturating_add(state.nvals(Object::Vector(VectorId(number))));
+    }
+    entries
+}
+
+/// Offers the store, in which all known calls are evaluated, to the other passes, with no change left that waits. Where memory is refused
+/// to that, it is not offered.
+fn share(versions: &Versions, records: &Records, reader: &mut Reader, state: &mut State)
+    requires of { All (IsOf records.now) reader.old.shown }
+    requires all { state.old.store ≡ store_of (known reader.old) }
+    requires assembled { IsAssembledWhereSettled reader.old state.old }
+    ensures store { state.new.store ≡ state.old.store }
+    ensures room { state.new.room ≡ state.old.room }
+    ensures same { reader.new ≡ reader.old }
+    ensures assembled { IsAssembledWhereSettled reader.new state.new }
+{
+    if !versions.takes(reader.known() as usize) {
+        return;
+    }
+    if assemble(reader, state).is_ok() {
+        let _ = offer(versions, records, reader, state);
+    }
 }
 
 /// Has the changes done that a reading call asks for, where all known calls are evaluated; where these are settled none wait. A call that
@@ -194,6 +266,7 @@ impl Evaluated {
         alloc: Global,
         room: u32,
         versions: Arc<Versions>,
+        alone: bool,
     ) -> Result<Evaluated, AllocError>
         ensures store { IfOk result (λ e. e.state.store ≡ empty_store) }
         ensures room { IfOk result (λ e. e.state.room ≡ room) }
@@ -208,8 +281,10 @@ impl Evaluated {
             count: 0,
             objects,
             versions,
+            alone,
             next: 0,
-            made: 0,
+            amount: Amount::none(),
+            effort: Effort::new(alloc),
         })
     }
 
@@ -217,17 +292,21 @@ impl Evaluated {
     pub(crate) fn begin(&mut self)
         ensures { self.new ≡ self.old }
     {
-        self.objects.begin();
-        self.made = 0;
+        self.effort.begin();
     }
 
     /// How many calls the last call of the pass made, as [`Pass::made`](crate::Pass::made) says.
     pub(crate) fn made(&self) -> u32 {
-        self.made.saturating_add(self.objects.made())
+        self.effort.made()
+    }
+
+    /// Whether the known calls that are not made are dear.
+    fn is_dear(&self, reader: &Reader) -> bool {
+        self.effort.of(&reader.amount_beyond(&self.amount)) >= DEAR
     }
 
     /// Goes on from a version before a read, or a build's check: the first time, and then where 64 calls more are known than when it last
-    /// did so.
+    /// did so, or those that are not made are dear.
     pub(crate) fn go_on(&mut self, records: &Records, reader: &mut Reader)
         requires evaluated { IsEvaluatedFor reader.old self.old }
         requires of { All (IsOf records.now) reader.old.shown }
@@ -235,7 +314,7 @@ impl Evaluated {
         ensures evaluated { IsEvaluatedFor reader.new self.new }
     {
         let known = reader.known() as usize;
-        if known >= self.next {
+        if known >= self.next || self.is_dear(reader) {
             self.next = known + MANY;
             advance(
                 &self.versions,
@@ -243,12 +322,63 @@ impl Evaluated {
                 reader,
                 &mut self.state,
                 &mut self.count,
+                &mut self.amount,
             );
         }
     }
 
-    /// Evaluates all known calls, from a version where 64 of them or more are not made yet. No object is held in a partial store any more. Where memory is
-    /// refused, `AllocError`; those before stay evaluated.
+    /// Offers the store, in which all known calls are evaluated, to the other passes, where there are some, and what was made for the answer
+    /// was dear, also next to copies of what they may change. Nothing is missed where memory is refused to that.
+    fn share_dear(&mut self, records: &Records, reader: &mut Reader)
+        requires evaluated { IsEvaluatedFor reader.old self.old }
+        requires of { All (IsOf records.now) reader.old.shown }
+        requires store { self.old.state.store ≡ store_of (known reader.old) }
+        ensures same { reader.new ≡ reader.old }
+        ensures evaluated { IsEvaluatedFor reader.new self.new }
+        ensures store { self.new.state.store ≡ self.old.state.store }
+        ensures count { self.new.count ≡ self.old.count }
+    {
+        let spent = self.effort.spent();
+        if self.alone || spent < DEAR || spent < entries_of(&self.state) / COPIED {
+            return;
+        }
+        share(&self.versions, records, reader, &mut self.state);
+    }
+
+    /// Goes on from what another pass has evaluated, where it has evaluated more calls; what it knows begins what this one knows. No entry is
+    /// copied. Where memory is refused, it stays as it is.
+    pub(crate) fn take_over(&mut self, reader: &Reader, theirs: &Reader, other: &Evaluated)
+        requires evaluated { IsEvaluatedFor reader.now self.old }
+        requires other { IsEvaluatedFor theirs.now other.now }
+        requires begins { Begins (known theirs.now) (known reader.now) }
+        ensures { IsEvaluatedFor reader.now self.new }
+    {
+        if other.count <= self.count || other.count > reader.known() as usize {
+            return;
+        }
+        let room = reader.room() - other.count as u32;
+        if let Ok(state) = other.state.try_clone(room) {
+            self.state = state;
+            self.count = other.count;
+            self.amount = other.amount;
+        }
+    }
+
+    /// Evaluates all known calls where that is dear, and has all changes done, so that others can go on from there. Where memory is refused,
+    /// it has evaluated less.
+    pub(crate) fn prepare(&mut self, records: &Records, reader: &mut Reader)
+        requires evaluated { IsEvaluatedFor reader.old self.old }
+        requires of { All (IsOf records.now) reader.old.shown }
+        ensures same { reader.new ≡ reader.old }
+        ensures evaluated { IsEvaluatedFor reader.new self.new }
+    {
+        if self.is_dear(reader) && self.make_all(records, reader).is_ok() {
+            let _ = assemble(reader, &mut self.state);
+        }
+    }
+
+    /// Evaluates all known calls, from a version where 64 of them or more are not made yet, or these are dear; and offers their store where
+    /// they were. No object is held in a partial store any more. Where memory is refused, `AllocError`; those before stay evaluated.
     pub(crate) fn make_all(
         &mut self,
         records: &Records,
@@ -263,13 +393,14 @@ impl Evaluated {
         ensures memory { OnErr result (reader.old.settled < length (known reader.old)) }
     {
         self.objects.release();
-        if reader.known() as usize >= self.count.saturating_add(MANY) {
+        if reader.known() as usize >= self.count.saturating_add(MANY) || self.is_dear(reader) {
             advance(
                 &self.versions,
                 records,
                 reader,
                 &mut self.state,
                 &mut self.count,
+                &mut self.amount,
             );
         }
         evaluate(
@@ -277,8 +408,11 @@ impl Evaluated {
             reader,
             &mut self.state,
             &mut self.count,
-            &mut self.made,
-        )
+            &mut self.amount,
+            &mut self.effort,
+        )?;
+        self.share_dear(records, reader);
+        Ok(())
     }
 
     /// Why what is stored refuses the build, if it does. Takes no memory.
@@ -348,15 +482,31 @@ impl Evaluated {
         if self.count >= reader.known() as usize {
             return Ok(None);
         }
+        let left = reader.amount_beyond(&self.amount);
         let held = self.objects.len();
-        let reply = self
-            .objects
-            .reply(reader, records, &self.state, self.count, object, call)?;
+        let reply = self.objects.reply(
+            reader,
+            records,
+            &self.state,
+            self.count,
+            &left,
+            object,
+            call,
+            &mut self.effort,
+        )?;
         if reply.is_some() || self.objects.len() == held {
             return Ok(reply);
         }
         // What was held of the object lacked what new calls read, and is dropped.
-        self.objects
-            .reply(reader, records, &self.state, self.count, object, call)
+        self.objects.reply(
+            reader,
+            records,
+            &self.state,
+            self.count,
+            &left,
+            object,
+            call,
+            &mut self.effort,
+        )
     }
 }

@@ -54,4 +54,29 @@ impl Shared {
         pass.begin();
         self.meet_reader(&mut pass.reader, &mut other.reader)
     }
+
+    /// Lets the pass learn all that the other knows, as `meet` does, and then go on from what the other has evaluated: an answer makes what
+    /// is left. Both share those objects until one of them changes one. Takes memory for places; where it is refused, the pass evaluates
+    /// for itself.
+    pub fn adopt(&self, pass: &mut Pass, other: &mut Pass) -> Result<(), Refusal>
+        requires pass { IsPassOf self.now pass.old }
+        requires other { IsPassOf self.now other.old }
+        ensures met { Met self.now pass.old pass.new other.old result }
+        ensures other { other.new ≡ other.old }
+    {
+        let met = self.meet(pass, other);
+        if met.is_ok() {
+            pass.take_over(other);
+        }
+        met
+    }
+
+    /// Evaluates what the pass knows where that is dear, so that passes that adopt it have no work of their own with that. It learns nothing
+    /// and changes no answer. Takes memory for the evaluation; where it is refused, less is evaluated.
+    pub fn prepare(&self, pass: &mut Pass)
+        requires { IsPassOf self.now pass.old }
+        ensures { pass.new ≡ pass.old }
+    {
+        pass.prepare(&self.records);
+    }
 }

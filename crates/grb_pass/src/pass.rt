@@ -1,5 +1,6 @@
 ghost use Rattle.std.specs.Prelude.{◌≡◌, ◌<◌, ◌≤◌, ◌+◌, ◌^◌, ◌⊎◌, false, None, Some, [], if◌then◌else◌, length, All, IfOk, IfErr, IfSome, OnOk, OnErr};
 ghost use Rattle.std.specs.Option.{option_or};
+ghost use Rattle.grb_order.specs.declared.limits.TheConstants.{MOST_ROOM};
 ghost use Rattle.grb_order.specs.View.{fresh, LookedLast};
 ghost use Rattle.grb_order.specs.Order.{room_of};
 ghost use Rattle.grb_records.specs.Token.{IsOf};
@@ -12,6 +13,7 @@ ghost use Rattle.grb_call.specs.Status.{info_of, made_by, object_of, with_status
 ghost use Rattle.grb_statuses.specs.Statuses.{no_rows, status_at};
 ghost use Rattle.grb_pass.specs.Known.{known};
 ghost use Rattle.grb_pass.specs.Counting.{Counts};
+ghost use Rattle.grb_pass.specs.Laws.{Begins};
 ghost use Rattle.grb_pass.specs.Learning.{Enters, IsSteady};
 ghost use Rattle.grb_pass.specs.Evaluated.{IsEvaluatedFor};
 ghost use Rattle.grb_pass.specs.Reading.{IsBuildChecked, IsChecked};
@@ -85,14 +87,15 @@ impl Pass {
         place: Place,
         room: u32,
         versions: Arc<Versions>,
+        alone: bool,
     ) -> Result<Pass, AllocError>
         requires number { (number ≡ place.view.number) × (number < place.view.passes) }
-        requires room { (room ≡ room_of place.table_id) × (room ≤ 4096) }
+        requires room { (room ≡ room_of place.table_id) × (room ≤ MOST_ROOM) }
         requires fresh { place.view ≡ fresh number place.view.passes }
         ensures { IfOk result (λ pass. pass ≡ record { order = place.table_id; view = place.view; shown = []; steps = 0; statuses = no_rows (room_of place.table_id); settled = 0 }) }
     {
         let reader = Reader::open(alloc, number, place, room)?;
-        let evaluated = Evaluated::open(alloc, room, versions)?;
+        let evaluated = Evaluated::open(alloc, room, versions, alone)?;
         Ok(Pass {
             reader,
             evaluated,
@@ -133,7 +136,7 @@ impl Pass {
 
     /// How many calls of the history the pass's last call made to answer: each that it applied to its store, or to the partial stores of the
     /// objects that it reads. A call that is made twice counts twice, and one that was refused memory counts; those that the pass has of
-    /// another's wait, as a version, do not. 0 before the first call and after a meeting. It is for tests and for services that watch what
+    /// another's, as a version or by [`Shared::adopt`](crate::Shared::adopt), do not. 0 before the first call and after a meeting. It is for tests and for services that watch what
     /// reads cost; no contract says the number (own). Takes no memory.
     pub fn made(&self) -> u32 {
         self.evaluated.made()
@@ -196,6 +199,25 @@ impl Pass {
     {
         let number = self.number();
         self.row.put(records, number, call)
+    }
+
+    /// Goes on from what the other has evaluated, whose calls begin those that this pass knows.
+    pub(crate) fn take_over(&mut self, other: &Pass)
+        requires begins { Begins (known other.now) (known self.old) }
+        ensures same { self.new ≡ self.old }
+    {
+        self.evaluated
+            .take_over(&self.reader, &other.reader, &other.evaluated);
+    }
+
+    /// Evaluates what the pass knows where that is dear, so that others can go on from there.
+    pub(crate) fn prepare(&mut self, records: &Records)
+        requires records { All (IsOf records.now) self.old.shown }
+        ensures same { self.new ≡ self.old }
+    {
+        self.evaluated.begin();
+        self.go_on(records);
+        self.evaluated.prepare(records, &mut self.reader);
     }
 
     /// Goes on from what another pass evaluated and offered, where it is time to ask for that. No memory is missed by that.

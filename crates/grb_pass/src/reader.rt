@@ -1,5 +1,6 @@
 ghost use Rattle.std.specs.Prelude.{◌≡◌, ◌<◌, ◌≤◌, ◌+◌, ◌^◌, true, [], ◌∷◌, ◌++◌, length, All, None, Some, slice_get, slice_index, MatchOption, IfOk};
 ghost use Rattle.std.specs.Option.{option_or};
+ghost use Rattle.grb_order.specs.declared.limits.TheConstants.{MOST_ROOM};
 ghost use Rattle.grb_order.specs.Word.{number_of, index_of, StartsWith};
 ghost use Rattle.grb_order.specs.View.{fresh, is_told, LookedLast};
 ghost use Rattle.grb_order.specs.Order.{room_of};
@@ -24,7 +25,7 @@ use grb_order::{Entered, Look, Order, Place};
 use grb_records::{Records, Token};
 use grb_slices::CallList;
 use grb_statuses::Statuses;
-use grb_values::Targets;
+use grb_values::{Amount, Targets};
 use std::alloc::{AllocError, Global};
 use std::marker::Model;
 
@@ -43,6 +44,8 @@ pub(crate) struct Reader {
     statuses: Statuses,
     // How many calls were known when all objects were last materialized.
     settled: u32,
+    // How much work the known calls are.
+    amount: Amount,
 }
 
 impl Model for Reader {
@@ -77,7 +80,7 @@ impl Reader {
         room: u32,
     ) -> Result<Reader, AllocError>
         requires number { (number ≡ place.view.number) × (number < place.view.passes) }
-        requires room { (room ≡ room_of place.table_id) × (room ≤ 4096) }
+        requires room { (room ≡ room_of place.table_id) × (room ≤ MOST_ROOM) }
         requires fresh { place.view ≡ fresh number place.view.passes }
         ensures { IfOk result (λ reader. reader ≡ record { order = place.table_id; view = place.view; shown = []; steps = 0; statuses = no_rows (room_of place.table_id); settled = 0 }) }
     {
@@ -92,6 +95,7 @@ impl Reader {
             steps: 0,
             statuses,
             settled: 0,
+            amount: Amount::none(),
         })
     }
 
@@ -165,7 +169,8 @@ impl Reader {
 
     /// How many words the order has.
     pub(crate) fn room(&self) -> u32
-        ensures { result ≡ room_of self.now.order }
+        ensures room { result ≡ room_of self.now.order }
+        ensures few { result ≤ MOST_ROOM }
     {
         self.statuses.room()
     }
@@ -176,6 +181,11 @@ impl Reader {
         ensures few { length (known self.now) ≤ room_of self.now.order }
     {
         self.tokens.len() as u32
+    }
+
+    /// How much work the known calls are, beyond those of this part.
+    pub(crate) fn amount_beyond(&self, part: &Amount) -> Amount {
+        self.amount.beyond(part)
     }
 
     /// The word learnt first of those whose record was not shown.
@@ -201,6 +211,7 @@ impl Reader {
         ensures { self.new ≡ record self.old { shown = self.old.shown ++ token ∷ [] } }
     {
         self.targets.go_over(call);
+        self.amount.add(call);
         self.tokens.push_reserved(token);
     }
 
@@ -320,6 +331,7 @@ impl Reader {
         match order.enter(&mut self.place, token.index()) {
             Entered::Won => {
                 self.targets.take_in(call);
+                self.amount.add(call);
                 self.tokens.push_reserved(token);
                 None
             }

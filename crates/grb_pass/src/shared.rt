@@ -1,4 +1,5 @@
-ghost use Rattle.std.specs.Prelude.{◌≡◌, ◌<◌, ◌≤◌, All, IfOk};
+ghost use Rattle.std.specs.Prelude.{◌≡◌, ◌<◌, ◌≤◌, ◌*◌, All, IfOk};
+ghost use Rattle.grb_order.specs.declared.limits.TheConstants.{MOST_PASSES, MOST_ROOM, MOST_SEATS};
 ghost use Rattle.grb_order.specs.Order.{room_of, AreFresh};
 ghost use Rattle.grb_records.specs.Token.{HasRows};
 ghost use Rattle.grb_pass.specs.Known.{AreNew, HasNoStatus, IsPassOf};
@@ -44,8 +45,8 @@ fn passes_of(
     passes: u32,
     versions: &Arc<Versions>,
 ) -> Result<Vec<Pass>, AllocError>
-    requires room { (room_of order.now ≡ room) × (room ≤ 4096) }
-    requires passes { passes ≤ 64 }
+    requires room { (room_of order.now ≡ room) × (room ≤ MOST_ROOM) }
+    requires passes { passes ≤ MOST_PASSES }
     requires places { AreFresh order.now passes places.items passes }
     ensures { IfOk result (λ opened. AreNew order.now passes opened.items passes) }
 {
@@ -53,17 +54,19 @@ fn passes_of(
     for place in places {
         let number = opened.len() as u32;
         let versions = Arc::try_clone(versions)?;
-        opened.push_reserved(Pass::open(alloc, number, place, room, versions)?);
+        opened.push_reserved(Pass::open(alloc, number, place, room, versions, passes == 1)?);
     }
     Ok(opened)
 }
 
 impl Shared {
-    /// What passes share whose history takes `room` calls, from 1 to 4,096, and those passes, from 1 to 64, which know no call: the one
-    /// at index k has the number k. Each has `room` cells for its records. `AllocError` where memory is refused.
+    /// What passes share whose history takes `room` calls, from 1 to `MOST_ROOM`, and those passes, from 1 to `MOST_PASSES`, which know
+    /// no call: the one at index k has the number k. `room` times `passes` is at most `MOST_SEATS`. Each pass has `room` cells for its
+    /// records. `AllocError` where memory is refused.
     pub fn open(alloc: Global, room: u32, passes: u32) -> Result<(Shared, Vec<Pass>), AllocError>
-        requires room { (0 < room) × (room ≤ 4096) }
-        requires passes { (0 < passes) × (passes ≤ 64) }
+        requires room { (0 < room) × (room ≤ MOST_ROOM) }
+        requires passes { (0 < passes) × (passes ≤ MOST_PASSES) }
+        requires seats { room * passes ≤ MOST_SEATS }
         ensures room { IfOk result (λ opened. room_of opened.0.order ≡ room) }
         ensures records { IfOk result (λ opened. HasRows passes room opened.0.records) }
         ensures passes { IfOk result (λ opened. AreNew opened.0.order passes opened.1.items passes) }

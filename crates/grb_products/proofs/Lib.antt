@@ -1,3 +1,4 @@
+pub mod Bounded
 pub mod WholePushes
 pub mod PushedColumns
 pub mod Columns

@@ -55,14 +55,14 @@ find-each_row f none a q =
 pub is_sorted-each_row : (f : VectorEntries → Option Value) (a : MatrixEntries) → T (is_sorted nat_cmp (each_row f a))
 is_sorted-each_row f a = is_sorted-map_on_indices nat_cmp nat_cmp_total (λ i. f (row_of i a)) (by_row a)
 
-rise_rest : (k : ℕ) (ks : List ℕ) → Rise (k ∷ ks) → Rise ks
+pub rise_rest : (k : ℕ) (ks : List ℕ) → Rise (k ∷ ks) → Rise ks
 rise_rest k ks h i j l m = h (suc i) (suc j) (omega arith) (omega arith)
 
 less_is : (a b : ℕ) → a < b → T (is_lt (nat_cmp a b))
 less_is a b h = subst (λ r. T (is_lt r)) (sym (less a b h)) tt
 
 -- what is made at indices that are all above another
-below-map_on : (x : ℕ) (g : ℕ → Option Value) (ks : List ℕ) → ((j : ℕ) → j < length ks → x < slice_index ks j) → T (below_all nat_cmp x (map_on ks g))
+pub below-map_on : (x : ℕ) (g : ℕ → Option Value) (ks : List ℕ) → ((j : ℕ) → j < length ks → x < slice_index ks j) → T (below_all nat_cmp x (map_on ks g))
 below-map_on x g [] h = tt
 below-map_on x g (k ∷ ks) h =
     below_before (g k) (h zero (omega arith)) (below-map_on x g ks (λ j l. h (suc j) (omega arith)))

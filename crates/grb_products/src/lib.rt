@@ -1,4 +1,4 @@
-//! Products of sparse objects, and reductions: mxv, and the folds of rows and of all entries.
+//! Products of sparse objects, and reductions: mxv, vxm, and the folds of rows and of all entries.
 //!
 //! One unit is an operation: it takes the old output, the inputs, the mask, the accumulator and the descriptor by reference, and
 //! answers the new output, assembled, or `AllocError`. A reduction to a scalar answers a value, and takes no memory. Nothing that was

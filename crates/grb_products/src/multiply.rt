@@ -14,11 +14,13 @@ ghost use Rattle.grb_core.specs.Written.{AccumulatesIn, written};
 ghost use Rattle.grb_core.specs.Results.{each_row, mxv_of, turned};
 ghost use Rattle.grb_kernels.specs.Typed.{entries_of};
 ghost use Rattle.grb_rows.specs.Cells.{decoded};
+ghost use Rattle.grb_products.specs.ColumnSums.{Rise};
 ghost use Rattle.grb_products.specs.Products.{products};
+ghost use Rattle.grb_products.specs.Pushes.{IsBounded};
 
 use crate::lookup::{Lookup, Open, scatter};
 use crate::monoids::MonoidOver;
-use crate::pushes::transposed_product;
+use crate::pushes::{bound_of, transposed_product};
 use crate::row_products::RowTimesVector;
 use crate::rows::made_rows;
 use crate::stored::{Stored, keep_bools, keep_numbers};
@@ -259,24 +261,28 @@ fn product(
     }
 }
 
-/// The product of a matrix, transposed or not, and a vector.
+/// The product of a matrix, transposed or not, and a vector. Where indices bound it, others may be left out.
 fn turned_product(
     alloc: Global,
     semiring: Semiring,
     tran: bool,
+    bound: Option<&[u32]>,
     a: &SparseMatrix,
     u: &SparseVector,
 ) -> Result<SparseVector, AllocError>
+    requires rising { IfSome bound (λ names. Rise names.now) }
     requires a_assembled { a.now.assembled ≡ true }
     requires u_assembled { u.now.assembled ≡ true }
     requires a_domain { a.now.matrix.domain ≡ op_domain semiring.op }
     requires u_domain { u.now.vector.domain ≡ op_domain semiring.op }
     requires columns { u.now.vector.size ≡ (if tran then a.now.matrix.nrows else a.now.matrix.ncols) }
-    ensures vector { IfOk result (λ made. made.vector ≡ record { domain = a.now.matrix.domain; size = if tran then a.now.matrix.ncols else a.now.matrix.nrows; entries = mxv_of semiring (turned tran a.now.matrix.entries) u.now.vector.entries }) }
+    ensures domain { IfOk result (λ made. made.vector.domain ≡ a.now.matrix.domain) }
+    ensures size { IfOk result (λ made. made.vector.size ≡ (if tran then a.now.matrix.ncols else a.now.matrix.nrows)) }
+    ensures entries { IfOk result (λ made. IsBounded (option_map (λ names. names.now) bound.entry) (mxv_of semiring (turned tran a.now.matrix.entries) u.now.vector.entries) made.vector.entries) }
     ensures assembled { IfOk result (λ made. made.assembled ≡ true) }
 {
     if tran {
-        return transposed_product(alloc, semiring, a, u);
+        return transposed_product(alloc, semiring, bound, a, u);
     }
     product(alloc, semiring, a, u)
 }
@@ -288,6 +294,8 @@ fn turned_product(
 /// All are of one domain, the mask aside; `u` has one place for each column of `a`, and the output and the mask one for each row. Time is
 /// in proportion to the stored entries, and so is memory: a work array of one place for each column is made only where it is no longer
 /// than 8 times the entries of `a` and `u`. Else each entry of `a` costs a binary search in `u`.
+///
+/// With `tran` the matrix is the transposed of `a`, whose rows are the columns of `a`. It is not made: time and memory are those of `vxm`.
 ///
 /// Source: GraphBLAS C API 2.0, "mxv".
 pub fn mxv(
@@ -314,6 +322,7 @@ pub fn mxv(
     ensures vector { IfOk result (λ made. made.vector ≡ edited_vector (λ w. written nat_cmp (is_inside nat_cmp descriptor.structure descriptor.comp (option_map (λ m. m.now.vector.entries) mask.entry)) descriptor.replace accum w (mxv_of semiring (turned descriptor.tran a.now.matrix.entries) u.now.vector.entries)) output.now.vector) }
     ensures assembled { IfOk result (λ made. made.assembled ≡ true) }
 {
-    let computed = turned_product(alloc, semiring, descriptor.tran, a, u)?;
+    let bound = bound_of(mask, descriptor);
+    let computed = turned_product(alloc, semiring, descriptor.tran, bound, a, u)?;
     write_masked_vector(alloc, output, mask, accum, descriptor, computed)
 }

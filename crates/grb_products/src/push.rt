@@ -1,17 +1,18 @@
 //! The product of a vector and a matrix by the rows that the vector picks: each is read once and added by column.
-ghost use Rattle.std.specs.Prelude.{◌≡◌, ◌-◌, ◌<◌, ◌^◌, [], length, min, All, IsTrue, IfOk};
+ghost use Rattle.std.specs.Prelude.{◌≡◌, ◌-◌, ◌<◌, ◌^◌, [], length, min, All, IsTrue, IfOk, IfSome};
+ghost use Rattle.std.specs.Option.{option_map};
+ghost use Rattle.std.specs.Ordering.{nat_cmp};
 ghost use Rattle.std.specs.FinMap.{is_sorted};
 ghost use Rattle.grb_core.specs.declared.value.Value.{Value};
 ghost use Rattle.grb_core.specs.declared.operator.BinaryOp.{BinaryOp};
 ghost use Rattle.grb_core.specs.Value.{IsValueOf};
 ghost use Rattle.grb_core.specs.Operator.{op_domain, value_of_op};
 ghost use Rattle.grb_core.proofs.Made.{op_closed};
-ghost use Rattle.std.specs.Ordering.{nat_cmp};
-ghost use Rattle.grb_core.specs.Entries.{cell_cmp, built_from};
+ghost use Rattle.grb_core.specs.Entries.{cell_cmp, built_from, restricted};
 ghost use Rattle.grb_kernels.specs.Typed.{entries_of};
 ghost use Rattle.grb_rows.specs.Cells.{decoded};
-ghost use Rattle.grb_products.specs.ColumnSums.{AreSums, column_folds};
-ghost use Rattle.grb_products.specs.Pushes.{pushed, pushed_of, at_numbers, columns_at};
+ghost use Rattle.grb_products.specs.ColumnSums.{AreSums, Rise, column_folds};
+ghost use Rattle.grb_products.specs.Pushes.{pushed, pushed_of, at_numbers, columns_at, is_among, IsBounded};
 
 use crate::column_sums::{
     AllColumns, Columns, NamedColumns, OpenSums, Term, add_entries, close_sums, distinct, open_sums,
@@ -204,19 +205,65 @@ fn sum_named<T: Stored + Drop, M: MonoidOver<T>, O: Operator<T>, S: Side>(
     Ok(made)
 }
 
+/// The sums of the picked rows at these columns alone, which rise.
+fn sum_bounded<T: Stored + Drop, M: MonoidOver<T>, O: Operator<T>, S: Side>(
+    alloc: Global,
+    names: &[u32],
+    lists: &FlatRows,
+    picks: &Picks<T>,
+) -> Result<EntryList<T>, AllocError>
+    requires rising { Rise names.now }
+    requires domain { lists.now.domain ≡ T.domain }
+    requires within { All (λ p. p < length lists.now.rows) picks.now.places.items }
+    requires in_range { All (λ e. e.0.1 < 2 ^ 32) (decoded lists.now.entries) }
+    ensures { IfOk result (λ made. entries_of T.value made.indices.items made.values.items ≡ restricted (λ j. is_among j names.now) (built_from nat_cmp M.monoid (pushed (S.makes O.op) (at_numbers lists.now.rows (entries_of T.value picks.now.places.items picks.now.values.items)) (decoded lists.now.entries)))) }
+{
+    let named = NamedColumns { names };
+    let made = sum_rows::<T, M, O, S, NamedColumns>(alloc, &named, lists, picks)?;
+    Ok(made)
+}
+
+/// The sums of the picked rows where no place for each column of the matrix is kept: at the columns that bound the result, if they are
+/// no more than the `count` entries of these rows, and else at those of the rows.
+fn sum_few<T: Stored + Drop, M: MonoidOver<T>, O: Operator<T>, S: Side>(
+    alloc: Global,
+    bound: Option<&[u32]>,
+    lists: &FlatRows,
+    picks: &Picks<T>,
+    count: usize,
+) -> Result<EntryList<T>, AllocError>
+    requires rising { IfSome bound (λ names. Rise names.now) }
+    requires domain { lists.now.domain ≡ T.domain }
+    requires within { All (λ p. p < length lists.now.rows) picks.now.places.items }
+    requires in_range { All (λ e. e.0.1 < 2 ^ 32) (decoded lists.now.entries) }
+    ensures { IfOk result (λ made. IsBounded (option_map (λ names. names.now) bound.entry) (built_from nat_cmp M.monoid (pushed (S.makes O.op) (at_numbers lists.now.rows (entries_of T.value picks.now.places.items picks.now.values.items)) (decoded lists.now.entries))) (entries_of T.value made.indices.items made.values.items)) }
+{
+    if let Some(names) = bound {
+        if names.len() <= count {
+            let made = sum_bounded::<T, M, O, S>(alloc, names, lists, picks)?;
+            return Ok(made);
+        }
+    }
+    let made = sum_named::<T, M, O, S>(alloc, lists, picks, count)?;
+    Ok(made)
+}
+
 /// The product of a vector and a matrix by a monoid and an operator as types: at each column the fold of the products where both store
-/// something. Time and memory are in proportion to the entries of the vector and of the rows that it picks.
+/// something. Where columns bound it, others may be left out. Time and memory are in proportion to the entries of the vector and of the
+/// rows that it picks.
 pub(crate) fn push<T: Stored + Drop, M: MonoidOver<T>, O: Operator<T>, S: Side>(
     alloc: Global,
     ncols: u64,
+    bound: Option<&[u32]>,
     u: &EntrySlice<T>,
     lists: &FlatRows,
 ) -> Result<EntryList<T>, AllocError>
+    requires rising { IfSome bound (λ names. Rise names.now) }
     requires domain { lists.now.domain ≡ T.domain }
     requires few { ncols < 2 ^ 32 }
     requires ordered { IsTrue (is_sorted cell_cmp (decoded lists.now.entries)) }
     requires in_range { All (λ e. e.0.1 < ncols) (decoded lists.now.entries) }
-    ensures { IfOk result (λ made. entries_of T.value made.indices.items made.values.items ≡ pushed_of M.monoid (S.makes O.op) (entries_of T.value u.now.indices.now u.now.values.now) (decoded lists.now.entries)) }
+    ensures { IfOk result (λ made. IsBounded (option_map (λ names. names.now) bound.entry) (pushed_of M.monoid (S.makes O.op) (entries_of T.value u.now.indices.now u.now.values.now) (decoded lists.now.entries)) (entries_of T.value made.indices.items made.values.items)) }
 {
     let picks = pick_rows(alloc, lists, u)?;
     let count = picked_len(lists, picks.places.as_slice());
@@ -224,6 +271,6 @@ pub(crate) fn push<T: Stored + Drop, M: MonoidOver<T>, O: Operator<T>, S: Side>(
         let made = sum_all::<T, M, O, S>(alloc, ncols as u32, lists, &picks)?;
         return Ok(made);
     }
-    let made = sum_named::<T, M, O, S>(alloc, lists, &picks, count)?;
+    let made = sum_few::<T, M, O, S>(alloc, bound, lists, &picks, count)?;
     Ok(made)
 }

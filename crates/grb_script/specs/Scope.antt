@@ -21,7 +21,7 @@ section_on line = section_of (words_of line.bytes)
 -- how many thread sections a script of this version has at most
 abbrev pub most_threads : Version → ℕ
 most_threads One = 63
-most_threads Two = 63
+most_threads Two = 255
 
 -- whether this section may stand behind that one, or behind main: thread sections are numbered 1, 2, 3, .. in their order, to the most
 -- that the version has, and 'finally' comes once, after all of them

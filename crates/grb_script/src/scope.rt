@@ -24,7 +24,7 @@ fn most_threads(version: Version) -> u64
 {
     match version {
         Version::One => 63,
-        Version::Two => 63,
+        Version::Two => 255,
     }
 }
 

@@ -20,7 +20,7 @@ use std::mem;
 pub struct Script {
     /// What stands before the first section.
     pub main: Vec<Numbered>,
-    /// The thread sections: that of `thread K` at K - 1. There are at most 63.
+    /// The thread sections: that of `thread K` at K - 1. There are at most 255, and at most 63 in version 1.
     pub threads: Vec<Vec<Numbered>>,
     /// What stands behind `finally`, where that stands.
     pub finally: Vec<Numbered>,

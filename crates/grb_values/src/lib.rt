@@ -5,6 +5,7 @@
 //! where it was evaluated. Nothing here knows of passes or of an order: the caller brings the calls.
 #![tactic(auto)]
 
+mod effort;
 mod making;
 mod partial_store;
 mod partial_stores;
@@ -12,6 +13,7 @@ mod plan;
 mod targets;
 mod value;
 
+pub use effort::{Amount, Effort};
 pub use partial_store::PartialStore;
 pub use partial_stores::PartialStores;
 pub use targets::{LentCalls, Targets};

@@ -5,6 +5,7 @@ ghost use Rattle.grb_slices.specs.Content.{effective_target};
 ghost use Rattle.grb_slices.specs.Slice.{Wants};
 ghost use Rattle.grb_slices.specs.Followed.{GoesOn, HasGoneOver, HasPlaceIn, LacksPlaceIn, part_after};
 
+use crate::effort::Effort;
 use grb_call::Object;
 use grb_replay::State;
 use grb_slices::CallList;
@@ -21,7 +22,7 @@ fn has_place(state: &State, object: Object) -> bool
     }
 }
 
-/// Makes the call at this place on a state where it is chosen, and counts it among those made; of one that is not, which is not read, the
+/// Makes the call at this place on a state where it is chosen, and counts its effort; of one that is not, which is not read, the
 /// object that it would make gets a place, and is not there. `AllocError` where memory is refused.
 fn make_one<S, C: CallList<S>>(
     state: &mut State,
@@ -30,7 +31,7 @@ fn make_one<S, C: CallList<S>>(
     source: &S,
     at: usize,
     is_chosen: bool,
-    made: &mut u32,
+    effort: &mut Effort,
 ) -> Result<(), AllocError>
     requires held { C.is_in source.now calls.old }
     requires at { at < length (C.calls source.now calls.old) }
@@ -40,8 +41,7 @@ fn make_one<S, C: CallList<S>>(
     ensures room { OnOk result (state.old.room ≤ state.new.room + 1) }
 {
     if is_chosen {
-        *made = made.saturating_add(1);
-        return state.apply(calls.call_at(source, at));
+        return effort.make(state, calls.call_at(source, at));
     }
     let Some(object) = target else {
         return Ok(());
@@ -55,14 +55,14 @@ fn make_one<S, C: CallList<S>>(
 
 /// Makes, of the calls from a place on, which come one after another on a whole store, those that were chosen, on a state that holds of it
 /// what is wanted before them; after them the state holds what is wanted then, as the whole store does after all of them, and no other call
-/// has changed it. Each call that it makes is counted among those made. `AllocError` where memory is refused; what the state holds then is not said.
+/// has changed it. The effort of each call that it makes is counted. `AllocError` where memory is refused; what the state holds then is not said.
 pub(crate) fn make_chosen<S, C: CallList<S>>(
     state: &mut State,
     calls: &mut C,
     source: &S,
     from: usize,
     chosen: &[bool],
-    made: &mut u32,
+    effort: &mut Effort,
 ) -> Result<(), AllocError>
     requires held { C.is_in source.now calls.old }
     requires targets { length (C.target_list calls.old) ≡ length (C.calls source.now calls.old) }
@@ -75,7 +75,7 @@ pub(crate) fn make_chosen<S, C: CallList<S>>(
 {
     'places: for at in from..calls.targets().len() {
         let target = calls.targets()[at];
-        make_one(state, target, calls, source, at, chosen[at - from], made)?;
+        make_one(state, target, calls, source, at, chosen[at - from], effort)?;
     }
     Ok(())
 }

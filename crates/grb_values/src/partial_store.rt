@@ -13,6 +13,7 @@ ghost use Rattle.grb_slices.specs.Slice.{entries, sliced};
 ghost use Rattle.grb_slices.specs.SliceFor.{IsSliceFor};
 ghost use Rattle.grb_slices.specs.Wanted.{is_wanted};
 
+use crate::effort::Effort;
 use crate::making::make_chosen;
 use grb_call::{Call, MatrixId, Object, Reply, VectorId};
 use grb_core::Refusal;
@@ -53,7 +54,7 @@ impl PartialStore {
 
     /// The wanted objects after the calls from a place on, which come on the store, by only the calls of the slice, with room for so many
     /// calls on the store: every other object is as it was before them, and one that would have been made is not there. No entry is copied
-    /// but of objects that these calls change. Each call of the slice is counted among those made. `AllocError` where memory is refused; the
+    /// but of objects that these calls change. The effort of each call of the slice is counted. `AllocError` where memory is refused; the
     /// store is as it was (own).
     pub fn of<S, C: CallList<S>>(
         whole: &State,
@@ -63,7 +64,7 @@ impl PartialStore {
         slice: &Slice,
         wanted: Wanted,
         room: u32,
-        made: &mut u32,
+        effort: &mut Effort,
     ) -> Result<PartialStore, AllocError>
         requires held { C.is_in source.now calls.old }
         requires count { length (C.target_list calls.old) ≡ length (C.calls source.now calls.old) }
@@ -86,7 +87,7 @@ impl PartialStore {
             source,
             from,
             slice.chosen.as_slice(),
-            made,
+            effort,
         )?;
         Ok(PartialStore {
             state,
@@ -95,7 +96,7 @@ impl PartialStore {
     }
 
     /// Goes on by the calls from a place on, those of the slice alone: it holds the wanted objects then, where it held what is wanted before
-    /// the calls. Each call of the slice is counted among those made. `AllocError` where memory is refused; what it holds then is not said
+    /// the calls. The effort of each call of the slice is counted. `AllocError` where memory is refused; what it holds then is not said
     /// (own).
     pub fn go_on<S, C: CallList<S>>(
         &mut self,
@@ -104,7 +105,7 @@ impl PartialStore {
         from: usize,
         slice: &Slice,
         wanted: Wanted,
-        made: &mut u32,
+        effort: &mut Effort,
     ) -> Result<(), AllocError>
         requires held { C.is_in source.now calls.old }
         requires count { length (C.target_list calls.old) ≡ length (C.calls source.now calls.old) }
@@ -126,7 +127,7 @@ impl PartialStore {
             source,
             from,
             slice.chosen.as_slice(),
-            made,
+            effort,
         )?;
         self.objects = wanted;
         Ok(())

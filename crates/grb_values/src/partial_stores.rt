@@ -10,6 +10,7 @@ ghost use Rattle.grb_slices.specs.Followed.{targets_of};
 ghost use Rattle.grb_slices.specs.Wanted.{is_wanted};
 ghost use Rattle.grb_values.specs.Partial.{ArePartial, IsPartialAt, IsPartialNow};
 
+use crate::effort::{Amount, Effort};
 use crate::partial_store::PartialStore;
 use crate::plan::{Plan, plan_anew, plan_onward};
 use grb_call::{Call, Object, Reply};
@@ -28,10 +29,8 @@ pub struct PartialStores {
     alloc: Global,
     room: u32,
     stores: Vec<ReadObject>,
-    // What was spent since all calls were made, as a number of calls that are made.
-    spent: usize,
-    // How many calls were made since it last began to count them.
-    made: u32,
+    // What was spent since all calls were made, as a number of sets.
+    spent: u64,
 }
 
 impl Model for PartialStores {
@@ -95,21 +94,7 @@ impl PartialStores {
             room,
             stores: Vec::with_capacity(alloc, MOST)?,
             spent: 0,
-            made: 0,
         })
-    }
-
-    /// Begins to count the calls that are made. Takes no memory.
-    pub fn begin(&mut self)
-        ensures { self.new ≡ self.old }
-    {
-        self.made = 0;
-    }
-
-    /// How many calls were made for what is read since [`PartialStores::begin`], each as often as it was made; those that memory was refused to count
-    /// too. No contract says the number (own). Takes no memory.
-    pub fn made(&self) -> u32 {
-        self.made
     }
 
     /// Keeps no object any more: for one who makes all calls. Takes no memory.
@@ -139,9 +124,9 @@ impl PartialStores {
         self.stores.len()
     }
 
-    /// How much may be spent yet on single objects, while so many known calls are not evaluated in the store: half of what these take,
-    /// since all calls were made.
-    fn limit(&self, left: usize) -> usize {
+    /// How much may be spent yet on single objects, while calls that take so much are not evaluated in the store: half of that, since all
+    /// calls were made.
+    fn limit(&self, left: u64) -> u64 {
         (left / 2).saturating_sub(self.spent)
     }
 
@@ -171,8 +156,9 @@ impl PartialStores {
         read: ReadObject,
         calls: &mut C,
         source: &S,
-        evaluated: usize,
+        left: u64,
         object: Object,
+        effort: &mut Effort,
     ) -> Result<Option<ReadObject>, AllocError>
         requires held { C.is_in source.now calls.old }
         requires targets { C.target_list calls.old ≡ targets_of (shapes_of empty_store) (C.calls source.now calls.old) }
@@ -185,8 +171,17 @@ impl PartialStores {
         let mut read = read;
         let at = read.upto;
         let known = calls.targets().len();
-        let limit = self.limit(known.saturating_sub(evaluated));
-        let Some(plan) = plan_onward(self.alloc, &read.store, calls, source, at, object, limit)?
+        let limit = self.limit(left);
+        let Some(plan) = plan_onward(
+            self.alloc,
+            &read.store,
+            calls,
+            source,
+            at,
+            object,
+            effort,
+            limit,
+        )?
         else {
             return Ok(None);
         };
@@ -195,8 +190,7 @@ impl PartialStores {
             wanted,
             cost,
         } = plan;
-        read.store
-            .go_on(calls, source, at, &slice, wanted, &mut self.made)?;
+        read.store.go_on(calls, source, at, &slice, wanted, effort)?;
         read.upto = known;
         self.spent = self.spent.saturating_add(cost);
         Ok(Some(read))
@@ -210,7 +204,9 @@ impl PartialStores {
         source: &S,
         state: &State,
         evaluated: usize,
+        left: u64,
         object: Object,
+        effort: &mut Effort,
     ) -> Result<Option<ReadObject>, AllocError>
         requires held { C.is_in source.now calls.old }
         requires targets { C.target_list calls.old ≡ targets_of (shapes_of empty_store) (C.calls source.now calls.old) }
@@ -221,8 +217,10 @@ impl PartialStores {
         ensures now { IfOk result (λ made. IfSome made (IsPartialNow self.old.room (C.calls source.now calls.old) object)) }
     {
         let known = calls.targets().len();
-        let limit = self.limit(known - evaluated);
-        let Some(plan) = plan_anew(self.alloc, state, calls, source, evaluated, object, limit)?
+        let limit = self.limit(left);
+        let Some(plan) = plan_anew(
+            self.alloc, state, calls, source, evaluated, object, effort, limit,
+        )?
         else {
             return Ok(None);
         };
@@ -233,14 +231,7 @@ impl PartialStores {
             cost,
         } = plan;
         let store = PartialStore::of(
-            state,
-            calls,
-            source,
-            evaluated,
-            &slice,
-            wanted,
-            room,
-            &mut self.made,
+            state, calls, source, evaluated, &slice, wanted, room, effort,
         )?;
         self.spent = self.spent.saturating_add(cost);
         Ok(Some(ReadObject {
@@ -257,7 +248,9 @@ impl PartialStores {
         source: &S,
         state: &State,
         evaluated: usize,
+        left: u64,
         object: Object,
+        effort: &mut Effort,
     ) -> Result<Option<ReadObject>, AllocError>
         requires partial { ArePartial (C.calls source.now calls.old) self.old }
         requires held { C.is_in source.now calls.old }
@@ -272,13 +265,13 @@ impl PartialStores {
         let known = calls.targets().len();
         match self.take(object) {
             Some(read) if read.is_at(known, object) => Ok(Some(read)),
-            Some(read) => self.onward(read, calls, source, evaluated, object),
-            None => self.anew(calls, source, state, evaluated, object),
+            Some(read) => self.onward(read, calls, source, left, object, effort),
+            None => self.anew(calls, source, state, evaluated, left, object, effort),
         }
     }
 
     /// The reply to a call that only reads the object and is not refused, after all calls of the list, of which so many are evaluated in the
-    /// state. The object is kept then. None where it is not to be had so: from a partial store that lacks what new calls read, and which is dropped
+    /// state; the others are so much work. The object is kept then, and the effort of the calls that are made is counted. None where it is not to be had so: from a partial store that lacks what new calls read, and which is dropped
     /// then, or where all calls are to be made. `AllocError` where memory is refused.
     pub fn reply<S, C: CallList<S>>(
         &mut self,
@@ -286,8 +279,10 @@ impl PartialStores {
         source: &S,
         state: &State,
         evaluated: usize,
+        left: &Amount,
         object: Object,
         call: &Call,
+        effort: &mut Effort,
     ) -> Result<Option<Reply>, AllocError>
         requires partial { ArePartial (C.calls source.now calls.old) self.old }
         requires held { C.is_in source.now calls.old }
@@ -303,7 +298,9 @@ impl PartialStores {
         ensures room { self.new.room ≡ self.old.room }
         ensures reply { IfOk result (λ given. IfSome given (λ reply. reply ≡ reply_of (after_all empty_store (C.calls source.now calls.old)) call.now)) }
     {
-        let Some(mut read) = self.store_of(calls, source, state, evaluated, object)? else {
+        let left = effort.of(left);
+        let Some(mut read) = self.store_of(calls, source, state, evaluated, left, object, effort)?
+        else {
             return Ok(None);
         };
         let answer = read.store.answer(object, call);

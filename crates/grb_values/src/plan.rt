@@ -3,16 +3,17 @@ ghost use Rattle.grb_call.specs.declared.ids.Object.{Object};
 ghost use Rattle.grb_slices.specs.SliceFor.{IsSliceFor};
 ghost use Rattle.grb_slices.specs.Wanted.{is_wanted};
 
+use crate::effort::{Amount, Effort};
 use crate::partial_store::PartialStore;
 use grb_call::{MatrixId, Object, VectorId};
 use grb_replay::State;
 use grb_slices::{CallList, Slice, Wanted, slice_for};
 use std::alloc::{AllocError, Global};
 
-/// How many calls are passed over, or objects shared, in the time that a call takes that is made, about (own).
-const PASSED_OVER: usize = 8;
+/// How many calls are passed over, or objects shared, in the time of a set, about (own).
+const PASSED_OVER: u64 = 8;
 
-/// How many entries are copied in the time that a call takes that is made, about (own).
+/// How many entries are copied in the time of a set, about (own).
 const COPIED: u64 = 64;
 
 /// What is wanted, without the objects that these calls change.
@@ -35,8 +36,8 @@ fn entries_of(whole: &State, slice: &Slice, same: &Wanted, object: Object) -> u6
     }
 }
 
-/// What copies of the objects take that the calls of the slice change, as a number of calls that are made. Takes no memory.
-fn cost_of_copies(whole: &State, slice: &Slice, same: &Wanted) -> usize {
+/// What copies of the objects take that the calls of the slice change, as a number of sets. Takes no memory.
+fn cost_of_copies(whole: &State, slice: &Slice, same: &Wanted) -> u64 {
     let mut entries: u64 = 0;
     for number in 0..whole.matrices() {
         let matrix = Object::Matrix(MatrixId(number));
@@ -46,15 +47,30 @@ fn cost_of_copies(whole: &State, slice: &Slice, same: &Wanted) -> usize {
         let vector = Object::Vector(VectorId(number));
         entries = entries.saturating_add(entries_of(whole, slice, same, vector));
     }
-    (entries / COPIED) as usize
+    entries / COPIED
 }
 
-/// The slice of some calls for an object, with what is wanted behind them, and what it takes to make it, as a number of calls that are made.
+/// The slice of some calls for an object, with what is wanted behind them, and what it takes to make it, as a number of sets.
 #[derive(Drop)]
 pub(crate) struct Plan {
     pub(crate) slice: Slice,
     pub(crate) wanted: Wanted,
-    pub(crate) cost: usize,
+    pub(crate) cost: u64,
+}
+
+/// How much work the calls of the slice are.
+fn amount_of<S, C: CallList<S>>(calls: &mut C, source: &S, from: usize, chosen: &[bool]) -> Amount
+    requires held { C.is_in source.now calls.old }
+    requires targets { length (C.target_list calls.old) ≡ length (C.calls source.now calls.old) }
+    ensures calls { calls.new ≡ calls.old }
+{
+    let mut amount = Amount::none();
+    'places: for at in from..calls.targets().len() {
+        if chosen.get(at - from).copied().unwrap_or(false) {
+            amount.add(calls.call_at(source, at));
+        }
+    }
+    amount
 }
 
 /// The slice of the calls from a place on for the object and for what they leave the same. `AllocError` where memory is refused.
@@ -65,6 +81,7 @@ fn plan_for<S, C: CallList<S>>(
     from: usize,
     same: &Wanted,
     object: Object,
+    effort: &Effort,
 ) -> Result<Plan, AllocError>
     requires held { C.is_in source.now calls.old }
     requires targets { length (C.target_list calls.old) ≡ length (C.calls source.now calls.old) }
@@ -76,7 +93,9 @@ fn plan_for<S, C: CallList<S>>(
     let mut wanted = same.try_clone()?;
     wanted.want(object)?;
     let slice = slice_for(alloc, calls, source, from, wanted.try_clone()?)?;
-    let cost = slice.count.saturating_add(slice.chosen.len() / PASSED_OVER);
+    let amount = amount_of(calls, source, from, slice.chosen.as_slice());
+    let passed = slice.chosen.len() as u64 / PASSED_OVER;
+    let cost = effort.of(&amount).saturating_add(passed);
     Ok(Plan {
         slice,
         wanted,
@@ -93,7 +112,8 @@ pub(crate) fn plan_onward<S, C: CallList<S>>(
     source: &S,
     from: usize,
     object: Object,
-    limit: usize,
+    effort: &Effort,
+    limit: u64,
 ) -> Result<Option<Plan>, AllocError>
     requires held { C.is_in source.now calls.old }
     requires targets { length (C.target_list calls.old) ≡ length (C.calls source.now calls.old) }
@@ -104,7 +124,7 @@ pub(crate) fn plan_onward<S, C: CallList<S>>(
     ensures within { IfOk result (λ made. IfSome made (λ plan. (o : Object) → is_wanted plan.slice.wanted o ≡ true → is_wanted store.now.objects o ≡ true)) }
 {
     let same = untouched(store.objects().try_clone()?, &calls.targets()[from..]);
-    let plan = plan_for(alloc, calls, source, from, &same, object)?;
+    let plan = plan_for(alloc, calls, source, from, &same, object, effort)?;
     if plan.cost > limit {
         return Ok(None);
     }
@@ -123,7 +143,8 @@ pub(crate) fn plan_anew<S, C: CallList<S>>(
     source: &S,
     from: usize,
     object: Object,
-    limit: usize,
+    effort: &Effort,
+    limit: u64,
 ) -> Result<Option<Plan>, AllocError>
     requires held { C.is_in source.now calls.old }
     requires targets { length (C.target_list calls.old) ≡ length (C.calls source.now calls.old) }
@@ -132,9 +153,8 @@ pub(crate) fn plan_anew<S, C: CallList<S>>(
     ensures slice { IfOk result (λ made. IfSome made (λ plan. IsSliceFor plan.slice (is_wanted plan.wanted) (drop from (C.target_list calls.old)) (drop from (C.calls source.now calls.old)))) }
     ensures object { IfOk result (λ made. IfSome made (λ plan. is_wanted plan.wanted object ≡ true)) }
 {
-    let objects = (whole.matrices() as usize).saturating_add(whole.vectors() as usize)
-        / PASSED_OVER;
-    let passed = calls.targets().len() - from;
+    let objects = (u64::from(whole.matrices()) + u64::from(whole.vectors())) / PASSED_OVER;
+    let passed = (calls.targets().len() - from) as u64;
     if limit == 0 || objects.saturating_add(passed / PASSED_OVER) > limit {
         return Ok(None);
     }
@@ -142,7 +162,7 @@ pub(crate) fn plan_anew<S, C: CallList<S>>(
         Wanted::all(alloc, whole.matrices(), whole.vectors())?,
         &calls.targets()[from..],
     );
-    let mut plan = plan_for(alloc, calls, source, from, &same, object)?;
+    let mut plan = plan_for(alloc, calls, source, from, &same, object, effort)?;
     let copies = cost_of_copies(whole, &plan.slice, &same);
     plan.cost = plan.cost.saturating_add(objects).saturating_add(copies);
     if plan.cost > limit {

@@ -7,6 +7,7 @@ ghost use Rattle.grb_slices.specs.Content.{content_at};
 ghost use Rattle.grb_slices.specs.Followed.{HoldsTasks};
 ghost use Rattle.grb_values.specs.Held.{held_matrix, held_vector, tasks_for, tasks_of};
 
+use crate::effort::Effort;
 use crate::partial_store::PartialStore;
 use crate::targets::{LentCalls, Targets};
 use grb_call::{Call, Object};
@@ -70,9 +71,16 @@ pub fn value_of(
     let mut wanted = Wanted::new(alloc);
     wanted.want(object)?;
     let slice = slice_for(alloc, &mut walk, &source, 0, wanted.try_clone()?)?;
-    let mut made = 0;
+    let mut effort = Effort::new(alloc);
     let mut store = PartialStore::of(
-        whole, &mut walk, &source, 0, &slice, wanted, room, &mut made,
+        whole,
+        &mut walk,
+        &source,
+        0,
+        &slice,
+        wanted,
+        room,
+        &mut effort,
     )?;
     store.complete(object)?;
     Ok(Held {

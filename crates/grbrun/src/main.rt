@@ -7,6 +7,7 @@
 #![tactic(auto)]
 
 ghost use Rattle.std.specs.Prelude.{◌<◌, ◌≤◌};
+ghost use Rattle.grb_order.specs.declared.limits.TheConstants.{MOST_ROOM};
 
 use grb_command::{FileSource, Options, OutputSink, report_unread_words, run_words};
 use grb_driver::{OpenGate, RunFault, run_script};
@@ -24,7 +25,7 @@ fn run<R: Files + Print + AllocGlobal + Threads + Wait + Sync>(
     rt: &R,
     options: Options<'_>,
 ) -> Result<(), RunFault>
-    requires room { (0 < options.room) × (options.room ≤ 4096) }
+    requires room { (0 < options.room) × (options.room ≤ MOST_ROOM) }
 {
     let mut source = FileSource::new(rt, options.path);
     let mut sink = OutputSink::new(io::writer(rt));
@@ -49,7 +50,7 @@ where
         .map(|word| word.as_str())
         .collect(rt.alloc())?;
     let run_with = |options: Options<'_>|
-        requires room { (0 < options.room) × (options.room ≤ 4096) }
+        requires room { (0 < options.room) × (options.room ≤ MOST_ROOM) }
     { run(rt, options) };
     Ok(run_words(rt, PROGRAM, &words, run_with))
 }

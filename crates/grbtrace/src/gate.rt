@@ -4,8 +4,8 @@ use std::rt::Clock;
 use std::sync::atomic::{AtomicU64, Ordering};
 use std::time::{Duration, Instant};
 
-/// The sections of a script: main and `finally` are the section 0, thread sections have the numbers 1 to 63.
-const SECTIONS: usize = 64;
+/// The sections of a script: main and `finally` are the section 0, thread sections have the numbers 1 to 255.
+const SECTIONS: usize = 256;
 
 /// A gate that writes a line to standard error for each statement: its section, its number there, and the microseconds that it took.
 ///

@@ -5,6 +5,7 @@
 #![tactic(auto)]
 
 ghost use Rattle.std.specs.Prelude.{◌<◌, ◌≤◌};
+ghost use Rattle.grb_order.specs.declared.limits.TheConstants.{MOST_ROOM};
 
 mod gate;
 
@@ -24,7 +25,7 @@ const PROGRAM: &str = "grbtrace";
 fn run<R>(rt: &R, options: Options<'_>) -> Result<(), RunFault>
 where
     R: Clock + Files + Print + Eprint + AllocGlobal + Threads + Wait + Sync,
-    requires room { (0 < options.room) × (options.room ≤ 4096) }
+    requires room { (0 < options.room) × (options.room ≤ MOST_ROOM) }
 {
     let mut source = FileSource::new(rt, options.path);
     let mut sink = OutputSink::new(io::writer(rt));
@@ -43,7 +44,7 @@ where
         .map(|word| word.as_str())
         .collect(rt.alloc())?;
     let run_with = |options: Options<'_>|
-        requires room { (0 < options.room) × (options.room ≤ 4096) }
+        requires room { (0 < options.room) × (options.room ≤ MOST_ROOM) }
     { run(rt, options) };
     Ok(run_words(rt, PROGRAM, &words, run_with))
 }

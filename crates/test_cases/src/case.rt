@@ -1,10 +1,12 @@
 //! A case: a script, or several that differ in their last line, and what may be printed.
 ghost use Rattle.std.specs.Prelude.{◌<◌, ◌≤◌};
+ghost use Rattle.grb_order.specs.declared.limits.TheConstants.{MOST_ROOM};
 
 use crate::difference::first_difference;
 use crate::source::TextSource;
 use grb_command::OutputSink;
 use grb_driver::{OpenGate, run_script};
+use grb_order::MOST_ROOM;
 use std::alloc::{AllocError, Global};
 use std::io::ErrorKind;
 use std::rt::Files;
@@ -72,7 +74,7 @@ fn outputs_of<R: Files + AllocGlobal>(rt: &R, path: &str) -> io::Result<Vec<Stri
 fn print_run<R>(rt: &R, script: &[u8], room: u32, text: &mut String) -> Result<(), AllocError>
 where
     R: Files + AllocGlobal + Threads + Wait + Sync,
-    requires { (0 < room) × (room ≤ 4096) }
+    requires { (0 < room) × (room ≤ MOST_ROOM) }
 {
     let mut source = TextSource::new(rt, script);
     let mut sink = OutputSink::new(Vec::new(rt.alloc()));
@@ -95,7 +97,7 @@ impl<'a> Case<'a> {
         Ok(Case {
             path,
             scripts: scripts_of(rt.alloc(), &bytes)?,
-            room: number_after(text, "# room ").unwrap_or(4096).clamp(1, 4096),
+            room: number_after(text, "# room ").unwrap_or(4096),
             runs: number_after(text, "# runs ").unwrap_or(most),
             outputs,
         })
@@ -108,7 +110,7 @@ impl<'a> Case<'a> {
     {
         let mut text = String::new(rt.alloc());
         for script in &self.scripts {
-            print_run(rt, script, self.room.clamp(1, 4096), &mut text)?;
+            print_run(rt, script, self.room.clamp(1, MOST_ROOM), &mut text)?;
         }
         Ok(text)
     }

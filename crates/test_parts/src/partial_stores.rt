@@ -13,7 +13,7 @@ use grb_call::{Call, Object, Reply, VectorId};
 use grb_core::Value;
 use grb_replay::{State, replay};
 use grb_slices::CallList;
-use grb_values::{LentCalls, PartialStores, Targets};
+use grb_values::{Amount, Effort, LentCalls, PartialStores, Targets};
 use std::alloc::{AllocError, Global};
 use std::marker::Model;
 use std::process::Abort;
@@ -118,6 +118,15 @@ impl<'a, 'b> CallList<LentCalls<'a, 'b>> for Counting {
     }
 }
 
+/// How much work the calls are.
+fn amount_of(calls: &[&Call]) -> Amount {
+    let mut amount = Amount::none();
+    for call in calls {
+        amount.add(*call);
+    }
+    amount
+}
+
 /// What a partial store answers to a get that is not refused, where none of the calls is evaluated in the store, and which calls are lent for that.
 fn read(
     rt: &impl Abort,
@@ -144,7 +153,17 @@ fn read(
     let mut counting = Counting { walk, lent: 0 };
     let source = LentCalls { calls };
     let object = Object::Vector(v);
-    let reply = stores.reply(&mut counting, &source, empty, 0, object, &call)?;
+    let left = amount_of(calls);
+    let reply = stores.reply(
+        &mut counting,
+        &source,
+        empty,
+        0,
+        &left,
+        object,
+        &call,
+        &mut Effort::new(alloc),
+    )?;
     Ok((reply, counting.lent))
 }
 

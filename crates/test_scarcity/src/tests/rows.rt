@@ -1,5 +1,6 @@
 //! Calls where memory is refused to one of them, or to all. What takes no memory is answered, and so is each other reason to refuse a call.
 ghost use Rattle.std.specs.Prelude.{◌<◌, ◌≤◌};
+ghost use Rattle.grb_order.specs.declared.limits.TheConstants.{MOST_ROOM};
 ghost use Rattle.grb_context.specs.Known.{IsPassOf};
 
 use crate::tests::calls::calls_in;
@@ -11,7 +12,7 @@ use grb_call::{Call, MatrixId, Object, Reply, VectorId, WaitMode};
 use grb_context::{Context, Pass};
 use grb_core::{Info, Refusal, Value};
 use grb_scarcity::Hoard;
-use std::alloc::AllocError;
+use std::alloc::{AllocError, Global};
 use std::fs::Files;
 use std::process::Abort;
 
@@ -62,7 +63,7 @@ fn expect_starved<R: Abort + Files + AllocGlobal>(
     starved: &[Answer],
     ample: &[Answer],
 ) -> Result<u32, AllocError>
-    requires { (0 < room) × (room ≤ 4096) }
+    requires { (0 < room) × (room ≤ MOST_ROOM) }
 {
     let (first, then) = calls_in(rt, rt.alloc(), script)?;
     same(
@@ -215,6 +216,60 @@ fn a_refused_wait_leaves_all_other_answers(rt: HostRuntime) -> Result<(), AllocE
     }
     hoard.release();
     assert!(rt; println!(rt; "the wait is refused {refused} times").is_ok());
+    assert!(rt; 0 < refused && refused < TRIALS, "refused {refused} times");
+    Ok(())
+}
+
+/// A script whose calls are dear: a vector of 63 ones, which is added to itself 63 times.
+fn dear_script(alloc: Global) -> Result<String, AllocError> {
+    let mut text = String::new(alloc);
+    text.push_str("vector v uint64 63\n")?;
+    for i in 0..63 {
+        write!(text, "set v {i} 1\n")?;
+    }
+    for _ in 0..63 {
+        text.push_str("ewiseadd v v v plus\n")?;
+    }
+    Ok(text)
+}
+
+/// One pass prepares with so many bytes, and the other adopts it. Then the other reads. Whether it had nothing to make for that.
+fn is_adopted<R: Abort>(rt: &R, hoard: &mut Hoard, store: &mut Store, bytes: usize) -> bool
+    requires p { IsPassOf store.old.context store.old.p }
+    requires q { IsPassOf store.old.context store.old.q }
+{
+    let (context, p, q) = (&store.context, &mut store.p, &mut store.q);
+    leave(rt, hoard, bytes);
+    context.prepare(p);
+    same(rt, context.adopt(q, p), Ok(()), "the adoption");
+    leave_ample(rt, hoard);
+    let value = context.get_vector(q, V, 62);
+    let made = q.made();
+    let expected = Ok(Reply::Value(Value::Uint64(1 << 63)));
+    same(rt, value, expected, "the value");
+    same(rt, context.get_vector(p, V, 0), expected, "the same");
+    same(rt, q.known(), 127, "the calls");
+    made == 0
+}
+
+#[test]
+fn an_adoption_without_memory_leaves_all_answers(rt: HostRuntime) -> Result<(), AllocError> {
+    let script = dear_script(rt.alloc())?;
+    let (calls, _) = calls_in(&rt, rt.alloc(), &script)?;
+    let mut hoard = hold_all(&rt, 2_000);
+    leave_ample(&rt, &mut hoard);
+    let mut refused = 0;
+    for trial in 0..TRIALS {
+        let mut store = open(&rt, rt.alloc(), 128);
+        leave_ample(&rt, &mut hoard);
+        make_all(&rt, &store.context, &mut store.p, &calls);
+        if is_adopted(&rt, &mut hoard, &mut store, trial * STEP) {
+            break;
+        }
+        refused = trial + 1;
+    }
+    hoard.release();
+    assert!(rt; println!(rt; "the adoption is refused {refused} times").is_ok());
     assert!(rt; 0 < refused && refused < TRIALS, "refused {refused} times");
     Ok(())
 }

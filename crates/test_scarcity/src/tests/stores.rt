@@ -1,5 +1,6 @@
 //! Stores with two passes.
 ghost use Rattle.std.specs.Prelude.{◌<◌, ◌≤◌, All};
+ghost use Rattle.grb_order.specs.declared.limits.TheConstants.{MOST_ROOM};
 ghost use Rattle.grb_context.specs.Known.{IsPassOf};
 
 use crate::tests::same::same;
@@ -44,7 +45,7 @@ fn next_pass(rt: &impl Abort, context: &Context, passes: &mut Vec<Pass>) -> Pass
 
 /// A new store with this room.
 pub(super) fn open(rt: &impl Abort, alloc: Global, room: u32) -> Store
-    requires { (0 < room) × (room ≤ 4096) }
+    requires { (0 < room) × (room ≤ MOST_ROOM) }
     ensures p { IsPassOf result.context result.p }
     ensures q { IsPassOf result.context result.q }
 {

@@ -14,14 +14,14 @@ const ARGUMENTS: &str =
     file of at most 67,108,864 bytes, integer or pattern, general or\n            \
     symmetric. All files are read and checked after the script, and before\n            \
     anything runs.\n\n\
-    Options:\n      --room <N>  How many calls may change the store, two of each load, from 1 to 4096 [default: 4096]\n  \
+    Options:\n      --room <N>  How many calls may change the store, two of each load, from 1 to 65536 [default: 4096]\n  \
     -h, --help      Print help\n  -V, --version   Print version\n";
 
 const MISSING_SCRIPT: &str =
     "error: the following required arguments were not provided:\n  <SCRIPT>\n\n\
     Usage: grbrun <SCRIPT>\n\nFor more information, try '--help'.\n";
 
-const ROOM_OF_0: &str = "error: invalid value '0' for '--room <N>': 0 is not in 1..=4096\n\n\
+const ROOM_OF_0: &str = "error: invalid value '0' for '--room <N>': 0 is not in 1..=65536\n\n\
     For more information, try '--help'.\n";
 
 const ROOM_OF_X: &str =
@@ -36,7 +36,7 @@ fn words_give_a_room_and_a_path(rt: HostRuntime) -> Result<(), Fail> {
     let rows: [(&[&str], u32, &str); 8] = [
         (&["first.grb"], 4096, "first.grb"),
         (&["--room", "1", "x"], 1, "x"),
-        (&["--room", "4096", "x"], 4096, "x"),
+        (&["--room", "65536", "x"], 65536, "x"),
         (&["--room=7", "x"], 7, "x"),
         (&["x", "--room", "7"], 7, "x"),
         (
@@ -70,7 +70,7 @@ fn expect_status(rt: &impl Abort, alloc: Global, line: &str, status: u8) -> Resu
 fn other_words_are_faulty_or_ask_for_help(rt: HostRuntime) -> Result<(), Fail> {
     let rows = [
         ("--room 0 x", 2),
-        ("--room 4097 x", 2),
+        ("--room 65537 x", 2),
         ("--room 18446744073709551616 x", 2),
         ("--room -1 x", 2),
         ("--room many x", 2),

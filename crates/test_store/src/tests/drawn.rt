@@ -327,6 +327,21 @@ fn expect_alike(
     wanted
 }
 
+/// One pass adopts the other, or prepares what it knows, or does neither. Nothing that is answered depends on it.
+fn share(rt: &impl Abort, context: &Context, p: &mut Pass, q: &mut Pass, draw: &mut Draw)
+    requires first { IsPassOf context.now p.old }
+    requires second { IsPassOf context.now q.old }
+    ensures first { IsPassOf context.now p.new }
+    ensures second { IsPassOf context.now q.new }
+{
+    match draw.below(6) {
+        0 => same(rt, context.adopt(p, q), Ok(()), "the first adopts"),
+        1 => same(rt, context.adopt(q, p), Ok(()), "the second adopts"),
+        2 => context.prepare(p),
+        _ => {}
+    }
+}
+
 /// A drawn history: one of the passes makes some calls, and which of them is drawn anew then.
 fn expect_history(
     rt: &impl Abort,
@@ -350,6 +365,7 @@ fn expect_history(
     'calls: for turn in 0..CALLS {
         if turn % TURN == 0 {
             is_first = draw.below(2) == 0;
+            share(rt, context, p, q, draw);
         }
         let asked = draw.call(turn, pace);
         let answer = if is_first {

@@ -3,7 +3,7 @@
 //! were not made yet, and none of those that a version has. No script has a pass that meets another.
 use crate::tests::asked::Asked::{EwiseAddVector, GetVector, NewVector, SetVector, WaitVector};
 use crate::tests::asked::{Answer, Asked, DONE, FIRST, MADE, PLAIN, SECOND};
-use crate::tests::rows::Step::{Asks, Knows, Made, Meets, Repeats, Settled};
+use crate::tests::rows::Step::{Adopts, Asks, Knows, Made, Meets, Repeats, Settled};
 use crate::tests::rows::{P, Q, R, Row, run};
 use grb_call::{Reply, WaitMode};
 use grb_core::{BinaryOp, Domain, Value};
@@ -151,4 +151,32 @@ fn a_wait_after_few_calls_leaves_its_store_to_the_other_passes(
     rt: HostRuntime,
 ) -> Result<(), AllocError> {
     run(&rt, 512, &FEW)
+}
+
+/// One pass evaluates all that it knows. Another adopts it and makes nothing for that, and a third meets it and makes all. What the one that
+/// adopted then changes is seen by all, and changes nothing that the other had evaluated.
+static ADOPTED: [Row; 18] = [
+    (P, Asks(NewVector(Domain::Uint64, 2), MADE)),
+    (P, Repeats(40, SetVector(FIRST, 0, ONE), DONE)),
+    (P, Asks(GetVector(FIRST, 0), IS_1)),
+    (P, Made(41)),
+    (Q, Adopts(P)),
+    (Q, Knows(41)),
+    (Q, Made(0)),
+    (Q, Asks(GetVector(FIRST, 0), IS_1)),
+    (Q, Made(0)),
+    (R, Meets(P)),
+    (R, Asks(GetVector(FIRST, 0), IS_1)),
+    (R, Made(41)),
+    (Q, Asks(SetVector(FIRST, 0, FIVE), DONE)),
+    (Q, Asks(GetVector(FIRST, 0), IS_5)),
+    (Q, Made(1)),
+    (P, Asks(GetVector(FIRST, 0), IS_5)),
+    (P, Made(1)),
+    (P, Knows(42)),
+];
+
+#[test]
+fn what_a_pass_evaluated_is_adopted(rt: HostRuntime) -> Result<(), AllocError> {
+    run(&rt, 64, &ADOPTED)
 }

@@ -1,16 +1,17 @@
 //! Words of two places of one order. A contract lets a try be lost, or won, by what the atomic step finds; which of them comes, and that two
 //! threads enter each word once, no contract says. No script sees the words of an order.
 ghost use Rattle.std.specs.Prelude.{◌≡◌, ◌<◌, ◌≤◌, ◌^◌, ◌+◌, IfOk};
+ghost use Rattle.grb_order.specs.declared.limits.TheConstants.{MOST_ROOM};
 ghost use Rattle.grb_order.specs.Order.{room_of};
 
 use crate::tests::same::same;
-use grb_order::{Entered, Look, Order, Place};
+use grb_order::{Entered, Look, MOST_PASSES, MOST_ROOM, Order, Place};
 use std::alloc::{AllocError, Global};
 use std::process::Abort;
 use std::thread::join_mut;
 
 fn two_places(alloc: Global, room: u32) -> Result<(Order, Place, Place), AllocError>
-    requires { (0 < room) × (room ≤ 4096) }
+    requires { (0 < room) × (room ≤ MOST_ROOM) }
     ensures { IfOk result (λ made. (made.1.table_id ≡ made.0) × (made.2.table_id ≡ made.0)) }
 {
     let (order, mut places) = Order::open(alloc, room, 2)?;
@@ -122,5 +123,40 @@ fn two_threads_enter_each_record_once(rt: HostRuntime) -> Result<(), AllocError>
     look_at_all(&order, &mut p);
     look_at_all(&order, &mut q);
     expect_words(&rt, &p, &q);
+    Ok(())
+}
+
+/// The words of two places of a full order, which are the same.
+fn expect_full(rt: &impl Abort, p: &Place, q: &Place) {
+    same(rt, p.words().len(), MOST_ROOM as usize, "the words");
+    same(rt, p.words() == q.words(), true, "the same words");
+}
+
+#[test]
+fn two_threads_fill_an_order_of_65536_words(rt: HostRuntime) -> Result<(), AllocError> {
+    let (order, mut p, mut q) = two_places(rt.alloc(), MOST_ROOM)?;
+    join_mut(
+        &rt,
+        &mut || enter_all(&order, &mut p, 65_536),
+        &mut || enter_all(&order, &mut q, 65_536),
+    );
+    look_at_all(&order, &mut p);
+    look_at_all(&order, &mut q);
+    expect_full(&rt, &p, &q);
+    Ok(())
+}
+
+/// The pass of the highest number enters the record of the highest index that a full room has.
+#[test]
+fn the_last_record_of_the_last_pass_has_the_greatest_word(
+    rt: HostRuntime,
+) -> Result<(), AllocError> {
+    let (order, mut places) = Order::open(rt.alloc(), 1, MOST_PASSES)?;
+    let Some(mut last) = places.pop() else {
+        unreachable!()
+    };
+    enter_next(&order, &mut last, 65_535);
+    let word = last.words().first().copied().unwrap_or(0);
+    same(&rt, word, 0x0100_0000_0000_FFFF, "the word");
     Ok(())
 }

@@ -147,6 +147,10 @@ fn a_fault_is_told_after_the_name_of_the_program(rt: HostRuntime) -> Result<(), 
     let rows = [
         (script, "grbrun: line 1: unknown name"),
         (load, "grbrun: line 1: load: line 3: upper triangle"),
+        (
+            RunFault::TooManySections,
+            "grbrun: too many sections for the room",
+        ),
         (RunFault::CannotReadScript, "grbrun: cannot read the script"),
         (
             RunFault::CannotReadFile { line: 2 },

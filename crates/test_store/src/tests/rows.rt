@@ -1,5 +1,6 @@
 //! Histories as tables: what three passes of a new store do in turn, and what is seen of them between.
 ghost use Rattle.std.specs.Prelude.{◌<◌, ◌≤◌, All};
+ghost use Rattle.grb_order.specs.declared.limits.TheConstants.{MOST_ROOM};
 ghost use Rattle.grb_context.specs.Known.{IsPassOf};
 
 use crate::tests::asked::{Answer, Asked, ask};
@@ -26,6 +27,8 @@ pub(super) enum Step {
     Repeats(u32, Asked, Answer),
     /// It meets the pass of this number, which is answered `Ok`.
     Meets(u32),
+    /// It adopts the pass of this number, which is answered `Ok`.
+    Adopts(u32),
     /// It knows so many calls, and has learnt as many words.
     Knows(u32),
     /// So many steps on the order were made by its last call or meeting.
@@ -96,7 +99,7 @@ fn expect_step<A: Abort>(
         Step::Made(calls) => same(rt, pass.made(), calls, row),
         Step::Settled(calls) => same(rt, pass.settled(), calls, row),
         Step::Status(object, status) => same(rt, pass.last_info(object), status, row),
-        Step::Meets(_) => {}
+        Step::Meets(_) | Step::Adopts(_) => {}
     }
 }
 
@@ -124,6 +127,26 @@ fn meet(
     }
 }
 
+/// Lets one pass adopt another. An adoption that no table has is refused.
+fn adopt(
+    context: &Context,
+    p: &mut Pass,
+    q: &mut Pass,
+    number: u32,
+    other: u32,
+) -> Result<(), Refusal>
+    requires first { IsPassOf context.now p.old }
+    requires second { IsPassOf context.now q.old }
+    ensures first { IsPassOf context.now p.new }
+    ensures second { IsPassOf context.now q.new }
+{
+    match (number, other) {
+        (P, Q) => context.adopt(p, q),
+        (Q, P) => context.adopt(q, p),
+        _ => Err(Refusal::InvalidValue),
+    }
+}
+
 fn expect_row<A: Abort>(
     rt: &A,
     alloc: Global,
@@ -144,6 +167,10 @@ fn expect_row<A: Abort>(
     match row {
         (number, Step::Meets(other)) => {
             let met = meet(context, p, q, r, number, other);
+            same(rt, met, Ok(()), ("row from 0", at));
+        }
+        (number, Step::Adopts(other)) => {
+            let met = adopt(context, p, q, number, other);
             same(rt, met, Ok(()), ("row from 0", at));
         }
         (P, step) => expect_step(rt, alloc, context, p, step, at),
@@ -173,7 +200,7 @@ fn expect_rows<A: Abort>(
 /// A new store with this room, and three passes, does the rows. One function opens the stores of many tests, since what a store and its
 /// passes own is dear to follow.
 pub(super) fn run<A: Abort + AllocGlobal>(rt: &A, room: u32, rows: &[Row]) -> Result<(), AllocError>
-    requires { (0 < room) × (room ≤ 4096) }
+    requires { (0 < room) × (room ≤ MOST_ROOM) }
 {
     let (context, mut passes) = Context::open(rt.alloc(), room, 3)?;
     let mut r = next_pass(rt, &context, &mut passes);

@@ -1,6 +1,7 @@
 //! Threads that call at one moment. Which of them comes first, and that each is shown the records of the others, no contract says; a script
 //! has neither `room_left()` nor a pass that reads between two sections.
-ghost use Rattle.std.specs.Prelude.{◌<◌, ◌≤◌, All};
+ghost use Rattle.std.specs.Prelude.{◌+◌, ◌*◌, ◌<◌, ◌≤◌, All};
+ghost use Rattle.grb_order.specs.declared.limits.TheConstants.{MOST_PASSES, MOST_ROOM, MOST_SEATS};
 ghost use Rattle.grb_context.specs.Known.{IsPassOf};
 
 use crate::tests::asked::{Answer, DONE, FIRST, MADE};
@@ -219,8 +220,9 @@ fn on_threads<R: Abort + Threads + Wait + Sync>(
     size: u64,
     work: &Work,
 ) -> Result<(), AllocError>
-    requires room { (0 < room) × (room ≤ 4096) }
-    requires threads { (0 < threads) × (threads ≤ 63) }
+    requires room { (0 < room) × (room ≤ MOST_ROOM) }
+    requires threads { (0 < threads) × (threads < MOST_PASSES) }
+    requires seats { room * (threads + 1) ≤ MOST_SEATS }
 {
     let (context, mut passes) = Context::open(alloc, room, threads + 1)?;
     let mut last = next_pass(rt, &context, &mut passes);
@@ -237,8 +239,9 @@ pub(super) fn repeat<R: Abort + Threads + Wait + Sync>(
     size: u64,
     work: &Work,
 ) -> Result<(), AllocError>
-    requires room { (0 < room) × (room ≤ 4096) }
-    requires threads { (0 < threads) × (threads ≤ 63) }
+    requires room { (0 < room) × (room ≤ MOST_ROOM) }
+    requires threads { (0 < threads) × (threads < MOST_PASSES) }
+    requires seats { room * (threads + 1) ≤ MOST_SEATS }
 {
     for _ in 0..times {
         on_threads(rt, alloc, room, threads, size, work)?;
@@ -260,6 +263,13 @@ fn sixty_three_threads_set_all_their_entries(rt: HostRuntime) -> Result<(), Allo
 #[test]
 fn threads_that_set_at_one_moment_are_shown_all_records(rt: HostRuntime) -> Result<(), AllocError> {
     repeat(&rt, rt.alloc(), 1000, 3, 2, 2, &Work::SetAndCount)
+}
+
+#[test]
+fn two_hundred_and_fifty_five_threads_set_all_their_entries(
+    rt: HostRuntime,
+) -> Result<(), AllocError> {
+    repeat(&rt, rt.alloc(), 1, 4096, 255, 4080, &Work::SetOwn(16))
 }
 
 /// One word is left.

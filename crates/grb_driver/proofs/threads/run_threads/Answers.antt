@@ -1,6 +1,8 @@
-use Rattle.std.proofs.Common.{◌≡◌, length, subst, rules}
+use Rattle.std.proofs.Common.{◌≡◌, length, map, subst, rules}
+use Rattle.std.specs.Prelude.{OnOk}
+use Rattle.grb_context.specs.Known.{Knowing}
 use Rattle.std.proofs.lemmas.Result.{on_ok_weaker}
-use Rattle.grb_driver.specs.Threads.{AreGathered}
+use Rattle.grb_driver.specs.Threads.{AreGathered, AreThreadsRun}
 use Rattle.grb_driver.proofs.ScriptEnds.{none_run}
 use Rattle.grb_driver.proofs.ThreadLemmas.{passes_of, ended_passes, threads_run}
 use Rattle.grb_driver.proofs.threads.run_threads.Goals as goal
@@ -18,8 +20,13 @@ gather_all-requires-clause-ended g c = ended_passes _ _ _ c.in_ok-ended.ensures.
 
 pub returns-clause-run : goal.returns-clause-run
 returns-clause-run g c =
-    on_ok_weaker c.gather_all.result
+    subst
+    (λ (k : Knowing).
+    OnOk c.gather_all.result
+    (AreThreadsRun c.args.context.now (record { objects = c.args.objects.now; pass = k }) c.args.passes.items (map (λ steps. steps.items) c.args.threads.items) c.args.answers.now.items c.gather_all.new.main c.gather_all.new.answers.items))
+    c.prepare_main.ensures
+    (on_ok_weaker c.gather_all.result
     (λ gathered.
     threads_run _ _ _ _ _ _ _ _ _ c.in_ok-jobs.ensures.jobs c.in_ok-ended.ensures.ended
     (subst (λ m. AreGathered c.args.context.now m c.args.answers.now.items c.in_ok-ended.ended.items c.gather_all.new.main c.gather_all.new.answers.items) c.in_ok-jobs.ensures.main gathered))
-    c.gather_all.ensures.gathered
+    c.gather_all.ensures.gathered)

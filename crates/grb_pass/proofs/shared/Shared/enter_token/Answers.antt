@@ -1,5 +1,6 @@
 use Rattle.std.proofs.Common.{◌≡◌, ◌^◌, ◌<◌, ◌≤◌, None, refl, sym, subst, ap, arith, ◌∙◌}
 use Rattle.std.proofs.lemmas.Result.{err_from_is_err_and}
+use Rattle.grb_order.specs.declared.limits.TheConstants.{MOST_ROOM}
 use Rattle.grb_order.specs.Word.{order_word}
 use Rattle.grb_order.specs.Holding.{TableId}
 use Rattle.grb_order.specs.Order.{room_of}
@@ -28,7 +29,7 @@ tries-init c =
       index = c.requires.index;
       call = refl;
       ready = c.requires.ready;
-      small = subst (λ (o : TableId). room_of o ≤ 4096) c.requires.pass.order c.requires.steady.small;
+      small = subst (λ (o : TableId). room_of o ≤ MOST_ROOM) c.requires.pass.order c.requires.steady.small;
       counts = counts_same pass pass refl refl;
       lost = λ earlier is. tried_none earlier pass.view is;
     }

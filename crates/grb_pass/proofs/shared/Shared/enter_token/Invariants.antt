@@ -1,4 +1,5 @@
 use Rattle.std.proofs.Common.{◌≡◌, ◌<◌, ◌≤◌, ◌-◌, ◌^◌, length}
+use Rattle.grb_order.specs.declared.limits.TheConstants.{MOST_ROOM}
 use Rattle.grb_order.specs.Order.{room_of}
 use Rattle.grb_records.specs.Token.{IsOf}
 use Rattle.grb_pass.specs.Known.{IsPassOf}
@@ -16,7 +17,7 @@ invariant-tries l = record {
   index : l.token.index < 2 ^ 48;
   call : l.token.call ≡ l.fn.token.call;
   ready : IsReady (room_of l.self.order) l.pass l.fn.token.call;
-  small : room_of l.self.order ≤ 4096;
+  small : room_of l.self.order ≤ MOST_ROOM;
   counts : Counts l.fn.pass l.pass;
   lost : AreLost l.fn.pass l.pass;
 }

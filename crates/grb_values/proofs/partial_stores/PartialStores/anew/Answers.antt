@@ -13,11 +13,6 @@ use Rattle.grb_values.specs.Partial.{PartialStoresView}
 use Rattle.grb_values.proofs.Partial.{count_all, partial_onward, targets_behind_are}
 use Rattle.grb_values.proofs.partial_stores.PartialStores.anew.Goals as goal
 
-pub overflow_sub-known : goal.overflow_sub-known
-overflow_sub-known g c =
-    let known : List Call = g.C.CallList.calls c.args.source.now c.args.calls.now in let ws : List (Option Object) = g.C.CallList.target_list c.args.calls.now in
-    omega (arith, c.requires.state.within, ap length c.targets-known.ensures ∙ count_all known c.args.evaluated ws c.requires.targets)
-
 pub plan_anew-requires-clause-targets : goal.plan_anew-requires-clause-targets
 plan_anew-requires-clause-targets g c = count_all (g.C.CallList.calls c.args.source.now c.args.calls.now) c.args.evaluated (g.C.CallList.target_list c.args.calls.now) c.requires.targets
 
