@@ -46,6 +46,9 @@ const DRAWS: u64 = 275_000;
 /// A row that has about as many entries of a drawn matrix as rows have on average.
 const TYPICAL: u64 = 341;
 
+/// About as many entries as that row has.
+const IN_ROW: u64 = 24;
+
 /// The columns of an eighth.
 const EIGHTH: u64 = SIDE / 8;
 
@@ -60,6 +63,8 @@ pub(crate) enum Shape {
     Below,
     /// Numbers below 8 in eight cells of each row, one in each eighth of the columns.
     Eight,
+    /// Numbers below 8 in `IN_ROW` cells of the row `TYPICAL`, and no other row.
+    Row,
 }
 
 /// Which indices of a vector store something.
@@ -117,6 +122,11 @@ fn tuple(numbers: &mut Numbers, shape: Shape, at: u64) -> (u64, u64, Value)
             at % 8 * EIGHTH + j % EIGHTH,
             Value::Uint64(number % 8),
         ),
+        Shape::Row => (
+            TYPICAL,
+            at % IN_ROW * (SIDE / IN_ROW),
+            Value::Uint64(number % 8),
+        ),
     }
 }
 
@@ -124,6 +134,7 @@ fn tuple(numbers: &mut Numbers, shape: Shape, at: u64) -> (u64, u64, Value)
 fn draws_of(shape: Shape) -> u64 {
     match shape {
         Shape::Eight => 8 * SIDE,
+        Shape::Row => IN_ROW,
         _ => DRAWS,
     }
 }

@@ -48,20 +48,13 @@ fn steps_of(u: &Vector, a: &Matrix) -> u32 {
 }
 
 impl<R: Clock + Eprint + AllocGlobal> Bench<'_, R> {
-    /// Times products of a vector and a matrix.
-    fn run_vxm(&mut self, a: &Matrix) -> Result<(), Fail> {
-        let (alloc, hand) = (self.rt.alloc(), "by hand");
-        for (name, stride) in [
-            ("vxm, 1 entry", SIDE),
-            ("vxm, 64 entries", SIDE / 64),
-            ("vxm, a full vector", 1),
-        ] {
-            let u = Vector::drawn(alloc, Places::Each(stride))?;
-            let by_hand = || Ok(by_column::times(alloc, &u.plain, &a.plain)?);
-            let steps = steps_of(&u, a);
-            self.operation([name, hand], steps, &|| times(alloc, &u, a), &by_hand)?;
-        }
-        Ok(())
+    /// Times the product of a matrix and a vector with one entry of so many.
+    fn run_vxm(&mut self, name: &str, stride: u64, a: &Matrix) -> Result<(), Fail> {
+        let alloc = self.rt.alloc();
+        let u = Vector::drawn(alloc, Places::Each(stride))?;
+        let by_hand = || Ok(by_column::times(alloc, &u.plain, &a.plain)?);
+        let steps = steps_of(&u, a);
+        self.operation([name, "by hand"], steps, &|| times(alloc, &u, a), &by_hand)
     }
 
     /// Times products of a transposed matrix and a vector.
@@ -86,10 +79,14 @@ impl<R: Clock + Eprint + AllocGlobal> Bench<'_, R> {
         self.operation([name, "by hand"], steps, &|| turned(alloc, a), &by_hand)
     }
 
-    /// Times the operations by column of this matrix, and of one that stores eight entries in each row.
+    /// Times the operations by column of this matrix, of one that stores eight entries in each row, and of one that stores a single row.
     pub(crate) fn run_turned(&mut self, a: &Matrix) -> Result<(), Fail> {
         let (alloc, steps) = (self.rt.alloc(), a.plain.steps());
-        self.run_vxm(a)?;
+        self.run_vxm("vxm, 1 entry", SIDE, a)?;
+        let row = Matrix::drawn(alloc, &mut Numbers::new(), Shape::Row)?;
+        self.run_vxm("vxm, 1 entry, no other row stored", SIDE, &row)?;
+        self.run_vxm("vxm, 64 entries", SIDE / 64, a)?;
+        self.run_vxm("vxm, a full vector", 1, a)?;
         self.run_turned_mxv(a)?;
         let by_hand = || Ok(by_column::sums(alloc, &a.plain)?);
         let names = ["reduce of columns", "by hand"];

@@ -1,3 +1,4 @@
+//! The graph of the example, as objects of the store.
 ghost use Rattle.grb_context.specs.Known.{IsPassOf};
 
 use grb_call::{Descriptor, MatrixId, Reply, VectorId};

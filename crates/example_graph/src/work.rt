@@ -1,3 +1,4 @@
+//! What each thread of the example does.
 ghost use Rattle.grb_context.specs.Known.{IsPassOf};
 
 use crate::graph::{Failure, Graph, HUB, RING};

@@ -1,3 +1,5 @@
+//! What a command line asks for.
+
 /// What a run of the program is given.
 #[derive(Clone, Copy, Debug, PartialEq, Eq)]
 pub struct Options<'a> {

@@ -1,3 +1,4 @@
+//! The words of a command line, read by `clap`, and the statuses that they end with.
 ghost use Rattle.std.specs.Prelude.{◌≡◌, ◌<◌, ◌≤◌, IfOk, is_ok, map, if◌then◌else◌};
 ghost use Rattle.grb_order.specs.declared.limits.TheConstants.{MOST_ROOM};
 ghost use Rattle.clap.specs.Words.{FailsBy, app_of, kind_of};

@@ -1,3 +1,4 @@
+//! Files as a source of a script and of what it loads.
 ghost use Rattle.std.specs.Prelude.{◌≡◌, ◌-◌, ◌<◌, ◌≤◌, ◌^◌, None, IfOk, IfSome, IsErrOf, length};
 ghost use Rattle.std.specs.IoError.{error_kind};
 ghost use Rattle.grb_driver.specs.Source.{AreCountable, IsGiven, counts_after};

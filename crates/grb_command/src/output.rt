@@ -1,3 +1,4 @@
+//! Standard output, or what else takes bytes, as a sink of lines.
 ghost use Rattle.std.specs.Prelude.{◌≡◌, ◌≢◌, IfErr};
 ghost use Rattle.std.specs.Io.{WritesAtMost};
 ghost use Rattle.std.specs.IoError.{error_kind};

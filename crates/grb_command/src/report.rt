@@ -1,3 +1,4 @@
+//! What a program says on standard error, and the status that it ends with.
 ghost use Rattle.std.specs.Prelude.{◌≡◌, ◌⊎◌, ◌<◌, ◌≤◌, is_ok, if◌then◌else◌, map};
 ghost use Rattle.std.specs.IoError.{error_kind};
 ghost use Rattle.grb_order.specs.declared.limits.TheConstants.{MOST_ROOM};

@@ -1,3 +1,4 @@
+//! A method for each call that makes, frees, changes or reads one object.
 ghost use Rattle.grb_context.specs.Known.{IsPassOf};
 ghost use Rattle.grb_context.specs.Answered.{Answered};
 

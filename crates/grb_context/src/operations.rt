@@ -1,3 +1,4 @@
+//! A method for each element-wise operation.
 ghost use Rattle.grb_context.specs.Known.{IsPassOf};
 ghost use Rattle.grb_context.specs.Answered.{Answered};
 

@@ -1,3 +1,4 @@
+//! Waits for one object, or for all.
 ghost use Rattle.grb_context.specs.Known.{IsPassOf};
 ghost use Rattle.grb_context.specs.Answered.{Answered};
 

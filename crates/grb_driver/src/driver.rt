@@ -1,3 +1,4 @@
+//! A run of a script, from its bytes to its lines.
 ghost use Rattle.std.specs.Prelude.{◌≡◌, ℕ, ◌+◌, ◌-◌, ◌*◌, ◌^◌, ◌<◌, ◌≤◌, List, ◌∷◌, length, map, All, OnOk, IfOk, IfErr};
 ghost use Rattle.grb_order.specs.declared.limits.TheConstants.{MOST_PASSES, MOST_ROOM, MOST_SEATS};
 ghost use Rattle.grb_order.specs.Order.{room_of};

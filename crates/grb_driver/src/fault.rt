@@ -1,3 +1,4 @@
+//! Why a run ends before its end.
 ghost use Rattle.std.specs.Prelude.{◌≡◌};
 ghost use Rattle.grb_driver.specs.declared.fault.RunFault.TheVariants as run;
 ghost use Rattle.grb_driver.specs.RunFault.{source_run_fault, read_run_fault};

@@ -1,3 +1,4 @@
+//! The files that a script loads, read and checked before its first statement.
 ghost use Rattle.std.specs.Prelude.{◌≡◌, ℕ, List, length, map, IfOk, IfErr};
 ghost use Rattle.std.specs.List.{flat_map};
 ghost use Rattle.grb_market.specs.declared.fault.ReadError.{ReadError};

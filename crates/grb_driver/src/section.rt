@@ -1,3 +1,4 @@
+//! One section of a script by one pass: its answers, in order.
 ghost use Rattle.std.specs.Prelude.{◌≡◌, IfOk};
 ghost use Rattle.grb_context.specs.Answered.{Answered};
 ghost use Rattle.grb_context.specs.Known.{IsPassOf};

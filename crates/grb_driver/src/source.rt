@@ -1,3 +1,4 @@
+//! Where the bytes of a script and of its files come from.
 ghost use Rattle.std.specs.Prelude.{◌≡◌, ℕ, List, Option, IfOk};
 ghost use Rattle.grb_driver.specs.Source.{FaultCounts, AreCountable, counts_after, IsGiven};
 

@@ -1,3 +1,4 @@
+//! The thread sections of a script, each by a pass and a thread of its own.
 ghost use Rattle.std.specs.Prelude.{◌≡◌, ◌+◌, ◌*◌, ◌<◌, ◌≤◌, length, map, All, Ok, IfOk, IfErr, OnOk, OnErr};
 ghost use Rattle.grb_order.specs.declared.limits.TheConstants.{MOST_PASSES, MOST_ROOM, MOST_SEATS};
 ghost use Rattle.grb_driver.specs.declared.fault.RunFault.TheVariants as run;

@@ -1,3 +1,4 @@
+//! The call that a statement makes, with the objects that its names stand for.
 ghost use Rattle.std.specs.Prelude.{◌≡◌};
 ghost use Rattle.grb_lines.specs.Calls.{dup_call, free_call, nvals_call, size_call, clear_call, total_call, wait_call, call_of};
 

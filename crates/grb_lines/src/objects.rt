@@ -1,3 +1,4 @@
+//! The objects that stand for the names of a script.
 ghost use Rattle.std.specs.Prelude.{◌≡◌, OnOk};
 ghost use Rattle.grb_lines.specs.Objects.{matrix_named, vector_named, new_object, made_sort, objects_after};
 

@@ -1,3 +1,4 @@
+//! The calls of operations, by the names of their objects.
 ghost use Rattle.std.specs.Prelude.{◌≡◌};
 ghost use Rattle.grb_lines.specs.Calls.{mask_matrix, mask_vector, ewise_add_call, ewise_mult_call, mxv_call, vxm_call, mxm_call, reduce_call};
 

@@ -1,3 +1,4 @@
+//! The line that an answer prints.
 ghost use Rattle.std.specs.Prelude.{◌≡◌, ◌++◌, OnOk, IfOk, string_bytes};
 ghost use Rattle.std.specs.List.{flat_map};
 ghost use Rattle.grb_lines.specs.ReplyLine.{reply_line};

@@ -1,3 +1,4 @@
+//! How long a pass holds back after it has lost a try to enter: some turns of a loop that does nothing.
 ghost use Rattle.std.specs.Prelude.{◌≡◌, true};
 ghost use Rattle.grb_pass.specs.BackOff.{wait_after};
 

@@ -1,3 +1,4 @@
+//! Calls that change an object: checked, kept in a record, and entered into the order.
 ghost use Rattle.std.specs.Prelude.{◌≡◌, ◌+◌, ◌<◌, ◌≤◌, ◌^◌, length, true, OnOk, IfErr};
 ghost use Rattle.grb_order.specs.Order.{room_of};
 ghost use Rattle.grb_records.specs.Token.{IsOf};

@@ -1,3 +1,4 @@
+//! What a pass has evaluated of the calls that it knows, and what it takes of other passes and leaves to them.
 ghost use Rattle.std.specs.Prelude.{◌≡◌, ◌<◌, ◌≤◌, ◌^◌, [], false, None, Some, if◌then◌else◌, length, map, All, IfOk, IfSome, OnOk, OnErr};
 ghost use Rattle.grb_order.specs.Order.{room_of};
 ghost use Rattle.grb_records.specs.Token.{IsOf};
@@ -208,8 +209,26 @@ fn entries_of(state: &State) -> u64 {
     entries
 }
 
-/// Offers the store, in which all known calls are evaluated, to the other passes, with no change left that waits. Where memory is refused
-/// to that, it is not offered.
+/// Leaves the store, in which all known calls are evaluated and no change waits, among the latest. `AllocError` where memory is refused; then
+/// it has not left it.
+fn leave(
+    versions: &Versions,
+    records: &Records,
+    reader: &mut Reader,
+    state: &State,
+) -> Result<(), AllocError>
+    requires of { All (IsOf records.now) reader.old.shown }
+    requires all { state.now.store ≡ store_of (known reader.old) }
+    requires assembled { AreAllAssembled (is_assembled state.now.matrices state.now.vectors) }
+    ensures same { reader.new ≡ reader.old }
+{
+    let calls = lent_calls(records, reader)?;
+    let copy = state.try_clone(0)?;
+    versions.leave(calls.as_slice(), copy)
+}
+
+/// Leaves the store, in which all known calls are evaluated, to the other passes, with no change left that waits, unless there is a version
+/// of as many calls. Where memory is refused to that, it is not left.
 fn share(versions: &Versions, records: &Records, reader: &mut Reader, state: &mut State)
     requires of { All (IsOf records.now) reader.old.shown }
     requires all { state.old.store ≡ store_of (known reader.old) }
@@ -219,11 +238,12 @@ fn share(versions: &Versions, records: &Records, reader: &mut Reader, state: &mu
     ensures same { reader.new ≡ reader.old }
     ensures assembled { IsAssembledWhereSettled reader.new state.new }
 {
-    if !versions.takes(reader.known() as usize) {
+    let known = reader.known() as usize;
+    if known == 0 || versions.has_beyond(known - 1, usize::MAX) {
         return;
     }
     if assemble(reader, state).is_ok() {
-        let _ = offer(versions, records, reader, state);
+        let _ = leave(versions, records, reader, state);
     }
 }
 
@@ -305,8 +325,35 @@ impl Evaluated {
         self.effort.of(&reader.amount_beyond(&self.amount)) >= DEAR
     }
 
+    /// Whether operations are to be made of which it has no measure: then a version that has them was worth more than to copy its calls, to
+    /// whoever left it.
+    fn may_be_dear(&self, reader: &Reader) -> bool {
+        let left = reader.amount_beyond(&self.amount);
+        left.has_operations() && self.effort.is_unknown()
+    }
+
+    /// Whether the known calls that are not made take as much as to compare all known calls with those of a version.
+    fn is_worth_comparing(&self, reader: &Reader) -> bool {
+        let left = reader.amount_beyond(&self.amount);
+        let known = reader.amount_beyond(&Amount::none());
+        self.effort.of(&left) >= known.compared()
+    }
+
+    /// Whether there is a version to go on from: in a cell where so many calls are known or more, and among the latest where those that are
+    /// not made are dear; but not where to compare calls would take longer than to make them.
+    fn finds(&self, reader: &Reader, from: usize) -> bool {
+        let known = reader.known() as usize;
+        if known >= from && self.is_worth_comparing(reader) {
+            return self.versions.has_beyond(self.count, known);
+        }
+        if !self.versions.has_latest_beyond(self.count, known) {
+            return false;
+        }
+        self.may_be_dear(reader) || (self.is_dear(reader) && self.is_worth_comparing(reader))
+    }
+
     /// Goes on from a version before a read, or a build's check: the first time, and then where 64 calls more are known than when it last
-    /// did so, or those that are not made are dear.
+    /// did so, or those that are not made are dear; not where comparing calls would take longer.
     pub(crate) fn go_on(&mut self, records: &Records, reader: &mut Reader)
         requires evaluated { IsEvaluatedFor reader.old self.old }
         requires of { All (IsOf records.now) reader.old.shown }
@@ -314,8 +361,11 @@ impl Evaluated {
         ensures evaluated { IsEvaluatedFor reader.new self.new }
     {
         let known = reader.known() as usize;
-        if known >= self.next || self.is_dear(reader) {
+        let finds = self.finds(reader, self.next);
+        if known >= self.next {
             self.next = known + MANY;
+        }
+        if finds {
             advance(
                 &self.versions,
                 records,
@@ -327,8 +377,8 @@ impl Evaluated {
         }
     }
 
-    /// Offers the store, in which all known calls are evaluated, to the other passes, where there are some, and what was made for the answer
-    /// was dear, also next to copies of what they may change. Nothing is missed where memory is refused to that.
+    /// Leaves the store, in which all known calls are evaluated, to the other passes, where there are some, and what was made for the answer
+    /// was dear, also next to copies of the calls and of what the passes may change. Nothing is missed where memory is refused to that.
     fn share_dear(&mut self, records: &Records, reader: &mut Reader)
         requires evaluated { IsEvaluatedFor reader.old self.old }
         requires of { All (IsOf records.now) reader.old.shown }
@@ -339,7 +389,10 @@ impl Evaluated {
         ensures count { self.new.count ≡ self.old.count }
     {
         let spent = self.effort.spent();
-        if self.alone || spent < DEAR || spent < entries_of(&self.state) / COPIED {
+        if self.alone || spent < DEAR || spent < self.amount.copied() {
+            return;
+        }
+        if spent < entries_of(&self.state) / COPIED {
             return;
         }
         share(&self.versions, records, reader, &mut self.state);
@@ -377,8 +430,9 @@ impl Evaluated {
         }
     }
 
-    /// Evaluates all known calls, from a version where 64 of them or more are not made yet, or these are dear; and offers their store where
-    /// they were. No object is held in a partial store any more. Where memory is refused, `AllocError`; those before stay evaluated.
+    /// Evaluates all known calls, from a version where 64 of them or more are not made yet, or these are dear, and comparing calls does not
+    /// take longer; and offers their store where they were dear. No object is held in a partial store any more. Where memory is refused,
+    /// `AllocError`; those before stay evaluated.
     pub(crate) fn make_all(
         &mut self,
         records: &Records,
@@ -393,7 +447,7 @@ impl Evaluated {
         ensures memory { OnErr result (reader.old.settled < length (known reader.old)) }
     {
         self.objects.release();
-        if reader.known() as usize >= self.count.saturating_add(MANY) || self.is_dear(reader) {
+        if self.finds(reader, self.count.saturating_add(MANY)) {
             advance(
                 &self.versions,
                 records,

@@ -1,3 +1,4 @@
+//! The words that a pass has not learnt, up to the end of the order.
 ghost use Rattle.std.specs.Prelude.{◌≡◌, ◌+◌, ◌<◌, ◌≤◌, ◌^◌, length, OnOk, IfErr};
 ghost use Rattle.grb_order.specs.Order.{room_of};
 ghost use Rattle.grb_pass.specs.Known.{IsPassOf, known};

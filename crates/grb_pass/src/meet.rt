@@ -1,3 +1,4 @@
+//! What one pass tells another: its calls, and what it has evaluated.
 ghost use Rattle.std.specs.Prelude.{◌≡◌, length};
 ghost use Rattle.grb_order.specs.Word.{StartsWith};
 ghost use Rattle.grb_pass.specs.Known.{known, IsPassOf};

@@ -1,3 +1,4 @@
+//! A pass: one thread's way into the history, with what it knows, has evaluated and was answered.
 ghost use Rattle.std.specs.Prelude.{◌≡◌, ◌<◌, ◌≤◌, ◌+◌, ◌^◌, ◌⊎◌, false, None, Some, [], if◌then◌else◌, length, All, IfOk, IfErr, IfSome, OnOk, OnErr};
 ghost use Rattle.std.specs.Option.{option_or};
 ghost use Rattle.grb_order.specs.declared.limits.TheConstants.{MOST_ROOM};

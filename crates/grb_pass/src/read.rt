@@ -1,3 +1,4 @@
+//! Calls that only read, answered at the end of the order.
 ghost use Rattle.std.specs.Prelude.{◌≡◌, false, length};
 ghost use Rattle.grb_order.specs.Order.{room_of};
 ghost use Rattle.grb_call.specs.Kinds.{enters};

@@ -1,3 +1,4 @@
+//! What a pass knows of the history: its words, the tokens of their records, and the shapes that their calls leave.
 ghost use Rattle.std.specs.Prelude.{◌≡◌, ◌<◌, ◌≤◌, ◌+◌, ◌^◌, true, [], ◌∷◌, ◌++◌, length, All, None, Some, slice_get, slice_index, MatchOption, IfOk};
 ghost use Rattle.std.specs.Option.{option_or};
 ghost use Rattle.grb_order.specs.declared.limits.TheConstants.{MOST_ROOM};

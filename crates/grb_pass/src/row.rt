@@ -1,3 +1,4 @@
+//! The cells for a pass's own records.
 ghost use Rattle.std.specs.Prelude.{◌≡◌, ◌⊎◌, IfOk, IfErr};
 ghost use Rattle.grb_records.specs.Token.{IsOf};
 ghost use Rattle.grb_pass.specs.Putting.{next_after};

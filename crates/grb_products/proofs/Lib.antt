@@ -15,3 +15,4 @@ pub mod ByColumn
 pub mod NamedRise
 pub mod SumsByColumn
 pub mod ColumnFolds
+pub mod RunFolds

@@ -9,7 +9,7 @@ use Rattle.grb_core.proofs.Made.{all-append}
 use Rattle.grb_kernels.specs.Typed.{entries_of, first_entries}
 use Rattle.grb_kernels.proofs.Lists.{append_nil, first-all, first-set_more, first-read}
 use Rattle.grb_products.specs.ColumnSums.{Rise, with_values}
-use Rattle.grb_products.specs.Pushes.{pushed, at_numbers, columns_at}
+use Rattle.grb_products.specs.Pushes.{pushed, at_numbers}
 use Rattle.grb_products.proofs.RowByRow.{in_its_row, is_in}
 
 module _ (f : Value → Value → Value) where
@@ -88,25 +88,6 @@ module _ {V : Type 0} (tv : V → Value) (f : Value → Value → Value) (number
   pub pushed-all : (i : ℕ) → length places ≤ i → length places ≡ length values
       → pushed f (at_numbers numbers (first_entries tv i places values)) a ≡ pushed f (at_numbers numbers (entries_of tv places values)) a
   pushed-all i past same = ap (λ (m : VectorEntries). pushed f (at_numbers numbers m) a) (first-all tv places values i past same)
-
-with_values-columns_of : (g : Value → Value) (m : VectorEntries) → map (λ e. e.0) (with_values g m) ≡ map (λ e. e.0) m
-with_values-columns_of g [] = refl
-with_values-columns_of g (e ∷ m) = ap (λ (js : List ℕ). e.0 ∷ js) (with_values-columns_of g m)
-
-columns-append : (x y : VectorEntries) → map (λ e. e.0) (x ++ y) ≡ map (λ e. e.0) x ++ map (λ e. e.0) y
-columns-append [] y = refl
-columns-append (e ∷ x) y = ap (λ (js : List ℕ). e.0 ∷ js) (columns-append x y)
-
--- the columns to which picked rows are added
-pub columns-pushed : {V : Type 0} (tv : V → Value) (f : Value → Value → Value) (numbers places : List ℕ) (values : List V) (a : MatrixEntries) → length places ≡ length values
-    → map (λ e. e.0) (pushed f (at_numbers numbers (entries_of tv places values)) a) ≡ columns_at numbers places a
-columns-pushed tv f numbers [] values a same = refl
-columns-pushed tv f numbers (p ∷ places) [] a same = absurd (omega arith)
-columns-pushed tv f numbers (p ∷ places) (v ∷ values) a same =
-    let row = row_of (get_or numbers p 0) a in
-    columns-append (with_values (f (tv v)) row) (pushed f (at_numbers numbers (entries_of tv places values)) a)
-    ∙ ap (λ (js : List ℕ). js ++ map (λ e. e.0) (pushed f (at_numbers numbers (entries_of tv places values)) a)) (with_values-columns_of (f (tv v)) row)
-    ∙ ap (λ (js : List ℕ). map (λ e. e.0) row ++ js) (columns-pushed tv f numbers places values a (omega arith))
 
 module _ (P : ℕ → Type 0) where
   within-row : (i : ℕ) (a : MatrixEntries) → AllByRecursion (λ e. P e.0.1) a → AllByRecursion (λ e. P e.0) (row_of i a)

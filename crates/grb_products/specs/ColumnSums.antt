@@ -32,6 +32,10 @@ column_folds m names added = map_on names (λ j. fold_of_some m (values_at nat_c
 abbrev pub with_values : (Value → Value) → VectorEntries → VectorEntries
 with_values f m = map (λ e. (e.0, f e.1)) m
 
+-- values with their columns, as entries
+abbrev pub as_entries : {V : Type 0} → (V → Value) → List (ℕ × V) → VectorEntries
+as_entries tv ps = map (λ p. (p.0, tv p.1)) ps
+
 -- the entries of a matrix in their order, each at its column
 abbrev pub by_column : MatrixEntries → VectorEntries
 by_column a = map (λ e. (e.0.1, e.1)) a

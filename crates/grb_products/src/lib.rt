@@ -17,6 +17,7 @@ mod pushes;
 mod row_folds;
 mod row_products;
 mod rows;
+mod runs;
 mod stored;
 mod totals;
 

@@ -11,15 +11,16 @@ ghost use Rattle.grb_core.proofs.Made.{op_closed};
 ghost use Rattle.grb_core.specs.Entries.{cell_cmp, built_from, restricted};
 ghost use Rattle.grb_kernels.specs.Typed.{entries_of};
 ghost use Rattle.grb_rows.specs.Cells.{decoded};
-ghost use Rattle.grb_products.specs.ColumnSums.{AreSums, Rise, column_folds};
+ghost use Rattle.grb_products.specs.ColumnSums.{AreSums, Rise, as_entries, column_folds};
 ghost use Rattle.grb_products.specs.Pushes.{pushed, pushed_of, at_numbers, columns_at, is_among, IsBounded};
 
 use crate::column_sums::{
-    AllColumns, Columns, NamedColumns, OpenSums, Term, add_entries, close_sums, distinct, open_sums,
+    AllColumns, Columns, NamedColumns, OpenSums, Term, add_entries, close_sums, open_sums,
 };
 use crate::monoids::MonoidOver;
 use crate::multiply::is_worth_opening;
 use crate::picks::{Picks, pick_rows};
+use crate::runs::{folds_of, push_row};
 use crate::stored::Stored;
 use grb_kernels::{EntryList, EntrySlice, Operator, Scalar};
 use grb_rows::FlatRows;
@@ -90,23 +91,6 @@ fn picked_len(lists: &FlatRows, places: &[usize]) -> usize
         count = count.saturating_add(lists.row_columns(*place).len());
     }
     count
-}
-
-/// The columns of the rows at these places, row by row. Takes memory for `room`, and for more if they are more.
-fn picked_columns(
-    alloc: Global,
-    lists: &FlatRows,
-    places: &[usize],
-    room: usize,
-) -> Result<Vec<u32>, AllocError>
-    requires within { All (λ p. p < length lists.now.rows) places.now }
-    ensures { IfOk result (λ columns. columns.items ≡ columns_at lists.now.rows places.now (decoded lists.now.entries)) }
-{
-    let mut columns = Vec::with_capacity(alloc, room)?;
-    'rows: for place in places {
-        columns.extend_from_slice(lists.row_columns(*place))?;
-    }
-    Ok(columns)
 }
 
 /// Adds the picked rows, each with the products of its pick's value, to sums of which none lies open.
@@ -184,7 +168,34 @@ fn sum_all<T: Stored + Drop, M: MonoidOver<T>, O: Operator<T>, S: Side>(
     Ok(made)
 }
 
-/// The same by a place for each column that the picked rows have. These rows have `count` entries.
+/// The products of the picked rows with the values of their picks, row by row, each with its column. Takes memory for `room`, and for more
+/// if they are more.
+fn picked_products<T: Stored + Drop, O: Operator<T>, S: Side>(
+    alloc: Global,
+    lists: &FlatRows,
+    picks: &Picks<T>,
+    room: usize,
+) -> Result<Vec<(u32, T)>, AllocError>
+    requires domain { lists.now.domain ≡ T.domain }
+    requires within { All (λ p. p < length lists.now.rows) picks.now.places.items }
+    ensures of_domain { IfOk result (λ products. All (λ p. IsValueOf T.domain (T.value p.1)) products.items) }
+    ensures pushed { IfOk result (λ products. as_entries T.value products.items ≡ pushed (S.makes O.op) (at_numbers lists.now.rows (entries_of T.value picks.now.places.items picks.now.values.items)) (decoded lists.now.entries)) }
+{
+    let mut products = Vec::with_capacity(alloc, room)?;
+    'picks: for i in 0..picks.places.len() {
+        let place = picks.places[i];
+        let term: Product<T, O, S> = Product {
+            x: picks.values[i],
+            of: PhantomData,
+        };
+        let columns = lists.row_columns(place);
+        products.reserve(columns.len())?;
+        push_row(&term, columns, T::of_row(lists, place), &mut products);
+    }
+    Ok(products)
+}
+
+/// The same by the products one after another, sorted by column. The picked rows have `count` entries.
 fn sum_named<T: Stored + Drop, M: MonoidOver<T>, O: Operator<T>, S: Side>(
     alloc: Global,
     lists: &FlatRows,
@@ -196,12 +207,8 @@ fn sum_named<T: Stored + Drop, M: MonoidOver<T>, O: Operator<T>, S: Side>(
     requires in_range { All (λ e. e.0.1 < 2 ^ 32) (decoded lists.now.entries) }
     ensures { IfOk result (λ made. entries_of T.value made.indices.items made.values.items ≡ built_from nat_cmp M.monoid (pushed (S.makes O.op) (at_numbers lists.now.rows (entries_of T.value picks.now.places.items picks.now.values.items)) (decoded lists.now.entries))) }
 {
-    let columns = picked_columns(alloc, lists, picks.places.as_slice(), count)?;
-    let names = distinct(alloc, columns.as_slice())?;
-    let named = NamedColumns {
-        names: names.as_slice(),
-    };
-    let made = sum_rows::<T, M, O, S, NamedColumns>(alloc, &named, lists, picks)?;
+    let mut products = picked_products::<T, O, S>(alloc, lists, picks, count)?;
+    let made = folds_of::<T, M>(alloc, products.as_mut_slice())?;
     Ok(made)
 }
 

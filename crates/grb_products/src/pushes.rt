@@ -230,7 +230,8 @@ pub(crate) fn transposed_product(
 /// All are of one domain, the mask aside; `u` has one place for each row of `a`, and the output and the mask one for each column. Only
 /// the rows are read at which `u` stores something. Time is in proportion to their entries, to those of `u` and to what is written, and so
 /// is memory: a work array of one place for each column is made only where it is no longer than 8 times the entries of these rows. Else
-/// each of these costs a binary search among their columns, or among the mask's indices where those are fewer and bound what is written.
+/// the products are sorted by column; or, where the mask's indices are no more than these entries and bound what is written, each entry
+/// costs a binary search among them.
 ///
 /// Source: GraphBLAS C API 2.0, "vxm".
 pub fn vxm(

@@ -31,17 +31,4 @@ impl Token {
     {
         self.index
     }
-
-    /// A second token of the same record, as for another thread. Takes no memory. This one is as before: a note is read through a `&mut`
-    /// alone.
-    pub fn again(&mut self) -> Token
-        ensures same { self.new ≡ self.old }
-        ensures again { result ≡ self.old }
-    {
-        Token {
-            pass: self.pass,
-            index: self.index,
-            note: self.note.again(),
-        }
-    }
 }

@@ -1,3 +1,4 @@
+//! What a state lends of its objects, and a copy of it that shares them.
 ghost use Rattle.std.specs.Prelude.{◌≡◌, ◌+◌, ◌<◌, ◌^◌, true, length, IfOk};
 ghost use Rattle.std.specs.Option.{option_map, option_map_or};
 ghost use Rattle.grb_call.specs.Store.{matrix_at, shapes_of, vector_at};

@@ -1,3 +1,4 @@
+//! The store that calls leave of another: they are made one after another.
 ghost use Rattle.std.specs.Prelude.{◌≡◌, ◌+◌, ◌<◌, ◌^◌, length, map, IfOk};
 ghost use Rattle.grb_call.specs.History.{after_all};
 ghost use Rattle.grb_replay.specs.Settled.{AreAllAssembled};

@@ -1,3 +1,4 @@
+//! The matrices of a state, by their numbers. One that a clone shares is copied before it is changed.
 ghost use Rattle.std.specs.Prelude.{◌≡◌, ◌<◌, ℕ, [], ◌∷◌, ◌++◌, Some, true, is_some, OnOk, OnErr, IfOk, IfSome, slice_set, vec_len, vec_capacity};
 ghost use Rattle.std.specs.Option.{option_map, option_map_or};
 ghost use Rattle.grb_call.specs.Output.{matrix_after, matrix_left};

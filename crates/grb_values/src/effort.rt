@@ -1,3 +1,4 @@
+//! How much work calls are, as a number of sets. It steers what is evaluated, and no answer depends on it.
 ghost use Rattle.std.specs.Prelude.{◌≡◌, ◌+◌, ◌<◌, OnOk, OnErr};
 ghost use Rattle.grb_call.specs.After.{after};
 
@@ -10,6 +11,11 @@ const UNKNOWN: u64 = 16;
 
 /// How many entries an operation reads or leaves in the time of a set, about, and a build takes (own).
 const ENTRIES: u64 = 8;
+
+/// How many calls, or entries of a list, are compared in the time of a set, about, and how many are copied (own).
+const COMPARED: u64 = 8;
+
+const COPIED: u64 = 4;
 
 /// What the call changes its object by.
 enum Work {
@@ -38,11 +44,13 @@ fn work_of(call: &Call) -> Work {
     }
 }
 
-/// How much work some calls are: so many operations, and what the other calls take, as a number of sets (own). No contract says either.
+/// How much work some calls are: so many operations, and what the other calls take, as a number of sets; and how many calls and entries of
+/// lists they are (own). No contract says any of it.
 #[derive(Clone, Copy)]
 pub struct Amount {
     operations: u64,
     sets: u64,
+    parts: u64,
 }
 
 impl Amount {
@@ -51,19 +59,37 @@ impl Amount {
         Amount {
             operations: 0,
             sets: 0,
+            parts: 0,
         }
     }
 
     /// Of one call more. Takes no memory.
     pub fn add(&mut self, call: &Call) {
+        self.parts = self.parts.saturating_add(1);
         match work_of(call) {
             Work::Operation => self.operations = self.operations.saturating_add(1),
             Work::List(entries) => {
                 let sets = 1 + entries as u64 / ENTRIES;
                 self.sets = self.sets.saturating_add(sets);
+                self.parts = self.parts.saturating_add(entries as u64);
             }
             Work::Step => self.sets = self.sets.saturating_add(1),
         }
+    }
+
+    /// What it takes to compare the calls with others, as a number of sets. Takes no memory.
+    pub fn compared(&self) -> u64 {
+        self.parts / COMPARED
+    }
+
+    /// What copies of the calls take, as a number of sets. Takes no memory.
+    pub fn copied(&self) -> u64 {
+        self.parts / COPIED
+    }
+
+    /// Whether there are operations among them. Takes no memory.
+    pub fn has_operations(&self) -> bool {
+        self.operations > 0
     }
 
     /// Of the calls that are not among those of this part. Takes no memory.
@@ -71,6 +97,7 @@ impl Amount {
         Amount {
             operations: self.operations.saturating_sub(part.operations),
             sets: self.sets.saturating_sub(part.sets),
+            parts: self.parts.saturating_sub(part.parts),
         }
     }
 }
@@ -126,6 +153,11 @@ impl Effort {
     /// What the calls took that were made since it began to count. Takes no memory.
     pub fn spent(&self) -> u64 {
         self.spent
+    }
+
+    /// Whether no operation was made, so that nothing is known of what one takes. Takes no memory.
+    pub fn is_unknown(&self) -> bool {
+        self.operations == 0
     }
 
     /// What these calls take. Before an operation was made, one is taken to be as much as all else of them. Takes no memory.

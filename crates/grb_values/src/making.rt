@@ -1,3 +1,4 @@
+//! Calls that are made on a state one by one, with a place for each object that is passed over.
 ghost use Rattle.std.specs.Prelude.{◌≡◌, ◌+◌, ◌<◌, ◌≤◌, false, true, Some, drop, length, slice_get, OnOk, OnErr};
 ghost use Rattle.grb_call.specs.declared.call.Call.{Call};
 ghost use Rattle.grb_call.specs.Store.{Store, shapes_of};

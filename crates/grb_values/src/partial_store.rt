@@ -1,3 +1,4 @@
+//! A state in which the calls of the slice of some objects were made, and no other.
 ghost use Rattle.std.specs.Prelude.{◌≡◌, ◌+◌, ◌<◌, ◌≤◌, ◌^◌, false, true, Some, drop, length, IfOk, OnOk};
 ghost use Rattle.std.specs.Option.{option_map, option_map_or};
 ghost use Rattle.grb_call.specs.Kinds.{enters, is_size};

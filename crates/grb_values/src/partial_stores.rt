@@ -1,3 +1,4 @@
+//! Partial stores of objects that were read, eight at most.
 ghost use Rattle.std.specs.Prelude.{◌≡◌, ◌≤◌, ◌<◌, ℕ, [], false, true, List, None, Some, length, vec_capacity, vec_len, All, IfOk, IfSome};
 ghost use Rattle.grb_call.specs.declared.call.Call.{Call};
 ghost use Rattle.grb_call.specs.Kinds.{enters, is_size};

@@ -1,3 +1,4 @@
+//! Whether a read goes by the slice of its object, or has all calls made: by what each would take.
 ghost use Rattle.std.specs.Prelude.{◌≡◌, ◌≤◌, true, drop, length, IfOk, IfSome};
 ghost use Rattle.grb_call.specs.declared.ids.Object.{Object};
 ghost use Rattle.grb_slices.specs.SliceFor.{IsSliceFor};

@@ -1,3 +1,4 @@
+//! Which object each call changes, noted once when the call is learnt.
 ghost use Rattle.std.specs.Prelude.{◌≡◌, ◌+◌, ◌<◌, ◌≤◌, ◌^◌, ◌++◌, ◌∷◌, [], List, None, length, drop, map, IfOk};
 ghost use Rattle.grb_call.specs.declared.call.Call.{Call};
 ghost use Rattle.grb_call.specs.Refused.{refused_by_shapes, shapes_after};

@@ -1,3 +1,4 @@
+//! One object after calls on any store, from only the calls that it depends on.
 ghost use Rattle.std.specs.Prelude.{◌≡◌, ◌+◌, ◌<◌, ◌^◌, false, true, length, map, IfOk, IfSome};
 ghost use Rattle.std.specs.Option.{option_map};
 ghost use Rattle.grb_call.specs.Shapes.{is_live};

@@ -3,6 +3,7 @@
 //! A version is found by its own calls and never by their number: whoever asks brings the calls that he knows.
 #![tactic(auto)]
 
+mod places;
 mod version;
 mod versions;
 

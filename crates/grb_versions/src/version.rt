@@ -1,8 +1,11 @@
-ghost use Rattle.std.specs.Prelude.{◌≡◌, ◌≤◌, IsTrue, IfOk, IfSome, length, map, take};
+//! A version: calls, and the store that they leave.
+ghost use Rattle.std.specs.Prelude.{◌≡◌, ◌+◌, ◌<◌, ◌≤◌, IsTrue, IfOk, IfSome, length, map, take};
+ghost use Rattle.grb_replay.specs.Evaluated.{IsEvaluated};
 ghost use Rattle.grb_replay.specs.Settled.{AreAllAssembled};
 ghost use Rattle.grb_replay.specs.State.{is_assembled};
 ghost use Rattle.grb_versions.specs.Versions.{IsFold, Serves};
 
+use counted_slot::Fits;
 use grb_call::Call;
 use grb_replay::State;
 use std::alloc::{AllocError, Global};
@@ -25,6 +28,13 @@ impl Model for Version {
     ghost view = { λ v. record { calls = v.calls.items; state = v.state } };
 
     ghost invariant = { λ v. IsFold v.calls.items v.state.store × AreAllAssembled (is_assembled v.state.matrices v.state.vectors) };
+}
+
+/// Nothing is asked of a version beyond what its type says.
+impl Fits for Version {
+    type Tag = ();
+
+    ghost fits = { λ tag version. Unit };
 }
 
 /// Whether the calls are the same. Takes no memory.
@@ -84,5 +94,45 @@ impl Version {
         } else {
             None
         }
+    }
+
+    /// How many calls it has. Takes no memory.
+    pub(crate) fn count(&self) -> usize {
+        self.calls.len()
+    }
+
+    /// Puts its state in place of one that is evaluated less far, where its calls begin these, as [`Versions::advance`] says.
+    ///
+    /// [`Versions::advance`]: crate::Versions::advance
+    pub(crate) fn advance(
+        &self,
+        calls: &[&Call],
+        state: &mut State,
+        evaluated: usize,
+        room: u32,
+    ) -> usize
+        requires few { length calls.now ≤ room }
+        requires evaluated { IsEvaluated (map (λ c. c.now) calls.now) evaluated state.old.store }
+        requires room { room ≤ state.old.room + evaluated }
+        ensures evaluated { IsEvaluated (map (λ c. c.now) calls.now) result state.new.store }
+        ensures further { evaluated ≤ result }
+        ensures room { room ≤ state.new.room + result }
+        ensures stays { result ≡ evaluated → state.new ≡ state.old }
+        ensures assembled { evaluated < result → AreAllAssembled (is_assembled state.new.matrices state.new.vectors) }
+    {
+        if self.calls.len() <= evaluated {
+            return evaluated;
+        }
+        let Some((count, found)) = self.serving(calls) else {
+            return evaluated;
+        };
+        if count <= evaluated {
+            return evaluated;
+        }
+        let Ok(copy) = found.try_clone(room - count as u32) else {
+            return evaluated;
+        };
+        *state = copy;
+        count
     }
 }

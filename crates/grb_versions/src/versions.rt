@@ -1,10 +1,13 @@
-ghost use Rattle.std.specs.Prelude.{◌≡◌, ◌+◌, ◌*◌, ◌<◌, ◌≤◌, true, Ok, IfOk, IfSome, length, map, take};
+//! The versions of a context: one in each cell, set once, and the latest that dear work left.
+ghost use Rattle.std.specs.Prelude.{◌≡◌, ◌+◌, ◌*◌, ◌<◌, ◌≤◌, ◌^◌, true, Ok, IfOk, IfSome, length, map};
 ghost use Rattle.grb_replay.specs.Evaluated.{IsEvaluated};
 ghost use Rattle.grb_replay.specs.Settled.{AreAllAssembled};
 ghost use Rattle.grb_replay.specs.State.{is_assembled};
 ghost use Rattle.grb_versions.specs.Versions.{IsFold, Serves};
 
+use crate::places::{Place, length_of, longest, put, read, shortest};
 use crate::version::Version;
+use counted_slot::Counted;
 use grb_call::Call;
 use grb_replay::State;
 use once_cell::race::OnceBox;
@@ -14,12 +17,16 @@ use std::marker::Model;
 /// How many lengths of versions share a cell.
 const LENGTHS: usize = 64;
 
+/// How often one who goes on from one of the latest looks for another, where the one that it found does not serve or has made way (own).
+const LOOKS: usize = 8;
+
 /// Evaluated states that passes share. Cell k has place for one whose calls are more than 64 k, and no more than 64 (k + 1); it is set
-/// once.
+/// once. Beside them lie the latest that were left, four at most: a further one takes the place of the one of the fewest calls.
 #[derive(Drop)]
 pub struct Versions {
     alloc: Global,
     cells: Vec<OnceBox<Version>>,
+    latest: [Place; 4],
 }
 
 impl Model for Versions {
@@ -40,7 +47,17 @@ impl Versions {
         for _ in 0..count {
             cells.push_reserved(OnceBox::new(alloc));
         }
-        Ok(Versions { alloc, cells })
+        let latest = [
+            Counted::new(None, &()),
+            Counted::new(None, &()),
+            Counted::new(None, &()),
+            Counted::new(None, &()),
+        ];
+        Ok(Versions {
+            alloc,
+            cells,
+            latest,
+        })
     }
 
     /// The cell for a version of so many calls; none for no calls, and for more than there are places for.
@@ -83,13 +100,14 @@ impl Versions {
         Ok(())
     }
 
-    /// The longest version found whose calls begin these, of those in the cells from this one on. Takes no memory.
-    fn newest_from(&self, first: usize, calls: &[&Call]) -> Option<(usize, &State)>
+    /// The longest version in a cell whose calls begin these: how many calls it has, and the state that they leave, in which no change waits.
+    /// Takes no memory.
+    pub fn newest(&self, calls: &[&Call]) -> Option<(usize, &State)>
         ensures serves { IfSome result (λ found. Serves (map (λ c. c.now) calls.now) found.0 found.1.now.store) }
         ensures assembled { IfSome result (λ found. AreAllAssembled (is_assembled found.1.now.matrices found.1.now.vectors)) }
     {
         let mut k = calls.len().div_ceil(LENGTHS).min(self.cells.len());
-        'cells: while k > first {
+        'cells: while k > 0 {
             k -= 1;
             if let Some(version) = self.cells[k].get() {
                 let version: &Version = version;
@@ -101,19 +119,124 @@ impl Versions {
         None
     }
 
-    /// The longest version found whose calls begin these: how many calls it has, and the state that they leave, in which no change waits.
-    /// Takes no memory.
-    pub fn newest(&self, calls: &[&Call]) -> Option<(usize, &State)>
-        ensures serves { IfSome result (λ found. Serves (map (λ c. c.now) calls.now) found.0 found.1.now.store) }
-        ensures assembled { IfSome result (λ found. AreAllAssembled (is_assembled found.1.now.matrices found.1.now.vectors)) }
+    /// Keeps the state of these calls, in which no change waits, among the latest, of which there are four, in place of the one of the fewest
+    /// calls. It is not kept where each of the latest has as many calls or is read at the moment, nor of no calls, nor of 2^32 or more: then
+    /// it takes no memory. `AllocError` where memory is refused; then nothing is kept.
+    pub fn leave(&self, calls: &[&Call], state: State) -> Result<(), AllocError>
+        requires fold { IsFold (map (λ c. c.now) calls.now) state.store }
+        requires assembled { AreAllAssembled (is_assembled state.matrices state.vectors) }
+        ensures none { length calls.now ≡ 0 → result ≡ Ok tt }
+        ensures beyond { 2 ^ 32 ≤ length calls.now → result ≡ Ok tt }
     {
-        self.newest_from(0, calls)
+        let Ok(count) = u32::try_from(calls.len()) else {
+            return Ok(());
+        };
+        let Some(seen) = shortest(&self.latest, calls.len()) else {
+            return Ok(());
+        };
+        let latest = Version::of(self.alloc, calls, state)?;
+        put(&self.latest[seen.at], seen.word, count, latest);
+        Ok(())
+    }
+
+    /// Whether a cell has a version of more calls than are evaluated, and of no more than are known.
+    fn has_cell_beyond(&self, evaluated: usize, known: usize) -> bool {
+        let end = known.div_ceil(LENGTHS).min(self.cells.len());
+        for k in evaluated / LENGTHS..end {
+            if let Some(version) = self.cells[k].get() {
+                let version: &Version = version;
+                if evaluated < version.count() && version.count() <= known {
+                    return true;
+                }
+            }
+        }
+        false
+    }
+
+    /// Whether one of the latest has more calls than are evaluated, and no more than are known. Takes no memory, and compares no call.
+    pub fn has_latest_beyond(&self, evaluated: usize, known: usize) -> bool {
+        longest(&self.latest, evaluated, known).is_some()
+    }
+
+    /// Whether there is a version of more calls than are evaluated, and of no more than are known, in a cell or among the latest. Takes no
+    /// memory, and compares no call.
+    pub fn has_beyond(&self, evaluated: usize, known: usize) -> bool {
+        self.has_latest_beyond(evaluated, known) || self.has_cell_beyond(evaluated, known)
+    }
+
+    /// The same as `advance`, by the latest alone.
+    fn advance_by_latest(
+        &self,
+        calls: &[&Call],
+        state: &mut State,
+        evaluated: usize,
+        room: u32,
+    ) -> usize
+        requires few { length calls.now ≤ room }
+        requires evaluated { IsEvaluated (map (λ c. c.now) calls.now) evaluated state.old.store }
+        requires room { room ≤ state.old.room + evaluated }
+        ensures evaluated { IsEvaluated (map (λ c. c.now) calls.now) result state.new.store }
+        ensures further { evaluated ≤ result }
+        ensures room { room ≤ state.new.room + result }
+        ensures stays { result ≡ evaluated → state.new ≡ state.old }
+        ensures assembled { evaluated < result → AreAllAssembled (is_assembled state.new.matrices state.new.vectors) }
+    {
+        let mut most = calls.len();
+        'looks: for _ in 0..LOOKS {
+            let Some(seen) = longest(&self.latest, evaluated, most) else {
+                return evaluated;
+            };
+            if let Some(claim) = read(&self.latest[seen.at], seen.word) {
+                let version: &Option<Version> = claim.get();
+                let count = match version {
+                    Some(version) => version.advance(calls, state, evaluated, room),
+                    None => evaluated,
+                };
+                let _ = claim.leave();
+                if count > evaluated {
+                    return count;
+                }
+                most = length_of(seen.word).saturating_sub(1);
+            }
+        }
+        evaluated
+    }
+
+    /// The same as `advance`, by the cells alone.
+    fn advance_by_cells(
+        &self,
+        calls: &[&Call],
+        state: &mut State,
+        evaluated: usize,
+        room: u32,
+    ) -> usize
+        requires few { length calls.now ≤ room }
+        requires evaluated { IsEvaluated (map (λ c. c.now) calls.now) evaluated state.old.store }
+        requires room { room ≤ state.old.room + evaluated }
+        ensures evaluated { IsEvaluated (map (λ c. c.now) calls.now) result state.new.store }
+        ensures further { evaluated ≤ result }
+        ensures room { room ≤ state.new.room + result }
+        ensures stays { result ≡ evaluated → state.new ≡ state.old }
+        ensures assembled { evaluated < result → AreAllAssembled (is_assembled state.new.matrices state.new.vectors) }
+    {
+        let mut k = calls.len().div_ceil(LENGTHS).min(self.cells.len());
+        'cells: while k > evaluated / LENGTHS {
+            k -= 1;
+            if let Some(version) = self.cells[k].get() {
+                let version: &Version = version;
+                let count = version.advance(calls, state, evaluated, room);
+                if count > evaluated {
+                    return count;
+                }
+            }
+        }
+        evaluated
     }
 
     /// Puts the longest version found whose calls begin these in place of a state that is evaluated less far: of so many of these calls,
     /// in a history that takes `room` calls. It answers how many the state is of then. Where no such version is found, or memory for its
-    /// places is refused, the state stays as it is. No entry is copied. Cells whose versions have no more calls than the state are not
-    /// looked at.
+    /// places is refused, the state stays as it is. No entry is copied, and no call compared with those of a version that has no more calls
+    /// than the state.
     pub fn advance(&self, calls: &[&Call], state: &mut State, evaluated: usize, room: u32) -> usize
         requires few { length calls.now ≤ room }
         requires evaluated { IsEvaluated (map (λ c. c.now) calls.now) evaluated state.old.store }
@@ -124,16 +247,7 @@ impl Versions {
         ensures stays { result ≡ evaluated → state.new ≡ state.old }
         ensures assembled { evaluated < result → AreAllAssembled (is_assembled state.new.matrices state.new.vectors) }
     {
-        let Some((count, found)) = self.newest_from(evaluated / LENGTHS, calls) else {
-            return evaluated;
-        };
-        if count <= evaluated {
-            return evaluated;
-        }
-        let Ok(copy) = found.try_clone(room - count as u32) else {
-            return evaluated;
-        };
-        *state = copy;
-        count
+        let reached = self.advance_by_latest(calls, state, evaluated, room);
+        self.advance_by_cells(calls, state, reached, room)
     }
 }

@@ -1,3 +1,4 @@
+//! A gate that notes the time of each statement.
 use grb_driver::Gate;
 use std::alloc::AllocError;
 use std::rt::Clock;

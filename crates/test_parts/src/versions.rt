@@ -1,7 +1,8 @@
 //! Versions: which of them serve which calls, and which are kept.
 //!
 //! The contracts of `newest` and `advance` say that what is found is the store of the first of the calls. That a version is found where one
-//! serves, the longest that does, which offers are kept, whether one would be, and that one which is not is no refusal, no contract says.
+//! serves, the longest that does, which offers and which of the stores that are left are kept, whether one would be, and that one which is not
+//! is no refusal, no contract says.
 ghost use Rattle.std.specs.Prelude.{◌≡◌, ◌≤◌, length, map, IfOk};
 ghost use Rattle.grb_call.specs.Store.{empty_store};
 ghost use Rattle.grb_call.specs.History.{after_all};
@@ -83,6 +84,22 @@ fn offer(
     }
     let state = state_of(alloc, &lent)?;
     versions.offer(&lent, state)
+}
+
+/// Leaves the store that the calls make, and the calls.
+fn leave(
+    rt: &impl Abort,
+    alloc: Global,
+    versions: &Versions,
+    history: History,
+) -> Result<(), AllocError> {
+    let calls = calls_of(alloc, history)?;
+    let lent = lent(alloc, &calls)?;
+    if lent.len() > 4096 {
+        panic!(rt; "{calls} calls", calls = lent.len());
+    }
+    let state = state_of(alloc, &lent)?;
+    versions.leave(&lent, state)
 }
 
 /// What the vector stores at index 0, none where it stores nothing or is not there.
@@ -265,6 +282,177 @@ fn a_version_is_kept_where_its_cell_is_empty(rt: HostRuntime) -> Result<(), Allo
             offer(&rt, rt.alloc(), &versions, *history)?;
         }
         same(&rt, versions.takes(*count), *takes, ("row from 0", at));
+    }
+    Ok(())
+}
+
+/// Stores that are left in turn, calls of which a version is offered before, calls that are asked for, and what is gone on from.
+#[derive(Clone, Copy)]
+struct Latest {
+    name: &'static str,
+    offered: &'static [History],
+    left: &'static [History],
+    asked: History,
+    found: Option<(usize, Option<u64>)>,
+}
+
+const TWO: History = These(&[0, 2]);
+
+const THREE: History = These(&[0, 2, 3]);
+
+const FOUR: History = These(&[0, 2, 3, 4]);
+
+const FIVE: History = These(&[0, 2, 3, 4, 5]);
+
+static LATEST: [Latest; 13] = [
+    Latest {
+        name: "a store that was left",
+        offered: &[],
+        left: &[TWO],
+        asked: THREE,
+        found: Some((2, Some(1))),
+    },
+    Latest {
+        name: "no calls",
+        offered: &[],
+        left: &[These(&[])],
+        asked: TWO,
+        found: None,
+    },
+    Latest {
+        name: "as many other calls",
+        offered: &[],
+        left: &[TWO],
+        asked: These(&[0, 6]),
+        found: None,
+    },
+    Latest {
+        name: "more calls than are asked for",
+        offered: &[],
+        left: &[THREE],
+        asked: TWO,
+        found: None,
+    },
+    Latest {
+        name: "the longer of two within 64 calls",
+        offered: &[],
+        left: &[TWO, THREE],
+        asked: FIVE,
+        found: Some((3, Some(2))),
+    },
+    Latest {
+        name: "the shorter of two, where the longer has other calls",
+        offered: &[],
+        left: &[TWO, These(&[0, 2, 8])],
+        asked: FIVE,
+        found: Some((2, Some(1))),
+    },
+    Latest {
+        name: "four are kept",
+        offered: &[],
+        left: &[TWO, THREE, FOUR, FIVE],
+        asked: These(&[0, 2, 9]),
+        found: Some((2, Some(1))),
+    },
+    Latest {
+        name: "the fifth takes the place of the shortest",
+        offered: &[],
+        left: &[TWO, THREE, FOUR, FIVE, Until(65)],
+        asked: These(&[0, 2, 9]),
+        found: None,
+    },
+    Latest {
+        name: "and of no other",
+        offered: &[],
+        left: &[TWO, THREE, FOUR, FIVE, Until(65)],
+        asked: These(&[0, 2, 3, 9]),
+        found: Some((3, Some(2))),
+    },
+    Latest {
+        name: "one no longer than the shortest of four is not kept",
+        offered: &[],
+        left: &[TWO, THREE, FOUR, FIVE, These(&[0, 6])],
+        asked: These(&[0, 6]),
+        found: None,
+    },
+    Latest {
+        name: "a longer one in a cell",
+        offered: &[THREE],
+        left: &[TWO],
+        asked: FIVE,
+        found: Some((3, Some(2))),
+    },
+    Latest {
+        name: "a shorter one in a cell",
+        offered: &[TWO],
+        left: &[THREE],
+        asked: FIVE,
+        found: Some((3, Some(2))),
+    },
+    Latest {
+        name: "one in a cell, where the latest has other calls",
+        offered: &[TWO],
+        left: &[These(&[0, 2, 8])],
+        asked: FIVE,
+        found: Some((2, Some(1))),
+    },
+];
+
+fn expect_latest(rt: &impl Abort, alloc: Global, row: &Latest) -> Result<(), AllocError> {
+    let versions = Versions::open(alloc, 128)?;
+    for history in row.offered {
+        offer(rt, alloc, &versions, *history)?;
+    }
+    for history in row.left {
+        leave(rt, alloc, &versions, *history)?;
+    }
+    let calls = calls_of(alloc, row.asked)?;
+    let lent = lent(alloc, &calls)?;
+    if lent.len() > 128 {
+        panic!(rt; "{calls} calls", calls = lent.len());
+    }
+    same(rt, advanced(alloc, &versions, &lent)?, row.found, row.name);
+    Ok(())
+}
+
+#[test]
+fn the_latest_are_four(rt: HostRuntime) -> Result<(), AllocError> {
+    for row in &LATEST {
+        expect_latest(&rt, rt.alloc(), row)?;
+    }
+    Ok(())
+}
+
+/// What was offered, and what was left; how many calls are evaluated and known; and whether one of the latest, and any version, has more than
+/// the ones and no more than the others.
+static BEYOND: [(&[History], &[History], usize, usize, bool, bool); 10] = [
+    (&[], &[], 0, 5, false, false),
+    (&[TWO], &[], 0, 1, false, false),
+    (&[TWO], &[], 0, 2, false, true),
+    (&[TWO], &[], 1, 5, false, true),
+    (&[TWO], &[], 2, 5, false, false),
+    (&[TWO, Until(65)], &[], 2, 64, false, false),
+    (&[TWO, Until(65)], &[], 2, 65, false, true),
+    (&[TWO], &[THREE], 2, 2, false, false),
+    (&[TWO], &[THREE], 2, 3, true, true),
+    (&[TWO], &[THREE], 3, 5, false, false),
+];
+
+#[test]
+fn a_version_is_looked_for_by_numbers_of_calls(rt: HostRuntime) -> Result<(), AllocError> {
+    for (at, (offered, left, evaluated, known, latest, any)) in BEYOND.iter().enumerate() {
+        let versions = Versions::open(rt.alloc(), 128)?;
+        for history in *offered {
+            offer(&rt, rt.alloc(), &versions, *history)?;
+        }
+        for history in *left {
+            leave(&rt, rt.alloc(), &versions, *history)?;
+        }
+        let found = (
+            versions.has_latest_beyond(*evaluated, *known),
+            versions.has_beyond(*evaluated, *known),
+        );
+        same(&rt, found, (*latest, *any), ("row from 0", at));
     }
     Ok(())
 }

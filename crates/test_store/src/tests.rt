@@ -1,3 +1,4 @@
+//! The tests of this crate, a module for each reason to have them.
 mod asked;
 mod command_line;
 mod drawn;

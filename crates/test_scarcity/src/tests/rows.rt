@@ -273,3 +273,62 @@ fn an_adoption_without_memory_leaves_all_answers(rt: HostRuntime) -> Result<(), 
     assert!(rt; 0 < refused && refused < TRIALS, "refused {refused} times");
     Ok(())
 }
+
+/// A script whose calls are dear and not many: a vector that is built from 200 ones, and added to itself 63 times.
+fn left_script(alloc: Global) -> Result<String, AllocError> {
+    let mut text = String::new(alloc);
+    text.push_str("vector v uint64 200\nbuild v plus")?;
+    for i in 0..200 {
+        write!(text, " {i} 1")?;
+    }
+    text.push_str("\n")?;
+    for _ in 0..63 {
+        text.push_str("ewiseadd v v v plus\n")?;
+    }
+    Ok(text)
+}
+
+/// One pass reads with so many bytes. Then the other reads. Whether it had nothing to make for that.
+fn is_left<R: Abort>(rt: &R, hoard: &mut Hoard, store: &mut Store, bytes: usize) -> bool
+    requires p { IsPassOf store.old.context store.old.p }
+    requires q { IsPassOf store.old.context store.old.q }
+{
+    let (context, p, q) = (&store.context, &mut store.p, &mut store.q);
+    leave(rt, hoard, bytes);
+    let first = context.get_vector(p, V, 0);
+    leave_ample(rt, hoard);
+    let expected = Ok(Reply::Value(Value::Uint64(1 << 63)));
+    if first != NO_MEMORY {
+        same(rt, first, expected, "the first value");
+    }
+    let value = context.get_vector(q, V, 199);
+    let made = q.made();
+    same(rt, value, expected, "the value");
+    same(rt, context.get_vector(p, V, 0), expected, "the same");
+    same(rt, q.known(), 65, "the calls");
+    made == 0
+}
+
+#[test]
+fn a_store_that_is_not_left_for_want_of_memory_changes_no_answer(
+    rt: HostRuntime,
+) -> Result<(), AllocError> {
+    let script = left_script(rt.alloc())?;
+    let (calls, _) = calls_in(&rt, rt.alloc(), &script)?;
+    let mut hoard = hold_all(&rt, 3_000);
+    leave_ample(&rt, &mut hoard);
+    let mut refused = 0;
+    for trial in 0..TRIALS {
+        let mut store = open(&rt, rt.alloc(), 96);
+        leave_ample(&rt, &mut hoard);
+        make_all(&rt, &store.context, &mut store.p, &calls);
+        if is_left(&rt, &mut hoard, &mut store, trial * STEP) {
+            break;
+        }
+        refused = trial + 1;
+    }
+    hoard.release();
+    assert!(rt; println!(rt; "what dear work leaves is refused {refused} times").is_ok());
+    assert!(rt; 0 < refused && refused < TRIALS, "refused {refused} times");
+    Ok(())
+}

@@ -1,6 +1,6 @@
-//! Drawn histories: two passes of a store ask in turn, and a pass alone, in a store of its own, is asked the same. That one has all changes
+//! Drawn histories: four passes of a store ask in turn, and a pass alone, in a store of its own, is asked the same. That one has all changes
 //! done before each call, so it reads what all calls together left. At the end they read all that each object holds. No contract says which
-//! of its ways to a value a read takes, and no script has two passes in turn; here each way is compared with the plain one.
+//! of its ways to a value a read takes, and no script has passes in turn; here each way is compared with the plain one.
 ghost use Rattle.grb_context.specs.Known.{IsPassOf};
 
 use crate::tests::asked::{Answer, Asked, FIRST, IntoMatrix, IntoVector, ask, value_of};
@@ -327,17 +327,65 @@ fn expect_alike(
     wanted
 }
 
-/// One pass adopts the other, or prepares what it knows, or does neither. Nothing that is answered depends on it.
-fn share(rt: &impl Abort, context: &Context, p: &mut Pass, q: &mut Pass, draw: &mut Draw)
+/// The pass of this number, from 0 to 3, and the one alone answer alike.
+fn expect_by(
+    rt: &impl Abort,
+    alloc: Global,
+    context: &Context,
+    p: &mut Pass,
+    q: &mut Pass,
+    r: &mut Pass,
+    s: &mut Pass,
+    alone: &Context,
+    only: &mut Pass,
+    number: u64,
+    asked: Asked,
+) -> Answer
     requires first { IsPassOf context.now p.old }
     requires second { IsPassOf context.now q.old }
+    requires third { IsPassOf context.now r.old }
+    requires fourth { IsPassOf context.now s.old }
+    requires only { IsPassOf alone.now only.old }
     ensures first { IsPassOf context.now p.new }
     ensures second { IsPassOf context.now q.new }
+    ensures third { IsPassOf context.now r.new }
+    ensures fourth { IsPassOf context.now s.new }
+    ensures only { IsPassOf alone.now only.new }
 {
-    match draw.below(6) {
+    match number {
+        0 => expect_alike(rt, alloc, context, p, alone, only, asked),
+        1 => expect_alike(rt, alloc, context, q, alone, only, asked),
+        2 => expect_alike(rt, alloc, context, r, alone, only, asked),
+        _ => expect_alike(rt, alloc, context, s, alone, only, asked),
+    }
+}
+
+/// One pass adopts another, or prepares what it knows, or none does. Nothing that is answered depends on it.
+fn share(
+    rt: &impl Abort,
+    context: &Context,
+    p: &mut Pass,
+    q: &mut Pass,
+    r: &mut Pass,
+    s: &mut Pass,
+    draw: &mut Draw,
+)
+    requires first { IsPassOf context.now p.old }
+    requires second { IsPassOf context.now q.old }
+    requires third { IsPassOf context.now r.old }
+    requires fourth { IsPassOf context.now s.old }
+    ensures first { IsPassOf context.now p.new }
+    ensures second { IsPassOf context.now q.new }
+    ensures third { IsPassOf context.now r.new }
+    ensures fourth { IsPassOf context.now s.new }
+{
+    match draw.below(10) {
         0 => same(rt, context.adopt(p, q), Ok(()), "the first adopts"),
-        1 => same(rt, context.adopt(q, p), Ok(()), "the second adopts"),
-        2 => context.prepare(p),
+        1 => same(rt, context.adopt(q, r), Ok(()), "the second adopts"),
+        2 => same(rt, context.adopt(r, s), Ok(()), "the third adopts"),
+        3 => same(rt, context.adopt(s, p), Ok(()), "the fourth adopts"),
+        4 => context.prepare(p),
+        5 => context.prepare(s),
         _ => {}
     }
 }
@@ -349,30 +397,32 @@ fn expect_history(
     context: &Context,
     p: &mut Pass,
     q: &mut Pass,
+    r: &mut Pass,
+    s: &mut Pass,
     alone: &Context,
     only: &mut Pass,
     draw: &mut Draw,
 )
     requires first { IsPassOf context.now p.old }
     requires second { IsPassOf context.now q.old }
+    requires third { IsPassOf context.now r.old }
+    requires fourth { IsPassOf context.now s.old }
     requires only { IsPassOf alone.now only.old }
     ensures first { IsPassOf context.now p.new }
     ensures second { IsPassOf context.now q.new }
+    ensures third { IsPassOf context.now r.new }
+    ensures fourth { IsPassOf context.now s.new }
     ensures only { IsPassOf alone.now only.new }
 {
     let pace = draw.below(3);
-    let mut is_first = true;
+    let mut number = 0;
     'calls: for turn in 0..CALLS {
         if turn % TURN == 0 {
-            is_first = draw.below(2) == 0;
-            share(rt, context, p, q, draw);
+            number = draw.below(4);
+            share(rt, context, p, q, r, s, draw);
         }
         let asked = draw.call(turn, pace);
-        let answer = if is_first {
-            expect_alike(rt, alloc, context, p, alone, only, asked)
-        } else {
-            expect_alike(rt, alloc, context, q, alone, only, asked)
-        };
+        let answer = expect_by(rt, alloc, context, p, q, r, s, alone, only, number, asked);
         draw.note(asked, answer);
     }
 }
@@ -384,25 +434,37 @@ fn expect_objects(
     context: &Context,
     p: &mut Pass,
     q: &mut Pass,
+    r: &mut Pass,
+    s: &mut Pass,
     alone: &Context,
     only: &mut Pass,
     draw: &mut Draw,
 )
     requires first { IsPassOf context.now p.old }
     requires second { IsPassOf context.now q.old }
+    requires third { IsPassOf context.now r.old }
+    requires fourth { IsPassOf context.now s.old }
     requires only { IsPassOf alone.now only.old }
 {
     let made = draw.vectors.max(draw.matrices);
-    let mut is_first = true;
+    let mut number = 0;
     'reads: for at in 0..made.saturating_mul(READS) {
         if at % READS == 0 {
-            is_first = draw.below(2) == 0;
+            number = draw.below(4);
         }
-        let _ = if is_first {
-            expect_alike(rt, alloc, context, p, alone, only, read_at(at))
-        } else {
-            expect_alike(rt, alloc, context, q, alone, only, read_at(at))
-        };
+        let _ = expect_by(
+            rt,
+            alloc,
+            context,
+            p,
+            q,
+            r,
+            s,
+            alone,
+            only,
+            number,
+            read_at(at),
+        );
     }
 }
 
@@ -423,17 +485,19 @@ fn draw_of(seed: u64) -> Draw {
 
 /// One drawn history, in new stores.
 fn expect_drawn(rt: &impl Abort, alloc: Global, seed: u64) -> Result<(), AllocError> {
-    let (context, mut passes) = Context::open(alloc, 256, 2)?;
+    let (context, mut passes) = Context::open(alloc, 256, 4)?;
+    let mut s = next_pass(rt, &context, &mut passes);
+    let mut r = next_pass(rt, &context, &mut passes);
     let mut q = next_pass(rt, &context, &mut passes);
     let mut p = next_pass(rt, &context, &mut passes);
     let (alone, mut passes) = Context::open(alloc, 256, 1)?;
     let mut only = next_pass(rt, &alone, &mut passes);
     let mut draw = draw_of(seed);
     expect_history(
-        rt, alloc, &context, &mut p, &mut q, &alone, &mut only, &mut draw,
+        rt, alloc, &context, &mut p, &mut q, &mut r, &mut s, &alone, &mut only, &mut draw,
     );
     expect_objects(
-        rt, alloc, &context, &mut p, &mut q, &alone, &mut only, &mut draw,
+        rt, alloc, &context, &mut p, &mut q, &mut r, &mut s, &alone, &mut only, &mut draw,
     );
     Ok(())
 }

@@ -1,9 +1,13 @@
-//! Reads in histories that are long for other objects. Which calls a read makes, and what another pass left for it, no contract says: each
-//! of its three ways to a value is taken here, and the calls that it makes are counted. They are those that the object depends on and that
-//! were not made yet, and none of those that a version has. No script has a pass that meets another.
-use crate::tests::asked::Asked::{EwiseAddVector, GetVector, NewVector, SetVector, WaitVector};
+//! Reads in histories that are long for other objects, or dear. Which calls a read makes, and what another pass left for it, no contract
+//! says: each of its three ways to a value is taken here, and the calls that it makes are counted. They are those that the object depends on
+//! and that were not made yet, and none of those that a version has. No script has a pass that meets another.
+use crate::tests::asked::Asked::{
+    ClearVector, EwiseAddVector, GetVector, NewVector, NvalsVector, SetVector, WaitVector,
+};
 use crate::tests::asked::{Answer, Asked, DONE, FIRST, MADE, PLAIN, SECOND};
-use crate::tests::rows::Step::{Adopts, Asks, Knows, Made, Meets, Repeats, Settled};
+use crate::tests::rows::Step::{
+    Adopts, Asks, Fills, Knows, Made, Meets, Prepares, Repeats, Settled,
+};
 use crate::tests::rows::{P, Q, R, Row, run};
 use grb_call::{Reply, WaitMode};
 use grb_core::{BinaryOp, Domain, Value};
@@ -13,6 +17,8 @@ use std::alloc::AllocError;
 const ADDED: Asked = EwiseAddVector((SECOND, None, None, PLAIN), BinaryOp::Plus, SECOND, FIRST);
 
 const SETTLE: Asked = WaitVector(SECOND, WaitMode::Materialize);
+
+const ALL: Answer = Ok(Reply::Count(MANY));
 
 const MADE_SECOND: Answer = Ok(Reply::MadeVector(SECOND));
 
@@ -27,6 +33,12 @@ const IS_1: Answer = Ok(Reply::Value(ONE));
 const IS_5: Answer = Ok(Reply::Value(FIVE));
 
 const IS_6: Answer = Ok(Reply::Value(SIX));
+
+const IS_2: Answer = Ok(Reply::Value(Value::Uint64(2)));
+
+const IS_3: Answer = Ok(Reply::Value(Value::Uint64(3)));
+
+const IS_7: Answer = Ok(Reply::Value(Value::Uint64(7)));
 
 const IS_401: Answer = Ok(Reply::Value(Value::Uint64(401)));
 
@@ -179,4 +191,70 @@ static ADOPTED: [Row; 18] = [
 #[test]
 fn what_a_pass_evaluated_is_adopted(rt: HostRuntime) -> Result<(), AllocError> {
     run(&rt, 64, &ADOPTED)
+}
+
+/// So many entries that an operation on them is dear.
+const MANY: u64 = 40_000;
+
+/// One pass makes an operation that is dear, and leaves what it made; each other pass goes on from there. It is so again a call later, and
+/// again when more were left than are kept. The pass that reads first of all makes what came since.
+static DEAR: [Row; 29] = [
+    (P, Asks(NewVector(Domain::Uint64, MANY), MADE)),
+    (P, Asks(NewVector(Domain::Uint64, MANY), MADE_SECOND)),
+    (P, Fills(FIRST, MANY)),
+    (P, Asks(ADDED, DONE)),
+    (P, Asks(GetVector(SECOND, 7), IS_1)),
+    (Q, Asks(GetVector(SECOND, 7), IS_1)),
+    (Q, Made(0)),
+    (Q, Knows(4)),
+    (P, Asks(ADDED, DONE)),
+    (P, Asks(GetVector(SECOND, 7), IS_2)),
+    (P, Made(1)),
+    (Q, Asks(GetVector(SECOND, 7), IS_2)),
+    (Q, Made(0)),
+    (Q, Asks(ADDED, DONE)),
+    (Q, Asks(GetVector(SECOND, 7), IS_3)),
+    (Q, Made(1)),
+    (P, Asks(GetVector(SECOND, 7), IS_3)),
+    (P, Made(0)),
+    (P, Asks(ADDED, DONE)),
+    (P, Asks(NvalsVector(SECOND), ALL)),
+    (P, Asks(ADDED, DONE)),
+    (P, Asks(NvalsVector(SECOND), ALL)),
+    (P, Asks(ADDED, DONE)),
+    (P, Asks(NvalsVector(SECOND), ALL)),
+    (P, Asks(ADDED, DONE)),
+    (P, Asks(GetVector(SECOND, 7), IS_7)),
+    (P, Made(1)),
+    (R, Asks(GetVector(SECOND, 7), IS_7)),
+    (R, Made(0)),
+];
+
+#[test]
+fn dear_work_is_left_to_the_other_passes(rt: HostRuntime) -> Result<(), AllocError> {
+    run(&rt, 64, &DEAR)
+}
+
+/// A pass prepares what is dear, and then answers without a call to make; so does one that adopts it. What is not dear is not prepared.
+static PREPARED: [Row; 15] = [
+    (P, Asks(NewVector(Domain::Uint64, MANY), MADE)),
+    (P, Asks(NewVector(Domain::Uint64, MANY), MADE_SECOND)),
+    (P, Asks(SetVector(FIRST, 7, ONE), DONE)),
+    (P, Prepares),
+    (P, Asks(GetVector(FIRST, 7), IS_1)),
+    (P, Made(3)),
+    (P, Asks(ClearVector(FIRST), DONE)),
+    (P, Fills(FIRST, MANY)),
+    (P, Asks(ADDED, DONE)),
+    (P, Prepares),
+    (P, Asks(GetVector(SECOND, 7), IS_1)),
+    (P, Made(0)),
+    (Q, Adopts(P)),
+    (Q, Asks(GetVector(SECOND, 7), IS_1)),
+    (Q, Made(0)),
+];
+
+#[test]
+fn what_is_dear_is_prepared(rt: HostRuntime) -> Result<(), AllocError> {
+    run(&rt, 64, &PREPARED)
 }

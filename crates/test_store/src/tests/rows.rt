@@ -5,9 +5,9 @@ ghost use Rattle.grb_context.specs.Known.{IsPassOf};
 
 use crate::tests::asked::{Answer, Asked, ask};
 use crate::tests::same::same;
-use grb_call::Object;
+use grb_call::{Object, Reply, VectorId, VectorTuples};
 use grb_context::{Context, Pass};
-use grb_core::{Info, Refusal};
+use grb_core::{Info, Monoid, Refusal, Value};
 use std::alloc::{AllocError, Global};
 use std::process::Abort;
 
@@ -29,6 +29,10 @@ pub(super) enum Step {
     Meets(u32),
     /// It adopts the pass of this number, which is answered `Ok`.
     Adopts(u32),
+    /// It prepares what it knows.
+    Prepares,
+    /// It builds the vector from a one at each index below this, which is answered `Done`.
+    Fills(VectorId, u64),
     /// It knows so many calls, and has learnt as many words.
     Knows(u32),
     /// So many steps on the order were made by its last call or meeting.
@@ -75,6 +79,25 @@ fn expect_answers<A: Abort>(
     }
 }
 
+/// Builds a vector from a one at each index below a number.
+fn fill(
+    alloc: Global,
+    context: &Context,
+    pass: &mut Pass,
+    v: VectorId,
+    count: u64,
+) -> Result<Answer, AllocError>
+    requires { IsPassOf context.now pass.old }
+    ensures { IsPassOf context.now pass.new }
+{
+    let mut ones = Vec::new(alloc);
+    for i in 0..count {
+        ones.push((i, Value::Uint64(1)))?;
+    }
+    let tuples = VectorTuples::from_vec(ones);
+    Ok(context.build_vector(pass, v, tuples, Monoid::Plus))
+}
+
 fn expect_step<A: Abort>(
     rt: &A,
     alloc: Global,
@@ -99,6 +122,11 @@ fn expect_step<A: Abort>(
         Step::Made(calls) => same(rt, pass.made(), calls, row),
         Step::Settled(calls) => same(rt, pass.settled(), calls, row),
         Step::Status(object, status) => same(rt, pass.last_info(object), status, row),
+        Step::Prepares => context.prepare(pass),
+        Step::Fills(v, count) => {
+            let answer = fill(alloc, context, pass, v, count);
+            same(rt, answer, Ok(Ok(Reply::Done)), row);
+        }
         Step::Meets(_) | Step::Adopts(_) => {}
     }
 }

@@ -5,5 +5,7 @@ abbrev pub invariant-reads : goal.invariant-reads
 invariant-reads g l = record {
   first : IsPassOf l.context l.p;
   second : IsPassOf l.context l.q;
+  third : IsPassOf l.context l.r;
+  fourth : IsPassOf l.context l.s;
   only : IsPassOf l.alone l.only;
 }

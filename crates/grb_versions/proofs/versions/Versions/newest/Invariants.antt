@@ -1,5 +1,5 @@
 use Rattle.std.proofs.Common.{◌≤◌}
-use Rattle.grb_versions.proofs.versions.Versions.newest_from.Given as goal
+use Rattle.grb_versions.proofs.versions.Versions.newest.Given as goal
 
 abbrev pub invariant-cells : goal.invariant-cells
 invariant-cells l = l.k ≤ l.self

@@ -4,7 +4,7 @@ use Rattle.grb_call.specs.declared.call.Call.{Call}
 use Rattle.grb_replay.specs.Settled.{AreAllAssembled}
 use Rattle.grb_replay.specs.State.{RoomyStore, is_assembled}
 use Rattle.grb_versions.proofs.Served.{matrices_served, vectors_served}
-use Rattle.grb_versions.proofs.versions.Versions.advance.Goals as goal
+use Rattle.grb_versions.proofs.version.Version.advance.Goals as goal
 
 pub try_clone-requires-clause-matrices : goal.try_clone-requires-clause-matrices
 try_clone-requires-clause-matrices c =
