@@ -3,7 +3,7 @@
 use crate::bench::Bench;
 use crate::drawn::Numbers;
 use crate::texts::{Kept, Script};
-use grb_driver::{OpenGate, run_script};
+use grb_run::{OpenGate, run_script};
 use std::alloc::{AllocError, Global};
 use std::rt::Clock;
 use std::sync::Wait;

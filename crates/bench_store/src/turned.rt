@@ -6,7 +6,7 @@ use crate::objects::{Matrix, Vector};
 use crate::operations::{PLAIN, no_vector, plus_times};
 use grb_call::Descriptor;
 use grb_core::Monoid;
-use grb_ops::transposed;
+use grb_ewise::transposed;
 use grb_products::{mxv, reduce_rows, vxm};
 use grb_sparse::{SparseMatrix, SparseVector};
 use std::alloc::Global;

@@ -1,3 +1,5 @@
+//! The descriptor of an operation, and the modes of a wait.
+
 /// How an operation reads its mask and writes its output.
 ///
 /// Source: GraphBLAS C API 2.0, "Descriptors".

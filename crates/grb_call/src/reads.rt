@@ -1,3 +1,4 @@
+//! The objects that a call reads.
 ghost use Rattle.std.specs.Prelude.{◌≡◌, ◌≤◌, [], ◌∷◌, length};
 ghost use Rattle.std.specs.Option.{option_map_or};
 ghost use Rattle.grb_call.specs.Operands.{objects_read};

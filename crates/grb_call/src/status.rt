@@ -1,3 +1,4 @@
+//! The object whose status a call leaves, and the status that an answer is.
 ghost use Rattle.std.specs.Prelude.{◌≡◌};
 ghost use Rattle.std.specs.Option.{option_or};
 ghost use Rattle.grb_call.specs.Status.{info_of, made_by, object_of};

@@ -1,3 +1,5 @@
+//! The domains of stored values.
+
 /// The type of the values that an object stores. An object has one domain, and keeps it.
 ///
 /// Source: GraphBLAS C API 2.0, "Types (domains)": `GrB_BOOL` and `GrB_UINT64`. That there are no casts between them is our own.

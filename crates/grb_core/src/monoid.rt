@@ -1,3 +1,4 @@
+//! Monoids, and the identity of each.
 ghost use Rattle.std.specs.Prelude.{◌≡◌};
 ghost use Rattle.grb_core.specs.Value.{IsValueOf};
 ghost use Rattle.grb_core.specs.Operator.{value_of_op};

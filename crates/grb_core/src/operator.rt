@@ -1,3 +1,4 @@
+//! Binary operators, and the value of each on two values.
 ghost use Rattle.std.specs.Prelude.{◌≡◌};
 ghost use Rattle.grb_core.specs.Value.{value_domain};
 ghost use Rattle.grb_core.specs.Operator.{op_domain, value_of_op, on_bools, on_numbers};

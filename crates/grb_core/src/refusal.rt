@@ -1,3 +1,4 @@
+//! What a call is refused for, and the standard's return value of each.
 ghost use Rattle.std.specs.Prelude.{◌≡◌};
 ghost use Rattle.grb_core.specs.Refusal.{refusal_hint, refusal_name, refusal_number};
 

@@ -1,3 +1,4 @@
+//! A value of one of the domains.
 ghost use Rattle.std.specs.Prelude.{◌≡◌};
 ghost use Rattle.grb_core.specs.Value.{value_domain};
 

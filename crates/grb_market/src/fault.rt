@@ -1,3 +1,4 @@
+//! What is wrong with a text, and what reading and writing may fail with.
 ghost use Rattle.std.specs.Prelude.{◌≡◌};
 ghost use Rattle.grb_market.specs.declared.fault.ReadError.TheVariants as read;
 ghost use Rattle.grb_market.specs.declared.fault.WriteFault.TheVariants as write;

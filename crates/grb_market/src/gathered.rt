@@ -1,3 +1,4 @@
+//! Entries gathered from the lines of a text, and the matrix that they are stored in.
 ghost use Rattle.std.specs.Prelude.{◌≡◌, [], ◌∷◌, ◌++◌, true, IfOk, OnOk, is_some};
 ghost use Rattle.std.specs.FinMap.{find, put, is_sorted};
 ghost use Rattle.grb_core.specs.Entries.{cell_cmp, cells_of, map_from};

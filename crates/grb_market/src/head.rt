@@ -1,3 +1,4 @@
+//! The first line of a text, and its size line.
 ghost use Rattle.std.specs.Prelude.{◌≡◌, ◌<◌, IfOk};
 ghost use Rattle.grb_core.specs.Contents.{IsDimension};
 ghost use Rattle.grb_market.specs.Reading.{head_of, size_from, size_of, entry_from, entry_of, is_in};

@@ -18,6 +18,7 @@ pub use fault::{FaultKind, MarketFault, ReadError, WriteFault};
 pub use laws::{
     spells_at_most_one, spells_or_has_a_fault, spells_whole_matrices, written_texts_are_read_back,
 };
+pub use line::next_line;
 pub use loaded::{Loaded, Tuples};
 pub use reader::read;
 pub use sink::{Sink, SinkFault, put_all};

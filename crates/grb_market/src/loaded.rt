@@ -1,3 +1,4 @@
+//! What a text that is read without a fault holds.
 ghost use Rattle.std.specs.Prelude.{◌≡◌};
 
 use grb_core::{Domain, Value};

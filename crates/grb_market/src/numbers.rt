@@ -1,3 +1,4 @@
+//! Numbers at the front of a line.
 ghost use Rattle.std.specs.Prelude.{◌≡◌, ◌≢◌, ◌<◌, ◌≤◌, List, length, take, drop, Some, [], ◌∷◌, IfSome, IfNone, false, true};
 ghost use Rattle.std.specs.List.{list_all};
 ghost use Rattle.grb_market.specs.Numbers.{is_digit, is_blank, Number, number_of, numbers_of, begins_blank};

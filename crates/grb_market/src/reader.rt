@@ -1,3 +1,4 @@
+//! A Matrix Market text read: its first line, its size line, then its entries.
 ghost use Rattle.std.specs.Prelude.{◌≡◌, ◌+◌, ◌<◌, ◌≤◌, [], length, Some, IfOk, IfErr, IsTrue, Ok, true};
 ghost use Rattle.std.specs.FinMap.{is_sorted};
 ghost use Rattle.std.specs.Result.{result_err};

@@ -1,3 +1,4 @@
+//! Where a text is written to.
 ghost use Rattle.std.specs.Prelude.{◌≡◌, ℕ, ◌+◌, ◌-◌, ◌^◌, ◌<◌, List, Option, OnOk, OnErr, is_ok, if◌then◌else◌};
 ghost use Rattle.std.specs.Io.{WritesAtMost};
 ghost use Rattle.std.specs.Io.KnownBytes.{Appends, WriteAppends};

@@ -1,3 +1,4 @@
+//! A matrix written as a Matrix Market text, piece after piece.
 ghost use Rattle.std.specs.Prelude.{◌≡◌, ◌-◌, ◌^◌, ◌<◌, ◌≤◌, ◌++◌, List, ℕ, true, false, map, All, OnOk, OnErr, IfErr, IfOk, is_ok, string_bytes, if◌then◌else◌, ◌+◌};
 ghost use Rattle.std.specs.List.{flat_map, list_any};
 ghost use Rattle.std.specs.Io.KnownBytes.{Appends};

@@ -1,21 +1,16 @@
-//! The operations of the standard over sparse objects, and how each writes its output.
-//!
-//! One unit is an operation: it takes the old output, the inputs, the mask, the accumulator and the descriptor by reference, and
-//! answers the new output, assembled, or `AllocError`. Nothing that it was lent is changed, so one object may be output, input and
-//! mask at once. Nothing here checks domains or dimensions, which the caller owes, and nothing here knows of stores or threads.
+//! The operations of the standard over sparse objects, from the crates that have them, and laws of products and reductions, over the
+//! definitions that `mxm`, `mxv` and the reductions are held to.
 #![tactic(auto)]
 
-mod ewise;
-mod ewise_matrix;
-mod rows;
-mod transposing;
-mod typed;
-mod typed_matrix;
-mod writing;
-mod writing_matrix;
+mod laws;
 
-pub use ewise::{ewise_add_vector, ewise_mult_vector};
-pub use ewise_matrix::{ewise_add_matrix, ewise_mult_matrix};
-pub use transposing::transposed;
-pub use writing::write_masked_vector;
-pub use writing_matrix::write_masked_matrix;
+pub use grb_ewise::{
+    ewise_add_matrix, ewise_add_vector, ewise_mult_matrix, ewise_mult_vector, transposed,
+    write_masked_matrix, write_masked_vector,
+};
+pub use grb_mxm::mxm;
+pub use grb_products::{mxv, reduce_matrix, reduce_rows, reduce_vector, vxm};
+pub use laws::{
+    a_total_is_that_of_the_rows, an_identity_matrix_changes_nothing, mxv_is_mxm_with_one_column,
+    products_may_be_grouped,
+};

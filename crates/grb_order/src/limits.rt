@@ -1,3 +1,5 @@
+//! How many passes and calls one order may have.
+
 /// The most words that an order has room for, which are the calls of one history (own).
 pub const MOST_ROOM: u32 = 65_536;
 

@@ -1,3 +1,4 @@
+//! A pass's place in the order.
 ghost use Rattle.std.specs.Prelude.{◌≡◌};
 
 use crate::standing::Standing;

@@ -1,3 +1,5 @@
+//! The rule that the table of the order keeps, and the moves that the rule allows.
+
 // The rule of the row, which holds between any two steps of any threads, and the steps that keep it. No value of these types but
 // `Size` is made.
 ghost use Rattle.std.specs.Prelude.{◌+◌};

@@ -1,3 +1,5 @@
+//! How a pass stands with the order: what it has entered and what it has seen.
+
 // What the rule of the row knows of each seat. No value of these types is made.
 ghost use Rattle.std.specs.Prelude.{ℕ, List};
 ghost use Rattle.std.specs.Borrow.{ftrue};

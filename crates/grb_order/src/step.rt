@@ -1,3 +1,4 @@
+//! Looking at the order and entering a call into it: a counted number of steps, whatever other passes do.
 ghost use Rattle.std.specs.Prelude.{◌≡◌, ◌^◌, ◌<◌, All, drop, length};
 ghost use Rattle.grb_order.specs.Word.{StartsWith};
 ghost use Rattle.grb_order.specs.View.{is_told, IsOthers, IsSound, LookedLast};

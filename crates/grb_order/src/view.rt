@@ -1,4 +1,4 @@
-// What a contract sees of a place. No value of it is made.
+//! What a contract sees of a pass's place in the order.
 ghost use Rattle.std.specs.Prelude.{ℕ, List};
 ghost use Rattle.std.specs.Borrow.{ftrue};
 

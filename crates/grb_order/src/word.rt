@@ -1,3 +1,4 @@
+//! The word of the order: who entered a call, and where that pass recorded it.
 ghost use Rattle.std.specs.Prelude.{◌≡◌, ◌^◌, ◌<◌, ◌≤◌};
 ghost use Rattle.grb_order.specs.Word.{order_word, number_of, index_of};
 ghost use Rattle.grb_order.specs.declared.limits.TheConstants.{MOST_PASSES};

@@ -6,7 +6,7 @@ use Rattle.grb_pass.specs.Known.{Shared, Knowing, known, IsKnown}
 use Rattle.grb_pass.specs.Explains.{Answer, Ground, ByStore, ByRoom, ByMemory, ByRecords, ExplainsAnswer, IsCaughtUp, IsGrounded, ground_of}
 use Rattle.grb_pass.specs.Counting.{CountsCall}
 use Rattle.grb_pass.specs.Learning.{IsSteady}
-use Rattle.grb_statuses.specs.Statuses.{StatusRows}
+use Rattle.grb_call.specs.Statuses.{StatusRows}
 
 -- a pass of which nothing else changed
 abbrev pub with_rest : Knowing → StatusRows → ℕ → Knowing

@@ -13,14 +13,14 @@ use Rattle.grb_call.specs.After.{after}
 use Rattle.grb_call.specs.History.{Entry, History, calls_of, after_all, store_of}
 use Rattle.grb_call.proofs.Counted.{matrices_after_all, vectors_after_all}
 use Rattle.grb_call.proofs.Runs.{after_all-append}
-use Rattle.grb_values.specs.Partial.{ArePartial, PartialStoresView}
-use Rattle.grb_values.proofs.Partial.{partial_more}
+use Rattle.grb_replay.specs.Partial.{ArePartial, PartialStoresView}
+use Rattle.grb_replay.proofs.Partial.{partial_more}
 use Rattle.grb_pass.specs.Known.{Knowing, known, spelled}
 use Rattle.grb_pass.specs.Laws.{Begins}
 use Rattle.grb_pass.specs.Learning.{Enters, Learns}
 use Rattle.grb_pass.specs.Evaluated.{EvaluatedView, IsEvaluatedFor, IsStoreFor}
-use Rattle.grb_replay.specs.Evaluated.{IsEvaluated}
-use Rattle.grb_replay.specs.State.{RoomyStore}
+use Rattle.grb_state.specs.Evaluated.{IsEvaluated}
+use Rattle.grb_state.specs.State.{RoomyStore}
 use Rattle.grb_pass.proofs.Spelling.{length_spelled, calls_of-append, calls_of-spelled, spelled_push, spelled_more}
 
 -- more calls, which are not evaluated

@@ -10,9 +10,9 @@ use Rattle.grb_order.specs.View.{fresh}
 use Rattle.grb_order.specs.Holding.{Holding, TableId}
 use Rattle.grb_order.specs.Order.{AreFresh, room_of}
 use Rattle.grb_records.specs.Token.{IsOf}
-use Rattle.grb_statuses.specs.Statuses.{no_rows}
+use Rattle.grb_call.specs.Statuses.{no_rows}
 use Rattle.grb_pass.specs.Known.{Shared, Knowing, AreNew, HasNoStatus, IsPassOf}
-use Rattle.grb_statuses.proofs.StatusRows.{none_at}
+use Rattle.grb_call.proofs.StatusRows.{none_at}
 
 get_before : {A : Type 0} (xs : List A) (y : A) (k : ℕ) → k < length xs → slice_get (xs ++ y ∷ []) k ≡ slice_get xs k
 get_before [] y k lt = absurd (omega arith)

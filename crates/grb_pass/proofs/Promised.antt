@@ -9,7 +9,7 @@ use Rattle.grb_call.specs.Status.{info_of, made_by, object_of, statuses_after, w
 use Rattle.grb_pass.specs.Known.{Shared, Knowing, known, IsPassOf}
 use Rattle.grb_pass.specs.Explains.{Answer, ExplainsAnswer, IsCaughtUp, ground_of}
 use Rattle.grb_pass.specs.Counting.{CountsCall, LooksOnce}
-use Rattle.grb_statuses.specs.Statuses.{status_at}
+use Rattle.grb_call.specs.Statuses.{status_at}
 use Rattle.grb_pass.specs.Learning.{IsSteady}
 use Rattle.grb_pass.specs.Answered.{Promise, Answered, promised}
 use Rattle.grb_pass.specs.Settled.{settled_after}

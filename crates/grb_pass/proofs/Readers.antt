@@ -20,9 +20,9 @@ use Rattle.grb_call.specs.Store.{empty_store, shapes_of}
 use Rattle.grb_call.specs.History.{History, calls_of, store_of}
 use Rattle.grb_slices.specs.Content.{effective_target}
 use Rattle.grb_slices.specs.Followed.{targets_of}
-use Rattle.grb_values.specs.Targets.{WalkedCalls}
-use Rattle.grb_values.proofs.NextTarget.{targets_push}
-use Rattle.grb_statuses.specs.Statuses.{StatusRows}
+use Rattle.grb_replay.specs.Targets.{WalkedCalls}
+use Rattle.grb_replay.proofs.NextTarget.{targets_push}
+use Rattle.grb_call.specs.Statuses.{StatusRows}
 use Rattle.grb_pass.specs.Known.{Knowing, spelled}
 use Rattle.grb_pass.specs.Learning.{IsNextUnshown, IsSteady}
 use Rattle.grb_pass.specs.Reading.{IsReaderWith}

@@ -19,8 +19,8 @@ use Rattle.grb_pass.specs.Explains.{Answer, ExplainsAnswer, ExplainsCall, is_ent
 use Rattle.grb_pass.specs.Evaluated.{IsStoreFor}
 use Rattle.grb_pass.specs.Settled.{is_materialize, settled_after}
 use Rattle.grb_pass.proofs.Evaluating.{length-calls_of}
-use Rattle.grb_replay.specs.Settled.{AreAllAssembled, HasWaited, IsSettled}
-use Rattle.grb_replay.specs.State.{RoomyStore}
+use Rattle.grb_state.specs.Settled.{AreAllAssembled, HasWaited, IsSettled}
+use Rattle.grb_state.specs.State.{RoomyStore}
 
 enters_no_materialize : (c : Call) → enters c ≡ true → is_materialize c ≡ false
 enters_no_materialize (call.WaitMatrix a mode) e = cc

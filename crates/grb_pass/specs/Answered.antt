@@ -8,7 +8,7 @@ use Rattle.grb_call.specs.Status.{statuses_after}
 use Rattle.grb_pass.specs.Known.{Shared, Knowing, known, calls_by, IsKnown}
 use Rattle.grb_pass.specs.Explains.{Answer, entered_calls, ground_of, ExplainsCall, IsCaughtUp, MayLackMemory}
 use Rattle.grb_pass.specs.Counting.{CountsCall, LooksOnce}
-use Rattle.grb_statuses.specs.Statuses.{status_at}
+use Rattle.grb_call.specs.Statuses.{status_at}
 
 -- One call of a pass, with what the pass knows before and after it. The answer is that of one history, which it now knows to the end
 -- of the words that it has learnt unless a record is not there. Of its own calls it knows those of before, and this one if it was

@@ -3,10 +3,10 @@
 use Rattle.std.specs.Prelude.{◌≡◌, ℕ, ◌+◌, ◌≤◌, length}
 use Rattle.grb_order.specs.Order.{room_of}
 use Rattle.grb_call.specs.History.{calls_of}
-use Rattle.grb_replay.specs.Evaluated.{IsEvaluated}
-use Rattle.grb_replay.specs.Settled.{AreAllAssembled}
-use Rattle.grb_replay.specs.State.{RoomyStore, is_assembled}
-use Rattle.grb_values.specs.Partial.{ArePartial, PartialStoresView}
+use Rattle.grb_state.specs.Evaluated.{IsEvaluated}
+use Rattle.grb_state.specs.Settled.{AreAllAssembled}
+use Rattle.grb_state.specs.State.{RoomyStore, is_assembled}
+use Rattle.grb_replay.specs.Partial.{ArePartial, PartialStoresView}
 use Rattle.grb_pass.specs.Known.{Knowing, known}
 
 pub record EvaluatedView : Type 0 where

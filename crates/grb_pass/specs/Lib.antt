@@ -11,4 +11,4 @@ pub mod Point
 pub mod Putting
 pub mod Reading
 pub mod Settled
-pub use Rattle.grb_statuses.specs.Statuses
+pub use Rattle.grb_call.specs.Statuses

@@ -13,7 +13,7 @@ use Rattle.grb_call.specs.Refused.{refused_by_shapes}
 use Rattle.grb_call.specs.After.{refused, refused_build}
 use Rattle.grb_call.specs.History.{calls_of, store_of}
 use Rattle.grb_slices.specs.Followed.{targets_of}
-use Rattle.grb_values.specs.Targets.{WalkedCalls}
+use Rattle.grb_replay.specs.Targets.{WalkedCalls}
 use Rattle.grb_pass.specs.Explains.{ByStore, ground_of}
 use Rattle.grb_pass.specs.Known.{Knowing, spelled, AreRecords}
 use Rattle.grb_pass.specs.declared.reader.Reader.TheInside.{Inside}

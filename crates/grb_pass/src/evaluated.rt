@@ -9,10 +9,11 @@ ghost use Rattle.grb_call.specs.Status.{object_of};
 ghost use Rattle.grb_call.specs.Store.{empty_store, shapes_of};
 ghost use Rattle.grb_call.specs.After.{refused, refused_build, reply_of};
 ghost use Rattle.grb_call.specs.History.{calls_of, store_of};
-ghost use Rattle.grb_replay.specs.Evaluated.{IsEvaluated};
-ghost use Rattle.grb_replay.specs.Settled.{AreAllAssembled, IsSettled};
-ghost use Rattle.grb_replay.specs.State.{is_assembled};
-ghost use Rattle.grb_values.specs.Partial.{ArePartial};
+ghost use Rattle.grb_state.specs.Evaluated.{IsEvaluated};
+ghost use Rattle.grb_state.specs.Settled.{AreAllAssembled, IsSettled};
+ghost use Rattle.grb_state.specs.State.{is_assembled};
+ghost use Rattle.grb_replay.specs.Partial.{ArePartial};
+ghost use Rattle.grb_replay.specs.Versions.{IsFold};
 ghost use Rattle.grb_pass.specs.Evaluated.{IsAssembledWhereSettled, IsEvaluatedFor, IsStoreFor};
 ghost use Rattle.grb_pass.specs.Known.{known};
 ghost use Rattle.grb_pass.specs.Laws.{Begins};
@@ -22,10 +23,9 @@ use crate::reader::Reader;
 use grb_call::{Call, MatrixId, Object, Reply, VectorId, WaitMode};
 use grb_core::Refusal;
 use grb_records::Records;
-use grb_replay::State;
+use grb_replay::{Amount, Effort, PartialStores, Versions};
 use grb_slices::CallList;
-use grb_values::{Amount, Effort, PartialStores};
-use grb_versions::Versions;
+use grb_state::State;
 use std::alloc::{AllocError, Global};
 use std::marker::Model;
 use std::sync::Arc;
@@ -161,6 +161,25 @@ fn is_materialize(call: &Call) -> bool
     }
 }
 
+/// What a version is made of: the known calls, and a copy of the store that they leave and in which no change waits. `AllocError` where
+/// memory is refused.
+fn version_of<'a>(
+    records: &'a Records,
+    reader: &mut Reader,
+    state: &State,
+) -> Result<(Vec<&'a Call>, State), AllocError>
+    requires of { All (IsOf records.now) reader.old.shown }
+    requires all { state.now.store ≡ store_of (known reader.old) }
+    requires assembled { AreAllAssembled (is_assembled state.now.matrices state.now.vectors) }
+    ensures fold { IfOk result (λ made. IsFold (map (λ c. c.now) made.0.items) made.1.store) }
+    ensures assembled { IfOk result (λ made. AreAllAssembled (is_assembled made.1.matrices made.1.vectors)) }
+    ensures same { reader.new ≡ reader.old }
+{
+    let calls = lent_calls(records, reader)?;
+    let copy = state.try_clone(0)?;
+    Ok((calls, copy))
+}
+
 /// Offers the store, in which all known calls are evaluated and no change waits, to the other passes; where the cell for so many calls has a
 /// version it copies nothing, and takes no memory. `AllocError` where memory is refused; then it has not offered it.
 fn offer(
@@ -177,8 +196,7 @@ fn offer(
     if !versions.takes(reader.known() as usize) {
         return Ok(());
     }
-    let calls = lent_calls(records, reader)?;
-    let copy = state.try_clone(0)?;
+    let (calls, copy) = version_of(records, reader, state)?;
     versions.offer(calls.as_slice(), copy)
 }
 
@@ -209,24 +227,6 @@ fn entries_of(state: &State) -> u64 {
     entries
 }
 
-/// Leaves the store, in which all known calls are evaluated and no change waits, among the latest. `AllocError` where memory is refused; then
-/// it has not left it.
-fn leave(
-    versions: &Versions,
-    records: &Records,
-    reader: &mut Reader,
-    state: &State,
-) -> Result<(), AllocError>
-    requires of { All (IsOf records.now) reader.old.shown }
-    requires all { state.now.store ≡ store_of (known reader.old) }
-    requires assembled { AreAllAssembled (is_assembled state.now.matrices state.now.vectors) }
-    ensures same { reader.new ≡ reader.old }
-{
-    let calls = lent_calls(records, reader)?;
-    let copy = state.try_clone(0)?;
-    versions.leave(calls.as_slice(), copy)
-}
-
 /// Leaves the store, in which all known calls are evaluated, to the other passes, with no change left that waits, unless there is a version
 /// of as many calls. Where memory is refused to that, it is not left.
 fn share(versions: &Versions, records: &Records, reader: &mut Reader, state: &mut State)
@@ -242,8 +242,11 @@ fn share(versions: &Versions, records: &Records, reader: &mut Reader, state: &mu
     if known == 0 || versions.has_beyond(known - 1, usize::MAX) {
         return;
     }
-    if assemble(reader, state).is_ok() {
-        let _ = leave(versions, records, reader, state);
+    if assemble(reader, state).is_err() {
+        return;
+    }
+    if let Ok((calls, copy)) = version_of(records, reader, state) {
+        let _ = versions.leave(calls.as_slice(), copy);
     }
 }
 

@@ -14,19 +14,20 @@ ghost use Rattle.grb_call.specs.After.{reply_of};
 ghost use Rattle.grb_call.specs.History.{calls_of, store_of};
 ghost use Rattle.grb_call.specs.Status.{info_of, made_by, with_status};
 ghost use Rattle.grb_slices.specs.Followed.{targets_of};
-ghost use Rattle.grb_statuses.specs.Statuses.{no_rows, status_at};
+ghost use Rattle.grb_call.specs.Statuses.{no_rows, status_at};
 ghost use Rattle.grb_pass.specs.Known.{known};
 ghost use Rattle.grb_pass.specs.Learning.{Enters, IsNextUnshown, IsSteady};
 ghost use Rattle.grb_pass.specs.Counting.{Counts, look_steps};
 ghost use Rattle.grb_pass.specs.Meeting.{SharesCallAt};
 
-use grb_call::{Call, Kind, MatrixId, Object, Reply, VectorId, check, info_of, target_of};
+use grb_call::{
+    Call, Kind, MatrixId, Object, Reply, Statuses, VectorId, check, info_of, target_of,
+};
 use grb_core::{Info, Refusal};
 use grb_order::{Entered, Look, Order, Place};
 use grb_records::{Records, Token};
+use grb_replay::{Amount, Targets};
 use grb_slices::CallList;
-use grb_statuses::Statuses;
-use grb_values::{Amount, Targets};
 use std::alloc::{AllocError, Global};
 use std::marker::Model;
 

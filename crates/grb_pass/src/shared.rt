@@ -8,7 +8,7 @@ ghost use Rattle.grb_pass.specs.Known.{AreNew, HasNoStatus, IsPassOf};
 use crate::pass::Pass;
 use grb_order::{Order, Place};
 use grb_records::Records;
-use grb_versions::Versions;
+use grb_replay::Versions;
 use std::alloc::{AllocError, Global};
 use std::marker::Model;
 use std::sync::Arc;

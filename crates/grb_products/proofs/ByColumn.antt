@@ -13,7 +13,7 @@ use Rattle.grb_core.specs.Entries.{Cell, VectorEntries, MatrixEntries, built_fro
 use Rattle.grb_core.specs.Results.{column_of, reduce_rows_of, row_of, transposed}
 use Rattle.grb_core.proofs.Maps.{is_sorted-map_on_indices, same_entries_at}
 use Rattle.grb_kernels.specs.Typed.{entries_of}
-use Rattle.grb_ops.proofs.Lent.{lent}
+use Rattle.grb_ewise.proofs.Lent.{lent}
 use Rattle.grb_rows.specs.Cells.{decoded}
 use Rattle.grb_products.specs.ColumnSums.{by_column, with_values}
 use Rattle.grb_products.proofs.ColumnFolds.{AreNamed, are_named, find-built}

@@ -13,7 +13,7 @@ use Rattle.grb_core.specs.Entries.{VectorEntries}
 use Rattle.grb_core.proofs.Maps.{find-tied_below}
 use Rattle.grb_kernels.specs.Typed.{entries_of}
 use Rattle.grb_rows.proofs.FlatLists.{indices_rise}
-use Rattle.grb_ops.proofs.Lent.{entries-paired}
+use Rattle.grb_ewise.proofs.Lent.{entries-paired}
 
 fst : (a b : Bool) → T (a && b) → T a
 fst true b p = tt

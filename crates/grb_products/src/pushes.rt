@@ -21,11 +21,11 @@ use crate::push::{MatrixFirst, Side, VectorFirst, push};
 use crate::stored::{Stored, keep_bools, keep_numbers};
 use grb_call::Descriptor;
 use grb_core::{BinaryOp, Domain, Monoid, Semiring};
+use grb_ewise::write_masked_vector;
 use grb_kernels::operators::{
     First, FirstBool, Land, Lor, Lxnor, Lxor, Max, Min, Minus, Plus, Second, SecondBool, Times,
 };
 use grb_kernels::{EntryList, EntrySlice};
-use grb_ops::write_masked_vector;
 use grb_rows::FlatRows;
 use grb_sparse::{SparseMatrix, SparseVector};
 use std::alloc::{AllocError, Global};

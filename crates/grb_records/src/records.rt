@@ -1,3 +1,4 @@
+//! The calls that passes recorded, each written once and then read by all.
 ghost use Rattle.std.specs.Prelude.{◌≡◌, ◌↔◌, ◌⊎◌, ◌<◌, ◌≤◌, length, All, None, Some, Err, MatchOption, IfOk, IfErr, IfSome, IsTrue};
 ghost use Rattle.once_cell.specs.Once.{cell_name};
 

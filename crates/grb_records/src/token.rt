@@ -1,3 +1,4 @@
+//! A pass's right to record calls, in places that no other pass writes.
 ghost use Rattle.std.specs.Prelude.{◌≡◌};
 
 use grb_call::Call;

@@ -1,10 +1,7 @@
-mod Accepted
-mod Applied
-mod Assembled
-mod Dispatched
-mod Folded
-mod Lent
-mod LentProducts
-pub mod Numbered
-mod Objects
-mod Totals
+mod Begins
+mod SameCalls
+mod Served
+pub mod NextTarget
+pub mod Onward
+pub mod Partial
+pub mod Valued

@@ -1,21 +1,27 @@
-//! The store that a list of calls leaves, evaluated.
+//! What calls leave, evaluated by whoever needs it: values, partial stores and versions.
 //!
-//! A `State` holds the matrices and vectors that the calls made, with their entries. One unit is one call: `apply` makes of the
-//! store what the call makes of it, and nothing of it where the call is refused; `settle` does what waits in the objects and changes
-//! no entry; `reply` and `refused_build` read it. All places for objects to come are reserved where a state is cloned: an empty state has
-//! none. Nothing here knows of passes, of an order, or of which calls there are: the caller brings them, one after another.
+//! `value_of` holds what one object holds after calls on any store, from only the calls that it depends on. A `PartialStore` is a state in
+//! which the calls of the slice of some objects were made, and no other: it goes on by the slice of more calls; `PartialStores` holds
+//! objects that were read, and goes on with each from where it was evaluated. `Versions` has evaluated stores that passes may share, each
+//! with the calls that it is of: one is found by its own calls and never by their number. `State` and `replay` come from `grb_state`.
+//! Nothing here knows of passes or of an order: the caller brings the calls.
 #![tactic(auto)]
 
-mod copies;
-mod fold;
-mod matrices;
-mod matrix_operations;
-mod operations;
-mod product_operations;
-mod shared;
-mod state;
-mod vector_operations;
-mod vectors;
+mod effort;
+mod making;
+mod partial_store;
+mod partial_stores;
+mod places;
+mod plan;
+mod targets;
+mod value;
+mod version;
+mod versions;
 
-pub use fold::replay;
-pub use state::State;
+pub use effort::{Amount, Effort};
+pub use grb_state::{State, replay};
+pub use partial_store::PartialStore;
+pub use partial_stores::PartialStores;
+pub use targets::{LentCalls, Targets};
+pub use value::{Held, value_of};
+pub use versions::Versions;

@@ -1,14 +1,12 @@
 -- A list in rising order of numbers, and what goes to its end.
-use Rattle.std.proofs.Common.{◌≡◌, ℕ, zero, suc, ◌+◌, ◌<◌, ◌≤◌, Bool, true, false, not, cond, nat_eq, List, [], ◌∷◌, ◌++◌, length, get_or, set, take, Some, None, Option, refl, sym, ap, subst, ◌∙◌, arith}
+use Rattle.std.proofs.Common.{◌≡◌, ℕ, zero, suc, ◌+◌, ◌<◌, ◌≤◌, Bool, true, false, not, cond, nat_eq, List, [], ◌∷◌, ◌++◌, length, get_or, set, take, Some, None, Option, refl, sym, ap, ◌∙◌, arith}
 use Rattle.std.specs.Prelude.{◌&&◌}
 use Rattle.std.specs.List.{AllByRecursion, filter}
 use Rattle.std.specs.List.Sorted.{IsStableByKey, ties}
-use Rattle.std.specs.declared.cmp.Ordering.{Ordering}
 use Rattle.std.specs.declared.cmp.Ordering.TheVariants.{Less, Equal, Greater}
-use Rattle.std.specs.Ordering.{nat_cmp, is_eq, is_lt, eq_by_cmp, ordering_reverse}
+use Rattle.std.specs.Ordering.{nat_cmp, is_lt, eq_by_cmp}
 use Rattle.std.specs.Option.{option_or}
-use Rattle.std.specs.Cmp.{nat_cmp_total, ranked}
-use Rattle.std.specs.FinMap.{find, put, is_sorted, nat_cmp-IsAntisymmetric}
+use Rattle.std.specs.FinMap.{find, put, is_sorted}
 use Rattle.std.specs.FinMap.Entries.{by_order, below_all}
 use Rattle.std.proofs.lemmas.Bool.Decides.{nat_tests}
 use Rattle.std.proofs.lemmas.List.{take_more}
@@ -99,13 +97,13 @@ module _ {X : Type 0} where
       (omega (arith, low, high), all_lower k (f ∷ es) n d (second _ _ h) u.1 (omega arith) t)
 
   -- each part of an entry by itself
-  pub all_put : (A : ℕ → Type 0) (B : X → Type 0) (k : ℕ) (v : X) (es : List (ℕ × X)) → A k → B v → AllByRecursion (λ e. A e.0 × B e.1) es → AllByRecursion (λ e. A e.0 × B e.1) (put nat_cmp k v es)
-  all_put A B k v [] a b h = ((a, b), tt)
-  all_put A B k v (e ∷ es) a b h =
-      elim (nat_cmp k e.0) as (λ r. AllByRecursion (λ e. A e.0 × B e.1) (by_order r ((k, v) ∷ e ∷ es) ((e.0, v) ∷ es) (e ∷ put nat_cmp k v es))) [
-        | Less ↦ ((a, b), h)
-        | Equal ↦ ((h.0.0, b), h.1)
-        | Greater ↦ (h.0, all_put A B k v es a b h.1)
+  pub values_put : (B : X → Type 0) (k : ℕ) (v : X) (es : List (ℕ × X)) → B v → AllByRecursion (λ e. B e.1) es → AllByRecursion (λ e. B e.1) (put nat_cmp k v es)
+  values_put B k v [] b h = (b, tt)
+  values_put B k v (e ∷ es) b h =
+      elim (nat_cmp k e.0) as (λ r. AllByRecursion (λ e. B e.1) (by_order r ((k, v) ∷ e ∷ es) ((e.0, v) ∷ es) (e ∷ put nat_cmp k v es))) [
+        | Less ↦ (b, h)
+        | Equal ↦ (b, h.1)
+        | Greater ↦ (h.0, values_put B k v es b h.1)
       ]
 
   pub keys_put : (A : ℕ → Type 0) (k : ℕ) (v : X) (es : List (ℕ × X)) → A k → AllByRecursion (λ e. A e.0) es → AllByRecursion (λ e. A e.0) (put nat_cmp k v es)

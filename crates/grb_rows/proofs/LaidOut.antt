@@ -1,17 +1,14 @@
 -- What is found in a row with marks and changes, and after one more write or change.
-use Rattle.std.proofs.Common.{◌≡◌, ℕ, suc, ◌+◌, ◌<◌, ◌≤◌, ◌^◌, Bool, true, false, cond, nat_eq, List, [], ◌∷◌, ◌++◌, length, get_or, set, Some, None, Option, refl, sym, ap, subst, ◌∙◌, arith}
+use Rattle.std.proofs.Common.{◌≡◌, ℕ, ◌<◌, Bool, true, false, cond, nat_eq, List, [], ◌∷◌, ◌++◌, length, get_or, set, Some, None, Option, refl, sym, ap, subst, ◌∙◌, arith}
 use Rattle.std.specs.Prelude.{All, is_some, IfSome}
-use Rattle.std.specs.List.{AllByRecursion}
 use Rattle.std.specs.Ordering.{nat_cmp, is_lt}
 use Rattle.std.specs.Option.{option_or}
-use Rattle.std.specs.Cmp.{nat_cmp_total}
 use Rattle.std.specs.FinMap.{find, is_sorted}
 use Rattle.std.specs.FinMap.Entries.{below_all}
 use Rattle.std.proofs.lemmas.Bool.Decides.{nat_tests}
 use Rattle.std.proofs.lemmas.List.{length-set, set-get_or, get_or-set_same, get_or-set_other, get_or_default}
 use Rattle.std.proofs.lemmas.List.Elements.{All-push}
 use lib.Dec.{T}
-use Rattle.grb_core.specs.declared.domain.Domain.{Domain}
 use Rattle.grb_core.specs.declared.value.Value.{Value}
 use Rattle.grb_core.specs.declared.value.Value.TheVariants as value
 use Rattle.grb_core.specs.Value.{value_domain}
@@ -19,7 +16,7 @@ use Rattle.std.proofs.lemmas.Bool.{cases_eq}
 use Rattle.std.proofs.Common.{inl, inr}
 use Rattle.grb_core.specs.Entries.{VectorEntries}
 use Rattle.std.specs.Prelude.{not}
-use Rattle.grb_rows.specs.Pending.{Change, changed_at, changed, last_at, IsChangeIn, value_left}
+use Rattle.grb_rows.specs.Pending.{Change, changed, last_at, IsChangeOf, value_left}
 use Rattle.grb_rows.specs.Stored.{RowView, kept}
 use Rattle.grb_rows.specs.Held.{stored, IsLaid}
 use Rattle.grb_rows.proofs.Places.{first, second, holds, passes}
@@ -33,7 +30,7 @@ is_it q k h = grind (arith, nat_tests)
 pub is_sorted-stored : (row : RowView) (ds : List Bool) (cs : List Change) → T (is_sorted nat_cmp row.entries) → T (is_sorted nat_cmp (stored row ds cs))
 is_sorted-stored row ds cs h = is_sorted-changed cs (kept row.entries ds) (is_sorted-kept row.entries ds h)
 
-module _ (size : ℕ) (row : RowView) (ds : List Bool) (cs : List Change) (laid : IsLaid size row ds cs) (k : ℕ) where
+module _ (row : RowView) (ds : List Bool) (cs : List Change) (laid : IsLaid row ds cs) (k : ℕ) where
   module _ (i : ℕ) (inside : i < length row.entries) (is : (d : ℕ × Value) → (get_or row.entries i d).0 ≡ k) where
     no_change : last_at k cs ≡ None
     no_change = let d : ℕ × Value = (k, value.Bool true) in ap (λ x. last_at x cs) (sym (is d)) ∙ laid.apart i d inside
@@ -65,14 +62,14 @@ module _ (size : ℕ) (row : RowView) (ds : List Bool) (cs : List Change) (laid 
           past true l x w h = ap (λ y. over y x) (h refl)
           past false l x w h = refl
 
-      pub laid-written : IsLaid size new es cs
+      pub laid-written : IsLaid new es cs
       laid-written =
           let d : ℕ × Value = (k, v) in
           let long : length new.entries ≡ length row.entries = ap length (rows d) ∙ length-set row.entries i ((get_or row.entries i d).0, v) in
           record {
             ordered = passes _ (subst (λ (m : VectorEntries). T (is_sorted nat_cmp m)) (sym (rows d)) (is_sorted-same_keys row.entries i d v (holds laid.ordered)));
             apart = λ j e l. ap (λ (m : VectorEntries). last_at (get_or m j e).0 cs) (rows d) ∙ kept_key row.entries i j d e v cs laid.apart (omega (arith, l, long));
-            inside = subst (λ x. All (IsChangeIn size x) cs) (sym same) laid.inside;
+            inside = subst (λ x. All (IsChangeOf x) cs) (sym same) laid.inside;
           }
         where
           kept_key : (m : VectorEntries) (i j : ℕ) (d e : ℕ × Value) (v : Value) (cs : List Change) → ((i : ℕ) (d : ℕ × Value) → i < length m → last_at (get_or m i d).0 cs ≡ None) → j < length m → last_at (get_or (set m i ((get_or m i d).0, v)) j e).0 cs ≡ None
@@ -94,12 +91,12 @@ module _ (size : ℕ) (row : RowView) (ds : List Bool) (cs : List Change) (laid 
         ∙ ap (find nat_cmp q) (changed-push k c cs (kept row.entries ds))
         ∙ find-changed_at q k c (stored row ds cs)
 
-    pub laid-pushed : (c : Option Value) (fs : List Change) → fs ≡ cs ++ (k, c) ∷ [] → k < size → IfSome c (λ v. value_domain v ≡ row.domain) → IsLaid size row ds fs
-    laid-pushed c fs is fits of_domain = record {
+    pub laid-pushed : (c : Option Value) (fs : List Change) → fs ≡ cs ++ (k, c) ∷ [] → IfSome c (λ v. value_domain v ≡ row.domain) → IsLaid row ds fs
+    laid-pushed c fs is of_domain = record {
       ordered = laid.ordered;
       apart = λ i d l. ap (last_at (get_or row.entries i d).0) is ∙ last_at-push (get_or row.entries i d).0 k c cs
           ∙ ap (λ b. cond b (Some c) (last_at (get_or row.entries i d).0 cs)) (differs (get_or row.entries i d).0 k (nowhere k row.entries i d absent l)) ∙ laid.apart i d l;
-      inside = subst (All (IsChangeIn size row.domain)) (sym is) (All-push (IsChangeIn size row.domain) cs (k, c) laid.inside (fits, of_domain));
+      inside = subst (All (IsChangeOf row.domain)) (sym is) (All-push (IsChangeOf row.domain) cs (k, c) laid.inside of_domain);
     }
       where
         differs : (q k : ℕ) → (q ≡ k → ⊥) → nat_eq q k ≡ false
@@ -153,17 +150,17 @@ pub is_some-unless : (b : Bool) (v : Value) → is_some (cond b None (Some v)) �
 is_some-unless true v = refl
 is_some-unless false v = refl
 
-module _ (size : ℕ) (row : RowView) (ds : List Bool) (cs : List Change) (laid : IsLaid size row ds cs) (k : ℕ) where
+module _ (row : RowView) (ds : List Bool) (cs : List Change) (laid : IsLaid row ds cs) (k : ℕ) where
   -- whether something is stored at an index that stands in the row, and at another
   pub stands-marked : (i : ℕ) → i < length row.entries → ((d : ℕ × Value) → (get_or row.entries i d).0 ≡ k) → (b : Bool) → b ≡ get_or ds i false → not b ≡ is_some (find nat_cmp k (stored row ds cs))
   stands-marked i inside is b mark =
       let d : ℕ × Value = (0, value.Bool true) in
       sym (is_some-unless b (get_or row.entries i d).1)
       ∙ ap (λ x. is_some (cond x None (Some (get_or row.entries i d).1))) mark
-      ∙ ap is_some (sym (find-standing size row ds cs laid k i inside is (get_or row.entries i d).1 (λ e. ap (λ (x : ℕ × Value). x.1) (get_or_default row.entries i d e inside))))
+      ∙ ap is_some (sym (find-standing row ds cs laid k i inside is (get_or row.entries i d).1 (λ e. ap (λ (x : ℕ × Value). x.1) (get_or_default row.entries i d e inside))))
 
   pub stands-left : find nat_cmp k row.entries ≡ None → is_some (value_left (last_at k cs)) ≡ is_some (find nat_cmp k (stored row ds cs))
-  stands-left absent = ap is_some (sym (find-other size row ds cs laid k absent ∙ over-nothing (last_at k cs)))
+  stands-left absent = ap is_some (sym (find-other row ds cs laid k absent ∙ over-nothing (last_at k cs)))
 
 pub nothing_there : (w : Option Value) → is_some w ≡ false → w ≡ None
 nothing_there None e = refl

@@ -10,3 +10,4 @@ pub mod Cut
 pub mod CellLists
 pub mod OneRow
 pub mod Packing
+pub mod Holding

@@ -109,6 +109,7 @@ impl FlatRows {
     pub fn len(&self) -> usize
         ensures len { result ≡ length self.now.entries }
         ensures bound { length self.now.entries < 2 ^ 63 }
+        ensures ordered { IsTrue (is_sorted nat_cmp self.now.entries) }
     {
         self.columns.len()
     }
@@ -189,7 +190,7 @@ impl FlatRows {
     }
 
     /// A row of these entries.
-    pub fn from_entries(
+    pub(crate) fn from_entries(
         alloc: Global,
         domain: Domain,
         entries: &[(u64, Value)],
@@ -215,8 +216,7 @@ impl FlatRows {
     }
 
     /// The entries within `nrows` rows and `ncols` columns, as a row of their own.
-    pub fn within(&self, nrows: u64, ncols: u64) -> Result<FlatRows, AllocError>
-        requires ordered { IsTrue (is_sorted nat_cmp self.now.entries) }
+    pub(crate) fn within(&self, nrows: u64, ncols: u64) -> Result<FlatRows, AllocError>
         ensures entries { IfOk result (λ new. new.entries ≡ restricted (λ k. is_cell_in nrows ncols (cell_of k)) self.now.entries) }
         ensures domain { IfOk result (λ new. new.domain ≡ self.now.domain) }
     {

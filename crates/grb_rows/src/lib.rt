@@ -1,12 +1,12 @@
 //! Flat rows: what the entries of a vector or a matrix are kept in, the changes that wait to be merged with them, and the merge.
 //!
-//! One unit is a list of entries in rising order of the numbers of their cells, row * 2^32 + column, beside deleted marks and pending
-//! changes, and together they stand for a finite map. An index of a vector is a column of row 0. No list has a length that follows from
-//! dimensions. Nothing here knows of dimensions but as bounds, of objects, calls or threads.
+//! One unit is what is held of one object: a list of entries in rising order of the numbers of their cells, row * 2^32 + column, beside
+//! deleted marks and pending changes, and together they stand for a finite map. An index of a vector is a column of row 0. No list has a
+//! length that follows from dimensions. Nothing here knows of dimensions but as bounds, of calls or threads.
 #![tactic(auto)]
 
 mod flat;
-pub mod held;
+mod held;
 mod made;
 mod merge;
 pub mod packed;
@@ -14,4 +14,4 @@ mod pending;
 mod values;
 
 pub use flat::{FlatRows, code};
-pub use pending::Pending;
+pub use held::Held;

@@ -6,7 +6,7 @@ ghost use Rattle.std.specs.FinMap.{is_sorted};
 ghost use Rattle.grb_core.specs.declared.value.Value.{Value as Stored};
 ghost use Rattle.grb_core.specs.Value.{value_domain};
 ghost use Rattle.grb_rows.specs.Stored.{kept};
-ghost use Rattle.grb_rows.specs.Pending.{Change, changed, changed_at, IsChangeIn};
+ghost use Rattle.grb_rows.specs.Pending.{Change, changed, changed_at, IsChangeOf};
 
 use crate::flat::FlatRows;
 use crate::held::is_marked;
@@ -22,7 +22,7 @@ pub(crate) fn merged(
     requires row_ordered { IsTrue (is_sorted nat_cmp row.now.entries) }
     requires ordered { IsTrue (is_sorted nat_cmp changes.now.items) }
     requires apart { (i j : ℕ) (d : ℕ × Stored) (e : Change) → i < length row.now.entries → j < length changes.now.items → (slice_index_or row.now.entries i d).0 ≢ (slice_index_or changes.now.items j e).0 }
-    requires inside { All (IsChangeIn (2 ^ 64) row.now.domain) changes.now.items }
+    requires inside { All (IsChangeOf row.now.domain) changes.now.items }
     ensures entries { IfOk result (λ new. new.entries ≡ changed (kept row.now.entries deleted.now.items) changes.now.items) }
     ensures domain { IfOk result (λ new. new.domain ≡ row.now.domain) }
 {
@@ -90,7 +90,7 @@ fn keep(new: &mut FlatRows, index: u64, value: Value, deleted: bool)
 fn store_last(new: &mut FlatRows, change: (u64, Option<Value>))
     requires room { 0 < new.old.room }
     requires above { AllByRecursion (λ e. e.0 < change.0) new.old.entries }
-    requires inside { IsChangeIn (2 ^ 64) new.old.domain change }
+    requires inside { IsChangeOf new.old.domain change }
     ensures entries { new.new.entries ≡ changed_at change.0 change.1 new.old.entries }
     ensures domain { new.new.domain ≡ new.old.domain }
     ensures room { new.old.room ≤ new.new.room + 1 }

@@ -7,7 +7,7 @@ ghost use Rattle.grb_core.specs.declared.domain.Domain.{Domain as D};
 ghost use Rattle.grb_core.specs.Value.{value_domain};
 ghost use Rattle.std.specs.List.{AllByRecursion};
 ghost use Rattle.std.specs.List.Sorted.{IsSortedByKey};
-ghost use Rattle.grb_rows.specs.Pending.{last_at, value_left, IsChangeIn};
+ghost use Rattle.grb_rows.specs.Pending.{last_at, value_left, IsChangeOf};
 
 use crate::packed;
 use grb_core::Value;
@@ -16,7 +16,7 @@ use std::collections::HashMap;
 use std::marker::Model;
 
 /// Changes of single indices, in the order in which they came: a value that is stored, or `None` where it is taken away.
-pub struct Pending {
+pub(crate) struct Pending {
     changes: Vec<(u64, Option<Value>)>,
     latest: HashMap<u64, Option<Value>>,
     reserved: u64,
@@ -140,7 +140,7 @@ impl Pending {
     pub(crate) fn in_order(&self) -> Result<Vec<(u64, Option<Value>)>, AllocError>
         ensures sorted { IfOk result (λ last. IsTrue (is_sorted nat_cmp last.items)) }
         ensures found { IfOk result (λ last. (q : ℕ) → find nat_cmp q last.items ≡ last_at q self.now.changes) }
-        ensures inside { IfOk result (λ last. (size : ℕ) (domain : D) → All (IsChangeIn size domain) self.now.changes → All (IsChangeIn size domain) last.items) }
+        ensures inside { IfOk result (λ last. (domain : D) → All (IsChangeOf domain) self.now.changes → All (IsChangeOf domain) last.items) }
     {
         let alloc = *self.changes.allocator();
         let changes = packed::in_order(alloc, &self.changes)?;
@@ -165,7 +165,7 @@ fn last_of_each(
     requires rising { IsSortedByKey (λ c. c.0) nat_cmp changes.now }
     ensures sorted { IfOk result (λ last. IsTrue (is_sorted nat_cmp last.items)) }
     ensures found { IfOk result (λ last. (q : ℕ) → find nat_cmp q last.items ≡ last_at q changes.now) }
-    ensures inside { IfOk result (λ last. (size : ℕ) (domain : D) → All (IsChangeIn size domain) changes.now → All (IsChangeIn size domain) last.items) }
+    ensures inside { IfOk result (λ last. (domain : D) → All (IsChangeOf domain) changes.now → All (IsChangeOf domain) last.items) }
 {
     let mut last = Vec::with_capacity(alloc, changes.len())?;
     for change in changes {

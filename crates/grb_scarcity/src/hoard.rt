@@ -1,3 +1,4 @@
+//! Memory that is held back, but for what a test leaves free.
 ghost use Rattle.std.specs.Prelude.{◌<◌};
 
 use std::alloc::{AllocError, Global};

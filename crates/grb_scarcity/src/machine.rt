@@ -1,3 +1,4 @@
+//! Whether the machine gives out more memory than it has.
 use std::fs::{self, Files};
 
 /// Whether the machine counts what its processes ask for (`vm.overcommit_memory` is 2), so that a hoard of one would starve the others. `None`

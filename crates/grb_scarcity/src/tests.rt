@@ -1,3 +1,4 @@
+//! What a hoard leaves free, and that it gives all of it back.
 use crate::hoard::deepen;
 use crate::{Hoard, never_overcommits};
 use std::alloc::{AllocError, Global};

@@ -10,7 +10,8 @@ use Rattle.std.proofs.lemmas.List.Splits.{length-slice_split}
 use Rattle.grb_words.specs.declared.section.Section.{Section}
 use Rattle.grb_words.specs.declared.section.Section.TheVariants as section
 use Rattle.grb_words.specs.declared.version.Version.{Version}
-use Rattle.grb_words.specs.Line.{Line, lines_from, lines_of, words_of}
+use Rattle.grb_market.specs.Line.{Line, lines_from, lines_of}
+use Rattle.grb_words.specs.Line.{words_of}
 use Rattle.grb_words.specs.declared.fault.FaultKind.{FaultKind}
 use Rattle.grb_script.specs.declared.command.Command.{Command}
 use Rattle.grb_script.specs.declared.command.Numbered.{Numbered}

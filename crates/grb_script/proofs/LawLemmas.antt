@@ -10,7 +10,8 @@ use Rattle.grb_words.specs.declared.fault.FaultKind.TheVariants.{UnendedLine, Ba
 use Rattle.grb_words.specs.declared.section.Section.{Section}
 use Rattle.grb_words.specs.declared.section.Section.TheVariants as section
 use Rattle.grb_words.specs.declared.version.Version.{Version}
-use Rattle.grb_words.specs.Line.{Line, Word, has_allowed_bytes, lines_of, words_of}
+use Rattle.grb_market.specs.Line.{Line, lines_of}
+use Rattle.grb_words.specs.Line.{Word, has_allowed_bytes, words_of}
 use Rattle.grb_words.specs.Section.{section_of}
 use Rattle.grb_words.specs.Word.{numeral_value}
 use Rattle.grb_script.specs.declared.command.Numbered.{Numbered}

@@ -1,4 +1,5 @@
 pub mod CommandCount
+pub mod FaultLemmas
 pub mod FormLemmas
 pub mod LawLemmas
 pub mod NamesLemmas

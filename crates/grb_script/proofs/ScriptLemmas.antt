@@ -10,7 +10,8 @@ use Rattle.grb_words.specs.declared.section.Section.{Section}
 use Rattle.grb_words.specs.declared.section.Section.TheVariants as section
 use Rattle.grb_words.specs.declared.version.Version.{Version}
 use Rattle.grb_words.specs.declared.version.Version.TheVariants.{One, Two}
-use Rattle.grb_words.specs.Line.{Line, ended, lines_of, words_of}
+use Rattle.grb_market.specs.Line.{Line, ended, lines_of}
+use Rattle.grb_words.specs.Line.{words_of}
 use Rattle.grb_words.specs.Section.{section_of}
 use Rattle.grb_script.specs.declared.command.Command.{Command}
 use Rattle.grb_script.specs.declared.command.Numbered.{Numbered}

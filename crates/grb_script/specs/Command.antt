@@ -8,7 +8,8 @@ use Rattle.grb_words.specs.declared.fault.Unread.{Unread}
 use Rattle.grb_words.specs.declared.fault.Unread.TheVariants as unread
 use Rattle.grb_words.specs.declared.version.Version.{Version}
 use Rattle.grb_words.specs.Form.{form_of, load_of}
-use Rattle.grb_words.specs.Line.{Line, Word, words_of, is_load}
+use Rattle.grb_market.specs.Line.{Line}
+use Rattle.grb_words.specs.Line.{Word, words_of, is_load}
 use Rattle.grb_script.specs.declared.command.Command.{Command}
 use Rattle.grb_script.specs.declared.command.Command.TheVariants as command
 use Rattle.grb_script.specs.declared.names.Sort.TheVariants as sort

@@ -3,7 +3,8 @@ use Rattle.std.specs.Prelude.{◌≡◌, ℕ, ◌+◌, List, [], ◌∷◌, ◌+
 use Rattle.std.specs.List.{flat_map}
 use Rattle.grb_script.specs.declared.command.Numbered.{Numbered}
 use Rattle.grb_words.specs.declared.version.Version.{Version}
-use Rattle.grb_words.specs.Line.{Line, lines_of, words_of}
+use Rattle.grb_market.specs.Line.{Line, lines_of}
+use Rattle.grb_words.specs.Line.{words_of}
 use Rattle.grb_script.specs.Command.{names_behind_words}
 use Rattle.grb_script.specs.Names.{Name}
 use Rattle.grb_script.specs.Script.{with_before, numbered_on, sections_of}

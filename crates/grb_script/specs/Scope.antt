@@ -7,7 +7,8 @@ use Rattle.grb_words.specs.declared.section.Section.{Section}
 use Rattle.grb_words.specs.declared.section.Section.TheVariants as section
 use Rattle.grb_words.specs.declared.version.Version.{Version}
 use Rattle.grb_words.specs.declared.version.Version.TheVariants.{One, Two}
-use Rattle.grb_words.specs.Line.{Line, Word, words_of}
+use Rattle.grb_market.specs.Line.{Line}
+use Rattle.grb_words.specs.Line.{Word, words_of}
 use Rattle.grb_words.specs.Section.{section_of}
 use Rattle.grb_script.specs.declared.scope.Scope.{Scope as Kept}
 use Rattle.grb_script.specs.Names.{Name}

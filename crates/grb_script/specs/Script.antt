@@ -7,7 +7,7 @@ use Rattle.grb_script.specs.declared.script.Script.{Script}
 use Rattle.grb_words.specs.declared.section.Section.{Section}
 use Rattle.grb_words.specs.declared.section.Section.TheVariants as section
 use Rattle.grb_words.specs.declared.version.Version.{Version}
-use Rattle.grb_words.specs.Line.{Line, lines_of}
+use Rattle.grb_market.specs.Line.{Line, lines_of}
 use Rattle.grb_script.specs.Command.{commands_on}
 use Rattle.grb_script.specs.Names.{Name}
 use Rattle.grb_script.specs.Scope.{section_on, scope_of}

@@ -11,7 +11,8 @@ use Rattle.grb_script.specs.declared.fault.ReadFault.TheVariants as read
 use Rattle.grb_words.specs.declared.fault.Unread.{Unread}
 use Rattle.grb_words.specs.declared.fault.Unread.TheVariants as unread
 use Rattle.grb_words.specs.declared.version.Version.{Version}
-use Rattle.grb_words.specs.Line.{Line, Word, lines_of, words_of, has_allowed_bytes, is_section}
+use Rattle.grb_market.specs.Line.{Line, lines_of}
+use Rattle.grb_words.specs.Line.{Word, words_of, has_allowed_bytes, is_section}
 use Rattle.grb_words.specs.Section.{section_of}
 use Rattle.grb_words.specs.declared.section.Section.{Section}
 use Rattle.grb_script.specs.Command.{asking}

@@ -1,3 +1,4 @@
+//! The commands of a script, and the paths that it loads from.
 ghost use Rattle.std.specs.Prelude.{◌≡◌, IfOk, IfErr, map};
 ghost use Rattle.grb_words.specs.Form.{load_of};
 ghost use Rattle.grb_script.specs.Command.{IsLoading, IsWhyUnloaded, IsAsked, IsWhyUnasked};

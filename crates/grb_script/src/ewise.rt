@@ -1,3 +1,4 @@
+//! Lines of element-wise operations.
 ghost use Rattle.std.specs.Prelude.{◌≡◌, ◌∷◌, Some, None, map};
 ghost use Rattle.std.specs.Option.{ok_or, option_map, option_map_or};
 ghost use Rattle.grb_words.specs.Form.{EwiseForm, ewise_form};

@@ -1,3 +1,4 @@
+//! What is wrong with a script, and on which line.
 ghost use Rattle.std.specs.Prelude.{◌≡◌};
 ghost use Rattle.grb_script.specs.declared.fault.ReadFault.TheVariants as read;
 

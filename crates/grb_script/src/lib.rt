@@ -21,7 +21,9 @@ pub use command::{Command, FilePath, Numbered};
 pub use ewise::Elementwise;
 pub use fault::{ReadFault, ScriptFault};
 pub use grb_words::FaultKind;
-pub use laws::a_script_without_threads_is_read_line_by_line;
+pub use laws::{
+    a_script_without_threads_is_read_line_by_line, the_first_fault_of_a_line_is_answered,
+};
 pub use names::Sort;
 pub use product::{Product, Reduction};
 pub use script::{Script, read_script};

@@ -1,5 +1,7 @@
+//! One line of a script, read where the lines before it have led.
 ghost use Rattle.std.specs.Prelude.{◌≡◌, true, false, Some, None, IfOk, IfErr, OnOk, map};
-ghost use Rattle.grb_words.specs.Line.{ended, words_of, is_section};
+ghost use Rattle.grb_market.specs.Line.{ended};
+ghost use Rattle.grb_words.specs.Line.{words_of, is_section};
 ghost use Rattle.grb_words.specs.Section.{section_of};
 ghost use Rattle.grb_script.specs.Scope.{begun, may_follow, seen, IsKept};
 ghost use Rattle.grb_script.specs.Said.{IsRead, IsWhyNotRead};

@@ -1,3 +1,4 @@
+//! The names that a script gives its objects, numbered in the order of their making.
 ghost use Rattle.std.specs.Prelude.{◌≡◌, [], ◌∷◌, ◌++◌, OnOk, OnErr, false, length, take};
 ghost use Rattle.grb_script.specs.Names.{stands, name_found};
 

@@ -1,3 +1,4 @@
+//! Lines of products and reductions.
 ghost use Rattle.std.specs.Prelude.{◌≡◌, ◌∷◌, map};
 ghost use Rattle.grb_script.specs.Reading.{reading, saying, output_sort, left_sort, right_sort, are_of_product, product_statement, semiring_made, product_on};
 ghost use Rattle.grb_words.specs.Form.{ProductForm, ReduceForm, product_form, reduce_form};

@@ -1,3 +1,4 @@
+//! Where a line stands: the section, the names made so far, and the version.
 ghost use Rattle.std.specs.Prelude.{◌≡◌};
 ghost use Rattle.grb_script.specs.Scope.{at_start, begun, most_threads, may_follow, seen, IsKept};
 

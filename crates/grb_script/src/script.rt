@@ -1,5 +1,7 @@
+//! A script, read whole: its lines, section by section, or its first fault.
 ghost use Rattle.std.specs.Prelude.{◌≡◌, ◌≤◌, [], None, IfOk, IfErr, OnOk, length};
-ghost use Rattle.grb_words.specs.Line.{ended, words_of};
+ghost use Rattle.grb_market.specs.Line.{ended};
+ghost use Rattle.grb_words.specs.Line.{words_of};
 ghost use Rattle.grb_words.specs.declared.version.Version.TheVariants as versions;
 ghost use Rattle.grb_script.specs.Scope.{at_start, most_threads, seen, IsKept};
 ghost use Rattle.grb_script.specs.Script.{listed, joined, nothing, part_of, sections_of};
@@ -10,7 +12,8 @@ use crate::command::Numbered;
 use crate::fault::ReadFault;
 use crate::line::{Said, fault, read_line};
 use crate::scope::Scope;
-use grb_words::{FaultKind, Section, next_line};
+use grb_market::next_line;
+use grb_words::{FaultKind, Section};
 use std::alloc::{AllocError, Global};
 use std::mem;
 

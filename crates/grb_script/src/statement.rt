@@ -1,3 +1,4 @@
+//! Statements: the lines that become calls.
 ghost use Rattle.std.specs.Prelude.{◌≡◌, ◌≢◌, [], ◌∷◌, Some, Ok, IfOk, IfErr, map};
 ghost use Rattle.std.specs.Option.{ok_or};
 ghost use Rattle.grb_script.specs.Names.{name_found};

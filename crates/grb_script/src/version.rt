@@ -1,3 +1,4 @@
+//! The version that the first line of a script names.
 ghost use Rattle.std.specs.Prelude.{◌≡◌, map};
 ghost use Rattle.grb_script.specs.Version.{version_by, says_nothing};
 

@@ -1,3 +1,4 @@
+//! A list of calls, as the choice of a slice reads it.
 ghost use Rattle.std.specs.Prelude.{◌≡◌, ◌<◌, List, Option, Some, length, slice_get};
 ghost use Rattle.grb_call.specs.declared.call.Call.{Call};
 ghost use Rattle.grb_call.specs.declared.ids.Object.{Object};

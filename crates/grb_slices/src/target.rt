@@ -1,3 +1,4 @@
+//! The object that a call changes, where it is not refused.
 ghost use Rattle.std.specs.Prelude.{◌≡◌};
 ghost use Rattle.grb_slices.specs.Content.{effective_target, target_of};
 

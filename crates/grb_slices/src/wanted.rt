@@ -1,3 +1,4 @@
+//! The objects whose contents are wanted.
 ghost use Rattle.std.specs.Prelude.{true, Some, slice_get, ◌≡◌, ◌<◌, ◌≤◌, ◌||◌, ◌==◌, ℕ, false, if◌then◌else◌, length, replicate, IfOk, OnOk, OnErr};
 ghost use Rattle.grb_call.specs.Status.{is_same_object};
 ghost use Rattle.grb_call.specs.declared.ids.Object.{Object};

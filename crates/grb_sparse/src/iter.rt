@@ -1,3 +1,4 @@
+//! The entries of a vector, of a matrix and of a row of one, in order.
 ghost use Rattle.std.specs.Prelude.{◌≡◌, ◌/◌, ◌<◌, ◌^◌, ℕ, length, slice_index_or};
 ghost use Rattle.std.specs.Iterator.{YieldsFirst, item_count};
 ghost use Rattle.grb_rows.specs.Cells.{cell_of, decoded};

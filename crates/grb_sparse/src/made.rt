@@ -8,7 +8,7 @@ ghost use Rattle.grb_rows.specs.Cells.{decoded};
 use crate::matrix::SparseMatrix;
 use crate::vector::SparseVector;
 use grb_core::Domain;
-use grb_rows::{FlatRows, Pending};
+use grb_rows::{FlatRows, Held};
 use std::alloc::{AllocError, Global};
 
 impl SparseVector {
@@ -17,14 +17,9 @@ impl SparseVector {
         requires whole { IsVector (record { domain = row.domain; size = size; entries = row.entries }) }
         ensures { result ≡ record { vector = record { domain = row.domain; size = size; entries = row.entries }; assembled = true; reserved = 0; pending = 0 } }
     {
-        let nvals = row.len() as u64;
         SparseVector {
             size,
-            row,
-            deleted: Vec::new(alloc),
-            pending: Pending::new(alloc),
-            nvals,
-            assembled: true,
+            held: Held::of(alloc, row, true),
         }
     }
 
@@ -73,15 +68,10 @@ impl SparseMatrix {
         requires whole { IsMatrix (record { domain = lists.domain; nrows = nrows; ncols = ncols; entries = decoded lists.entries }) }
         ensures { result ≡ record { matrix = record { domain = lists.domain; nrows = nrows; ncols = ncols; entries = decoded lists.entries }; assembled = true; reserved = 0; pending = 0 } }
     {
-        let nvals = lists.len() as u64;
         SparseMatrix {
             nrows,
             ncols,
-            lists,
-            deleted: Vec::new(alloc),
-            pending: Pending::new(alloc),
-            nvals,
-            assembled: true,
+            held: Held::of(alloc, lists, true),
         }
     }
 }

@@ -1,3 +1,4 @@
+//! Sparse matrices.
 ghost use Rattle.std.specs.Prelude.{◌≡◌, ◌+◌, ◌<◌, ◌≤◌, ◌^◌, [], true, false, All, OnOk, OnErr, IfOk};
 ghost use Rattle.std.specs.FinMap.{find, put};
 ghost use Rattle.grb_core.specs.Value.{value_domain};
@@ -10,7 +11,7 @@ ghost use Rattle.grb_core.specs.Contents.{IsDimension, IsMatrix, edited_matrix, 
 use crate::iter::{Entries, Row};
 use crate::tuples;
 use grb_core::{Domain, Monoid, Value};
-use grb_rows::{FlatRows, Pending, code, held};
+use grb_rows::{FlatRows, Held, code};
 use std::alloc::{AllocError, Global};
 use std::marker::Model;
 
@@ -24,14 +25,8 @@ use std::marker::Model;
 pub struct SparseMatrix {
     pub(crate) nrows: u64,
     pub(crate) ncols: u64,
-    /// The entries as they were last assembled.
-    pub(crate) lists: FlatRows,
-    /// Which of them are marked as deleted; empty until a place for a change is reserved.
-    pub(crate) deleted: Vec<bool>,
-    /// What was set and removed since then at other cells.
-    pub(crate) pending: Pending,
-    pub(crate) nvals: u64,
-    pub(crate) assembled: bool,
+    /// What is stored, by the numbers of its cells.
+    pub(crate) held: Held,
 }
 
 /// One call drops all lists, in place of one for each wherever a matrix goes.
@@ -40,27 +35,20 @@ impl Drop for SparseMatrix {
         let SparseMatrix {
             nrows: _,
             ncols: _,
-            lists: _,
-            deleted: _,
-            pending: _,
-            nvals: _,
-            assembled: _,
+            held: _,
         } = self;
     }
 }
 
 impl Model for SparseMatrix {
-    ghost use Rattle.std.specs.Prelude.{length};
-    ghost use Rattle.grb_rows.specs.Cells.{coded_entries, decoded};
-    ghost use Rattle.grb_rows.specs.Held.{stored, IsMarked};
-    ghost use Rattle.grb_sparse.specs.Held.{IsMatrixHeld};
-    ghost use Rattle.grb_sparse.specs.Matrix.{SparseMatrixView};
+    ghost use Rattle.grb_core.specs.Contents.{IsMatrix};
+    ghost use Rattle.grb_sparse.specs.Matrix.{SparseMatrixView, matrix_of};
 
     ghost Value = { SparseMatrixView };
 
-    ghost view = { λ v. record { matrix = record { domain = v.lists.domain; nrows = v.nrows; ncols = v.ncols; entries = decoded (stored v.lists v.deleted.items v.pending.changes) }; assembled = v.assembled; reserved = v.pending.reserved; pending = length v.pending.changes } };
+    ghost view = { λ v. record { matrix = matrix_of v.nrows v.ncols v.held; assembled = v.held.assembled; reserved = v.held.reserved; pending = v.held.pending } };
 
-    ghost invariant = { λ v. IsMatrixHeld v.nrows v.ncols v.lists v.deleted.items v.pending.changes v.nvals v.assembled × IsMarked v.lists v.deleted.items v.pending.reserved };
+    ghost invariant = { λ v. IsMatrix (matrix_of v.nrows v.ncols v.held) };
 }
 
 impl SparseMatrix {
@@ -75,11 +63,7 @@ impl SparseMatrix {
         SparseMatrix {
             nrows,
             ncols,
-            lists: FlatRows::new(alloc, domain),
-            deleted: Vec::new(alloc),
-            pending: Pending::new(alloc),
-            nvals: 0,
-            assembled: true,
+            held: Held::new(alloc, domain),
         }
     }
 
@@ -87,7 +71,7 @@ impl SparseMatrix {
     pub fn domain(&self) -> Domain
         ensures { result ≡ self.now.matrix.domain }
     {
-        self.lists.domain()
+        self.held.domain()
     }
 
     /// The number of rows and the number of columns. The clause `whole` says what holds of every matrix. Takes no memory.
@@ -104,7 +88,7 @@ impl SparseMatrix {
     pub fn is_assembled(&self) -> bool
         ensures { result ≡ self.now.assembled }
     {
-        self.assembled
+        self.held.is_assembled()
     }
 
     /// The number of stored entries. Takes no memory.
@@ -113,7 +97,7 @@ impl SparseMatrix {
     pub fn nvals(&self) -> u64
         ensures { result ≡ nvals_of self.now.matrix.entries }
     {
-        self.nvals
+        self.held.nvals()
     }
 
     /// The value stored in row `i` and column `j`, if there is one; at a place that is not within the dimensions there is none.
@@ -129,7 +113,7 @@ impl SparseMatrix {
         if j >= self.ncols {
             return None;
         }
-        held::look_up(&self.lists, &self.deleted, &self.pending, code(i, j))
+        self.held.get(code(i, j))
     }
 
     /// Makes places for `n` calls of `set` or `remove` from now on, in place of those made before. `AllocError` where memory is
@@ -146,14 +130,7 @@ impl SparseMatrix {
         ensures pending { self.new.pending ≡ self.old.pending }
         ensures err { OnErr result (self.new ≡ self.old) }
     {
-        if self.deleted.is_empty() {
-            let deleted = held::unmarked(self.lists.allocator(), self.lists.len())?;
-            self.pending.reserve(n)?;
-            self.deleted = deleted;
-            return Ok(());
-        }
-        self.pending.reserve(n)?;
-        Ok(())
+        self.held.reserve_pending(n)
     }
 
     /// How many pending tuples and pending removals it keeps. Takes no memory.
@@ -163,7 +140,7 @@ impl SparseMatrix {
         ensures pending { result ≡ self.now.pending }
         ensures assembled { self.now.assembled ≡ true → result ≡ 0 }
     {
-        self.pending.len() as u64
+        self.held.pending()
     }
 
     /// Stores `value` in row `i` and column `j`, in place of what was stored there.
@@ -182,16 +159,7 @@ impl SparseMatrix {
         ensures one_more { self.new.pending ≤ self.old.pending + 1 }
     {
         tuples::read(value);
-        let stood = held::store(
-            &mut self.lists,
-            &mut self.deleted,
-            &mut self.pending,
-            self.nrows * 0x1_0000_0000,
-            code(i, j),
-            value,
-        );
-        self.nvals = held::counted(self.nvals, stood, true);
-        self.assembled = false;
+        self.held.set(code(i, j), value);
     }
 
     /// Takes away the entry in row `i` and column `j`, if there is one. Where there is none, no pending removal is added.
@@ -209,15 +177,7 @@ impl SparseMatrix {
         ensures not_fewer { self.old.pending ≤ self.new.pending }
         ensures one_more { self.new.pending ≤ self.old.pending + 1 }
     {
-        let stood = held::erase(
-            &self.lists,
-            &mut self.deleted,
-            &mut self.pending,
-            self.nrows * 0x1_0000_0000,
-            code(i, j),
-        );
-        self.nvals = held::counted(self.nvals, stood, false);
-        self.assembled = false;
+        self.held.remove(code(i, j));
     }
 
     /// Takes away all entries and reserved places. Takes no memory.
@@ -229,11 +189,7 @@ impl SparseMatrix {
         ensures reserved { self.new.reserved ≡ 0 }
         ensures pending { self.new.pending ≡ 0 }
     {
-        self.lists = FlatRows::new(self.lists.allocator(), self.lists.domain());
-        self.deleted.clear();
-        self.pending.clear();
-        self.nvals = 0;
-        self.assembled = true;
+        self.held.clear();
     }
 
     /// Gives it other dimensions. Entries at places that are not within them are gone for good. `AllocError` where memory is
@@ -249,13 +205,7 @@ impl SparseMatrix {
         ensures pending { OnOk result (self.new.pending ≡ 0) }
         ensures err { OnErr result (self.new ≡ self.old) }
     {
-        let whole = held::merged(&self.lists, &self.deleted, &self.pending)?;
-        let lists = whole.within(nrows, ncols)?;
-        let deleted = Vec::new(lists.allocator());
-        self.nvals = lists.len() as u64;
-        self.lists = lists;
-        self.deleted = deleted;
-        self.pending.clear();
+        self.held.resize(nrows, ncols)?;
         self.nrows = nrows;
         self.ncols = ncols;
         Ok(())
@@ -270,17 +220,11 @@ impl SparseMatrix {
         ensures reserved { IfOk result (λ copy. copy.reserved ≡ 0) }
         ensures pending { IfOk result (λ copy. copy.pending ≡ 0) }
     {
-        let copy = held::merged(&self.lists, &self.deleted, &self.pending)?;
-        let alloc = copy.allocator();
-        let deleted = Vec::new(alloc);
+        let held = self.held.try_clone()?;
         Ok(SparseMatrix {
             nrows: self.nrows,
             ncols: self.ncols,
-            lists: copy,
-            deleted,
-            pending: Pending::new(alloc),
-            nvals: self.nvals,
-            assembled: self.assembled,
+            held,
         })
     }
 
@@ -300,16 +244,10 @@ impl SparseMatrix {
         ensures pending { OnOk result (self.new.pending ≡ 0) }
         ensures err { OnErr result (self.new ≡ self.old) }
     {
-        let alloc = self.lists.allocator();
+        let alloc = self.held.allocator();
         let numbered = numbered(alloc, tuples)?;
         let built = tuples::build(alloc, &numbered, dup)?;
-        let lists = FlatRows::from_entries(alloc, self.lists.domain(), &built)?;
-        let unmarked = Vec::new(alloc);
-        self.nvals = lists.len() as u64;
-        self.lists = lists;
-        self.deleted = unmarked;
-        self.pending.clear();
-        self.assembled = true;
+        self.held.fill(&built)?;
         Ok(())
     }
 
@@ -325,18 +263,7 @@ impl SparseMatrix {
         ensures pending { OnOk result (self.new.pending ≡ 0) }
         ensures err { OnErr result (self.new ≡ self.old) }
     {
-        if self.assembled {
-            self.deleted.clear();
-            self.pending.clear();
-            return Ok(());
-        }
-        let lists = held::merged(&self.lists, &self.deleted, &self.pending)?;
-        let deleted = Vec::new(lists.allocator());
-        self.lists = lists;
-        self.deleted = deleted;
-        self.pending.clear();
-        self.assembled = true;
-        Ok(())
+        self.held.assemble()
     }
 
     /// The stored entries, by row, and in a row by column. Takes no memory.
@@ -347,7 +274,7 @@ impl SparseMatrix {
         ensures entries { result ≡ self.now.matrix.entries }
         ensures whole { IsMatrix self.now.matrix }
     {
-        Entries::over(&self.lists)
+        Entries::over(self.held.rows())
     }
 
     /// The stored entries as flat lists, row by row, for kernels: of assembled matrices alone. Nothing is copied.
@@ -360,7 +287,7 @@ impl SparseMatrix {
         ensures columns { All (λ e. e.0.1 < self.now.matrix.ncols) (decoded result.now.entries) }
         ensures whole { IsMatrix self.now.matrix }
     {
-        &self.lists
+        self.held.rows()
     }
 
     /// The stored entries of row `i`, by column; none, where it is not below the number of rows. Takes no memory.
@@ -371,7 +298,7 @@ impl SparseMatrix {
         ensures row { result ≡ row_of i self.now.matrix.entries }
         ensures whole { IsMatrix self.now.matrix }
     {
-        Row::over(&self.lists, i)
+        Row::over(self.held.rows(), i)
     }
 }
 

@@ -1,3 +1,4 @@
+//! Sparse vectors.
 ghost use Rattle.std.specs.Prelude.{◌≡◌, ◌+◌, ◌-◌, ◌<◌, ◌≤◌, ◌^◌, [], true, false, if◌then◌else◌, map, All, OnOk, OnErr, IfOk};
 ghost use Rattle.std.specs.Ordering.{nat_cmp};
 ghost use Rattle.std.specs.FinMap.{find, put};
@@ -9,7 +10,7 @@ ghost use Rattle.grb_core.specs.Contents.{IsDimension, IsVector, edited_vector, 
 use crate::iter::EntriesByIndex;
 use crate::tuples;
 use grb_core::{Domain, Monoid, Value};
-use grb_rows::{FlatRows, Pending, held};
+use grb_rows::Held;
 use std::alloc::{AllocError, Global};
 use std::marker::Model;
 
@@ -21,41 +22,26 @@ use std::marker::Model;
 /// Source: GraphBLAS C API 2.0, "Vectors".
 pub struct SparseVector {
     pub(crate) size: u64,
-    /// The entries as they were last assembled.
-    pub(crate) row: FlatRows,
-    /// Which of them are marked as deleted; empty until a place for a change is reserved.
-    pub(crate) deleted: Vec<bool>,
-    /// What was set and removed since then at other indices.
-    pub(crate) pending: Pending,
-    pub(crate) nvals: u64,
-    pub(crate) assembled: bool,
+    /// What is stored, where the number of a cell is its index.
+    pub(crate) held: Held,
 }
 
 /// One call drops all lists, in place of one for each wherever a vector goes.
 impl Drop for SparseVector {
     fn drop(self) {
-        let SparseVector {
-            size: _,
-            row: _,
-            deleted: _,
-            pending: _,
-            nvals: _,
-            assembled: _,
-        } = self;
+        let SparseVector { size: _, held: _ } = self;
     }
 }
 
 impl Model for SparseVector {
-    ghost use Rattle.std.specs.Prelude.{length};
-    ghost use Rattle.grb_sparse.specs.Vector.{SparseVectorView};
-    ghost use Rattle.grb_rows.specs.Held.{stored, IsMarked};
-    ghost use Rattle.grb_sparse.specs.Held.{IsHeld};
+    ghost use Rattle.grb_core.specs.Contents.{IsVector};
+    ghost use Rattle.grb_sparse.specs.Vector.{SparseVectorView, vector_of};
 
     ghost Value = { SparseVectorView };
 
-    ghost view = { λ v. record { vector = record { domain = v.row.domain; size = v.size; entries = stored v.row v.deleted.items v.pending.changes }; assembled = v.assembled; reserved = v.pending.reserved; pending = length v.pending.changes } };
+    ghost view = { λ v. record { vector = vector_of v.size v.held; assembled = v.held.assembled; reserved = v.held.reserved; pending = v.held.pending } };
 
-    ghost invariant = { λ v. IsHeld v.size v.row v.deleted.items v.pending.changes v.nvals v.assembled × IsMarked v.row v.deleted.items v.pending.reserved };
+    ghost invariant = { λ v. IsVector (vector_of v.size v.held) };
 }
 
 impl SparseVector {
@@ -68,11 +54,7 @@ impl SparseVector {
     {
         SparseVector {
             size,
-            row: FlatRows::new(alloc, domain),
-            deleted: Vec::new(alloc),
-            pending: Pending::new(alloc),
-            nvals: 0,
-            assembled: true,
+            held: Held::new(alloc, domain),
         }
     }
 
@@ -80,7 +62,7 @@ impl SparseVector {
     pub fn domain(&self) -> Domain
         ensures { result ≡ self.now.vector.domain }
     {
-        self.row.domain()
+        self.held.domain()
     }
 
     /// The size. The clause `whole` says what holds of every vector. Takes no memory.
@@ -97,7 +79,7 @@ impl SparseVector {
     pub fn is_assembled(&self) -> bool
         ensures { result ≡ self.now.assembled }
     {
-        self.assembled
+        self.held.is_assembled()
     }
 
     /// The number of stored entries. Takes no memory.
@@ -106,7 +88,7 @@ impl SparseVector {
     pub fn nvals(&self) -> u64
         ensures { result ≡ nvals_of self.now.vector.entries }
     {
-        self.nvals
+        self.held.nvals()
     }
 
     /// The value stored at `index`, if there is one; at an index that is not below the size there is none. Takes no memory.
@@ -115,7 +97,7 @@ impl SparseVector {
     pub fn get(&self, index: u64) -> Option<Value>
         ensures { result ≡ find nat_cmp index self.now.vector.entries }
     {
-        held::look_up(&self.row, &self.deleted, &self.pending, index)
+        self.held.get(index)
     }
 
     /// Makes places for `n` calls of `set` or `remove` from now on, in place of those made before. `AllocError` where memory is
@@ -132,14 +114,7 @@ impl SparseVector {
         ensures pending { self.new.pending ≡ self.old.pending }
         ensures err { OnErr result (self.new ≡ self.old) }
     {
-        if self.deleted.is_empty() {
-            let deleted = held::unmarked(self.row.allocator(), self.row.len())?;
-            self.pending.reserve(n)?;
-            self.deleted = deleted;
-            return Ok(());
-        }
-        self.pending.reserve(n)?;
-        Ok(())
+        self.held.reserve_pending(n)
     }
 
     /// How many pending tuples and pending removals it keeps. Takes no memory.
@@ -149,7 +124,7 @@ impl SparseVector {
         ensures pending { result ≡ self.now.pending }
         ensures assembled { self.now.assembled ≡ true → result ≡ 0 }
     {
-        self.pending.len() as u64
+        self.held.pending()
     }
 
     /// The indices of the stored entries, in rising order: of an assembled vector alone. Nothing is copied.
@@ -161,7 +136,7 @@ impl SparseVector {
         ensures below { All (λ i. i < self.now.vector.size) result.now }
         ensures whole { IsVector self.now.vector }
     {
-        self.row.columns()
+        self.held.rows().columns()
     }
 
     /// The stored values of a vector of the domain `Bool`, in the order of their indices: of an assembled vector alone. Nothing is copied.
@@ -172,7 +147,7 @@ impl SparseVector {
         requires domain { self.now.vector.domain ≡ Domain.Bool }
         ensures { map (λ b. Value.Bool b) result.now ≡ values_of self.now.vector.entries }
     {
-        self.row.bools()
+        self.held.rows().bools()
     }
 
     /// The stored values of a vector of the domain `Uint64`, in the order of their indices: of an assembled vector alone. Nothing is copied.
@@ -183,7 +158,7 @@ impl SparseVector {
         requires domain { self.now.vector.domain ≡ Domain.Uint64 }
         ensures { map (λ n. Value.Uint64 n) result.now ≡ values_of self.now.vector.entries }
     {
-        self.row.numbers()
+        self.held.rows().numbers()
     }
 
     /// Stores `value` at `index`, in place of what was stored there.
@@ -201,16 +176,7 @@ impl SparseVector {
         ensures one_more { self.new.pending ≤ self.old.pending + 1 }
     {
         tuples::read(value);
-        let stood = held::store(
-            &mut self.row,
-            &mut self.deleted,
-            &mut self.pending,
-            self.size,
-            index,
-            value,
-        );
-        self.nvals = held::counted(self.nvals, stood, true);
-        self.assembled = false;
+        self.held.set(index, value);
     }
 
     /// Takes away the entry at `index`, if there is one. Where there is none, no pending removal is added.
@@ -227,15 +193,7 @@ impl SparseVector {
         ensures not_fewer { self.old.pending ≤ self.new.pending }
         ensures one_more { self.new.pending ≤ self.old.pending + 1 }
     {
-        let stood = held::erase(
-            &self.row,
-            &mut self.deleted,
-            &mut self.pending,
-            self.size,
-            index,
-        );
-        self.nvals = held::counted(self.nvals, stood, false);
-        self.assembled = false;
+        self.held.remove(index);
     }
 
     /// Takes away all entries and reserved places. Takes no memory.
@@ -247,11 +205,7 @@ impl SparseVector {
         ensures reserved { self.new.reserved ≡ 0 }
         ensures pending { self.new.pending ≡ 0 }
     {
-        self.row = FlatRows::new(self.row.allocator(), self.row.domain());
-        self.deleted.clear();
-        self.pending.clear();
-        self.nvals = 0;
-        self.assembled = true;
+        self.held.clear();
     }
 
     /// Gives it another size. Entries at indices that are not below the new size are gone for good. `AllocError` where memory is
@@ -266,13 +220,7 @@ impl SparseVector {
         ensures pending { OnOk result (self.new.pending ≡ 0) }
         ensures err { OnErr result (self.new ≡ self.old) }
     {
-        let whole = held::merged(&self.row, &self.deleted, &self.pending)?;
-        let row = whole.within(1, size)?;
-        let deleted = Vec::new(row.allocator());
-        self.nvals = row.len() as u64;
-        self.row = row;
-        self.deleted = deleted;
-        self.pending.clear();
+        self.held.resize(1, size)?;
         self.size = size;
         Ok(())
     }
@@ -286,16 +234,10 @@ impl SparseVector {
         ensures reserved { IfOk result (λ copy. copy.reserved ≡ 0) }
         ensures pending { IfOk result (λ copy. copy.pending ≡ 0) }
     {
-        let copy = held::merged(&self.row, &self.deleted, &self.pending)?;
-        let alloc = copy.allocator();
-        let deleted = Vec::new(alloc);
+        let held = self.held.try_clone()?;
         Ok(SparseVector {
             size: self.size,
-            row: copy,
-            deleted,
-            pending: Pending::new(alloc),
-            nvals: self.nvals,
-            assembled: self.assembled,
+            held,
         })
     }
 
@@ -314,15 +256,8 @@ impl SparseVector {
         ensures pending { OnOk result (self.new.pending ≡ 0) }
         ensures err { OnErr result (self.new ≡ self.old) }
     {
-        let alloc = self.row.allocator();
-        let built = tuples::build(alloc, tuples, dup)?;
-        let row = FlatRows::from_entries(alloc, self.row.domain(), &built)?;
-        let unmarked = Vec::new(alloc);
-        self.nvals = row.len() as u64;
-        self.row = row;
-        self.deleted = unmarked;
-        self.pending.clear();
-        self.assembled = true;
+        let built = tuples::build(self.held.allocator(), tuples, dup)?;
+        self.held.fill(&built)?;
         Ok(())
     }
 
@@ -338,18 +273,7 @@ impl SparseVector {
         ensures pending { OnOk result (self.new.pending ≡ 0) }
         ensures err { OnErr result (self.new ≡ self.old) }
     {
-        if self.assembled {
-            self.deleted.clear();
-            self.pending.clear();
-            return Ok(());
-        }
-        let row = held::merged(&self.row, &self.deleted, &self.pending)?;
-        let deleted = Vec::new(row.allocator());
-        self.row = row;
-        self.deleted = deleted;
-        self.pending.clear();
-        self.assembled = true;
-        Ok(())
+        self.held.assemble()
     }
 
     /// The stored entries, in rising order of their indices. Takes no memory.
@@ -360,6 +284,6 @@ impl SparseVector {
         ensures entries { result ≡ self.now.vector.entries }
         ensures whole { IsVector self.now.vector }
     {
-        EntriesByIndex::over(&self.row)
+        EntriesByIndex::over(self.held.rows())
     }
 }

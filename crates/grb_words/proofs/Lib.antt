@@ -1,6 +1,5 @@
 pub mod IndicesLemmas
 pub mod LoadLemmas
-pub mod NextLineLemmas
 pub mod NumberLemmas
 pub mod OptionLemmas
 pub mod SemiringLemmas

@@ -8,7 +8,8 @@ use Rattle.std.proofs.lemmas.Bool.Decides.{nat_tests}
 use Rattle.std.proofs.lemmas.Int.Digits.{digits_value_more}
 use Rattle.std.proofs.lemmas.List.Folds.{list_all_at}
 use Rattle.std.proofs.lemmas.Str.Parse.{digits_value-take-le}
-use Rattle.grb_words.specs.Word.{is_digit, is_numeral, numeral_value}
+use Rattle.grb_market.specs.Numbers.{is_digit}
+use Rattle.grb_words.specs.Word.{is_numeral, numeral_value}
 
 -- the first of two tests that pass
 and_left : (a b : Bool) → (a && b) ≡ true → a ≡ true

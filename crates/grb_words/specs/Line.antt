@@ -1,33 +1,10 @@
--- believed: The lines of a script and their words (own).
-use Rattle.std.specs.Prelude.{ℕ, Bool, true, false, not, ◌==◌, ◌&&◌, ◌||◌, nat_le, if◌then◌else◌, List, [], ◌∷◌, length, filter, slice_index, codes}
+-- believed: The words of a line of a script (own). The lines are those of `Rattle.grb_market.specs.Line`, as of a Matrix Market file.
+use Rattle.std.specs.Prelude.{ℕ, Bool, true, false, not, ◌==◌, ◌&&◌, ◌||◌, nat_le, List, [], ◌∷◌, length, filter, slice_index, codes}
 use Rattle.std.specs.List.{slice_split, list_all}
 use Rattle.std.specs.Str.{bytes_eq}
 
--- a line, and whether a line end stands behind it
-pub record Line : Type 0 where
-  pub bytes : List ℕ
-  pub is_ended : Bool
-
--- the line with these bytes, which a line end stands behind
-abbrev pub ended : List ℕ → Line
-ended bytes = record { bytes = bytes; is_ended = true }
-
--- the same without a line end
-abbrev pub unended : List ℕ → Line
-unended bytes = record { bytes = bytes; is_ended = false }
-
 abbrev pub Word : Type 0
 Word = List ℕ
-
--- the lines of these pieces: each piece but the last was ended, and where the last is empty nothing stands behind the last end
-abbrev pub lines_from : List (List ℕ) → List Line
-lines_from [] = []
-lines_from (last ∷ []) = if length last == 0 then [] else unended last ∷ []
-lines_from (piece ∷ next ∷ more) = ended piece ∷ lines_from (next ∷ more)
-
--- the lines of a text, which a byte 10 ends
-abbrev pub lines_of : List ℕ → List Line
-lines_of text = lines_from (slice_split (λ b. b == 10) text)
 
 -- the words of a line, which one or more spaces part
 abbrev pub words_of : List ℕ → List Word

@@ -16,6 +16,7 @@ use Rattle.grb_core.specs.declared.operator.BinaryOp.{BinaryOp}
 use Rattle.grb_core.specs.declared.operator.BinaryOp.TheVariants as op
 use Rattle.grb_call.specs.declared.descriptor.WaitMode.{WaitMode}
 use Rattle.grb_call.specs.declared.descriptor.WaitMode.TheVariants as mode
+use Rattle.grb_market.specs.Numbers.{is_digit}
 use Rattle.grb_words.specs.declared.keyword.Ewise.TheVariants as ewise
 use Rattle.grb_words.specs.declared.keyword.Keyword.{Keyword}
 use Rattle.grb_words.specs.declared.keyword.Keyword.TheVariants as keyword
@@ -25,9 +26,6 @@ use Rattle.grb_words.specs.declared.keyword.Whole.TheVariants as whole
 use Rattle.grb_words.specs.declared.version.Version.{Version}
 use Rattle.grb_words.specs.declared.version.Version.TheVariants.{One, Two}
 use Rattle.grb_words.specs.Line.{Word}
-
-abbrev pub is_digit : ℕ → Bool
-is_digit b = nat_le 48 b && nat_le b 57
 
 abbrev pub is_letter : ℕ → Bool
 is_letter b = (nat_le 65 b && nat_le b 90) || (nat_le 97 b && nat_le b 122)

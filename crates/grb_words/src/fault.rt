@@ -1,3 +1,4 @@
+//! What is wrong with a line.
 ghost use Rattle.std.specs.Prelude.{◌≡◌};
 ghost use Rattle.grb_words.specs.declared.fault.Unread.TheVariants as unread;
 

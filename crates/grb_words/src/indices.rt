@@ -1,3 +1,4 @@
+//! Indices at the end of a line, alone or with a value.
 ghost use Rattle.std.specs.Prelude.{◌≡◌, map};
 ghost use Rattle.grb_words.specs.Form.{indices_of, indices_and_value_of};
 

@@ -1,3 +1,5 @@
+//! The words that a line may begin with.
+
 /// The first word of a statement.
 #[derive(Clone, Copy, Debug, PartialEq, Eq)]
 pub enum Keyword {

@@ -1,4 +1,4 @@
-//! The words of scripts: the lines of a text and their words, what each class of word is, and the form of a statement that words have.
+//! The words of scripts: the words of a line, what each class of word is, and the form of a statement that words have.
 //!
 //! One unit is a list of words, those of one line. What a form says depends on its words alone, and not on what their names stand for.
 //! Nothing here knows which names a script has made, makes a call, reads a file or prints.
@@ -20,7 +20,7 @@ pub use fault::{FaultKind, Unread};
 pub use indices::{Indices, indices_and_value_of, indices_of};
 pub use keyword::{Ewise, Keyword, Multiply, Placed, Whole};
 pub use laws::{options_are_read_as_spelled, semirings_are_read_as_spelled};
-pub use line::{has_allowed_bytes, is_load, is_section, is_skipped, next_line, words};
+pub use line::{has_allowed_bytes, is_load, is_section, is_skipped, words};
 pub use load::load_of;
 pub use options::{Options, options_in, product_options};
 pub use section::{Section, section_of};

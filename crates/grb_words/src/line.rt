@@ -1,18 +1,8 @@
-ghost use Rattle.std.specs.Prelude.{◌≡◌, ◌<◌, [], ◌∷◌, length, IfOk, IfSome, IfNone, map};
-ghost use Rattle.grb_words.specs.Line.{ended, unended, lines_of, words_of, has_allowed_bytes, is_skipped, is_section, is_load};
+//! The words of a line, and what the first of them says.
+ghost use Rattle.std.specs.Prelude.{◌≡◌, IfOk, map};
+ghost use Rattle.grb_words.specs.Line.{words_of, has_allowed_bytes, is_skipped, is_section, is_load};
 
-use memchr::memchr;
 use std::alloc::{AllocError, Global};
-
-/// The first line of a text, without its end, and the text behind that end. `None` where the text has no line end.
-pub fn next_line(text: &[u8]) -> Option<(&[u8], &[u8])>
-    ensures ended { IfSome result (λ p. lines_of text.now ≡ ended p.0.now ∷ lines_of p.1.now) }
-    ensures shorter { IfSome result (λ p. length p.1.now < length text.now) }
-    ensures unended { IfNone result (0 < length text.now → lines_of text.now ≡ unended text.now ∷ []) }
-{
-    let end = memchr(b'\n', text)?;
-    Some((&text[..end], &text[end + 1..]))
-}
 
 /// The words of a line, which one or more spaces part.
 pub fn words(alloc: Global, line: &[u8]) -> Result<Vec<&[u8]>, AllocError>

@@ -1,3 +1,4 @@
+//! The line that loads a file.
 ghost use Rattle.std.specs.Prelude.{◌≡◌, map};
 ghost use Rattle.std.specs.Option.{option_map};
 ghost use Rattle.grb_words.specs.Form.{load_of};

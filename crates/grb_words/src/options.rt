@@ -1,3 +1,4 @@
+//! The options at the end of a line: mask, accumulator and flags.
 ghost use Rattle.std.specs.Prelude.{◌≡◌, map};
 ghost use Rattle.std.specs.Option.{option_map};
 ghost use Rattle.grb_words.specs.Options.{flag, mask_option, accum_option, last_flags, options_of, options_in, product_options, spelled};

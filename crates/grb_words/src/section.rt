@@ -1,3 +1,4 @@
+//! The lines that begin and end a section.
 ghost use Rattle.std.specs.Prelude.{◌≡◌, map};
 ghost use Rattle.grb_words.specs.Section.{section_of};
 

@@ -1,3 +1,4 @@
+//! Lists of values, and the lists that a build takes.
 ghost use Rattle.std.specs.Prelude.{◌≡◌, Some, IfOk, IfErr, map};
 ghost use Rattle.grb_words.specs.Form.{values_in};
 ghost use Rattle.grb_words.specs.Tuples.{vector_tuples, matrix_tuples, IsWhyNot};

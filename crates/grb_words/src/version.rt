@@ -1,3 +1,4 @@
+//! The versions of the script language.
 ghost use Rattle.std.specs.Prelude.{◌≡◌, map};
 ghost use Rattle.grb_words.specs.Version.{is_version_two};
 

@@ -1,7 +1,9 @@
+//! One word: a name, a number, a value, a domain or an operator.
 ghost use Rattle.std.specs.Prelude.{◌≡◌};
 ghost use Rattle.std.specs.Option.{option_map};
 ghost use Rattle.std.specs.List.{list_all};
-ghost use Rattle.grb_words.specs.Word.{is_digit, is_name_byte, is_name, is_numeral, numeral_value, value_of, domain_of, monoid_of, operator_of, at_dot, semiring_of, wait_mode_of, operation_keywords, entry_keywords, uint64_operators, keyword_of, keyword_in};
+ghost use Rattle.grb_market.specs.Numbers.{is_digit};
+ghost use Rattle.grb_words.specs.Word.{is_name_byte, is_name, is_numeral, numeral_value, value_of, domain_of, monoid_of, operator_of, at_dot, semiring_of, wait_mode_of, operation_keywords, entry_keywords, uint64_operators, keyword_of, keyword_in};
 ghost use Rattle.std.specs.Map.{lookup};
 ghost use Rattle.std.specs.Str.{bytes_eq};
 

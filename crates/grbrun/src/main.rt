@@ -9,8 +9,9 @@
 ghost use Rattle.std.specs.Prelude.{◌<◌, ◌≤◌};
 ghost use Rattle.grb_order.specs.declared.limits.TheConstants.{MOST_ROOM};
 
-use grb_command::{FileSource, Options, OutputSink, report_unread_words, run_words};
-use grb_driver::{OpenGate, RunFault, run_script};
+use grb_run::{
+    FileSource, OpenGate, Options, OutputSink, RunFault, report_unread_words, run_script, run_words,
+};
 use std::process::ExitCode;
 use std::rt::{Env, Files};
 use std::sync::Wait;

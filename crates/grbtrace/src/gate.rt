@@ -1,5 +1,5 @@
 //! A gate that notes the time of each statement.
-use grb_driver::Gate;
+use grb_run::Gate;
 use std::alloc::AllocError;
 use std::rt::Clock;
 use std::sync::atomic::{AtomicU64, Ordering};

@@ -10,8 +10,9 @@ ghost use Rattle.grb_order.specs.declared.limits.TheConstants.{MOST_ROOM};
 mod gate;
 
 use crate::gate::TraceGate;
-use grb_command::{FileSource, Options, OutputSink, report_unread_words, run_words};
-use grb_driver::{RunFault, run_script};
+use grb_run::{
+    FileSource, Options, OutputSink, RunFault, report_unread_words, run_script, run_words,
+};
 use std::process::ExitCode;
 use std::rt::{Clock, Env, Files};
 use std::sync::Wait;

@@ -4,9 +4,8 @@ ghost use Rattle.grb_order.specs.declared.limits.TheConstants.{MOST_ROOM};
 
 use crate::difference::first_difference;
 use crate::source::TextSource;
-use grb_command::OutputSink;
-use grb_driver::{OpenGate, run_script};
 use grb_order::MOST_ROOM;
+use grb_run::{OpenGate, OutputSink, run_script};
 use std::alloc::{AllocError, Global};
 use std::io::ErrorKind;
 use std::rt::Files;

@@ -1,10 +1,9 @@
 //! A text as a source of a script, with files next to it.
 ghost use Rattle.std.specs.Prelude.{◌≡◌, None};
-ghost use Rattle.grb_command.specs.Files.{counts_of};
-ghost use Rattle.grb_driver.specs.Source.{FaultCounts};
+ghost use Rattle.grb_run.specs.Files.{counts_of};
+ghost use Rattle.grb_run.specs.Source.{FaultCounts};
 
-use grb_command::FileSource;
-use grb_driver::{MAX_SCRIPT, Source, SourceFault};
+use grb_run::{FileSource, MAX_SCRIPT, Source, SourceFault};
 use std::rt::Files;
 
 /// Gives a text as the script, and the files that it names as they are.

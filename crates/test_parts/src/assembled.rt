@@ -3,8 +3,8 @@
 //!
 //! Contracts say that none waits there. What comes out of each is written here by hand, and no contract says that memory suffices.
 ghost use Rattle.std.specs.Prelude.{◌≡◌, true};
-ghost use Rattle.grb_replay.specs.Settled.{AreAllAssembled};
-ghost use Rattle.grb_replay.specs.State.{is_assembled};
+ghost use Rattle.grb_state.specs.Settled.{AreAllAssembled};
+ghost use Rattle.grb_state.specs.State.{is_assembled};
 
 use crate::calls::{PLAIN, lent, replayed};
 use crate::same::same;
@@ -14,9 +14,9 @@ use crate::versions::state_of;
 use grb_call::{Call, MatrixId, Object, VectorId};
 use grb_core::{BinaryOp, Domain, Monoid, Semiring, Value};
 use grb_products::{mxv, reduce_matrix, reduce_vector};
-use grb_replay::State;
+use grb_replay::Versions;
 use grb_sparse::{SparseMatrix, SparseVector};
-use grb_versions::Versions;
+use grb_state::State;
 use std::alloc::{AllocError, Global};
 use std::process::Abort;
 

@@ -1,12 +1,12 @@
 //! Calls as the tests of this crate make them, the store that a list of calls leaves, and what it answers.
 ghost use Rattle.std.specs.Prelude.{◌≡◌, ◌≤◌, false, length, IfOk};
 ghost use Rattle.grb_call.specs.Kinds.{enters, is_size};
-ghost use Rattle.grb_replay.specs.Settled.{AreAllAssembled};
-ghost use Rattle.grb_replay.specs.State.{is_assembled};
+ghost use Rattle.grb_state.specs.Settled.{AreAllAssembled};
+ghost use Rattle.grb_state.specs.State.{is_assembled};
 
 use grb_call::{Call, Descriptor, MatrixId, Reply, VectorId};
 use grb_core::{BinaryOp, Domain, Monoid, Refusal, Semiring, Value};
-use grb_replay::{State, replay};
+use grb_state::{State, replay};
 use std::alloc::{AllocError, Global};
 use std::process::Abort;
 

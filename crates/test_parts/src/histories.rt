@@ -3,8 +3,8 @@
 //!
 //! A contract says that both hold the same, by one definition of what a call does, and nothing says that memory suffices for either.
 ghost use Rattle.std.specs.Prelude.{◌≡◌, true};
-ghost use Rattle.grb_replay.specs.Settled.{AreAllAssembled};
-ghost use Rattle.grb_replay.specs.State.{is_assembled};
+ghost use Rattle.grb_state.specs.Settled.{AreAllAssembled};
+ghost use Rattle.grb_state.specs.State.{is_assembled};
 
 use crate::calls::{
     Answer, Choice, Operands, Operation, answer, applied, lent, operation_call, replayed, value_of,
@@ -16,8 +16,8 @@ use crate::values::held_after;
 use grb_call::{Call, MatrixId, MatrixTuples, Object, Reply, VectorId, VectorTuples};
 use grb_core::{Domain, Refusal, Value};
 use grb_market::WriteFault;
-use grb_replay::State;
 use grb_sparse::{SparseMatrix, SparseVector};
+use grb_state::State;
 use std::alloc::{AllocError, Global};
 use std::process::Abort;
 

@@ -7,8 +7,8 @@ use crate::same::same;
 use crate::values::{Step, calls_of};
 use grb_call::{Call, MatrixId, Reply, Shapes, VectorId, WaitMode};
 use grb_core::{Domain, Monoid, Value};
-use grb_replay::State;
 use grb_sparse::{SparseMatrix, SparseVector};
+use grb_state::State;
 use std::alloc::{AllocError, Global};
 use std::process::Abort;
 

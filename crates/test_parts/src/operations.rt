@@ -13,7 +13,7 @@ use crate::plain::{Dims, Table, Tables, count, stored, total, wanted};
 use crate::same::same;
 use grb_call::{Call, MatrixId, MatrixTuples, Object, Reply, VectorId, VectorTuples};
 use grb_core::{Domain, Monoid, Value};
-use grb_replay::State;
+use grb_state::State;
 use std::alloc::{AllocError, Global};
 use std::process::Abort;
 

@@ -4,16 +4,16 @@
 //! but those that the object depends on, no contract says.
 ghost use Rattle.std.specs.Prelude.{◌≡◌, ◌≤◌, length, map, take, IfOk};
 ghost use Rattle.grb_call.specs.Store.{empty_store};
-ghost use Rattle.grb_values.specs.Partial.{ArePartial};
+ghost use Rattle.grb_replay.specs.Partial.{ArePartial};
 
 use crate::calls::lent;
 use crate::same::same;
 use crate::values::{Step, calls_of};
 use grb_call::{Call, Object, Reply, VectorId};
 use grb_core::Value;
-use grb_replay::{State, replay};
+use grb_replay::{Amount, Effort, LentCalls, PartialStores, Targets};
 use grb_slices::CallList;
-use grb_values::{Amount, Effort, LentCalls, PartialStores, Targets};
+use grb_state::{State, replay};
 use std::alloc::{AllocError, Global};
 use std::marker::Model;
 use std::process::Abort;
@@ -92,7 +92,7 @@ struct Counting {
 }
 
 impl Model for Counting {
-    ghost use Rattle.grb_values.specs.Targets.{WalkedCalls};
+    ghost use Rattle.grb_replay.specs.Targets.{WalkedCalls};
 
     ghost Value = { WalkedCalls };
 

@@ -9,9 +9,9 @@ use crate::plain::count;
 use crate::same::same;
 use grb_call::{Call, Descriptor, Object, VectorId};
 use grb_core::{BinaryOp, Domain, Value};
-use grb_replay::State;
+use grb_replay::{Held, value_of};
 use grb_sparse::SparseVector;
-use grb_values::{Held, value_of};
+use grb_state::State;
 use std::alloc::{AllocError, Global};
 use std::process::Abort;
 

@@ -6,15 +6,15 @@
 ghost use Rattle.std.specs.Prelude.{◌≡◌, ◌≤◌, length, map, IfOk};
 ghost use Rattle.grb_call.specs.Store.{empty_store};
 ghost use Rattle.grb_call.specs.History.{after_all};
-ghost use Rattle.grb_replay.specs.Settled.{AreAllAssembled};
-ghost use Rattle.grb_replay.specs.State.{is_assembled};
+ghost use Rattle.grb_state.specs.Settled.{AreAllAssembled};
+ghost use Rattle.grb_state.specs.State.{is_assembled};
 
 use crate::calls::lent;
 use crate::same::same;
 use grb_call::{Call, VectorId};
 use grb_core::{Domain, Value};
-use grb_replay::{State, replay};
-use grb_versions::Versions;
+use grb_replay::Versions;
+use grb_state::{State, replay};
 use std::alloc::{AllocError, Global};
 use std::process::Abort;
 

@@ -2,7 +2,7 @@
 use crate::tests::same::same;
 use grb_call::{Call, MatrixId, Object, VectorId};
 use grb_core::{Monoid, Value};
-use grb_lines::call_of;
+use grb_run::call_of;
 use grb_script::{Command, Numbered, read_script};
 use std::alloc::{AllocError, Global};
 use std::process::Abort;

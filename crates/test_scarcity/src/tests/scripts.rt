@@ -3,8 +3,8 @@ ghost use Rattle.std.specs.Prelude.{None};
 
 use crate::tests::memory::{STEP, TRIALS, hold_all, leave, leave_ample};
 use crate::tests::same::same;
-use grb_driver::{MAX_FILE, MAX_SCRIPT, OpenGate, RunFault, Source, SourceFault, run_script};
 use grb_market::{Sink, SinkFault};
+use grb_run::{MAX_FILE, MAX_SCRIPT, OpenGate, RunFault, Source, SourceFault, run_script};
 use grb_scarcity::{Hoard, SPARE};
 use std::alloc::{AllocError, Global};
 use std::mem;

@@ -1,11 +1,10 @@
 //! Files at their last byte, and readers that fail. What a file holds is known to no contract, and a script loads small files that are there.
-ghost use Rattle.grb_driver.specs.Source.{AreCountable};
-ghost use Rattle.grb_command.specs.Files.{counts_of};
+ghost use Rattle.grb_run.specs.Source.{AreCountable};
+ghost use Rattle.grb_run.specs.Files.{counts_of};
 
 use crate::tests::same::same;
 use crate::tests::sinks::sink_of;
-use grb_command::{FileSource, read_all};
-use grb_driver::{OpenGate, RunFault, Source, SourceFault, run_script};
+use grb_run::{FileSource, OpenGate, RunFault, Source, SourceFault, read_all, run_script};
 use std::io::{ErrorKind, Read};
 use std::process::Abort;
 use std::rt::Files;

@@ -3,7 +3,7 @@ use crate::tests::endings::{FILES, FIRST};
 use crate::tests::same::same;
 use crate::tests::sinks::sink_of;
 use crate::tests::sources::source_of;
-use grb_driver::{Gate, run_script};
+use grb_run::{Gate, run_script};
 use std::alloc::Global;
 use std::process::Abort;
 use std::sync::Wait;

@@ -1,7 +1,7 @@
 //! Standard output that is interrupted, or full. What a writer answers is known to no contract, and the output of a script never fails.
 use crate::tests::same::same;
-use grb_command::OutputSink;
 use grb_market::{Sink, SinkFault};
+use grb_run::OutputSink;
 use std::io;
 use std::io::{ErrorKind, Write};
 

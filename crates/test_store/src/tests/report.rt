@@ -1,8 +1,7 @@
 //! What the program tells, and on which stream. No contract has the texts or the streams, and a script cannot meet most of these faults.
 use crate::tests::same::same;
-use grb_command::{options, report_run, report_unread_words, report_words};
-use grb_driver::RunFault;
 use grb_market::MarketFault;
+use grb_run::{RunFault, options, report_run, report_unread_words, report_words};
 use grb_script::FaultKind;
 use std::alloc::Global;
 use std::cell::Cell;

@@ -1,9 +1,9 @@
 //! A source with a script and files at hand, or a fault in place of any of them. Contracts say how each fault is counted; a script has only
 //! files that are there.
 ghost use Rattle.std.specs.Prelude.{◌≡◌, Some, None};
-ghost use Rattle.grb_driver.specs.Source.{AreCountable, counted};
+ghost use Rattle.grb_run.specs.Source.{AreCountable, counted};
 
-use grb_driver::{MAX_FILE, MAX_SCRIPT, Source, SourceFault};
+use grb_run::{MAX_FILE, MAX_SCRIPT, Source, SourceFault};
 use std::alloc::Global;
 
 /// A path, and its file or why there is none.

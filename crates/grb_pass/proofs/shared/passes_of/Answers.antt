@@ -3,7 +3,7 @@ use Rattle.std.proofs.lemmas.List.{length_push}
 use Rattle.grb_order.specs.View.{fresh}
 use Rattle.grb_order.specs.Holding.{Holding, TableId}
 use Rattle.grb_order.specs.Order.{room_of}
-use Rattle.grb_statuses.specs.Statuses.{no_rows}
+use Rattle.grb_call.specs.Statuses.{no_rows}
 use Rattle.grb_pass.specs.Known.{Knowing, AreNew}
 use Rattle.grb_pass.proofs.Opening.{next_place, fresh_at, new_at, new_more, all_opened, none_left}
 use Rattle.grb_pass.proofs.shared.passes_of.Goals as goal

@@ -3,7 +3,7 @@ use Rattle.std.proofs.lemmas.List.{get_or_default}
 use Rattle.grb_core.specs.Entries.{VectorEntries}
 use Rattle.grb_core.specs.Results.{row_of}
 use Rattle.grb_kernels.specs.Typed.{entries_of, first_entries}
-use Rattle.grb_ops.proofs.Lent.{lent}
+use Rattle.grb_ewise.proofs.Lent.{lent}
 use Rattle.grb_rows.specs.Cells.{decoded}
 use Rattle.grb_products.specs.ColumnSums.{as_entries, with_values}
 use Rattle.grb_products.specs.Pushes.{pushed, at_numbers}

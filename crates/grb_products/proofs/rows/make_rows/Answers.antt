@@ -3,7 +3,7 @@ use Rattle.grb_core.specs.Entries.{map_on}
 use Rattle.grb_core.specs.Results.{row_of}
 use Rattle.grb_kernels.specs.Typed.{kept, first_entries}
 use Rattle.grb_rows.specs.Cells.{decoded}
-use Rattle.grb_ops.proofs.Lent.{lent}
+use Rattle.grb_ewise.proofs.Lent.{lent}
 use Rattle.grb_products.proofs.RowByRow.{row_step, all_rows, each_row-rising}
 use Rattle.grb_products.proofs.rows.make_rows.Goals as goal
 

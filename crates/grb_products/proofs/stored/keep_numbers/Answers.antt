@@ -4,8 +4,8 @@ use Rattle.grb_core.specs.declared.domain.Domain.TheVariants as domain
 use Rattle.grb_core.specs.declared.value.Value.TheVariants as value
 use Rattle.grb_core.specs.Entries.{VectorEntries}
 use Rattle.grb_sparse.specs.Vector.{SparseVectorView}
-use Rattle.grb_ops.proofs.Lent.{entries-paired}
-use Rattle.grb_ops.proofs.Whole.{vector_of, whole-same}
+use Rattle.grb_ewise.proofs.Lent.{entries-paired}
+use Rattle.grb_ewise.proofs.Whole.{vector_of, whole-same}
 use Rattle.grb_products.proofs.stored.keep_numbers.Goals as goal
 
 pub from_numbers-requires-clause-whole : goal.from_numbers-requires-clause-whole

@@ -1,21 +1,17 @@
-use Rattle.std.proofs.Common.{◌≡◌, ◌<◌, ◌≤◌, ◌+◌, ◌++◌, ◌∷◌, [], ◌∙◌, ℕ, length, get_or, take, ap, sym, subst, arith, cond, nat_eq, Some, None, IsTrue, Option}
-use Rattle.std.specs.List.{All, AllByRecursion}
+use Rattle.std.proofs.Common.{◌≡◌, ◌<◌, ◌≤◌, ◌+◌, ◌++◌, ◌∷◌, [], ◌∙◌, ℕ, length, get_or, take, ap, sym, subst, arith, cond, nat_eq, Some, None, IsTrue}
+use Rattle.std.specs.List.{AllByRecursion}
 use Rattle.std.proofs.lemmas.List.{take_more, get_or_default}
 use Rattle.std.proofs.lemmas.List.Elements.{All-from_recursion}
-use Rattle.std.proofs.lemmas.Bool.Decides.{nat_tests}
-use Rattle.std.specs.Ordering.{nat_cmp, is_lt}
+use Rattle.std.specs.Ordering.{nat_cmp}
 use Rattle.std.specs.Cmp.{nat_cmp_total}
-use Rattle.std.specs.FinMap.{find, put, is_sorted}
+use Rattle.std.specs.FinMap.{find, is_sorted}
 use Rattle.std.specs.FinMap.Entries.{is_sorted-put, find-put}
-use Rattle.grb_core.specs.declared.domain.Domain.{Domain}
-use Rattle.grb_core.specs.declared.value.Value.{Value}
 use Rattle.grb_core.specs.Value.{value_domain}
-use Rattle.std.specs.Prelude.{IfSome, false}
-use Rattle.grb_rows.specs.Pending.{Change, last_at, IsChangeIn}
+use Rattle.std.specs.Prelude.{IfSome}
+use Rattle.grb_rows.specs.Pending.{Change, last_at, IsChangeOf}
 use Rattle.grb_rows.proofs.Places.{holds, passes}
 use Rattle.grb_rows.proofs.Changes.{eq_cmp, last_at-push}
-use Rattle.grb_rows.proofs.Ends.{keys_put, all_put, weaker, not_less}
-use Rattle.grb_rows.proofs.Places.{both_if_ok}
+use Rattle.grb_rows.proofs.Ends.{keys_put, values_put, weaker, not_less}
 use Rattle.grb_rows.proofs.pending.last_of_each.Goals as goal
 
 pub add-requires-clause-rising : goal.add-requires-clause-rising
@@ -37,12 +33,12 @@ loop-change-preserved c =
           let here : (get_or changes i d).0 ≡ e.0 = ap (λ (x : Change). x.0) (get_or_default changes i d (0, None) inside) in
           let up : e.0 ≤ (get_or changes (i + 1) d).0 = subst (λ (x : ℕ). x ≤ (get_or changes (i + 1) d).0) here (not_less _ _ (c.requires.rising i d (omega arith) more_left)) in
           subst (AllByRecursion (λ x. x.0 ≤ (get_or changes (i + 1) d).0)) (sym c.add.ensures.items) (keys_put (λ k. k ≤ (get_or changes (i + 1) d).0) e.0 e.1 last up (weaker e.0 _ last up (held.rising (0, None) inside)));
-      inside = λ size domain h.
+      inside = λ domain h.
           let fits = h i (0, None) inside in
-          subst (AllByRecursion (IsChangeIn size domain)) (sym c.add.ensures.items) (all_put (λ k. k < size) (λ w. IfSome w (λ v. value_domain v ≡ domain)) e.0 e.1 last fits.0 fits.1 (held.inside size domain h));
+          subst (AllByRecursion (IsChangeOf domain)) (sym c.add.ensures.items) (values_put (λ w. IfSome w (λ v. value_domain v ≡ domain)) e.0 e.1 last fits (held.inside domain h));
       len = omega (arith, c.add.ensures.len, held.len);
       room = omega (arith, c.add.ensures.capacity, held.room);
     }
 
 pub returns-clause-inside : goal.returns-clause-inside
-returns-clause-inside c = λ size domain h. All-from_recursion (IsChangeIn size domain) _ (c.loop-change.invariant.inside size domain h)
+returns-clause-inside c = λ domain h. All-from_recursion (IsChangeOf domain) _ (c.loop-change.invariant.inside domain h)

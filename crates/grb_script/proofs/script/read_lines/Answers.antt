@@ -2,7 +2,7 @@ use Prim.{search}
 use Rattle.std.proofs.Common.{rules, ◌∙◌, arith}
 use Rattle.std.proofs.lemmas.Bool.Decides.{nat_tests}
 use Rattle.std.proofs.lemmas.Result.{err_from_is_err_and}
-use Rattle.grb_words.specs.Line.{ended, lines_of}
+use Rattle.grb_market.specs.Line.{ended, lines_of}
 use Rattle.grb_script.specs.Scope.{seen}
 use Rattle.grb_script.specs.Script.{listed}
 use Rattle.grb_script.proofs.ScriptLemmas.{unread, Reached-next, Reached-end}

@@ -1,8 +1,8 @@
 use Rattle.std.proofs.Common.{◌≡◌, ◌++◌, List, drop, map, take, sym, ap, subst, ◌∙◌}
 use Rattle.std.proofs.lemmas.List.{take-append-drop, take-map, take-take}
 use Rattle.grb_call.specs.declared.call.Call.{Call}
-use Rattle.grb_values.specs.Partial.{ArePartial}
-use Rattle.grb_values.proofs.Partial.{partial_more}
+use Rattle.grb_replay.specs.Partial.{ArePartial}
+use Rattle.grb_replay.proofs.Partial.{partial_more}
 use Rattle.test_parts.proofs.partial_stores.expect_row.Goals as goal
 
 pub read-requires-clause-partial : goal.read-requires-clause-partial

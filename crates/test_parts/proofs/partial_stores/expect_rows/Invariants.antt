@@ -1,5 +1,5 @@
 use Rattle.std.proofs.Common.{◌≡◌, map, take}
-use Rattle.grb_values.specs.Partial.{ArePartial}
+use Rattle.grb_replay.specs.Partial.{ArePartial}
 use Rattle.test_parts.proofs.partial_stores.expect_rows.Given as goal
 
 abbrev pub invariant-rows : goal.invariant-rows

@@ -1,6 +1,6 @@
 use Rattle.std.proofs.Common.{map}
 use Rattle.grb_call.specs.Store.{empty_store}
-use Rattle.grb_values.proofs.NextTarget.{walked_all}
+use Rattle.grb_replay.proofs.NextTarget.{walked_all}
 use Rattle.test_parts.proofs.partial_stores.read.Goals as goal
 
 pub reply-requires-clause-targets : goal.reply-requires-clause-targets

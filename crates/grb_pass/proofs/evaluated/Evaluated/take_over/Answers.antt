@@ -1,7 +1,7 @@
 use Rattle.std.proofs.Common.{◌≡◌, ◌+◌, ◌≤◌, length, sym, ap, ◌∙◌, arith, length-append}
 use Rattle.grb_call.specs.History.{calls_of}
-use Rattle.grb_replay.specs.State.{RoomyStore}
-use Rattle.grb_replay.proofs.Numbered.{matrices_numbered, vectors_numbered}
+use Rattle.grb_state.specs.State.{RoomyStore}
+use Rattle.grb_state.proofs.Numbered.{matrices_numbered, vectors_numbered}
 use Rattle.grb_pass.specs.Evaluated.{EvaluatedView}
 use Rattle.grb_pass.specs.Known.{known}
 use Rattle.grb_pass.proofs.evaluated.Evaluated.take_over.Goals as goal

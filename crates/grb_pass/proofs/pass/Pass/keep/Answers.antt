@@ -2,7 +2,7 @@ use Rattle.std.proofs.Common.{◌∙◌}
 use Rattle.std.specs.Option.{option_or}
 use Rattle.grb_order.specs.Order.{room_of}
 use Rattle.grb_call.specs.Status.{info_of, made_by, with_status}
-use Rattle.grb_statuses.specs.Statuses.{status_at}
+use Rattle.grb_call.specs.Statuses.{status_at}
 use Rattle.grb_pass.proofs.pass.Pass.keep.Goals as goal
 
 pub returns-clause-kept : goal.returns-clause-kept

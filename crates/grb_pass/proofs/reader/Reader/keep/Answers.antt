@@ -2,7 +2,7 @@ use Rattle.std.proofs.Common.{◌≡◌, ap, ◌∙◌}
 use Rattle.grb_order.specs.Order.{room_of}
 use Rattle.grb_call.specs.Status.{with_status}
 use Rattle.grb_pass.specs.Known.{Knowing}
-use Rattle.grb_statuses.specs.Statuses.{status_at}
+use Rattle.grb_call.specs.Statuses.{status_at}
 use Rattle.grb_pass.proofs.reader.Reader.keep.Goals as goal
 
 pub returns-clause-kept : goal.returns-clause-kept

@@ -1,6 +1,6 @@
 use Rattle.std.proofs.Common.{Bool}
 use Rattle.grb_core.specs.declared.value.Value.TheVariants as value
-use Rattle.grb_ops.proofs.Lent.{lent, lent-same, lent-rising}
+use Rattle.grb_ewise.proofs.Lent.{lent, lent-same, lent-rising}
 use Rattle.grb_products.proofs.stored.BoolStored.lend.Goals as goal
 
 pub invariant_of-result : goal.invariant_of-result

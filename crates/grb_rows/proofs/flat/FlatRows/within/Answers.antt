@@ -1,4 +1,4 @@
-use Rattle.std.proofs.Common.{◌≡◌, ℕ, ◌<◌, ◌-◌, ◌≤◌, ◌∙◌, ◌++◌, ◌∷◌, [], cond, Bool, length, get_or, take, ap, sym, subst, arith, List}
+use Rattle.std.proofs.Common.{ℕ, ◌<◌, ◌∙◌, ◌++◌, ◌∷◌, [], cond, Bool, length, ap, sym, subst, arith}
 use Rattle.std.specs.List.{AllByRecursion}
 use Rattle.grb_core.specs.Contents.{is_cell_in}
 use Rattle.grb_core.specs.Entries.{VectorEntries}
@@ -12,7 +12,7 @@ keep_within-requires-clause-above c =
     let m = c.args.self.now.entries in
     let at : c.loop-at.at < length m = let a = c.len-at-end.ensures.len in omega (arith, a, c.loop-at-test.true) in
     subst (λ (x : VectorEntries). AllByRecursion (λ e. e.0 < c.index_at-index.result) x) (sym c.loop-at.invariant.entries)
-    (all-restricted_so_far (λ k. is_cell_in c.args.nrows c.args.ncols (cell_of k)) m c.loop-at.at c.index_at-index.result (holds c.requires.ordered) at c.index_at-index.ensures)
+    (all-restricted_so_far (λ k. is_cell_in c.args.nrows c.args.ncols (cell_of k)) m c.loop-at.at c.index_at-index.result (holds c.len-at-end.ensures.ordered) at c.index_at-index.ensures)
 
 pub loop-at-preserved : goal.loop-at-preserved
 loop-at-preserved c =

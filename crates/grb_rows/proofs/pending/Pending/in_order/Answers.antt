@@ -1,10 +1,8 @@
-use Rattle.std.proofs.Common.{◌≡◌, ◌∙◌, ap, sym, subst, ℕ, List}
+use Rattle.std.proofs.Common.{◌∙◌, ap, sym, subst}
 use Rattle.std.specs.List.{All}
-use Rattle.std.specs.Ordering.{nat_cmp}
-use Rattle.std.specs.List.Sorted.{IsPermutation, IsStableByKey}
 use Rattle.std.proofs.lemmas.List.Sorted.{All-permutation}
 use Rattle.std.proofs.lemmas.Result.{IfOk-weaker}
-use Rattle.grb_rows.specs.Pending.{Change, PendingView, last_at, IsChangeIn}
+use Rattle.grb_rows.specs.Pending.{PendingView, last_at, IsChangeOf}
 use Rattle.grb_rows.proofs.Ends.{last_at-stable}
 use Rattle.grb_rows.proofs.pending.Pending.in_order.Goals as goal
 
@@ -16,6 +14,6 @@ returns-clause-found c =
 pub returns-clause-inside : goal.returns-clause-inside
 returns-clause-inside c =
     let moved = rw c.deref.ensures.value at c.in_ok-changes.ensures.permutation in
-    IfOk-weaker c.last_of_each.result _ _ (λ last h size domain all.
-    h size domain (subst (All (IsChangeIn size domain)) (sym c.deref-2.ensures.value)
-    (All-permutation (IsChangeIn size domain) _ _ moved (subst (λ (v : PendingView). All (IsChangeIn size domain) v.changes) (sym c.self.view_is) all)))) c.last_of_each.ensures.inside
+    IfOk-weaker c.last_of_each.result _ _ (λ last h domain all.
+    h domain (subst (All (IsChangeOf domain)) (sym c.deref-2.ensures.value)
+    (All-permutation (IsChangeOf domain) _ _ moved (subst (λ (v : PendingView). All (IsChangeOf domain) v.changes) (sym c.self.view_is) all)))) c.last_of_each.ensures.inside

@@ -1,4 +1,0 @@
-mod CommandLineRows
-pub mod CommandLineReads
-pub mod DefaultReads
-pub mod FileBytes

@@ -1,0 +1,14 @@
+pub mod Columns
+pub mod Counting
+pub mod Lent
+pub mod Whole
+pub mod MatrixRows
+pub mod PushedRows
+pub mod Ranks
+pub mod RowEntries
+pub mod RowMerges
+pub mod Scattering
+pub mod Laying
+pub mod Turned
+pub mod TurnedRows
+pub mod WholeMatrix

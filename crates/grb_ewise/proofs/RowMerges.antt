@@ -1,0 +1,319 @@
+-- One turn of the loop over the rows of two matrices.
+use Rattle.std.proofs.Common.{◌≡◌, ℕ, ◌+◌, ◌<◌, ◌≤◌, Bool, true, false, List, [], ◌∷◌, ◌++◌, length, get_or, take, drop, refl, sym, ap, subst, ◌∙◌, arith, append_assoc, inl, inr}
+use Rattle.std.specs.Prelude.{Option, None, ◌⊎◌, IsTrue}
+use Rattle.std.specs.FinMap.{is_sorted}
+use Rattle.grb_core.proofs.Maps.{cell_cmp_total, cell_cmp-IsAntisymmetric}
+use Rattle.grb_core.proofs.Written.{is_sorted-pointwise}
+use Rattle.grb_ewise.proofs.RowEntries.{passes}
+use Rattle.std.specs.Ordering.{nat_cmp}
+use Rattle.std.proofs.lemmas.Bool.{cases_eq, cases_lt}
+use Rattle.std.proofs.lemmas.List.{length_push, length-take-le, length-drop, drop_all, get_or-take, get_or-drop, get_or_append_left}
+use Rattle.std.proofs.Math.Seq.{take-add, get_or-append_seam}
+use Rattle.grb_core.specs.declared.value.Value.{Value}
+use Rattle.grb_core.specs.Entries.{VectorEntries, MatrixEntries, cell_cmp}
+use Rattle.grb_core.specs.Results.{row_of}
+use Rattle.grb_core.specs.Written.{pointwise}
+use Rattle.grb_kernels.specs.Typed.{entries_of}
+use Rattle.grb_kernels.proofs.Lists.{append_nil}
+use Rattle.grb_rows.specs.Cells.{IsFlat}
+use Rattle.grb_ewise.specs.Rows.{flat_entries}
+use Rattle.grb_ewise.proofs.MatrixRows.{with_row, rows_from, rows_from-more, below-rows_from, length-with_row, pointwise-with_row}
+use Rattle.grb_ewise.proofs.PushedRows.{entries-pushed_row, flat-pushed_row}
+
+abbrev pub Rises : List ℕ → Type 0
+Rises rs = (i j : ℕ) → i < j → j < length rs → get_or rs i 0 < get_or rs j 0
+
+-- one matrix's part in a turn at row r: its row there, which may be empty, is x, and its cursor goes from i to next
+pub record IsTurn (m : MatrixEntries) (rs : List ℕ) (i next r : ℕ) (x : VectorEntries) : Type 0 where
+  pub front : rows_from m (drop i rs) ≡ with_row r x ++ rows_from m (drop next rs)
+  pub later : (n : ℕ) → next ≤ n → n < length rs → r < get_or rs n 0
+  pub on : i ≤ next
+  pub inside : next ≤ length rs
+
+module _ (m : MatrixEntries) (rs : List ℕ) (rise : Rises rs) (i next r : ℕ) (x : VectorEntries) where
+  turn_here : i < length rs → r ≡ get_or rs i 0 → x ≡ row_of (get_or rs i 0) m → next ≡ i + 1 → IsTurn m rs i next r x
+  turn_here l is row e = record {
+    front = rows_from-more m rs i l
+        ∙ ap (λ (y : VectorEntries). with_row (get_or rs i 0) y ++ rows_from m (drop (i + 1) rs)) (sym row)
+        ∙ ap (λ k. with_row k x ++ rows_from m (drop (i + 1) rs)) (sym is)
+        ∙ ap (λ k. with_row r x ++ rows_from m (drop k rs)) (sym e);
+    later = λ n u v. let up = rise i n (omega (arith, u, e)) v in omega (arith, up, is);
+    on = omega (arith, e);
+    inside = omega (arith, e, l);
+  }
+
+  turn_elsewhere : i ≤ length rs → (i < length rs → r < get_or rs i 0) → x ≡ [] → next ≡ i → IsTurn m rs i next r x
+  turn_elsewhere l below row e = record {
+    front = ap (λ k. rows_from m (drop k rs)) (sym e) ∙ ap (λ (y : VectorEntries). with_row r y ++ rows_from m (drop next rs)) (sym row);
+    later = λ n u v. elim (cases_eq i n) [
+      | inl t ↦ let b = below (omega (arith, t, v)) in subst (λ k. r < get_or rs k 0) t b
+      | inr t ↦ let up = rise i n (omega (arith, u, e, t)) v in let b = below (omega (arith, t, u, e, v)) in omega (arith, up, b)
+    ];
+    on = omega (arith, e);
+    inside = omega (arith, e, l);
+  }
+
+  -- by what the code knows: p is the number of the row at the cursor, and q that of the other matrix
+  pub turn : (here : Bool) (p q : ℕ) → i ≤ length rs → (here ≡ true → i < length rs) → (i < length rs → p ≡ get_or rs i 0)
+      → (here ≡ true → p ≤ q) → (here ≡ false → q < p) → (p ≤ q → r ≡ p) → (q ≤ p → r ≡ q)
+      → (here ≡ true → x ≡ row_of (get_or rs i 0) m) → (here ≡ true → next ≡ i + 1) → (here ≡ false → x ≡ []) → (here ≡ false → next ≡ i) → IsTurn m rs i next r x
+  turn true p q l at number upto above left right row on none stays = turn_here (at refl) (left (upto refl) ∙ number (at refl)) (row refl) (on refl)
+  turn false p q l at number upto above left right row on none stays =
+      let h = above refl in
+      let is = right (omega (arith, h)) in
+      turn_elsewhere l (λ k. let n = number k in omega (arith, h, is, n)) (none refl) (stays refl)
+
+-- where the number of the row at a cursor is not above the other, there is a row
+pub stands : (here : Bool) (i j p q n o : ℕ) → i + j < n + o → j ≤ o → (n ≤ i → p ≡ 4294967296) → (j < o → q < 4294967296) → (here ≡ true → p ≤ q) → here ≡ true → i < n
+stands here i j p q n o l u past fits upto t =
+    elim (cases_lt i n) [
+      | inl h ↦ h
+      | inr h ↦ let a = past h in let b = upto t in
+          elim (cases_lt j o) [
+            | inl k ↦ let c = fits k in absurd (omega (arith, a, b, c))
+            | inr k ↦ past_both i j n o l h k
+          ]
+    ]
+  where
+    past_both : (i j n o : ℕ) → i + j < n + o → n ≤ i → o ≤ j → i < n
+    past_both i j n o l h k = omega (arith, l, h, k)
+
+-- the two cursors of a turn: at least one of them is at the row whose turn it is
+module _ (ra rb : List ℕ) (i j p q r : ℕ) (here there : Bool) (going : i + j < length ra + length rb) (left : i ≤ length ra) (right : j ≤ length rb)
+    (number_a : i < length ra → p ≡ get_or ra i 0) (fits_a : i < length ra → p < 4294967296) (past_a : length ra ≤ i → p ≡ 4294967296)
+    (number_b : j < length rb → q ≡ get_or rb j 0) (fits_b : j < length rb → q < 4294967296) (past_b : length rb ≤ j → q ≡ 4294967296)
+    (upto_a : here ≡ true → p ≤ q) (above_a : here ≡ false → q < p) (upto_b : there ≡ true → q ≤ p) (above_b : there ≡ false → p < q) where
+  pub at_a : here ≡ true → i < length ra
+  at_a t = stands here i j p q (length ra) (length rb) going right past_a fits_b upto_a t
+
+  pub at_b : there ≡ true → j < length rb
+  at_b t = stands there j i q p (length rb) (length ra) (omega (arith, going)) left past_b fits_a upto_b t
+
+  pub at_one : (p ≤ q → r ≡ p) → (q ≤ p → r ≡ q) → ((i < length ra) × (r ≡ get_or ra i 0)) ⊎ ((j < length rb) × (r ≡ get_or rb j 0))
+  at_one is_left is_right = elim here as (λ b. here ≡ b → ((i < length ra) × (r ≡ get_or ra i 0)) ⊎ ((j < length rb) × (r ≡ get_or rb j 0))) [
+    | true ↦ λ t. inl (at_a t, is_left (upto_a t) ∙ number_a (at_a t))
+    | false ↦ λ t. let h = above_a t in
+        elim there as (λ b. there ≡ b → ((i < length ra) × (r ≡ get_or ra i 0)) ⊎ ((j < length rb) × (r ≡ get_or rb j 0))) [
+          | true ↦ λ u. inr (at_b u, is_right (upto_b u) ∙ number_b (at_b u))
+          | false ↦ λ u. let k = above_b u in absurd (omega (arith, h, k))
+        ] refl
+  ] refl
+
+-- at least one cursor goes on
+pub one_goes_on : (here there : Bool) (i j i2 j2 p q : ℕ) → (here ≡ false → q < p) → (there ≡ false → p < q) → (here ≡ true → i2 ≡ i + 1) → (here ≡ false → i2 ≡ i) → (there ≡ true → j2 ≡ j + 1) → (there ≡ false → j2 ≡ j)
+    → i + j + 1 ≤ i2 + j2
+one_goes_on true true i j i2 j2 p q h k on stays on' stays' = omega (arith, on refl, on' refl)
+one_goes_on true false i j i2 j2 p q h k on stays on' stays' = omega (arith, on refl, stays' refl)
+one_goes_on false true i j i2 j2 p q h k on stays on' stays' = omega (arith, stays refl, on' refl)
+one_goes_on false false i j i2 j2 p q h k on stays on' stays' = absurd (omega (arith, h refl, k refl))
+
+-- a row is among those from a cursor on
+pub row_room : (m : MatrixEntries) (rs : List ℕ) (i : ℕ) (here : Bool) (x : VectorEntries) → (here ≡ true → i < length rs) → (here ≡ true → x ≡ row_of (get_or rs i 0) m) → (here ≡ false → x ≡ [])
+    → length x ≤ length (rows_from m (drop i rs))
+row_room m rs i true x at row none =
+    let whole = ap length (rows_from-more m rs i (at refl)) ∙ length-with_row (get_or rs i 0) (row_of (get_or rs i 0) m) (rows_from m (drop (i + 1) rs)) in
+    let is = ap length (row refl) in
+    omega (arith, whole, is)
+row_room m rs i false x at row none = let is = ap length (none refl) in omega (arith, is)
+
+pub length-entries_of : {V : Type 0} (value : V → Value) (ks : List ℕ) (vs : List V) → length ks ≡ length vs → length (entries_of value ks vs) ≡ length ks
+length-entries_of value [] vs e = refl
+length-entries_of value (k ∷ ks) [] e = absurd (omega arith)
+length-entries_of value (k ∷ ks) (v ∷ vs) e = let rest = length-entries_of value ks vs (omega arith) in omega (arith, rest)
+
+module _ {V : Type 0} (tv : V → Value) (f : Option Value → Option Value → Option Value) (none : f None None ≡ None) (a b : MatrixEntries) (ra rb : List ℕ) (total : MatrixEntries) where
+  -- what is written so far, in the first k columns and values, and the rows from both cursors on
+  pub record IsFilling (i j k : ℕ) (rows starts columns : List ℕ) (values : List V) : Type 0 where
+    pub left : i ≤ length ra
+    pub right : j ≤ length rb
+    pub room : k + (length (rows_from a (drop i ra)) + length (rows_from b (drop j rb))) ≤ length columns
+    pub same : length columns ≡ length values
+    pub flat : IsFlat rows starts (take k columns)
+    pub below_a : (n m : ℕ) → n < length rows → i ≤ m → m < length ra → get_or rows n 0 < get_or ra m 0
+    pub below_b : (n m : ℕ) → n < length rows → j ≤ m → m < length rb → get_or rows n 0 < get_or rb m 0
+    pub so_far : flat_entries tv rows starts (take k columns) (take k values) ++ pointwise cell_cmp f (rows_from a (drop i ra)) (rows_from b (drop j rb)) ≡ total
+
+  module _ (i j k i2 j2 count r : ℕ) (rows starts rows2 starts2 columns columns2 : List ℕ) (values values2 : List V) (x y : VectorEntries)
+      (before : IsFilling i j k rows starts columns values) (turn_a : IsTurn a ra i i2 r x) (turn_b : IsTurn b rb j j2 r y)
+      (columns_before : take k columns2 ≡ take k columns) (values_before : take k values2 ≡ take k values)
+      (columns_length : length columns2 ≡ length columns) (values_length : length values2 ≡ length values)
+      (made : entries_of tv (take count (drop k columns2)) (take count (drop k values2)) ≡ pointwise nat_cmp f x y)
+      (most : count ≤ length x + length y)
+      (fit : (n : ℕ) → n < length columns2 → get_or columns2 n 0 < 4294967296)
+      (stands_at : ((i < length ra) × (r ≡ get_or ra i 0)) ⊎ ((j < length rb) × (r ≡ get_or rb j 0)))
+      (rows_pushed : 0 < count → rows2 ≡ rows ++ r ∷ []) (starts_pushed : 0 < count → starts2 ≡ starts ++ k ∷ [])
+      (rows_same : count ≡ 0 → rows2 ≡ rows) (starts_same : count ≡ 0 → starts2 ≡ starts) where
+    abbrev rest_a : MatrixEntries
+    rest_a = rows_from a (drop i2 ra)
+
+    abbrev rest_b : MatrixEntries
+    rest_b = rows_from b (drop j2 rb)
+
+    room_a : length (rows_from a (drop i ra)) ≡ length x + length rest_a
+    room_a = ap length turn_a.front ∙ length-with_row r x rest_a
+
+    room_b : length (rows_from b (drop j rb)) ≡ length y + length rest_b
+    room_b = ap length turn_b.front ∙ length-with_row r y rest_b
+
+    within : k + count + (length rest_a + length rest_b) ≤ length columns2
+    within = let room = before.room in omega (arith, room, room_a, room_b, most, columns_length)
+
+    inside : k + count ≤ length columns2
+    inside = omega (arith, within)
+
+    so_long : length (take k columns) ≡ k
+    so_long = length-take-le k columns (omega (arith, inside, columns_length))
+
+    values_so_long : length (take k values) ≡ k
+    values_so_long = let same = before.same in length-take-le k values (omega (arith, inside, columns_length, same))
+
+    abbrev js : List ℕ
+    js = take count (drop k columns2)
+
+    abbrev ws : List V
+    ws = take count (drop k values2)
+
+    js_long : length js ≡ count
+    js_long = let rest = length-drop k columns2 in length-take-le count (drop k columns2) (omega (arith, inside, rest))
+
+    js_fit : (n : ℕ) → n < length js → get_or js n 0 < 4294967296
+    js_fit n l =
+        let m : n < count = omega (arith, l, js_long) in
+        subst (λ v. v < 4294967296) (sym (get_or-take count (drop k columns2) n 0 m ∙ get_or-drop k columns2 n 0)) (fit (k + n) (omega (arith, inside, m)))
+
+    columns_are : take (k + count) columns2 ≡ take k columns ++ js
+    columns_are = take-add k count columns2 ∙ ap (λ (s : List ℕ). s ++ js) columns_before
+
+    values_are : take (k + count) values2 ≡ take k values ++ ws
+    values_are = take-add k count values2 ∙ ap (λ (s : List V). s ++ ws) values_before
+
+    abbrev out : MatrixEntries
+    out = flat_entries tv rows starts (take k columns) (take k values)
+
+    -- the rows so far come before this one
+    below_this : (n : ℕ) → n < length rows → get_or rows n 0 < r
+    below_this n l = elim stands_at [
+      | inl h ↦ let b = before.below_a n i l (omega arith) h.0 in let e = h.1 in omega (arith, b, e)
+      | inr h ↦ let b = before.below_b n j l (omega arith) h.0 in let e = h.1 in omega (arith, b, e)
+    ]
+
+    -- what becomes of the lists
+    record IsPushed : Type 0 where
+      pub is_flat : IsFlat rows2 starts2 (take (k + count) columns2)
+      pub entries : flat_entries tv rows2 starts2 (take (k + count) columns2) (take (k + count) values2) ≡ out ++ with_row r (entries_of tv js ws)
+      pub each : (n : ℕ) → n < length rows2 → ((n < length rows) × (get_or rows2 n 0 ≡ get_or rows n 0)) ⊎ (get_or rows2 n 0 ≡ r)
+
+    pushed_none : count ≡ 0 → IsPushed
+    pushed_none e =
+        let no_js : js ≡ [] = ap (λ n. take n (drop k columns2)) e in
+        let no_ws : ws ≡ [] = ap (λ n. take n (drop k values2)) e in
+        let columns_same : take (k + count) columns2 ≡ take k columns = columns_are ∙ ap (λ (s : List ℕ). take k columns ++ s) no_js ∙ append_nil (take k columns) in
+        let values_same : take (k + count) values2 ≡ take k values = values_are ∙ ap (λ (s : List V). take k values ++ s) no_ws ∙ append_nil (take k values) in
+        record {
+          is_flat = subst (λ (s : List ℕ). IsFlat s starts2 (take (k + count) columns2)) (sym (rows_same e))
+              (subst (λ (s : List ℕ). IsFlat rows s (take (k + count) columns2)) (sym (starts_same e)) (subst (IsFlat rows starts) (sym columns_same) before.flat));
+          entries = ap (λ (s : List ℕ). flat_entries tv s starts2 (take (k + count) columns2) (take (k + count) values2)) (rows_same e)
+              ∙ ap (λ (s : List ℕ). flat_entries tv rows s (take (k + count) columns2) (take (k + count) values2)) (starts_same e)
+              ∙ ap (λ (s : List ℕ). flat_entries tv rows starts s (take (k + count) values2)) columns_same
+              ∙ ap (flat_entries tv rows starts (take k columns)) values_same
+              ∙ sym (append_nil out)
+              ∙ ap (λ (m : VectorEntries). out ++ with_row r m) (sym (ap (λ (s : List ℕ). entries_of tv s ws) no_js));
+          each = λ n l. inl (subst (λ (s : List ℕ). n < length s) (rows_same e) l, ap (λ (s : List ℕ). get_or s n 0) (rows_same e));
+        }
+
+    pushed_some : 0 < count → IsPushed
+    pushed_some l =
+        let starts_are : starts2 ≡ starts ++ length (take k columns) ∷ [] = starts_pushed l ∙ ap (λ n. starts ++ n ∷ []) (sym so_long) in
+        record {
+          is_flat = subst (λ (s : List ℕ). IsFlat s starts2 (take (k + count) columns2)) (sym (rows_pushed l))
+              (subst (λ (s : List ℕ). IsFlat (rows ++ r ∷ []) s (take (k + count) columns2)) (sym starts_are)
+              (subst (IsFlat (rows ++ r ∷ []) (starts ++ length (take k columns) ∷ [])) (sym columns_are)
+              (flat-pushed_row tv rows starts (take k columns) (take k values) r js ws before.flat js_fit (omega (arith, l, js_long)) below_this)));
+          entries = ap (λ (s : List ℕ). flat_entries tv s starts2 (take (k + count) columns2) (take (k + count) values2)) (rows_pushed l)
+              ∙ ap (λ (s : List ℕ). flat_entries tv (rows ++ r ∷ []) s (take (k + count) columns2) (take (k + count) values2)) starts_are
+              ∙ ap (λ (s : List ℕ). flat_entries tv (rows ++ r ∷ []) (starts ++ length (take k columns) ∷ []) s (take (k + count) values2)) columns_are
+              ∙ ap (flat_entries tv (rows ++ r ∷ []) (starts ++ length (take k columns) ∷ []) (take k columns ++ js)) values_are
+              ∙ entries-pushed_row tv rows starts (take k columns) (take k values) r js ws before.flat js_fit (omega (arith, so_long, values_so_long));
+          each = λ n m.
+              let long : length rows2 ≡ length rows + 1 = ap length (rows_pushed l) ∙ length_push rows r in
+              elim (cases_eq n (length rows)) [
+                | inl e ↦ inr (ap (λ (s : List ℕ). get_or s n 0) (rows_pushed l) ∙ ap (λ p. get_or (rows ++ r ∷ []) p 0) e ∙ get_or-append_seam rows r [] 0)
+                | inr e ↦
+                    let u : n < length rows = omega (arith, m, long, e) in
+                    inl (u, ap (λ (s : List ℕ). get_or s n 0) (rows_pushed l) ∙ get_or_append_left rows (r ∷ []) 0 n u)
+              ];
+        }
+
+    is_pushed : IsPushed
+    is_pushed = elim (cases_eq count 0) [ inl e ↦ pushed_none e | inr n ↦ pushed_some (some count n) ]
+      where
+        some : (n : ℕ) → (n ≡ 0 → ⊥) → 0 < n
+        some n h = omega (arith, h)
+
+    pub filled : IsFilling i2 j2 (k + count) rows2 starts2 columns2 values2
+    filled = record {
+      left = turn_a.inside;
+      right = turn_b.inside;
+      room = within;
+      same = let same = before.same in omega (arith, columns_length, values_length, same);
+      flat = is_pushed.is_flat;
+      below_a = λ n m l u v. elim (is_pushed.each n l) [
+        | inl h ↦ let on = turn_a.on in let b = before.below_a n m h.0 (omega (arith, on, u)) v in let e = h.1 in omega (arith, b, e)
+        | inr e ↦ let b = turn_a.later m u v in omega (arith, b, e)
+      ];
+      below_b = λ n m l u v. elim (is_pushed.each n l) [
+        | inl h ↦ let on = turn_b.on in let b = before.below_b n m h.0 (omega (arith, on, u)) v in let e = h.1 in omega (arith, b, e)
+        | inr e ↦ let b = turn_b.later m u v in omega (arith, b, e)
+      ];
+      so_far = ap (λ (m : MatrixEntries). m ++ pointwise cell_cmp f rest_a rest_b) (is_pushed.entries ∙ ap (λ (m : VectorEntries). out ++ with_row r m) made)
+          ∙ append_assoc out (with_row r (pointwise nat_cmp f x y)) (pointwise cell_cmp f rest_a rest_b)
+          ∙ ap (λ (m : MatrixEntries). out ++ m) (sym (ap (λ (m : MatrixEntries). pointwise cell_cmp f m (rows_from b (drop j rb))) turn_a.front
+          ∙ ap (pointwise cell_cmp f (with_row r x ++ rest_a)) turn_b.front
+          ∙ pointwise-with_row f none r x y rest_a rest_b (below-rows_from r a ra i2 turn_a.later) (below-rows_from r b rb j2 turn_b.later)))
+          ∙ before.so_far;
+    }
+
+-- before the first turn nothing is written
+pub filling_begins : {V : Type 0} (tv : V → Value) (f : Option Value → Option Value → Option Value) (none : f None None ≡ None) (a b : MatrixEntries) (ra rb rows starts columns : List ℕ) (values : List V)
+    → rows_from a ra ≡ a → rows_from b rb ≡ b → rows ≡ [] → starts ≡ [] → length a + length b ≤ length columns → length columns ≡ length values
+    → IsFilling tv f none a b ra rb (pointwise cell_cmp f a b) 0 0 0 rows starts columns values
+filling_begins tv f none a b ra rb rows starts columns values whole_a whole_b no_rows no_starts room same =
+    let is_rows : length rows ≡ 0 = ap length no_rows in
+    record {
+      left = omega arith;
+      right = omega arith;
+      room = let la = ap length whole_a in let lb = ap length whole_b in omega (arith, la, lb, room);
+      same = same;
+      flat = subst (λ (s : List ℕ). IsFlat s starts []) (sym no_rows) (subst (λ (s : List ℕ). IsFlat [] s []) (sym no_starts) flat_nothing);
+      below_a = λ n m l u v. absurd (omega (arith, l, is_rows));
+      below_b = λ n m l u v. absurd (omega (arith, l, is_rows));
+      so_far = ap (λ (m : MatrixEntries). pointwise cell_cmp f m (rows_from b rb)) whole_a ∙ ap (pointwise cell_cmp f a) whole_b;
+    }
+  where
+    flat_nothing : IsFlat [] [] []
+    flat_nothing = record {
+      same = refl;
+      some = λ h. absurd (omega (arith, h));
+      first = refl;
+      rise = λ i j l h. absurd (omega (arith, h));
+      rows_rise = λ i j l h. absurd (omega (arith, h));
+      inside = λ i l. absurd (omega (arith, l));
+      fit = λ i l. absurd (omega (arith, l));
+    }
+
+-- what is made of two matrices is in order
+pub merged_in_order : (f : Option Value → Option Value → Option Value) (a b made : MatrixEntries) → made ≡ pointwise cell_cmp f a b → IsTrue (is_sorted cell_cmp made)
+merged_in_order f a b made e = subst (λ (m : MatrixEntries). IsTrue (is_sorted cell_cmp m)) (sym e) (passes _ (is_sorted-pointwise cell_cmp_total cell_cmp-IsAntisymmetric f a b))
+
+-- after the last turn all is written
+pub filling_ends : {V : Type 0} (tv : V → Value) (f : Option Value → Option Value → Option Value) (none : f None None ≡ None) (a b : MatrixEntries) (ra rb rows starts columns : List ℕ) (values : List V) (total : MatrixEntries) (i j k : ℕ)
+    → IsFilling tv f none a b ra rb total i j k rows starts columns values → length ra + length rb ≤ i + j → flat_entries tv rows starts (take k columns) (take k values) ≡ total
+filling_ends tv f none a b ra rb rows starts columns values total i j k held past =
+    let left = held.left in
+    let right = held.right in
+    let no_a : rows_from a (drop i ra) ≡ [] = ap (rows_from a) (drop_all i ra (omega (arith, past, left, right))) in
+    let no_b : rows_from b (drop j rb) ≡ [] = ap (rows_from b) (drop_all j rb (omega (arith, past, left, right))) in
+    let written = flat_entries tv rows starts (take k columns) (take k values) in
+    sym (append_nil written)
+    ∙ ap (λ (m : MatrixEntries). written ++ m) (sym (ap (λ (m : MatrixEntries). pointwise cell_cmp f m (rows_from b (drop j rb))) no_a ∙ ap (pointwise cell_cmp f []) no_b))
+    ∙ held.so_far

@@ -1,0 +1,21 @@
+use Rattle.std.proofs.Common.{◌≡◌, ◌+◌, ◌≤◌, ◌-◌, length}
+use Rattle.std.specs.Vec.{vec_len, vec_capacity}
+use Rattle.grb_core.specs.Entries.{cell_cmp}
+use Rattle.grb_core.specs.Written.{pointwise}
+use Rattle.grb_rows.specs.Cells.{decoded}
+use Rattle.grb_ewise.proofs.RowMerges.{IsFilling}
+use Rattle.grb_ewise.proofs.rows.fill_rows.Given as goal
+
+abbrev pub invariant-merging : goal.invariant-merging
+invariant-merging g l = record {
+  rows_len : vec_len l.rows ≤ l.i + l.j;
+  starts_len : vec_len l.starts ≤ l.i + l.j;
+  rows_capacity : vec_capacity l.rows ≡ vec_capacity l.fn.rows;
+  starts_capacity : vec_capacity l.starts ≡ vec_capacity l.fn.starts;
+  filling : IsFilling g.T.Scalar.value (g.R.Rule.gives l.rule) (g.met.R.Rule.none l.rule) (decoded l.a.entries) (decoded l.b.entries) l.a.rows l.b.rows
+      (pointwise cell_cmp (g.R.Rule.gives l.rule) (decoded l.a.entries) (decoded l.b.entries))
+      l.i l.j l.k l.rows.items l.starts.items l.columns l.values;
+}
+
+abbrev pub decreases-merging : goal.decreases-merging
+decreases-merging g l = (length l.a.rows - l.i) + (length l.b.rows - l.j)

@@ -1,0 +1,21 @@
+//! The operations of the standard over sparse objects, and how each writes its output.
+//!
+//! One unit is an operation: it takes the old output, the inputs, the mask, the accumulator and the descriptor by reference, and
+//! answers the new output, assembled, or `AllocError`. Nothing that it was lent is changed, so one object may be output, input and
+//! mask at once. Nothing here checks domains or dimensions, which the caller owes, and nothing here knows of stores or threads.
+#![tactic(auto)]
+
+mod ewise;
+mod ewise_matrix;
+mod rows;
+mod transposing;
+mod typed;
+mod typed_matrix;
+mod writing;
+mod writing_matrix;
+
+pub use ewise::{ewise_add_vector, ewise_mult_vector};
+pub use ewise_matrix::{ewise_add_matrix, ewise_mult_matrix};
+pub use transposing::transposed;
+pub use writing::write_masked_vector;
+pub use writing_matrix::write_masked_matrix;

@@ -1,0 +1,80 @@
+-- Columns that are their own names, and how many places rise below a number.
+use Rattle.std.proofs.Common.{◌≡◌, ℕ, ◌+◌, ◌<◌, ◌≤◌, Bool, true, false, List, [], ◌∷◌, length, get_or, set, inl, inr, refl, ap, sym, subst, ◌∙◌, arith}
+use Rattle.std.specs.Prelude.{◌&&◌, map, IsTrue, All}
+use Rattle.std.specs.List.{AllByRecursion}
+use Rattle.std.specs.Ordering.{nat_cmp, is_lt}
+use Rattle.std.specs.FinMap.{is_sorted}
+use Rattle.std.specs.FinMap.Entries.{below_all}
+use Rattle.std.proofs.lemmas.Bool.{cases_eq}
+use Rattle.std.proofs.lemmas.Bool.Decides.{nat_tests}
+use Rattle.std.proofs.lemmas.List.{get_or-set_same, get_or-set_other}
+use lib.Dec.{T}
+use Rattle.grb_core.specs.declared.value.Value.{Value}
+use Rattle.grb_core.specs.Entries.{VectorEntries}
+use Rattle.grb_kernels.specs.Typed.{entries_of}
+use Rattle.grb_mxm.specs.Rows.{name_in, renamed, Rise}
+use Rattle.grb_mxm.proofs.Renamed.{holds, passes}
+
+fst : (a b : Bool) → T (a && b) → T a
+fst true b p = tt
+fst false b p = absurd p
+
+snd : (a b : Bool) → T (a && b) → T b
+snd true b p = p
+snd false b p = absurd p
+
+-- one more place has its number
+pub own_step : (names : List ℕ) (p : ℕ) → p < length names → ((q : ℕ) → q < p → get_or names q 0 ≡ q) → (q : ℕ) → q < p + 1 → get_or (set names p p) q 0 ≡ q
+own_step names p inside was q l =
+    elim (cases_eq q p) [
+      | inl e ↦ ap (λ k. get_or (set names p p) k 0) e ∙ get_or-set_same names p p 0 inside ∙ sym e
+      | inr n ↦ get_or-set_other names p q p 0 n ∙ was q (omega (arith, l, n))
+    ]
+
+-- each number below is its own name
+pub own-rise : (names : List ℕ) (n : ℕ) → length names ≡ n → ((p : ℕ) → p < n → get_or names p 0 ≡ p) → Rise names
+own-rise names n long each i j l u =
+    let a = each i (omega (arith, l, u, long)) in
+    let b = each j (omega (arith, u, long)) in
+    omega (arith, a, b, l)
+
+pub own-named : (names : List ℕ) (n : ℕ) (columns : List ℕ) → ((p : ℕ) → p < n → get_or names p 0 ≡ p) → AllByRecursion (λ j. j < n) columns → map (name_in names) columns ≡ columns
+own-named names n [] each h = refl
+own-named names n (j ∷ columns) each h = ap (λ k. k ∷ map (name_in names) columns) (each j h.0) ∙ ap (λ (t : List ℕ). j ∷ t) (own-named names n columns each h.1)
+
+pub below_long : (m n : ℕ) → m ≡ n → (columns : List ℕ) → All (λ j. j < n) columns → All (λ j. j < m) columns
+below_long m n e columns h = subst (λ k. All (λ j. j < k) columns) (sym e) h
+
+less_of : (k l : ℕ) → T (is_lt (nat_cmp k l)) → k < l
+less_of k l h = let e : is_lt (nat_cmp k l) ≡ true = passes _ h in grind (arith, nat_tests)
+
+module _ {V : Type 0} (value : V → Value) where
+  above : (k : ℕ) (rs : List ℕ) (vs : List V) → length rs ≡ length vs → T (below_all nat_cmp k (entries_of value rs vs)) → AllByRecursion (λ r. k + 1 ≤ r) rs
+  above k [] vs e t = tt
+  above k (r ∷ rs) [] e t = absurd (omega arith)
+  above k (r ∷ rs) (v ∷ vs) e t = ((let l = less_of k r (fst _ _ t) in omega (arith, l)), above k rs vs (omega arith) (snd _ _ t))
+
+  count : (k n : ℕ) (rs : List ℕ) (vs : List V) → length rs ≡ length vs → T (is_sorted nat_cmp (entries_of value rs vs)) → AllByRecursion (λ r. k ≤ r) rs → AllByRecursion (λ r. r < n) rs → k ≤ n → k + length rs ≤ n
+  count k n [] vs e t lo hi l = omega (arith, l)
+  count k n (r ∷ rs) [] e t lo hi l = absurd (omega arith)
+  count k n (r ∷ rs) (v ∷ vs) e t lo hi l =
+      let more : r + 1 + length rs ≤ n = count (r + 1) n rs vs (omega arith) (snd _ _ t) (above r rs vs (omega arith) (fst _ _ t)) hi.1 (let u = hi.0 in omega (arith, u)) in
+      let from = lo.0 in
+      omega (arith, more, from)
+
+  all_from_zero : (rs : List ℕ) → AllByRecursion (λ r. 0 ≤ r) rs
+  all_from_zero [] = tt
+  all_from_zero (r ∷ rs) = (omega arith, all_from_zero rs)
+
+  -- places that rise below a number are no more than it
+  pub few-below : (n : ℕ) (rs : List ℕ) (vs : List V) → length rs ≡ length vs → IsTrue (is_sorted nat_cmp (entries_of value rs vs)) → AllByRecursion (λ r. r < n) rs → length rs ≤ n
+  few-below n rs vs e s hi = let c = count 0 n rs vs e (holds _ s) (all_from_zero rs) hi (omega arith) in omega (arith, c)
+
+  -- the names of the places of entries that are a row
+  pub names_of_row : (name : ℕ → ℕ) (rs : List ℕ) (vs : List V) (row : VectorEntries) → length rs ≡ length vs → renamed name (entries_of value rs vs) ≡ row → map name rs ≡ map (λ e. e.0) row
+  names_of_row name rs vs row e is = sym (first_of name rs vs e) ∙ ap (map (λ e. e.0)) is
+    where
+      first_of : (name : ℕ → ℕ) (rs : List ℕ) (vs : List V) → length rs ≡ length vs → map (λ e. e.0) (renamed name (entries_of value rs vs)) ≡ map name rs
+      first_of name [] vs e = refl
+      first_of name (r ∷ rs) [] e = absurd (omega arith)
+      first_of name (r ∷ rs) (v ∷ vs) e = ap (λ (t : List ℕ). name r ∷ t) (first_of name rs vs (omega arith))

@@ -1,0 +1,46 @@
+use Rattle.std.proofs.Common.{◌≡◌, ◌<◌, ◌^◌, true, arith, length, subst}
+use Rattle.grb_core.specs.Monoid.{identity_of}
+use Rattle.grb_mxm.specs.Rows.{name_in}
+use Rattle.grb_mxm.specs.Bits.{has_bit, marks_of}
+use Rattle.grb_mxm.proofs.MarksOf.{length-marks_of}
+use Rattle.grb_mxm.proofs.Taken.{taken_begins, taken_more, taken_entries, taken_zeros}
+use Rattle.grb_mxm.proofs.WordByWord.{bit_in_range}
+use Rattle.grb_mxm.proofs.bits.take_words.Goals as goal
+
+pub words-init : goal.words-init
+words-init g c = record {
+  k = omega arith;
+  within = omega arith;
+  taken = taken_begins g.T.Scalar.value (identity_of g.M.MonoidOver.monoid) (name_in c.args.names.now) c.args.words.now c.args.sums.now c.args.columns.now c.args.values.now;
+}
+
+pub take_word-k-requires-clause-in_range : goal.take_word-k-requires-clause-in_range
+take_word-k-requires-clause-in_range g c t h =
+    let n = length c.args.sums.now in
+    let words = c.args.words.now in
+    let w = c.words.w in
+    let later = c.words.invariant.taken.later w (omega arith) in
+    let inside = bit_in_range (marks_of n words) words w t c.requires.bits (subst (λ x. x < 2 ^ 64) later (c.type_inv.words w).fits) (subst (λ x. has_bit x t ≡ true) later h) in
+    omega (arith, inside, length-marks_of words n)
+
+pub words-preserved : goal.words-preserved
+words-preserved g c =
+    let done = c.take_word-k.ensures in
+    record {
+      k = omega (arith, done.most);
+      within = omega (arith, done.within);
+      taken = taken_more g.T.Scalar.value (identity_of g.M.MonoidOver.monoid) (name_in c.args.names.now) c.args.words.now c.args.sums.now c.requires.bits c.requires.clear c.words.w
+          c.words.k c.take_word-k.result c.words.words c.words.columns c.take_word-k.new.columns c.words.sums c.take_word-k.new.sums c.words.values c.take_word-k.new.values
+          c.words.invariant.taken (omega arith) done.entries (λ t l h. done.clear t l h) done.stay done.above;
+    }
+
+pub returns-clause-entries : goal.returns-clause-entries
+returns-clause-entries g c =
+    taken_entries g.T.Scalar.value (identity_of g.M.MonoidOver.monoid) (name_in c.args.names.now) c.args.words.now c.args.sums.now c.words.w _ _ _ _ _ c.words.invariant.taken (omega arith)
+
+pub returns-clause-none : goal.returns-clause-none
+returns-clause-none g c u =
+    taken_zeros g.T.Scalar.value (identity_of g.M.MonoidOver.monoid) (name_in c.args.names.now) c.args.words.now c.args.sums.now c.words.w _ _ _ _ _ c.words.invariant.taken (omega arith) u
+
+pub returns-clause-clear : goal.returns-clause-clear
+returns-clause-clear g c p l = c.words.invariant.taken.clear p (omega (arith, l)) (omega (arith, l))

@@ -1,0 +1,79 @@
+//! The rows of a mask, by the ranks of their columns.
+ghost use Rattle.std.specs.Prelude.{◌≡◌, ◌<◌, ◌≤◌, ℕ, length, map, slice_index, slice_index_or, All, IsTrue, true, false};
+ghost use Rattle.std.specs.Ordering.{nat_cmp};
+ghost use Rattle.std.specs.FinMap.{is_sorted, find};
+ghost use Rattle.grb_core.specs.Entries.{cell_cmp};
+ghost use Rattle.grb_core.specs.Mask.{selects};
+ghost use Rattle.grb_core.specs.Results.{row_of};
+ghost use Rattle.grb_kernels.specs.Typed.{entries_of};
+ghost use Rattle.grb_rows.specs.Cells.{decoded};
+ghost use Rattle.grb_mxm.specs.Rows.{name_in, Rise};
+ghost use Rattle.grb_mxm.specs.Bits.{StandsIn};
+
+use crate::ranked::row_at;
+use grb_core::Domain;
+use grb_products::Stored;
+use grb_rows::FlatRows;
+
+/// A mask whose columns have ranks, as those of `RankedRows` do, read by structure or by value. It may be of either domain.
+#[derive(Drop)]
+pub(crate) struct MaskRows<'a> {
+    pub(crate) lists: &'a FlatRows,
+    pub(crate) ranks: &'a [u32],
+    pub(crate) names: &'a [u32],
+    pub(crate) structure: bool,
+    ghost ordered: { IsTrue (is_sorted cell_cmp (decoded lists.now.entries)) },
+    ghost in_range: { All (λ r. r < length names.now) ranks.now },
+    ghost named: { map (name_in names.now) ranks.now ≡ map (λ e. e.0.1) (decoded lists.now.entries) },
+    ghost rising: { Rise names.now },
+}
+
+/// Marks the places that the entries of a mask's row select.
+fn allow_entries<U: Stored>(places: &[u32], values: &[U], structure: bool, allowed: &mut [bool])
+    requires same { length places.now ≡ length values.now }
+    requires in_range { All (λ p. p < length allowed.old) places.now }
+    requires none { (p : ℕ) → slice_index_or allowed.old p false ≡ false }
+    ensures { (p : ℕ) → slice_index_or allowed.new p false ≡ selects structure (find nat_cmp p (entries_of U.value places.now values.now)) }
+{
+    let mut i = places.len();
+    'down: while i > 0 {
+        i -= 1;
+        allowed[places[i] as usize] = structure | values[i].is_true();
+    }
+}
+
+impl<'a> MaskRows<'a> {
+    /// Marks the places that the `k`th row selects, whose values are of the Rust type `U`. Answers the places of its entries.
+    fn allow_typed<U: Stored + 'a>(&self, k: usize, allowed: &mut [bool]) -> &'a [u32]
+        requires at { k < length self.now.lists.now.rows }
+        requires domain { self.now.lists.now.domain ≡ U.domain }
+        requires room { length allowed.old ≡ length self.now.names.now }
+        requires none { (p : ℕ) → slice_index_or allowed.old p false ≡ false }
+        ensures allowed { (p : ℕ) → p < length self.now.names.now → slice_index_or allowed.new p false ≡ selects self.now.structure (find nat_cmp (name_in self.now.names.now p) (row_of (slice_index self.now.lists.now.rows k) (decoded self.now.lists.now.entries))) }
+        ensures in_range { All (λ p. p < length self.now.names.now) result.now }
+        ensures named { map (name_in self.now.names.now) result.now ≡ map (λ e. e.0) (row_of (slice_index self.now.lists.now.rows k) (decoded self.now.lists.now.entries)) }
+        ensures picked { (p : ℕ) → slice_index_or allowed.new p false ≡ true → StandsIn result.now p }
+        ensures few { length result.now ≤ length self.now.names.now }
+    {
+        let row = row_at::<U>(self.lists, self.ranks, self.names, k);
+        allow_entries(row.indices, row.values, self.structure, allowed);
+        row.indices
+    }
+
+    /// Marks the places that the `k`th row selects. Answers the places of its entries.
+    pub(crate) fn allow(&self, k: usize, allowed: &mut [bool]) -> &'a [u32]
+        requires at { k < length self.now.lists.now.rows }
+        requires room { length allowed.old ≡ length self.now.names.now }
+        requires none { (p : ℕ) → slice_index_or allowed.old p false ≡ false }
+        ensures allowed { (p : ℕ) → p < length self.now.names.now → slice_index_or allowed.new p false ≡ selects self.now.structure (find nat_cmp (name_in self.now.names.now p) (row_of (slice_index self.now.lists.now.rows k) (decoded self.now.lists.now.entries))) }
+        ensures in_range { All (λ p. p < length self.now.names.now) result.now }
+        ensures named { map (name_in self.now.names.now) result.now ≡ map (λ e. e.0) (row_of (slice_index self.now.lists.now.rows k) (decoded self.now.lists.now.entries)) }
+        ensures picked { (p : ℕ) → slice_index_or allowed.new p false ≡ true → StandsIn result.now p }
+        ensures few { length result.now ≤ length self.now.names.now }
+    {
+        match self.lists.domain() {
+            Domain::Bool => self.allow_typed::<bool>(k, allowed),
+            Domain::Uint64 => self.allow_typed::<u64>(k, allowed),
+        }
+    }
+}

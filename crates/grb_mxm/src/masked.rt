@@ -1,0 +1,192 @@
+//! One row of the product of two matrices where a mask selects it: sums are made at the columns of the mask's row alone.
+ghost use Rattle.std.specs.Prelude.{◌≡◌, ◌≢◌, ◌+◌, ◌<◌, ◌≤◌, ◌++◌, ℕ, length, true, false, Some, All, IsTrue, IfOk, slice_index, slice_index_or, map};
+ghost use Rattle.std.specs.List.{AllByRecursion};
+ghost use Rattle.std.specs.Ordering.{nat_cmp};
+ghost use Rattle.std.specs.FinMap.{is_sorted, find};
+ghost use Rattle.grb_core.specs.Value.{IsValueOf};
+ghost use Rattle.grb_core.specs.Operator.{value_of_op};
+ghost use Rattle.grb_core.specs.Monoid.{monoid_op, monoid_domain, identity_of};
+ghost use Rattle.grb_core.specs.Entries.{restricted};
+ghost use Rattle.grb_core.specs.Fold.{fold_of_some};
+ghost use Rattle.grb_core.specs.Mask.{selects};
+ghost use Rattle.grb_core.specs.Written.{either_value, both_values};
+ghost use Rattle.grb_core.specs.Results.{row_of};
+ghost use Rattle.grb_kernels.specs.Typed.{entries_of, first_entries};
+ghost use Rattle.grb_rows.specs.Cells.{decoded};
+ghost use Rattle.grb_products.specs.Open.{marked_at};
+ghost use Rattle.grb_products.specs.Products.{products};
+ghost use Rattle.grb_mxm.specs.Rows.{name_in, picked, product_row};
+ghost use Rattle.grb_mxm.specs.Bits.{HoldUnmarked, AreAmong, StandsIn};
+
+use crate::mask_rows::MaskRows;
+use crate::ranked::RankedRows;
+use grb_kernels::{Operator, Scalar};
+use grb_products::{MonoidOver, Stored, emit};
+
+/// Adds a product to the sum at a place, where that is allowed.
+fn add_where<T: Scalar, M: MonoidOver<T>>(
+    allowed: &[bool],
+    at: usize,
+    product: T,
+    marks: &mut [bool],
+    sums: &mut [T],
+)
+    requires in_range { at < length marks.old }
+    requires room { length marks.old ≡ length sums.old }
+    requires allowed { length allowed.now ≡ length marks.old }
+    requires of_domain { IsValueOf (monoid_domain M.monoid) (T.value product) }
+    requires among { AreAmong marks.old allowed.now }
+    requires clear { HoldUnmarked T.value (identity_of M.monoid) marks.old sums.old }
+    ensures added { slice_index_or allowed.now at false ≡ true → marked_at T.value marks.new sums.new at ≡ either_value (value_of_op (monoid_op M.monoid)) (marked_at T.value marks.old sums.old at) (Some (T.value product)) }
+    ensures others { (p : ℕ) → p ≢ at → marked_at T.value marks.new sums.new p ≡ marked_at T.value marks.old sums.old p }
+    ensures among { AreAmong marks.new allowed.now }
+    ensures clear { HoldUnmarked T.value (identity_of M.monoid) marks.new sums.new }
+{
+    if !allowed[at] {
+        return;
+    }
+    sums[at] = M::add(sums[at], product);
+    marks[at] = true;
+}
+
+/// Adds a row, times `x`, to the sums at the places that are allowed: there is a sum where `marks` says so, and elsewhere the identity.
+fn add_allowed<T: Stored, M: MonoidOver<T>, O: Operator<T>>(
+    x: T,
+    places: &[u32],
+    values: &[T],
+    allowed: &[bool],
+    marks: &mut [bool],
+    sums: &mut [T],
+)
+    requires same { length places.now ≡ length values.now }
+    requires rising { IsTrue (is_sorted nat_cmp (entries_of T.value places.now values.now)) }
+    requires in_range { All (λ p. p < length marks.old) places.now }
+    requires room { length marks.old ≡ length sums.old }
+    requires allowed { length allowed.now ≡ length marks.old }
+    requires among { AreAmong marks.old allowed.now }
+    requires clear { HoldUnmarked T.value (identity_of M.monoid) marks.old sums.old }
+    ensures added { (p : ℕ) → slice_index_or allowed.now p false ≡ true → marked_at T.value marks.new sums.new p ≡ either_value (value_of_op (monoid_op M.monoid)) (marked_at T.value marks.old sums.old p) (both_values (value_of_op O.op) (Some (T.value x)) (find nat_cmp p (entries_of T.value places.now values.now))) }
+    ensures of_domain { AllByRecursion (λ e. IsValueOf T.domain (value_of_op O.op (T.value x) e.1)) (entries_of T.value places.now values.now) }
+    ensures among { AreAmong marks.new allowed.now }
+    ensures clear { HoldUnmarked T.value (identity_of M.monoid) marks.new sums.new }
+{
+    'row: for i in 0..places.len() {
+        let made = O::apply(x, values[i]);
+        let product = made.read();
+        add_where::<T, M>(allowed, places[i] as usize, product, marks, sums);
+    }
+}
+
+/// The sums of a row of the product of two matrices at the places that are allowed, where none lay open before.
+fn sum_allowed<T: Stored, M: MonoidOver<T>, O: Operator<T>>(
+    columns: &[u32],
+    values: &[T],
+    b: &RankedRows<T>,
+    allowed: &[bool],
+    marks: &mut [bool],
+    sums: &mut [T],
+)
+    requires same { length columns.now ≡ length values.now }
+    requires room { length marks.old ≡ length sums.old }
+    requires named { length sums.old ≡ length b.now.names.now }
+    requires allowed { length allowed.now ≡ length marks.old }
+    requires none { (p : ℕ) → slice_index_or marks.old p false ≡ false }
+    requires clear { HoldUnmarked T.value (identity_of M.monoid) marks.old sums.old }
+    ensures sums { (p : ℕ) → p < length b.now.names.now → slice_index_or allowed.now p false ≡ true → marked_at T.value marks.new sums.new p ≡ fold_of_some M.monoid (products O.op (λ k. find nat_cmp (name_in b.now.names.now p) (row_of k (decoded b.now.lists.now.entries))) (entries_of T.value columns.now values.now)) }
+    ensures among { AreAmong marks.new allowed.now }
+    ensures clear { HoldUnmarked T.value (identity_of M.monoid) marks.new sums.new }
+{
+    'entries: for i in 0..columns.len() {
+        let row = (&*b).row(columns[i]);
+        add_allowed::<T, M, O>(values[i], row.indices, row.values, allowed, marks, sums);
+    }
+}
+
+/// Writes the sums at these places, in their order, at the names of the places. Answers how many there are.
+fn emit_picked<T: Scalar>(
+    places: &[u32],
+    names: &[u32],
+    marks: &[bool],
+    sums: &[T],
+    columns: &mut [u32],
+    values: &mut [T],
+) -> usize
+    requires in_range { All (λ p. p < length marks.now) places.now }
+    requires same { length marks.now ≡ length sums.now }
+    requires named { length sums.now ≡ length names.now }
+    requires room { length places.now ≤ length columns.old }
+    requires room_same { length columns.old ≡ length values.old }
+    ensures entries { first_entries T.value result columns.new values.new ≡ picked (name_in names.now) (marked_at T.value marks.now sums.now) places.now }
+    ensures most { result ≤ length places.now }
+{
+    let mut k = 0;
+    'places: for i in 0..places.len() {
+        let at = places[i] as usize;
+        k = emit(columns, values, k, names[at], sums[at], marks[at]);
+    }
+    k
+}
+
+/// Takes the marks at these places away, and what is allowed there, and puts the identity in place of the sums.
+fn clear_picked<T: Scalar, M: MonoidOver<T>>(
+    places: &[u32],
+    allowed: &mut [bool],
+    marks: &mut [bool],
+    sums: &mut [T],
+)
+    requires in_range { All (λ p. p < length marks.old) places.now }
+    requires room { length marks.old ≡ length sums.old }
+    requires allowed { length allowed.old ≡ length marks.old }
+    requires among { AreAmong marks.old allowed.old }
+    requires clear { HoldUnmarked T.value (identity_of M.monoid) marks.old sums.old }
+    requires picked { (p : ℕ) → slice_index_or allowed.old p false ≡ true → StandsIn places.now p }
+    ensures none_allowed { (p : ℕ) → slice_index_or allowed.new p false ≡ false }
+    ensures none { (p : ℕ) → slice_index_or marks.new p false ≡ false }
+    ensures clear { HoldUnmarked T.value (identity_of M.monoid) marks.new sums.new }
+{
+    'places: for i in 0..places.len() {
+        let at = places[i] as usize;
+        allowed[at] = false;
+        marks[at] = false;
+        sums[at] = M::identity();
+    }
+}
+
+/// A row of the product of two matrices at the columns that the `k`th row of a mask selects, written to the front of `made_columns` and
+/// `made_values`. Answers how many entries it has. Nothing lies open and nothing is allowed before or after.
+pub(crate) fn multiply_masked_row<T: Stored, M: MonoidOver<T>, O: Operator<T>>(
+    columns: &[u32],
+    values: &[T],
+    b: &RankedRows<T>,
+    mask: &MaskRows,
+    k: usize,
+    allowed: &mut [bool],
+    marks: &mut [bool],
+    sums: &mut [T],
+    made_columns: &mut [u32],
+    made_values: &mut [T],
+) -> usize
+    requires same { length columns.now ≡ length values.now }
+    requires rising { IsTrue (is_sorted nat_cmp (entries_of T.value columns.now values.now)) }
+    requires at { k < length mask.now.lists.now.rows }
+    requires names { mask.now.names.now ≡ b.now.names.now }
+    requires open { length marks.old ≡ length sums.old }
+    requires named { length sums.old ≡ length b.now.names.now }
+    requires allowed { length allowed.old ≡ length marks.old }
+    requires none_allowed { (p : ℕ) → slice_index_or allowed.old p false ≡ false }
+    requires none { (p : ℕ) → slice_index_or marks.old p false ≡ false }
+    requires clear { HoldUnmarked T.value (identity_of M.monoid) marks.old sums.old }
+    requires room { length marks.old ≤ length made_columns.old }
+    requires room_same { length made_columns.old ≡ length made_values.old }
+    ensures entries { first_entries T.value result made_columns.new made_values.new ≡ restricted (λ j. selects mask.now.structure (find nat_cmp j (row_of (slice_index mask.now.lists.now.rows k) (decoded mask.now.lists.now.entries)))) (product_row (record { monoid = M.monoid; op = O.op }) (entries_of T.value columns.now values.now) (decoded b.now.lists.now.entries)) }
+    ensures none_allowed { (p : ℕ) → slice_index_or allowed.new p false ≡ false }
+    ensures none { (p : ℕ) → slice_index_or marks.new p false ≡ false }
+    ensures clear { HoldUnmarked T.value (identity_of M.monoid) marks.new sums.new }
+    ensures most { result ≤ length made_columns.new }
+{
+    let places = mask.allow(k, allowed);
+    sum_allowed::<T, M, O>(columns, values, &*b, &*allowed, marks, sums);
+    let count = emit_picked(places, b.names, marks, sums, made_columns, made_values);
+    clear_picked::<T, M>(places, allowed, marks, sums);
+    count
+}

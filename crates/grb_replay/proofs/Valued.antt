@@ -1,0 +1,94 @@
+-- The object after all calls, and which of them were made for it.
+use Rattle.std.proofs.Common.{◌≡◌, is_some, option_map, refl, if◌then◌else◌, Bool, false, true, List, length, sym, ap, ◌∙◌, Option, Some, None, Result, Ok, Err, ℕ}
+use Rattle.std.specs.Option.{option_map_or}
+use Rattle.grb_core.specs.declared.refusal.Refusal.{Refusal}
+use Rattle.grb_call.specs.declared.reply.Reply.{Reply}
+use Rattle.grb_call.specs.Kinds.{enters}
+use Rattle.grb_call.specs.After.{answer, refused, reply_of}
+use Rattle.grb_call.specs.declared.call.Call.{Call}
+use Rattle.grb_call.specs.declared.ids.Object.{Object}
+use Rattle.grb_call.specs.declared.ids.Object.TheVariants as object
+use Rattle.grb_call.specs.Shapes.{ObjectShapes, is_live}
+use Rattle.grb_call.specs.Status.{is_same_object, object_of}
+use Rattle.grb_call.specs.Store.{Store, empty_store, matrix_at, matrix_shape, shapes_of, vector_at, vector_shape}
+use Rattle.grb_call.proofs.ShapesAfter.{object_at-map}
+use Rattle.grb_call.specs.History.{after_all}
+use Rattle.grb_slices.specs.Content.{MatrixContent, VectorContent, content_at}
+use Rattle.grb_slices.specs.declared.slice.Slice.{Slice}
+use Rattle.grb_slices.specs.SliceFor.{IsSliceFor}
+use Rattle.grb_slices.specs.Slice.{Step, Wants, entries, sliced}
+use Rattle.grb_slices.specs.Wanted.{is_wanted}
+use Rattle.grb_replay.specs.Held.{tasks_for, tasks_of}
+use Rattle.grb_slices.specs.Followed.{Follows, GoesOn, HasGoneOver, targets_of}
+use Rattle.grb_slices.proofs.Going.{entries_are}
+use Rattle.grb_slices.proofs.Answered.{same_answer}
+
+-- the tasks of the slice of one object, which is all that is wanted
+pub tasks_are : (o : Object) (s : Store) (cs : List Call) (ts : List (Option Object)) (w : Wants) → ((p : Object) → w p ≡ is_same_object o p) → ts ≡ targets_of (shapes_of s) cs →
+    (sliced w (entries ts cs)).tasks ≡ tasks_for s o cs
+tasks_are o s cs ts w one targets =
+    ap (λ (v : Wants). (sliced v (entries ts cs)).tasks) (λ i p. one p i)
+    ∙ ap (λ (xs : List Step). (sliced (is_same_object o) xs).tasks) (ap (λ (us : List (Option Object)). entries us cs) targets ∙ entries_are (shapes_of s) cs)
+
+-- the answer by the part, where the object holds the same as in the whole
+pub refused-by : (whole part : Store) (c : Call) (o : Object) (r : Refusal) → enters c ≡ false → object_of c ≡ Some o → content_at whole o ≡ content_at part o → refused part c ≡ Some r →
+    ◌≡◌ {A = Result Reply Refusal} (Err r) (answer whole c)
+refused-by whole part c o r reads about same is = sym (same_answer whole part c o reads about same ∙ ap (λ (p : Option Refusal). option_map_or Err p (Ok (reply_of part c))) is)
+
+pub replied-by : (whole part : Store) (c : Call) (o : Object) (r : Reply) → enters c ≡ false → object_of c ≡ Some o → content_at whole o ≡ content_at part o → refused part c ≡ None → r ≡ reply_of part c →
+    ◌≡◌ {A = Result Reply Refusal} (Ok r) (answer whole c)
+replied-by whole part c o r reads about same is replied =
+    ap Ok replied ∙ sym (same_answer whole part c o reads about same ∙ ap (λ (p : Option Refusal). option_map_or Err p (Ok (reply_of part c))) is)
+
+none_of : {X Y Z : Type 0} (f : X → Y) (g : X → Z) (x : Option X) → is_some (option_map f x) ≡ false → option_map g x ≡ None
+none_of f g (Some x) e = cc
+none_of f g None e = refl
+
+-- an object that is not there holds what it holds in the empty store
+pub not_there : (s : Store) (o : Object) → is_live (shapes_of s) o ≡ false → content_at s o ≡ content_at empty_store o
+not_there s (object.Matrix a) e = none_of matrix_shape MatrixContent (matrix_at s a) (sym (ap is_some (object_at-map matrix_shape s.matrices a.0)) ∙ e)
+not_there s (object.Vector v) e = none_of vector_shape VectorContent (vector_at s v) (sym (ap is_some (object_at-map vector_shape s.vectors v.0)) ∙ e)
+
+-- the answer to a call that is not refused is its reply
+pub replied : (s : Store) (c : Call) (r : Reply) → refused s c ≡ None → ◌≡◌ {A = Result Reply Refusal} (Ok r) (answer s c) → r ≡ reply_of s c
+replied s c r accepted is = same_ok r (reply_of s c) (is ∙ ap (λ (p : Option Refusal). option_map_or Err p (Ok (reply_of s c))) accepted) where
+  same_ok : (a b : Reply) → ◌≡◌ {A = Result Reply Refusal} (Ok a) (Ok b) → a ≡ b
+  same_ok a b e = cc
+
+pub not_refused : (s : Store) (c : Call) (r : Refusal) → refused s c ≡ None → ◌≡◌ {A = Result Reply Refusal} (Err r) (answer s c) → ⊥
+not_refused s c r accepted is = apart r (reply_of s c) (is ∙ ap (λ (p : Option Refusal). option_map_or Err p (Ok (reply_of s c))) accepted) where
+  apart : (a : Refusal) (b : Reply) → ◌≡◌ {A = Result Reply Refusal} (Err a) (Ok b) → ⊥
+  apart a b e = cc
+
+-- a part that holds more
+pub narrowed : (v w : Wants) (whole part : Store) → ((p : Object) → w p ≡ true → v p ≡ true) → Follows v whole part → Follows w whole part
+narrowed v w whole part sub f = record { matrices = f.matrices; vectors = f.vectors; agree = λ o is. f.agree o (sub o is) }
+
+-- an equal store
+pub follows_same : (w : Wants) (whole part : Store) → part ≡ whole → Follows w whole part
+follows_same w whole part e = record { matrices = ap (λ (s : Store). length s.matrices) e; vectors = ap (λ (s : Store). length s.vectors) e; agree = λ o is. ap (λ (s : Store). content_at s o) (sym e) }
+
+-- what is wanted behind the calls, where the part holds what their slice wants before them
+module _ (v w : Wants) (cs : List Call) (ts : List (Option Object)) (bs : List Bool) (slice : Slice) (found : IsSliceFor slice w ts cs) (whole part made : Store)
+    (targets : ts ≡ targets_of (shapes_of whole) cs) (chosen : bs ≡ slice.chosen.items) (goes : (u : Wants) (s : Store) → GoesOn u s cs ts bs part → HasGoneOver u s cs ts part made) where
+  pub goes_over : ((p : Object) → is_wanted slice.wanted p ≡ true → v p ≡ true) → Follows v whole part → HasGoneOver w whole cs ts part made
+  goes_over sub follows = goes w whole (record {
+    targets_are = targets;
+    chosen_are = chosen ∙ found.chosen;
+    follows = narrowed v (sliced w (entries ts cs)).wanted whole part (λ p is. sub p (found.wanted p ∙ is)) follows;
+  })
+
+-- how many calls were made
+pub tasks_none : (s : Store) (o : Object) (cs : List Call) (u : ObjectShapes) → u ≡ shapes_of (after_all s cs) → is_live u o ≡ false → 0 ≡ tasks_of s o cs
+tasks_none s o cs u is gone = by (is_live (shapes_of (after_all s cs)) o) (ap (λ (t : ObjectShapes). is_live t o) (sym is) ∙ gone)
+  where
+    by : (b : Bool) → b ≡ false → 0 ≡ (if b then length (tasks_for s o cs) else 0)
+    by true e = cc
+    by false e = refl
+
+pub tasks_all : (s : Store) (o : Object) (cs : List Call) (u : ObjectShapes) (n : ℕ) → u ≡ shapes_of (after_all s cs) → is_live u o ≡ true → n ≡ length (tasks_for s o cs) → n ≡ tasks_of s o cs
+tasks_all s o cs u n is live count = by (is_live (shapes_of (after_all s cs)) o) (ap (λ (t : ObjectShapes). is_live t o) (sym is) ∙ live)
+  where
+    by : (b : Bool) → b ≡ true → n ≡ (if b then length (tasks_for s o cs) else 0)
+    by true e = count
+    by false e = cc

@@ -1,0 +1,21 @@
+use Rattle.std.proofs.Common.{◌≡◌, ◌+◌, ◌-◌, ◌≤◌, drop, take}
+use Rattle.grb_call.specs.Store.{Store}
+use Rattle.grb_call.specs.History.{after_all}
+use Rattle.grb_slices.specs.Content.{content_at}
+use Rattle.grb_slices.specs.Slice.{Wants, entries, evaluated, sliced}
+use Rattle.grb_slices.specs.Followed.{GoesOn}
+use Rattle.grb_slices.proofs.Going.{HasCome}
+use Rattle.grb_replay.proofs.making.make_chosen.Given as goal
+
+abbrev pub invariant-places : goal.invariant-places
+invariant-places g l = record {
+  same : l.calls ≡ l.initial.calls;
+  begun : l.fn.from ≤ l.at;
+  room : l.initial.state.room + l.fn.from ≤ l.state.room + l.at;
+  come : (w : Wants) (whole : Store) → GoesOn w whole (drop l.fn.from (g.C.CallList.calls l.source l.initial.calls)) (drop l.fn.from (g.C.CallList.target_list l.initial.calls)) l.chosen l.initial.state.store →
+      HasCome w (evaluated (content_at l.initial.state.store) (sliced w (entries (drop l.fn.from (g.C.CallList.target_list l.initial.calls)) (drop l.fn.from (g.C.CallList.calls l.source l.initial.calls)))).tasks)
+      (drop (l.at - l.fn.from) (drop l.fn.from (g.C.CallList.target_list l.initial.calls))) (drop (l.at - l.fn.from) (drop l.fn.from (g.C.CallList.calls l.source l.initial.calls))) l.state.store;
+  goes : (w : Wants) (whole : Store) → GoesOn w whole (drop l.fn.from (g.C.CallList.calls l.source l.initial.calls)) (drop l.fn.from (g.C.CallList.target_list l.initial.calls)) l.chosen l.initial.state.store →
+      GoesOn w (after_all whole (take (l.at - l.fn.from) (drop l.fn.from (g.C.CallList.calls l.source l.initial.calls)))) (drop (l.at - l.fn.from) (drop l.fn.from (g.C.CallList.calls l.source l.initial.calls)))
+      (drop (l.at - l.fn.from) (drop l.fn.from (g.C.CallList.target_list l.initial.calls))) (drop (l.at - l.fn.from) l.chosen) l.state.store;
+}

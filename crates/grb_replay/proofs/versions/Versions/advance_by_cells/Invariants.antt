@@ -1,0 +1,11 @@
+use Rattle.std.proofs.Common.{◌≡◌, ◌≤◌}
+use Rattle.grb_replay.proofs.versions.Versions.advance_by_cells.Given as goal
+
+abbrev pub invariant-cells : goal.invariant-cells
+invariant-cells l = record {
+  fits : l.k ≤ l.self;
+  same : l.state ≡ l.initial.state;
+}
+
+abbrev pub decreases-cells : goal.decreases-cells
+decreases-cells l = l.k

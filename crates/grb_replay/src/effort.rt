@@ -1,0 +1,207 @@
+//! How much work calls are, as a number of sets. It steers what is evaluated, and no answer depends on it.
+ghost use Rattle.std.specs.Prelude.{◌≡◌, ◌+◌, ◌<◌, OnOk, OnErr};
+ghost use Rattle.grb_call.specs.After.{after};
+
+use grb_call::{Call, objects_read};
+use grb_state::State;
+use std::alloc::{AllocError, Global};
+
+/// What an operation is taken to be at least before one was made, as a number of sets (own).
+const UNKNOWN: u64 = 16;
+
+/// How many entries an operation reads or leaves in the time of a set, about, and a build takes (own).
+const ENTRIES: u64 = 8;
+
+/// How many calls, or entries of a list, are compared in the time of a set, about, and how many are copied (own).
+const COMPARED: u64 = 8;
+
+const COPIED: u64 = 4;
+
+/// What the call changes its object by.
+enum Work {
+    /// An operation on other objects.
+    Operation,
+    /// A list of so many entries.
+    List(usize),
+    /// One entry, or the whole object at once.
+    Step,
+}
+
+/// Of which sort the work of a call is.
+fn work_of(call: &Call) -> Work {
+    match call {
+        Call::EwiseAddMatrix { .. }
+        | Call::EwiseAddVector { .. }
+        | Call::EwiseMultMatrix { .. }
+        | Call::EwiseMultVector { .. }
+        | Call::Mxv { .. }
+        | Call::Vxm { .. }
+        | Call::Mxm { .. }
+        | Call::ReduceRows { .. } => Work::Operation,
+        Call::BuildMatrix { tuples, .. } => Work::List(tuples.as_slice().len()),
+        Call::BuildVector { tuples, .. } => Work::List(tuples.as_slice().len()),
+        _ => Work::Step,
+    }
+}
+
+/// How much work some calls are: so many operations, and what the other calls take, as a number of sets; and how many calls and entries of
+/// lists they are (own). No contract says any of it.
+#[derive(Clone, Copy)]
+pub struct Amount {
+    operations: u64,
+    sets: u64,
+    parts: u64,
+}
+
+impl Amount {
+    /// Of no call.
+    pub fn none() -> Amount {
+        Amount {
+            operations: 0,
+            sets: 0,
+            parts: 0,
+        }
+    }
+
+    /// Of one call more. Takes no memory.
+    pub fn add(&mut self, call: &Call) {
+        self.parts = self.parts.saturating_add(1);
+        match work_of(call) {
+            Work::Operation => self.operations = self.operations.saturating_add(1),
+            Work::List(entries) => {
+                let sets = 1 + entries as u64 / ENTRIES;
+                self.sets = self.sets.saturating_add(sets);
+                self.parts = self.parts.saturating_add(entries as u64);
+            }
+            Work::Step => self.sets = self.sets.saturating_add(1),
+        }
+    }
+
+    /// What it takes to compare the calls with others, as a number of sets. Takes no memory.
+    pub fn compared(&self) -> u64 {
+        self.parts / COMPARED
+    }
+
+    /// What copies of the calls take, as a number of sets. Takes no memory.
+    pub fn copied(&self) -> u64 {
+        self.parts / COPIED
+    }
+
+    /// Whether there are operations among them. Takes no memory.
+    pub fn has_operations(&self) -> bool {
+        self.operations > 0
+    }
+
+    /// Of the calls that are not among those of this part. Takes no memory.
+    pub fn beyond(&self, part: &Amount) -> Amount {
+        Amount {
+            operations: self.operations.saturating_sub(part.operations),
+            sets: self.sets.saturating_sub(part.sets),
+            parts: self.parts.saturating_sub(part.parts),
+        }
+    }
+}
+
+/// How many entries an operation read and left.
+fn entries_at(alloc: Global, state: &State, call: &Call) -> u64 {
+    let mut entries = match call.output() {
+        Some(object) => state.nvals(object),
+        None => 0,
+    };
+    for object in objects_read(alloc, call).as_slice() {
+        entries = entries.saturating_add(state.nvals(*object));
+    }
+    entries
+}
+
+/// What calls take that are made, as a number of sets: an operation by the entries that it read and left. What one takes that is not yet
+/// made is estimated by those that were (own). No contract says any of these numbers.
+#[derive(Drop)]
+pub struct Effort {
+    alloc: Global,
+    // How many calls were made since it last began to count, and what they took.
+    made: u32,
+    spent: u64,
+    // All operations so far, and what they took.
+    operations: u64,
+    sets: u64,
+}
+
+impl Effort {
+    /// No call was made.
+    pub fn new(alloc: Global) -> Effort {
+        Effort {
+            alloc,
+            made: 0,
+            spent: 0,
+            operations: 0,
+            sets: 0,
+        }
+    }
+
+    /// Begins to count. Takes no memory.
+    pub fn begin(&mut self) {
+        self.made = 0;
+        self.spent = 0;
+    }
+
+    /// How many calls were made since it began to count, each as often as it was made; one that was refused memory counts. Takes no memory.
+    pub fn made(&self) -> u32 {
+        self.made
+    }
+
+    /// What the calls took that were made since it began to count. Takes no memory.
+    pub fn spent(&self) -> u64 {
+        self.spent
+    }
+
+    /// Whether no operation was made, so that nothing is known of what one takes. Takes no memory.
+    pub fn is_unknown(&self) -> bool {
+        self.operations == 0
+    }
+
+    /// What these calls take. Before an operation was made, one is taken to be as much as all else of them. Takes no memory.
+    pub fn of(&self, amount: &Amount) -> u64 {
+        let each = match self.operations {
+            0 => amount.sets.max(UNKNOWN),
+            operations => (self.sets / operations).saturating_add(1),
+        };
+        amount
+            .sets
+            .saturating_add(amount.operations.saturating_mul(each))
+    }
+
+    /// Counts an operation that was made.
+    fn learn(&mut self, state: &State, call: &Call) {
+        let sets = 1 + entries_at(self.alloc, state, call) / ENTRIES;
+        self.operations = self.operations.saturating_add(1);
+        self.sets = self.sets.saturating_add(sets);
+        self.spent = self.spent.saturating_add(sets);
+    }
+
+    /// Counts the work of a call that was made.
+    fn count(&mut self, state: &State, call: &Call) {
+        match work_of(call) {
+            Work::Operation => self.learn(state, call),
+            Work::List(entries) => {
+                let sets = 1 + entries as u64 / ENTRIES;
+                self.spent = self.spent.saturating_add(sets);
+            }
+            Work::Step => self.spent = self.spent.saturating_add(1),
+        }
+    }
+
+    /// Makes the call on the state, as [`State::apply`] does, and counts it.
+    pub fn make(&mut self, state: &mut State, call: &Call) -> Result<(), AllocError>
+        requires { 0 < state.old.room }
+        ensures store { OnOk result (state.new.store ≡ after state.old.store call.now) }
+        ensures room { OnOk result (state.new.room + 1 ≡ state.old.room) }
+        ensures err_store { OnErr result (state.new.store ≡ state.old.store) }
+        ensures err_room { OnErr result (state.new.room ≡ state.old.room) }
+    {
+        self.made = self.made.saturating_add(1);
+        state.apply(call)?;
+        self.count(state, call);
+        Ok(())
+    }
+}

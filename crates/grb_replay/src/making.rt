@@ -1,0 +1,82 @@
+//! Calls that are made on a state one by one, with a place for each object that is passed over.
+ghost use Rattle.std.specs.Prelude.{◌≡◌, ◌+◌, ◌<◌, ◌≤◌, false, true, Some, drop, length, slice_get, OnOk, OnErr};
+ghost use Rattle.grb_call.specs.declared.call.Call.{Call};
+ghost use Rattle.grb_call.specs.Store.{Store, shapes_of};
+ghost use Rattle.grb_slices.specs.Content.{effective_target};
+ghost use Rattle.grb_slices.specs.Slice.{Wants};
+ghost use Rattle.grb_slices.specs.Followed.{GoesOn, HasGoneOver, HasPlaceIn, LacksPlaceIn, part_after};
+
+use crate::effort::Effort;
+use grb_call::Object;
+use grb_slices::CallList;
+use grb_state::State;
+use std::alloc::AllocError;
+
+/// Whether the state has a place for the object: it was made, whether or not it was freed.
+fn has_place(state: &State, object: Object) -> bool
+    ensures has { result ≡ true → HasPlaceIn state.now.store object }
+    ensures lacks { result ≡ false → LacksPlaceIn state.now.store object }
+{
+    match object {
+        Object::Matrix(a) => a.0 < state.matrices(),
+        Object::Vector(v) => v.0 < state.vectors(),
+    }
+}
+
+/// Makes the call at this place on a state where it is chosen, and counts its effort; of one that is not, which is not read, the
+/// object that it would make gets a place, and is not there. `AllocError` where memory is refused.
+fn make_one<S, C: CallList<S>>(
+    state: &mut State,
+    target: Option<Object>,
+    calls: &mut C,
+    source: &S,
+    at: usize,
+    is_chosen: bool,
+    effort: &mut Effort,
+) -> Result<(), AllocError>
+    requires held { C.is_in source.now calls.old }
+    requires at { at < length (C.calls source.now calls.old) }
+    requires room { 0 < state.old.room }
+    ensures same { calls.new ≡ calls.old }
+    ensures store { OnOk result ((call : Call) (whole : Store) → slice_get (C.calls source.now calls.old) at ≡ Some call → target ≡ effective_target (shapes_of whole) call → length state.old.store.matrices ≡ length whole.matrices → length state.old.store.vectors ≡ length whole.vectors → state.new.store ≡ part_after is_chosen target call state.old.store) }
+    ensures room { OnOk result (state.old.room ≤ state.new.room + 1) }
+{
+    if is_chosen {
+        return effort.make(state, calls.call_at(source, at));
+    }
+    let Some(object) = target else {
+        return Ok(());
+    };
+    if has_place(state, object) {
+        return Ok(());
+    }
+    state.add_place(object);
+    Ok(())
+}
+
+/// Makes, of the calls from a place on, which come one after another on a whole store, those that were chosen, on a state that holds of it
+/// what is wanted before them; after them the state holds what is wanted then, as the whole store does after all of them, and no other call
+/// has changed it. The effort of each call that it makes is counted. `AllocError` where memory is refused; what the state holds then is not said.
+pub(crate) fn make_chosen<S, C: CallList<S>>(
+    state: &mut State,
+    calls: &mut C,
+    source: &S,
+    from: usize,
+    chosen: &[bool],
+    effort: &mut Effort,
+) -> Result<(), AllocError>
+    requires held { C.is_in source.now calls.old }
+    requires targets { length (C.target_list calls.old) ≡ length (C.calls source.now calls.old) }
+    requires chosen { from + length chosen.now ≡ length (C.calls source.now calls.old) }
+    requires room { length chosen.now ≤ state.old.room }
+    ensures same { calls.new ≡ calls.old }
+    ensures room { OnOk result (state.old.room ≤ state.new.room + length chosen.now) }
+    ensures over { OnOk result ((w : Wants) (whole : Store) → GoesOn w whole (drop from (C.calls source.now calls.old)) (drop from (C.target_list calls.old)) chosen.now state.old.store
+        → HasGoneOver w whole (drop from (C.calls source.now calls.old)) (drop from (C.target_list calls.old)) state.old.store state.new.store) }
+{
+    'places: for at in from..calls.targets().len() {
+        let target = calls.targets()[at];
+        make_one(state, target, calls, source, at, chosen[at - from], effort)?;
+    }
+    Ok(())
+}

@@ -1,0 +1,194 @@
+//! A state in which the calls of the slice of some objects were made, and no other.
+ghost use Rattle.std.specs.Prelude.{◌≡◌, ◌+◌, ◌<◌, ◌≤◌, ◌^◌, false, true, Some, drop, length, IfOk, OnOk};
+ghost use Rattle.std.specs.Option.{option_map, option_map_or};
+ghost use Rattle.grb_call.specs.Kinds.{enters, is_size};
+ghost use Rattle.grb_call.specs.Status.{object_of};
+ghost use Rattle.grb_call.specs.Store.{Store, empty_store, matrix_at, shapes_of, vector_at};
+ghost use Rattle.grb_call.specs.After.{answer};
+ghost use Rattle.grb_call.specs.History.{after_all};
+ghost use Rattle.grb_state.specs.Settled.{AreAllAssembled};
+ghost use Rattle.grb_state.specs.State.{is_assembled};
+ghost use Rattle.grb_slices.specs.Content.{content_at};
+ghost use Rattle.grb_slices.specs.Followed.{Follows, HoldsTasks, targets_of};
+ghost use Rattle.grb_slices.specs.Slice.{entries, sliced};
+ghost use Rattle.grb_slices.specs.SliceFor.{IsSliceFor};
+ghost use Rattle.grb_slices.specs.Wanted.{is_wanted};
+
+use crate::effort::Effort;
+use crate::making::make_chosen;
+use grb_call::{Call, MatrixId, Object, Reply, VectorId};
+use grb_core::Refusal;
+use grb_slices::{CallList, Slice, Wanted};
+use grb_sparse::{SparseMatrix, SparseVector};
+use grb_state::State;
+use std::alloc::{AllocError, Global};
+use std::marker::Model;
+
+/// Some objects of a store at one place of a list of calls. They go on to a later place by the calls that they depend on; what the other
+/// objects hold is left behind.
+#[derive(Drop)]
+pub struct PartialStore {
+    state: State,
+    // The objects that hold in the state what they hold in the store.
+    objects: Wanted,
+}
+
+impl Model for PartialStore {
+    ghost use Rattle.grb_replay.specs.Partial.{PartialStoreView};
+
+    ghost Value = { PartialStoreView };
+
+    ghost view = { λ p. record { state = p.state; objects = p.objects } };
+}
+
+impl PartialStore {
+    /// No objects. Takes no memory.
+    pub fn empty(alloc: Global) -> PartialStore
+        ensures store { result.state.store ≡ empty_store }
+        ensures assembled { AreAllAssembled (is_assembled result.state.matrices result.state.vectors) }
+    {
+        PartialStore {
+            state: State::empty(alloc),
+            objects: Wanted::new(alloc),
+        }
+    }
+
+    /// The wanted objects after the calls from a place on, which come on the store, by only the calls of the slice, with room for so many
+    /// calls on the store: every other object is as it was before them, and one that would have been made is not there. No entry is copied
+    /// but of objects that these calls change. The effort of each call of the slice is counted. `AllocError` where memory is refused; the
+    /// store is as it was (own).
+    pub fn of<S, C: CallList<S>>(
+        whole: &State,
+        calls: &mut C,
+        source: &S,
+        from: usize,
+        slice: &Slice,
+        wanted: Wanted,
+        room: u32,
+        effort: &mut Effort,
+    ) -> Result<PartialStore, AllocError>
+        requires held { C.is_in source.now calls.old }
+        requires count { length (C.target_list calls.old) ≡ length (C.calls source.now calls.old) }
+        requires from { from ≤ length (C.calls source.now calls.old) }
+        requires room { length (C.calls source.now calls.old) ≤ room + from }
+        requires matrices { length whole.now.store.matrices + room < 2 ^ 32 }
+        requires vectors { length whole.now.store.vectors + room < 2 ^ 32 }
+        requires targets { drop from (C.target_list calls.old) ≡ targets_of (shapes_of whole.now.store) (drop from (C.calls source.now calls.old)) }
+        requires slice { IsSliceFor slice.now (is_wanted wanted) (drop from (C.target_list calls.old)) (drop from (C.calls source.now calls.old)) }
+        ensures same { calls.new ≡ calls.old }
+        ensures objects { IfOk result (λ partial. partial.objects ≡ wanted) }
+        ensures follows { IfOk result (λ partial. Follows (is_wanted wanted) (after_all whole.now.store (drop from (C.calls source.now calls.old))) partial.state.store) }
+        ensures tasks { IfOk result (λ partial. HoldsTasks (content_at whole.now.store) (sliced (is_wanted wanted) (entries (drop from (C.target_list calls.old)) (drop from (C.calls source.now calls.old)))).tasks partial.state.store) }
+        ensures room { IfOk result (λ partial. room + from ≤ partial.state.room + length (C.calls source.now calls.old)) }
+    {
+        let mut state = whole.try_clone(room)?;
+        make_chosen(
+            &mut state,
+            calls,
+            source,
+            from,
+            slice.chosen.as_slice(),
+            effort,
+        )?;
+        Ok(PartialStore {
+            state,
+            objects: wanted,
+        })
+    }
+
+    /// Goes on by the calls from a place on, those of the slice alone: it holds the wanted objects then, where it held what is wanted before
+    /// the calls. The effort of each call of the slice is counted. `AllocError` where memory is refused; what it holds then is not said
+    /// (own).
+    pub fn go_on<S, C: CallList<S>>(
+        &mut self,
+        calls: &mut C,
+        source: &S,
+        from: usize,
+        slice: &Slice,
+        wanted: Wanted,
+        effort: &mut Effort,
+    ) -> Result<(), AllocError>
+        requires held { C.is_in source.now calls.old }
+        requires count { length (C.target_list calls.old) ≡ length (C.calls source.now calls.old) }
+        requires from { from ≤ length (C.calls source.now calls.old) }
+        requires room { length (C.calls source.now calls.old) ≤ self.old.state.room + from }
+        requires slice { IsSliceFor slice.now (is_wanted wanted) (drop from (C.target_list calls.old)) (drop from (C.calls source.now calls.old)) }
+        requires within { (o : Object) → is_wanted slice.now.wanted o ≡ true → is_wanted self.old.objects o ≡ true }
+        ensures same { calls.new ≡ calls.old }
+        ensures objects { OnOk result (self.new.objects ≡ wanted) }
+        ensures follows { OnOk result ((whole : Store) → drop from (C.target_list calls.old) ≡ targets_of (shapes_of whole) (drop from (C.calls source.now calls.old)) → Follows (is_wanted self.old.objects) whole self.old.state.store
+            → Follows (is_wanted wanted) (after_all whole (drop from (C.calls source.now calls.old))) self.new.state.store) }
+        ensures tasks { OnOk result ((whole : Store) → drop from (C.target_list calls.old) ≡ targets_of (shapes_of whole) (drop from (C.calls source.now calls.old)) → Follows (is_wanted self.old.objects) whole self.old.state.store
+            → HoldsTasks (content_at self.old.state.store) (sliced (is_wanted wanted) (entries (drop from (C.target_list calls.old)) (drop from (C.calls source.now calls.old)))).tasks self.new.state.store) }
+        ensures room { OnOk result (self.old.state.room + from ≤ self.new.state.room + length (C.calls source.now calls.old)) }
+    {
+        make_chosen(
+            &mut self.state,
+            calls,
+            source,
+            from,
+            slice.chosen.as_slice(),
+            effort,
+        )?;
+        self.objects = wanted;
+        Ok(())
+    }
+
+    /// Does the changes that wait in the object, if it is there. `AllocError` where memory is refused; the entries are as before in any
+    /// case.
+    pub fn complete(&mut self, object: Object) -> Result<(), AllocError>
+        ensures objects { self.new.objects ≡ self.old.objects }
+        ensures store { self.new.state.store ≡ self.old.state.store }
+        ensures room { self.new.state.room ≡ self.old.state.room }
+        ensures assembled { OnOk result (is_assembled self.new.state.matrices self.new.state.vectors object ≡ true) }
+    {
+        self.state.complete(object)
+    }
+
+    /// The matrix, as far as it is held. Takes no memory.
+    pub fn matrix(&self, a: MatrixId) -> Option<&SparseMatrix>
+        ensures stored { option_map (λ matrix. matrix.now.matrix) result ≡ matrix_at self.now.state.store a }
+        ensures assembled { option_map_or (λ matrix. matrix.now.assembled) result true ≡ is_assembled self.now.state.matrices self.now.state.vectors (Object.Matrix a) }
+    {
+        self.state.matrix(a)
+    }
+
+    /// The vector, as far as it is held. Takes no memory.
+    pub fn vector(&self, v: VectorId) -> Option<&SparseVector>
+        ensures stored { option_map (λ vector. vector.now.vector) result ≡ vector_at self.now.state.store v }
+        ensures assembled { option_map_or (λ vector. vector.now.assembled) result true ≡ is_assembled self.now.state.matrices self.now.state.vectors (Object.Vector v) }
+    {
+        self.state.vector(v)
+    }
+
+    /// Which objects it holds. Takes no memory.
+    pub fn objects(&self) -> &Wanted
+        ensures { result.now ≡ self.now.objects }
+    {
+        &self.objects
+    }
+
+    /// The answer to a call that only reads the object, as a store answers where the object holds the same. A total and a wait have the
+    /// changes done that wait in it. `AllocError` where memory is refused to that.
+    pub fn answer(
+        &mut self,
+        object: Object,
+        call: &Call,
+    ) -> Result<Result<Reply, Refusal>, AllocError>
+        requires reads { enters call.now ≡ false }
+        requires no_size { is_size call.now ≡ false }
+        requires about { object_of call.now ≡ Some object }
+        ensures answer { IfOk result (λ given. (whole : Store) → content_at whole object ≡ content_at self.old.state.store object → given ≡ answer whole call.now) }
+        ensures objects { self.new.objects ≡ self.old.objects }
+        ensures store { self.new.state.store ≡ self.old.state.store }
+        ensures room { self.new.state.room ≡ self.old.state.room }
+    {
+        match self.state.refused(call) {
+            Some(refusal) => Ok(Err(refusal)),
+            None => {
+                self.state.settle(call)?;
+                Ok(Ok(self.state.reply(call)))
+            }
+        }
+    }
+}

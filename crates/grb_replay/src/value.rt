@@ -1,0 +1,123 @@
+//! One object after calls on any store, from only the calls that it depends on.
+ghost use Rattle.std.specs.Prelude.{◌≡◌, ◌+◌, ◌<◌, ◌^◌, false, true, length, map, IfOk, IfSome};
+ghost use Rattle.std.specs.Option.{option_map};
+ghost use Rattle.grb_call.specs.Shapes.{is_live};
+ghost use Rattle.grb_call.specs.Store.{empty_store, shapes_of};
+ghost use Rattle.grb_call.specs.History.{after_all};
+ghost use Rattle.grb_slices.specs.Content.{content_at};
+ghost use Rattle.grb_slices.specs.Followed.{HoldsTasks};
+ghost use Rattle.grb_replay.specs.Held.{held_matrix, held_vector, tasks_for, tasks_of};
+
+use crate::effort::Effort;
+use crate::partial_store::PartialStore;
+use crate::targets::{LentCalls, Targets};
+use grb_call::{Call, Object};
+use grb_slices::{Wanted, slice_for};
+use grb_sparse::{SparseMatrix, SparseVector};
+use grb_state::State;
+use std::alloc::{AllocError, Global};
+use std::marker::Model;
+
+/// What an object holds after a list of calls, or that it is not there then. No change waits in it.
+#[derive(Drop)]
+pub struct Held {
+    object: Object,
+    store: PartialStore,
+    evaluated: u32,
+}
+
+impl Model for Held {
+    ghost use Rattle.std.specs.Prelude.{◌≡◌, true};
+    ghost use Rattle.grb_state.specs.State.{is_assembled};
+    ghost use Rattle.grb_replay.specs.Held.{HeldObject};
+
+    ghost Value = { HeldObject };
+
+    ghost view = { λ h. record { object = h.object; state = h.store.state; evaluated = h.evaluated } };
+
+    ghost invariant = { λ h. is_assembled h.store.state.matrices h.store.state.vectors h.object ≡ true };
+}
+
+/// What the object holds after these calls on a store, from only the calls that it depends on: what is held is the store that these calls
+/// alone leave, in which an object that others made is not there. The others are passed over by their shapes, and all are, and nothing is
+/// held, where the object is not there after them. The store stays as it is, and no entry is copied but of objects that these calls change.
+/// It takes memory for a place of each object, for the slice and for what its calls make. `AllocError` where memory is refused.
+///
+/// Source: GraphBLAS C API 2.0, "Execution modes": a method may be executed when an answer needs it; the form is own.
+pub fn value_of(
+    alloc: Global,
+    whole: &State,
+    calls: &[&Call],
+    object: Object,
+) -> Result<Held, AllocError>
+    requires matrices { length whole.now.store.matrices + length calls.now < 2 ^ 32 }
+    requires vectors { length whole.now.store.vectors + length calls.now < 2 ^ 32 }
+    ensures object { IfOk result (λ held. held.object ≡ object) }
+    ensures content { IfOk result (λ held. content_at (after_all whole.now.store (map (λ c. c.now) calls.now)) object ≡ content_at held.state.store object) }
+    ensures slice { IfOk result (λ held. is_live (shapes_of (after_all whole.now.store (map (λ c. c.now) calls.now))) object ≡ true → HoldsTasks (content_at whole.now.store) (tasks_for whole.now.store object (map (λ c. c.now) calls.now)) held.state.store) }
+    ensures gone { IfOk result (λ held. is_live (shapes_of (after_all whole.now.store (map (λ c. c.now) calls.now))) object ≡ false → held.state.store ≡ empty_store) }
+    ensures evaluated { IfOk result (λ held. held.evaluated ≡ tasks_of whole.now.store object (map (λ c. c.now) calls.now)) }
+{
+    let room = calls.len() as u32;
+    let mut walk = Targets::of(alloc, whole.shapes(), room)?;
+    walk.go_on(calls);
+    if !walk.contains(object) {
+        return Ok(Held {
+            object,
+            store: PartialStore::empty(alloc),
+            evaluated: 0,
+        });
+    }
+    let source = LentCalls { calls };
+    let mut wanted = Wanted::new(alloc);
+    wanted.want(object)?;
+    let slice = slice_for(alloc, &mut walk, &source, 0, wanted.try_clone()?)?;
+    let mut effort = Effort::new(alloc);
+    let mut store = PartialStore::of(
+        whole,
+        &mut walk,
+        &source,
+        0,
+        &slice,
+        wanted,
+        room,
+        &mut effort,
+    )?;
+    store.complete(object)?;
+    Ok(Held {
+        object,
+        store,
+        evaluated: slice.count as u32,
+    })
+}
+
+impl Held {
+    /// The object, where it is a matrix that is there; no change waits in it. Takes no memory.
+    pub fn matrix(&self) -> Option<&SparseMatrix>
+        ensures stored { option_map (λ matrix. matrix.now.matrix) result ≡ held_matrix self.now.state.store self.now.object }
+        ensures assembled { IfSome result (λ matrix. matrix.now.assembled ≡ true) }
+    {
+        match self.object {
+            Object::Matrix(a) => self.store.matrix(a),
+            Object::Vector(_) => None,
+        }
+    }
+
+    /// The object, where it is a vector that is there; no change waits in it. Takes no memory.
+    pub fn vector(&self) -> Option<&SparseVector>
+        ensures stored { option_map (λ vector. vector.now.vector) result ≡ held_vector self.now.state.store self.now.object }
+        ensures assembled { IfSome result (λ vector. vector.now.assembled ≡ true) }
+    {
+        match self.object {
+            Object::Matrix(_) => None,
+            Object::Vector(v) => self.store.vector(v),
+        }
+    }
+
+    /// How many calls were made for it: those of its slice. Takes no memory.
+    pub fn evaluated(&self) -> u32
+        ensures { result ≡ self.now.evaluated }
+    {
+        self.evaluated
+    }
+}

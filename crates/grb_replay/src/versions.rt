@@ -1,0 +1,253 @@
+//! The versions of a context: one in each cell, set once, and the latest that dear work left.
+ghost use Rattle.std.specs.Prelude.{◌≡◌, ◌+◌, ◌*◌, ◌<◌, ◌≤◌, ◌^◌, true, Ok, IfOk, IfSome, length, map};
+ghost use Rattle.grb_state.specs.Evaluated.{IsEvaluated};
+ghost use Rattle.grb_state.specs.Settled.{AreAllAssembled};
+ghost use Rattle.grb_state.specs.State.{is_assembled};
+ghost use Rattle.grb_replay.specs.Versions.{IsFold, Serves};
+
+use crate::places::{Place, length_of, longest, put, read, shortest};
+use crate::version::Version;
+use counted_slot::Counted;
+use grb_call::Call;
+use grb_state::State;
+use once_cell::race::OnceBox;
+use std::alloc::{AllocError, Global};
+use std::marker::Model;
+
+/// How many lengths of versions share a cell.
+const LENGTHS: usize = 64;
+
+/// How often one who goes on from one of the latest looks for another, where the one that it found does not serve or has made way (own).
+const LOOKS: usize = 8;
+
+/// Evaluated states that passes share. Cell k has place for one whose calls are more than 64 k, and no more than 64 (k + 1); it is set
+/// once. Beside them lie the latest that were left, four at most: a further one takes the place of the one of the fewest calls.
+#[derive(Drop)]
+pub struct Versions {
+    alloc: Global,
+    cells: Vec<OnceBox<Version>>,
+    latest: [Place; 4],
+}
+
+impl Model for Versions {
+    ghost use Rattle.std.specs.Prelude.{ℕ, length};
+
+    ghost Value = { ℕ };
+
+    ghost view = { λ v. length v.cells.items };
+}
+
+impl Versions {
+    /// Places for the versions of histories of up to `room` calls. `AllocError` where memory is refused.
+    pub fn open(alloc: Global, room: u32) -> Result<Versions, AllocError>
+        ensures places { IfOk result (λ versions. (room ≤ 64 * versions) × (64 * versions < room + 64)) }
+    {
+        let count = (room as usize).div_ceil(LENGTHS);
+        let mut cells = Vec::with_capacity(alloc, count)?;
+        for _ in 0..count {
+            cells.push_reserved(OnceBox::new(alloc));
+        }
+        let latest = [
+            Counted::new(None, &()),
+            Counted::new(None, &()),
+            Counted::new(None, &()),
+            Counted::new(None, &()),
+        ];
+        Ok(Versions {
+            alloc,
+            cells,
+            latest,
+        })
+    }
+
+    /// The cell for a version of so many calls; none for no calls, and for more than there are places for.
+    fn cell_for(&self, count: usize) -> Option<&OnceBox<Version>>
+        ensures { IfSome result (λ cell. (0 < count) × (count ≤ 64 * self.now)) }
+    {
+        if count == 0 {
+            return None;
+        }
+        self.cells.get((count - 1) / LENGTHS)
+    }
+
+    /// Whether a version of so many calls would be kept: there is a cell for it, and the cell is empty. Takes no memory.
+    pub fn takes(&self, count: usize) -> bool
+        ensures { result ≡ true → (0 < count) × (count ≤ 64 * self.now) }
+    {
+        match self.cell_for(count) {
+            Some(cell) => cell.get().is_none(),
+            None => false,
+        }
+    }
+
+    /// Keeps the state of these calls, in which no change waits, unless its cell has one, or there is none, as of no calls and of more than
+    /// there are places for: then it takes no memory. `AllocError` where memory is refused; then nothing is kept.
+    pub fn offer(&self, calls: &[&Call], state: State) -> Result<(), AllocError>
+        requires fold { IsFold (map (λ c. c.now) calls.now) state.store }
+        requires assembled { AreAllAssembled (is_assembled state.matrices state.vectors) }
+        ensures none { length calls.now ≡ 0 → result ≡ Ok tt }
+        ensures beyond { 64 * self.now < length calls.now → result ≡ Ok tt }
+    {
+        let Some(cell) = self.cell_for(calls.len()) else {
+            return Ok(());
+        };
+        if cell.get().is_some() {
+            return Ok(());
+        }
+        let version = Version::of(self.alloc, calls, state)?;
+        let boxed = Box::new(self.alloc, version)?;
+        let _ = cell.set(boxed);
+        Ok(())
+    }
+
+    /// The longest version in a cell whose calls begin these: how many calls it has, and the state that they leave, in which no change waits.
+    /// Takes no memory.
+    pub fn newest(&self, calls: &[&Call]) -> Option<(usize, &State)>
+        ensures serves { IfSome result (λ found. Serves (map (λ c. c.now) calls.now) found.0 found.1.now.store) }
+        ensures assembled { IfSome result (λ found. AreAllAssembled (is_assembled found.1.now.matrices found.1.now.vectors)) }
+    {
+        let mut k = calls.len().div_ceil(LENGTHS).min(self.cells.len());
+        'cells: while k > 0 {
+            k -= 1;
+            if let Some(version) = self.cells[k].get() {
+                let version: &Version = version;
+                if let Some(found) = version.serving(calls) {
+                    return Some(found);
+                }
+            }
+        }
+        None
+    }
+
+    /// Keeps the state of these calls, in which no change waits, among the latest, of which there are four, in place of the one of the fewest
+    /// calls. It is not kept where each of the latest has as many calls or is read at the moment, nor of no calls, nor of 2^32 or more: then
+    /// it takes no memory. `AllocError` where memory is refused; then nothing is kept.
+    pub fn leave(&self, calls: &[&Call], state: State) -> Result<(), AllocError>
+        requires fold { IsFold (map (λ c. c.now) calls.now) state.store }
+        requires assembled { AreAllAssembled (is_assembled state.matrices state.vectors) }
+        ensures none { length calls.now ≡ 0 → result ≡ Ok tt }
+        ensures beyond { 2 ^ 32 ≤ length calls.now → result ≡ Ok tt }
+    {
+        let Ok(count) = u32::try_from(calls.len()) else {
+            return Ok(());
+        };
+        let Some(seen) = shortest(&self.latest, calls.len()) else {
+            return Ok(());
+        };
+        let latest = Version::of(self.alloc, calls, state)?;
+        put(&self.latest[seen.at], seen.word, count, latest);
+        Ok(())
+    }
+
+    /// Whether a cell has a version of more calls than are evaluated, and of no more than are known.
+    fn has_cell_beyond(&self, evaluated: usize, known: usize) -> bool {
+        let end = known.div_ceil(LENGTHS).min(self.cells.len());
+        for k in evaluated / LENGTHS..end {
+            if let Some(version) = self.cells[k].get() {
+                let version: &Version = version;
+                if evaluated < version.count() && version.count() <= known {
+                    return true;
+                }
+            }
+        }
+        false
+    }
+
+    /// Whether one of the latest has more calls than are evaluated, and no more than are known. Takes no memory, and compares no call.
+    pub fn has_latest_beyond(&self, evaluated: usize, known: usize) -> bool {
+        longest(&self.latest, evaluated, known).is_some()
+    }
+
+    /// Whether there is a version of more calls than are evaluated, and of no more than are known, in a cell or among the latest. Takes no
+    /// memory, and compares no call.
+    pub fn has_beyond(&self, evaluated: usize, known: usize) -> bool {
+        self.has_latest_beyond(evaluated, known) || self.has_cell_beyond(evaluated, known)
+    }
+
+    /// The same as `advance`, by the latest alone.
+    fn advance_by_latest(
+        &self,
+        calls: &[&Call],
+        state: &mut State,
+        evaluated: usize,
+        room: u32,
+    ) -> usize
+        requires few { length calls.now ≤ room }
+        requires evaluated { IsEvaluated (map (λ c. c.now) calls.now) evaluated state.old.store }
+        requires room { room ≤ state.old.room + evaluated }
+        ensures evaluated { IsEvaluated (map (λ c. c.now) calls.now) result state.new.store }
+        ensures further { evaluated ≤ result }
+        ensures room { room ≤ state.new.room + result }
+        ensures stays { result ≡ evaluated → state.new ≡ state.old }
+        ensures assembled { evaluated < result → AreAllAssembled (is_assembled state.new.matrices state.new.vectors) }
+    {
+        let mut most = calls.len();
+        'looks: for _ in 0..LOOKS {
+            let Some(seen) = longest(&self.latest, evaluated, most) else {
+                return evaluated;
+            };
+            if let Some(claim) = read(&self.latest[seen.at], seen.word) {
+                let version: &Option<Version> = claim.get();
+                let count = match version {
+                    Some(version) => version.advance(calls, state, evaluated, room),
+                    None => evaluated,
+                };
+                let _ = claim.leave();
+                if count > evaluated {
+                    return count;
+                }
+                most = length_of(seen.word).saturating_sub(1);
+            }
+        }
+        evaluated
+    }
+
+    /// The same as `advance`, by the cells alone.
+    fn advance_by_cells(
+        &self,
+        calls: &[&Call],
+        state: &mut State,
+        evaluated: usize,
+        room: u32,
+    ) -> usize
+        requires few { length calls.now ≤ room }
+        requires evaluated { IsEvaluated (map (λ c. c.now) calls.now) evaluated state.old.store }
+        requires room { room ≤ state.old.room + evaluated }
+        ensures evaluated { IsEvaluated (map (λ c. c.now) calls.now) result state.new.store }
+        ensures further { evaluated ≤ result }
+        ensures room { room ≤ state.new.room + result }
+        ensures stays { result ≡ evaluated → state.new ≡ state.old }
+        ensures assembled { evaluated < result → AreAllAssembled (is_assembled state.new.matrices state.new.vectors) }
+    {
+        let mut k = calls.len().div_ceil(LENGTHS).min(self.cells.len());
+        'cells: while k > evaluated / LENGTHS {
+            k -= 1;
+            if let Some(version) = self.cells[k].get() {
+                let version: &Version = version;
+                let count = version.advance(calls, state, evaluated, room);
+                if count > evaluated {
+                    return count;
+                }
+            }
+        }
+        evaluated
+    }
+
+    /// Puts the longest version found whose calls begin these in place of a state that is evaluated less far: of so many of these calls,
+    /// in a history that takes `room` calls. It answers how many the state is of then. Where no such version is found, or memory for its
+    /// places is refused, the state stays as it is. No entry is copied, and no call compared with those of a version that has no more calls
+    /// than the state.
+    pub fn advance(&self, calls: &[&Call], state: &mut State, evaluated: usize, room: u32) -> usize
+        requires few { length calls.now ≤ room }
+        requires evaluated { IsEvaluated (map (λ c. c.now) calls.now) evaluated state.old.store }
+        requires room { room ≤ state.old.room + evaluated }
+        ensures evaluated { IsEvaluated (map (λ c. c.now) calls.now) result state.new.store }
+        ensures further { evaluated ≤ result }
+        ensures room { room ≤ state.new.room + result }
+        ensures stays { result ≡ evaluated → state.new ≡ state.old }
+        ensures assembled { evaluated < result → AreAllAssembled (is_assembled state.new.matrices state.new.vectors) }
+    {
+        let reached = self.advance_by_latest(calls, state, evaluated, room);
+        self.advance_by_cells(calls, state, reached, room)
+    }
+}

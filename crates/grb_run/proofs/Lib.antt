@@ -1,0 +1,15 @@
+mod CommandLineRows
+mod PrintedRows
+pub mod AloneRuns
+pub mod CommandLineReads
+pub mod DefaultReads
+pub mod Explained
+pub mod FileBytes
+pub mod LoadLemmas
+pub mod OnePass
+pub mod Runs
+pub mod ScriptEnds
+pub mod ScriptRuns
+pub mod Steps
+pub mod ThreadLemmas
+pub mod Wrote

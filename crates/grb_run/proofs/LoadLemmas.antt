@@ -1,0 +1,203 @@
+-- Steps of lines, one more at their end, and a load that ends with a fault.
+use Rattle.std.proofs.Common.{◌≡◌, ◌≤◌, ℕ, List, [], ◌∷◌, ◌++◌, length, refl, sym, ap, ◌∙◌, subst, append_assoc, append-nil, arith}
+use Rattle.std.specs.List.{flat_map}
+use Rattle.std.proofs.lemmas.Grind.{flat_map-append}
+use Rattle.std.specs.Prelude.{Option, None, Err}
+use Rattle.grb_order.specs.declared.limits.TheConstants.{MOST_SEATS}
+use Rattle.grb_script.specs.declared.command.Command.{Command}
+use Rattle.grb_script.specs.declared.command.Command.TheVariants as command
+use Rattle.grb_script.specs.declared.command.Numbered.{Numbered}
+use Rattle.grb_script.specs.ScriptFault.{script_fault}
+use Rattle.grb_words.specs.declared.fault.FaultKind.{FaultKind}
+use Rattle.grb_run.specs.declared.fault.RunFault.{RunFault}
+use Rattle.grb_run.specs.declared.fault.RunFault.TheVariants as run
+use Rattle.grb_run.specs.declared.loads.Step.{Step}
+use Rattle.grb_run.specs.declared.source.TheConstants.{MAX_SCRIPT}
+use Rattle.grb_run.specs.Loads.{Files, IsStep, AreSteps, IsStepFault, StopsWith, IsWhyNotLoaded, AreThreadSteps, Steps, AreScriptSteps, all_of}
+use Rattle.grb_script.specs.Script.{Sections, sections_of}
+use Rattle.grb_run.specs.Run.{EndsWith, seats_of, sink_failures_after}
+use Rattle.grb_run.specs.Source.{IsGiven}
+
+module _ (files : Files) where
+  pub AreSteps-push : (before : List Numbered) (steps : List Step) (asked : Numbered) (s : Step) → AreSteps files before steps → IsStep files asked.command s
+      → AreSteps files (before ++ asked ∷ []) (steps ++ s ∷ [])
+  AreSteps-push [] [] asked s are is = (is, tt)
+  AreSteps-push [] (t ∷ steps) asked s are is = absurd are
+  AreSteps-push (first ∷ before) [] asked s are is = absurd are
+  AreSteps-push (first ∷ before) (t ∷ steps) asked s are is = (are.0, AreSteps-push before steps asked s are.1 is)
+
+  AreSteps-append : (fs bs : List Numbered) (xs ys : List Step) → AreSteps files fs xs → AreSteps files bs ys → AreSteps files (fs ++ bs) (xs ++ ys)
+  AreSteps-append [] bs [] ys first second = second
+  AreSteps-append [] bs (x ∷ xs) ys first second = absurd first
+  AreSteps-append (a ∷ fs) bs [] ys first second = absurd first
+  AreSteps-append (a ∷ fs) bs (x ∷ xs) ys first second = (first.0, AreSteps-append fs bs xs ys first.1 second)
+
+  pub AreThreadSteps-push : (before : List (List Numbered)) (all : List (List Step)) (asked : List Numbered) (steps : List Step) → AreThreadSteps files before all
+      → AreSteps files asked steps → AreThreadSteps files (before ++ asked ∷ []) (all ++ steps ∷ [])
+  AreThreadSteps-push [] [] asked steps are is = (is, tt)
+  AreThreadSteps-push [] (t ∷ all) asked steps are is = absurd are
+  AreThreadSteps-push (first ∷ before) [] asked steps are is = absurd are
+  AreThreadSteps-push (first ∷ before) (t ∷ all) asked steps are is = (are.0, AreThreadSteps-push before all asked steps are.1 is)
+
+  pub length-AreThreadSteps : (threads : List (List Numbered)) (all : List (List Step)) → AreThreadSteps files threads all → length all ≡ length threads
+  length-AreThreadSteps [] [] are = refl
+  length-AreThreadSteps [] (t ∷ all) are = absurd are
+  length-AreThreadSteps (asked ∷ threads) [] are = absurd are
+  length-AreThreadSteps (asked ∷ threads) (t ∷ all) are = omega (arith, length-AreThreadSteps threads all are.1)
+
+  -- the steps of thread sections, one behind another
+  flat_steps : (threads : List (List Numbered)) (all : List (List Step)) → AreThreadSteps files threads all
+      → AreSteps files (flat_map (λ (more : List Numbered). more) threads) (flat_map (λ (more : List Step). more) all)
+  flat_steps [] [] are = tt
+  flat_steps [] (t ∷ all) are = absurd are
+  flat_steps (asked ∷ threads) [] are = absurd are
+  flat_steps (asked ∷ threads) (t ∷ all) are = AreSteps-append asked (flat_map (λ (more : List Numbered). more) threads) t (flat_map (λ (more : List Step). more) all) are.0 (flat_steps threads all are.1)
+
+  pub why_not : (commands : List Numbered) (fault : RunFault) → StopsWith files commands fault → IsWhyNotLoaded files commands fault
+  why_not commands (run.Script line kind) stops = stops
+  why_not commands (run.Load line fault) stops = stops
+  why_not commands run.TooManySections stops = stops
+  why_not commands run.CannotReadScript stops = stops
+  why_not commands (run.CannotReadFile line) stops = stops
+  why_not commands run.ScriptTooLong stops = stops
+  why_not commands (run.FileTooLong line) stops = stops
+  why_not commands run.OutOfMemory stops = tt
+  why_not commands run.NoThread stops = stops
+  why_not commands run.Panic stops = stops
+  why_not commands run.CannotWrite stops = stops
+
+  -- what stops some lines stops those around them too
+  stops_more : (fs bs cs : List Numbered) (xs : List Step) (fault : RunFault) → AreSteps files fs xs → StopsWith files bs fault → StopsWith files (fs ++ bs ++ cs) fault
+  stops_more fs bs cs xs fault loaded stops = record {
+    before = fs ++ stops.before;
+    asked = stops.asked;
+    behind = stops.behind ++ cs;
+    are =
+        ap (λ l. (fs ++ l) ++ cs) stops.are ∙ append_assoc fs (stops.before ++ (stops.asked ∷ stops.behind)) cs
+        ∙ ap (λ l. fs ++ l) (append_assoc stops.before (stops.asked ∷ stops.behind) cs) ∙ sym (append_assoc fs stops.before ((stops.asked ∷ stops.behind) ++ cs));
+    steps = xs ++ stops.steps;
+    loaded = AreSteps-append fs stops.before xs stops.steps loaded stops.loaded;
+    stops = stops.stops;
+  }
+
+  pub why_more : (fs bs cs : List Numbered) (xs : List Step) (fault : RunFault) → AreSteps files fs xs → IsWhyNotLoaded files bs fault
+      → IsWhyNotLoaded files (fs ++ bs ++ cs) fault
+  why_more fs bs cs xs (run.Script line kind) loaded why = stops_more fs bs cs xs (run.Script line kind) loaded why
+  why_more fs bs cs xs (run.Load line fault) loaded why = stops_more fs bs cs xs (run.Load line fault) loaded why
+  why_more fs bs cs xs run.TooManySections loaded why = stops_more fs bs cs xs run.TooManySections loaded why
+  why_more fs bs cs xs run.CannotReadScript loaded why = stops_more fs bs cs xs run.CannotReadScript loaded why
+  why_more fs bs cs xs (run.CannotReadFile line) loaded why = stops_more fs bs cs xs (run.CannotReadFile line) loaded why
+  why_more fs bs cs xs run.ScriptTooLong loaded why = stops_more fs bs cs xs run.ScriptTooLong loaded why
+  why_more fs bs cs xs (run.FileTooLong line) loaded why = stops_more fs bs cs xs (run.FileTooLong line) loaded why
+  why_more fs bs cs xs run.OutOfMemory loaded why = tt
+  why_more fs bs cs xs run.NoThread loaded why = stops_more fs bs cs xs run.NoThread loaded why
+  why_more fs bs cs xs run.Panic loaded why = stops_more fs bs cs xs run.Panic loaded why
+  why_more fs bs cs xs run.CannotWrite loaded why = stops_more fs bs cs xs run.CannotWrite loaded why
+
+  -- the same of the first, the next and the last of three parts
+  pub why_main : (fs bs : List Numbered) (fault : RunFault) → IsWhyNotLoaded files fs fault → IsWhyNotLoaded files (fs ++ bs) fault
+  why_main fs bs fault why = why_more [] fs bs [] fault tt why
+
+  pub why_threads : (fs : List Numbered) (threads : List (List Numbered)) (cs : List Numbered) (xs : List Step) (fault : RunFault) → AreSteps files fs xs
+      → IsWhyNotLoaded files (flat_map (λ (more : List Numbered). more) threads) fault → IsWhyNotLoaded files (fs ++ flat_map (λ (more : List Numbered). more) threads ++ cs) fault
+  why_threads fs threads cs xs fault loaded why = why_more fs (flat_map (λ (more : List Numbered). more) threads) cs xs fault loaded why
+
+  pub why_last : (fs : List Numbered) (threads : List (List Numbered)) (cs : List Numbered) (xs : List Step) (all : List (List Step)) (fault : RunFault) → AreSteps files fs xs
+      → AreThreadSteps files threads all → IsWhyNotLoaded files cs fault → IsWhyNotLoaded files (fs ++ flat_map (λ (more : List Numbered). more) threads ++ cs) fault
+  why_last fs threads cs xs all fault loaded others why =
+      let flat : List Numbered = flat_map (λ (more : List Numbered). more) threads in
+      subst (λ l. IsWhyNotLoaded files l fault) (append-nil ((fs ++ flat) ++ cs))
+      (why_more (fs ++ flat) cs [] (xs ++ flat_map (λ (more : List Step). more) all) fault
+      (AreSteps-append fs flat xs (flat_map (λ (more : List Step). more) all) loaded (flat_steps threads all others)) why)
+
+  -- the same of one thread section among others
+  pub why_one : (before : List (List Numbered)) (asked : List Numbered) (rest all : List (List Numbered)) (steps : List (List Step)) (fault : RunFault) → all ≡ before ++ asked ∷ rest
+      → AreThreadSteps files before steps → IsWhyNotLoaded files asked fault → IsWhyNotLoaded files (flat_map (λ (more : List Numbered). more) all) fault
+  why_one before asked rest all steps fault are loaded why =
+      subst (λ l. IsWhyNotLoaded files l fault)
+      (append_assoc (flat_map (λ (more : List Numbered). more) before) asked (flat_map (λ (more : List Numbered). more) rest)
+      ∙ sym (flat_map-append (λ (more : List Numbered). more) before (asked ∷ rest)) ∙ ap (λ l. flat_map (λ (more : List Numbered). more) l) (sym are))
+      (why_more (flat_map (λ (more : List Numbered). more) before) asked (flat_map (λ (more : List Numbered). more) rest) (flat_map (λ (more : List Step). more) steps) fault
+      (flat_steps before steps loaded) why)
+
+  module _ (now : Files) where
+    -- what is known of files that are told alike
+    pub IsStep-of : (c : Command) (s : Step) → ((path : List ℕ) → now path ≡ files path) → IsStep now c s → IsStep files c s
+    IsStep-of c s same is = subst (λ f. IsStep f c s) (λ j path. same path j) is
+
+    pub AreSteps-of : (commands there : List Numbered) (steps : List Step) → ((path : List ℕ) → now path ≡ files path) → there ≡ commands → AreSteps now there steps → AreSteps files commands steps
+    AreSteps-of commands there steps same are loaded = subst (λ f. AreSteps f commands steps) (λ j path. same path j) (subst (λ cs. AreSteps now cs steps) are loaded)
+
+    pub AreThreadSteps-of : (threads : List (List Numbered)) (all : List (List Step)) → ((path : List ℕ) → now path ≡ files path) → AreThreadSteps now threads all → AreThreadSteps files threads all
+    AreThreadSteps-of threads all same loaded = subst (λ f. AreThreadSteps f threads all) (λ j path. same path j) loaded
+
+    pub AreScriptSteps-of : (asked there : Sections) (script : Steps) → ((path : List ℕ) → now path ≡ files path) → there ≡ asked → AreScriptSteps now there script → AreScriptSteps files asked script
+    AreScriptSteps-of asked there script same are loaded = subst (λ f. AreScriptSteps f asked script) (λ j path. same path j) (subst (λ a. AreScriptSteps now a script) are loaded)
+
+    pub IsWhyNotLoaded-of : (commands there : List Numbered) (fault : RunFault) → ((path : List ℕ) → now path ≡ files path) → there ≡ commands → IsWhyNotLoaded now there fault
+        → IsWhyNotLoaded files commands fault
+    IsWhyNotLoaded-of commands there fault same are why =
+        subst (λ f. IsWhyNotLoaded f commands fault) (λ j path. same path j) (subst (λ cs. IsWhyNotLoaded now cs fault) are why)
+
+    -- a load that ends with a fault behind those that do not
+    pub StopsWith-of : (before : List Numbered) (asked : Numbered) (behind commands : List Numbered) (steps : List Step) (fault : RunFault) → commands ≡ before ++ asked ∷ behind
+        → AreSteps files before steps → ((path : List ℕ) → now path ≡ files path) → IsStepFault now asked.line asked.command fault → IsWhyNotLoaded files commands fault
+    StopsWith-of before asked behind commands steps fault are loaded same stops =
+        why_not commands fault (record {
+          before = before;
+          asked = asked;
+          behind = behind;
+          are = are;
+          steps = steps;
+          loaded = loaded;
+          stops = subst (λ f. IsStepFault f asked.line asked.command fault) (λ j path. same path j) stops;
+        })
+
+  -- no load ends with a fault of the script or of the sink
+  no_script_fault : (at line : ℕ) (kind : FaultKind) (c : Command) → IsStepFault files at c (run.Script line kind) → ⊥
+  no_script_fault at line kind (command.Statement s) stops = stops
+  no_script_fault at line kind (command.Load path) stops = stops
+
+  no_crowd : (at : ℕ) (c : Command) → IsStepFault files at c run.TooManySections → ⊥
+  no_crowd at (command.Statement s) stops = stops
+  no_crowd at (command.Load path) stops = stops
+
+  no_sink_fault : (at : ℕ) (c : Command) → IsStepFault files at c run.CannotWrite → ⊥
+  no_sink_fault at (command.Statement s) stops = stops
+  no_sink_fault at (command.Load path) stops = stops
+
+  no_thread_fault : (at : ℕ) (c : Command) → IsStepFault files at c run.NoThread → ⊥
+  no_thread_fault at (command.Statement s) stops = stops
+  no_thread_fault at (command.Load path) stops = stops
+
+  no_panic_fault : (at : ℕ) (c : Command) → IsStepFault files at c run.Panic → ⊥
+  no_panic_fault at (command.Statement s) stops = stops
+  no_panic_fault at (command.Load path) stops = stops
+
+  -- what is written where a load ends with a fault: nothing
+  pub ends : (room : ℕ) (told : Option (List ℕ)) (text : List ℕ) (before after : Option (List ℕ)) → IsGiven told MAX_SCRIPT text → script_fault text ≡ None → seats_of room text ≤ MOST_SEATS → after ≡ before
+      → (fault : RunFault) → IsWhyNotLoaded files (all_of (sections_of text)) fault → EndsWith room told files fault before after
+  ends room told text before after given none fits same (run.Script line kind) why = absurd (no_script_fault why.asked.line line kind why.asked.command why.stops)
+  ends room told text before after given none fits same (run.Load line fault) why = (record { text = text; given = given; faultless = none; fits = fits; stops = why }, same)
+  ends room told text before after given none fits same run.TooManySections why = absurd (no_crowd why.asked.line why.asked.command why.stops)
+  ends room told text before after given none fits same run.CannotReadScript why = same
+  ends room told text before after given none fits same (run.CannotReadFile line) why = (record { text = text; given = given; faultless = none; fits = fits; stops = why }, same)
+  ends room told text before after given none fits same run.ScriptTooLong why = same
+  ends room told text before after given none fits same (run.FileTooLong line) why = (record { text = text; given = given; faultless = none; fits = fits; stops = why }, same)
+  ends room told text before after given none fits same run.OutOfMemory why = same
+  ends room told text before after given none fits same run.NoThread why = absurd (no_thread_fault why.asked.line why.asked.command why.stops)
+  ends room told text before after given none fits same run.Panic why = absurd (no_panic_fault why.asked.line why.asked.command why.stops)
+  ends room told text before after given none fits same run.CannotWrite why = absurd (no_sink_fault why.asked.line why.asked.command why.stops)
+
+  pub no_failure : (failures : ℕ) (commands : List Numbered) (fault : RunFault) → IsWhyNotLoaded files commands fault → failures ≡ sink_failures_after failures (Err fault)
+  no_failure failures commands (run.Script line kind) why = refl
+  no_failure failures commands (run.Load line fault) why = refl
+  no_failure failures commands run.TooManySections why = refl
+  no_failure failures commands run.CannotReadScript why = refl
+  no_failure failures commands (run.CannotReadFile line) why = refl
+  no_failure failures commands run.ScriptTooLong why = refl
+  no_failure failures commands (run.FileTooLong line) why = refl
+  no_failure failures commands run.OutOfMemory why = refl
+  no_failure failures commands run.NoThread why = refl
+  no_failure failures commands run.Panic why = refl
+  no_failure failures commands run.CannotWrite why = absurd (no_sink_fault why.asked.line why.asked.command why.stops)

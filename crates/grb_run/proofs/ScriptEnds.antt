@@ -1,0 +1,107 @@
+-- How a run of a script ends: its sections answered, its threads stopped, or its sink failed.
+use Rattle.std.proofs.Common.{◌≡◌, ℕ, ◌+◌, ◌*◌, ◌<◌, ◌≤◌, List, [], ◌∷◌, ◌++◌, length, map, refl, sym, ap, ◌∙◌, subst, append-nil, arith}
+use Rattle.std.specs.Prelude.{Option, None}
+use Rattle.std.proofs.lemmas.List.{length-map}
+use Rattle.std.specs.List.{flat_map}
+use Rattle.grb_order.specs.declared.limits.TheConstants.{MOST_SEATS}
+use Rattle.grb_call.specs.declared.ids.Object.{Object}
+use Rattle.grb_context.specs.Explains.{Answer}
+use Rattle.grb_context.specs.Known.{Shared, Knowing, AreNew}
+use Rattle.grb_run.specs.ReplyLine.{reply_line}
+use Rattle.grb_market.specs.Sink.{AppendsBeginning}
+use Rattle.grb_order.specs.Order.{room_of}
+use Rattle.grb_script.specs.Script.{Sections, listed, sections_of}
+use Rattle.grb_script.specs.declared.script.Script.{Script}
+use Rattle.grb_script.specs.ScriptFault.{script_fault}
+use Rattle.grb_run.specs.declared.fault.RunFault.{RunFault}
+use Rattle.grb_run.specs.declared.fault.RunFault.TheVariants as run
+use Rattle.grb_run.specs.declared.loads.Step.{Step}
+use Rattle.grb_run.specs.declared.source.TheConstants.{MAX_SCRIPT}
+use Rattle.grb_run.specs.Loads.{Files, Steps, AreScriptSteps}
+use Rattle.grb_run.specs.Run.{EndsWith, WroteBeginning, seats_of}
+use Rattle.grb_run.specs.Sections.{Stage, AreTold, AreAnswers}
+use Rattle.grb_run.specs.Source.{IsGiven}
+use Rattle.grb_run.specs.Threads.{AreThreadsRun, IsStopOf}
+use Rattle.grb_run.proofs.ScriptRuns.{run_alone}
+
+-- where there are no thread sections, nothing is run
+pub none_run : {X : Type 0} (f : X → List Step) (context : Shared) (main : Stage) (passes : List Knowing) (xs : List X) (before : List Answer) → length xs ≡ 0 → length passes ≡ length xs
+    → AreThreadsRun context main passes (map f xs) before main.pass before
+none_run f context main [] [] before none count = record { answers = []; ended = []; told = tt; meets = refl; all_are = sym (append-nil before) }
+none_run f context main (p ∷ passes) [] before none count = absurd (omega (arith, count))
+none_run f context main passes (x ∷ xs) before none count = absurd (omega (arith, none))
+
+-- main, the threads and the last section, one behind another
+pub all_answered : (room : ℕ) (context : Shared) (script : Steps) (n : ℕ) (pass : Knowing) (passes : List Knowing) (objects : List Object) (behind_main : Stage) (first all last total : List Answer)
+    (met : Knowing) (behind : Stage) → room_of context.order ≡ room → n ≡ length script.threads → AreNew context.order (n + 1) (pass ∷ passes) (n + 1) → objects ≡ []
+    → AreTold context (record { objects = objects; pass = pass }) script.main first behind_main → AreThreadsRun context behind_main passes script.threads first met all
+    → AreTold context (record { objects = behind_main.objects; pass = met }) script.finally last behind → total ≡ all ++ last → AreAnswers room script total
+all_answered room context script n pass passes objects behind_main first all last total met behind room_is count new none main threads finally are = record {
+  answers = record { main = first; threads = threads.answers; finally = last };
+  run = record {
+    context = context;
+    room_is = room_is;
+    pass = pass;
+    passes = passes;
+    new = subst (λ k. AreNew context.order (k + 1) (pass ∷ passes) (k + 1)) count new;
+    behind_main = behind_main;
+    main = subst (λ o. AreTold context (record { objects = o; pass = pass }) script.main first behind_main) none main;
+    ended = threads.ended;
+    threads = threads.told;
+    met = met;
+    meets = threads.meets;
+    behind = behind;
+    finally = finally;
+  };
+  all_are = are ∙ ap (λ l. l ++ last) threads.all_are;
+}
+
+-- the passes of a script that was read, and what they have places for
+pub seats_read : (room : ℕ) (text : List ℕ) (script : Script) → listed script ≡ sections_of text → room * (length script.threads.items + 1) ≡ seats_of room text
+seats_read room text script is =
+    ap (λ (n : ℕ). room * (n + 1)) (sym (length-map script.threads.items (λ asked. asked.items)) ∙ ap (λ (s : Sections). length s.threads) is)
+
+pub seats_fit : (room : ℕ) (text : List ℕ) (script : Script) (n : ℕ) → n ≡ length script.threads.items → listed script ≡ sections_of text → room * (n + 1) ≤ MOST_SEATS → seats_of room text ≤ MOST_SEATS
+seats_fit room text script n count is fits = subst (λ (k : ℕ). k ≤ MOST_SEATS) (ap (λ (k : ℕ). room * (k + 1)) count ∙ seats_read room text script is) fits
+
+-- what is written where the sections are too many: nothing
+pub crowded : (room : ℕ) (told : Option (List ℕ)) (files : Files) (text : List ℕ) (script : Script) (n : ℕ) (before after : Option (List ℕ)) → IsGiven told MAX_SCRIPT text
+    → script_fault text ≡ None → n ≡ length script.threads.items → listed script ≡ sections_of text → after ≡ before → (fault : RunFault)
+    → (fault ≡ run.TooManySections) × (MOST_SEATS < room * (n + 1)) → EndsWith room told files fault before after
+crowded room told files text script n before after given none count is same fault why =
+    subst (λ (f : RunFault). EndsWith room told files f before after) (sym why.0)
+    (record { text = text; given = given; faultless = none; crowded = subst (λ (k : ℕ). MOST_SEATS < k) (ap (λ (k : ℕ). room * (k + 1)) count ∙ seats_read room text script is) why.1 }, same)
+
+-- what is written where the threads are stopped: nothing
+pub stopped : (room : ℕ) (told : Option (List ℕ)) (files : Files) (text : List ℕ) (script : Steps) (before after : Option (List ℕ)) → IsGiven told MAX_SCRIPT text
+    → script_fault text ≡ None → seats_of room text ≤ MOST_SEATS → AreScriptSteps files (sections_of text) script → after ≡ before → (fault : RunFault) → IsStopOf script.threads fault → EndsWith room told files fault before after
+stopped room told files text script before after given none fits loaded same (run.Script line kind) is = absurd is
+stopped room told files text script before after given none fits loaded same (run.Load line fault) is = absurd is
+stopped room told files text script before after given none fits loaded same run.TooManySections is = absurd is
+stopped room told files text script before after given none fits loaded same run.CannotReadScript is = absurd is
+stopped room told files text script before after given none fits loaded same (run.CannotReadFile line) is = absurd is
+stopped room told files text script before after given none fits loaded same run.ScriptTooLong is = absurd is
+stopped room told files text script before after given none fits loaded same (run.FileTooLong line) is = absurd is
+stopped room told files text script before after given none fits loaded same run.OutOfMemory is = same
+stopped room told files text script before after given none fits loaded same run.NoThread is =
+    (record { text = text; given = given; faultless = none; fits = fits; script = script; loaded = loaded; threaded = is }, same)
+stopped room told files text script before after given none fits loaded same run.Panic is =
+    (record { text = text; given = given; faultless = none; fits = fits; script = script; loaded = loaded; threaded = is }, same)
+stopped room told files text script before after given none fits loaded same run.CannotWrite is = absurd is
+
+-- what is written where the sink failed
+pub began : (room : ℕ) (told : Option (List ℕ)) (files : Files) (text : List ℕ) (script : Steps) (all : List Answer) (lines : List ℕ) (before after : Option (List ℕ))
+    → IsGiven told MAX_SCRIPT text → script_fault text ≡ None → seats_of room text ≤ MOST_SEATS → AreScriptSteps files (sections_of text) script → AreAnswers room script all → lines ≡ flat_map reply_line all
+    → AppendsBeginning before after lines → WroteBeginning room told files before after
+began room told files text script all lines before after given none fits loaded are of_answers appended = record {
+  text = text;
+  given = given;
+  faultless = none;
+  fits = fits;
+  script = script;
+  loaded = loaded;
+  answers = are.answers;
+  run = are.run;
+  alone = run_alone room script are.answers are.run;
+  written = subst (λ l. AppendsBeginning before after (flat_map reply_line l)) are.all_are (subst (AppendsBeginning before after) of_answers appended);
+}

@@ -1,0 +1,32 @@
+-- What a run that wrote its lines shows.
+use Rattle.std.proofs.Common.{◌≡◌, ℕ, List, [], ◌++◌, subst}
+use Rattle.std.specs.Prelude.{Option}
+use Rattle.std.specs.List.{flat_map}
+use Rattle.std.specs.Io.KnownBytes.{Appends}
+use Rattle.grb_context.specs.Explains.{Answer}
+use Rattle.grb_run.specs.ReplyLine.{reply_line}
+use Rattle.grb_script.specs.Script.{sections_of}
+use Rattle.grb_run.specs.Loads.{Files, Steps, AreScriptSteps}
+use Rattle.grb_run.specs.Printed.{IsRun, start}
+use Rattle.grb_run.specs.Run.{Wrote}
+use Rattle.grb_run.specs.Sections.{AreAnswers, in_order}
+use Rattle.grb_run.proofs.Runs.{IsRun-served}
+use Rattle.grb_run.proofs.ScriptRuns.{run_alone}
+
+pub wrote : (room : ℕ) (files : Files) (text : List ℕ) (before after : Option (List ℕ)) (script : Steps) (all : List Answer) (lines : List ℕ)
+    → AreScriptSteps files (sections_of text) script → AreAnswers room script all → lines ≡ flat_map reply_line all → Appends before after lines
+    → Wrote room files text before after
+wrote room files text before after script all lines loaded are of_answers appended =
+    let written : Appends before after (flat_map reply_line (in_order are.answers)) =
+    subst (λ l. Appends before after (flat_map reply_line l)) are.all_are (subst (Appends before after) of_answers appended) in
+    record {
+      script = script;
+      loaded = loaded;
+      answers = are.answers;
+      run = are.run;
+      alone = run_alone room script are.answers are.run;
+      written = written;
+      exact = λ none had.
+          subst (λ answers. Appends before after (flat_map reply_line answers))
+          (IsRun-served room start (script.main ++ script.finally) (in_order are.answers) had (run_alone room script are.answers are.run none)) written;
+    }

@@ -1,0 +1,9 @@
+use Rattle.std.specs.Prelude.{IfOk}
+use Rattle.std.proofs.Common.{subst}
+use Rattle.grb_run.specs.Loads.{steps_listed}
+use Rattle.grb_run.specs.Sections.{AreAnswers}
+use Rattle.grb_run.proofs.driver.answers_to.Goals as goal
+
+pub returns-clause-answers : goal.returns-clause-answers
+returns-clause-answers g c =
+    subst (λ room. IfOk c.answers_in.result (λ answers. AreAnswers room (steps_listed c.args.script) answers.items)) c.in_ok-context.ensures.room c.answers_in.ensures.answers

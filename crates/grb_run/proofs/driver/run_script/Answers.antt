@@ -1,0 +1,63 @@
+use Prim.{search}
+use Rattle.std.proofs.Common.{◌∙◌, ap, sym, refl, rules}
+use Rattle.std.specs.List.{flat_map}
+use Rattle.std.proofs.lemmas.Result.{err_from_is_err_and}
+use Rattle.grb_run.specs.ReplyLine.{reply_line}
+use Rattle.grb_script.specs.Script.{sections_of}
+use Rattle.grb_script.specs.ScriptFault.{script_fault}
+use Rattle.grb_run.specs.Loads.{steps_listed, all_of}
+use Rattle.grb_run.proofs.LoadLemmas.{AreScriptSteps-of, IsWhyNotLoaded-of, ends, no_failure}
+use Rattle.grb_run.proofs.ScriptEnds.{stopped, began, crowded, seats_fit}
+use Rattle.grb_run.proofs.Wrote.{wrote}
+use Rattle.grb_run.proofs.driver.run_script.Goals as goal
+
+pub returns-clause-ok : goal.returns-clause-ok
+returns-clause-ok g c = record {
+  text = c.in_ok-text.text.items;
+  given = c.in_ok-text.ensures.given;
+  faultless = ap script_fault (sym c.deref.ensures.value) ∙ c.in_ok-script.ensures.read.0;
+  fits = seats_fit c.args.room c.in_ok-text.text.items c.in_ok-script.script c.len.result (search rules) (c.in_ok-script.ensures.read.1 ∙ ap sections_of c.deref.ensures.value) c.in_ok-check_sections.ensures.fits;
+  lines =
+      wrote _ _ _ _ _ _ _ _
+      (AreScriptSteps-of _ _ _ _ _ c.script.ensures.files_stay (c.in_ok-script.ensures.read.1 ∙ ap sections_of c.deref.ensures.value) c.in_ok-steps.ensures.steps) c.in_ok-answers.ensures.answers
+      (c.as_bytes.ensures.value ∙ c.in_ok-lines.ensures ∙ ap (flat_map reply_line) c.deref-2.ensures.value) c.in_ok-put_all.ensures.ok;
+}
+
+pub returns-in_err-answers-clause-err : goal.returns-in_err-answers-clause-err
+returns-in_err-answers-clause-err g c =
+    let p = err_from_is_err_and c.from_residual-in_err-answers.result c.from_residual-in_err-answers.ensures.1 in
+    rw (p.1, p.2)
+    (stopped _ _ _ c.in_ok-text.text.items (steps_listed c.in_ok-steps.steps) _ _ c.in_ok-text.ensures.given
+    (ap script_fault (sym c.deref.ensures.value) ∙ c.in_ok-script.ensures.read.0)
+    (seats_fit c.args.room c.in_ok-text.text.items c.in_ok-script.script c.len.result (search rules) (c.in_ok-script.ensures.read.1 ∙ ap sections_of c.deref.ensures.value) c.in_ok-check_sections.ensures.fits)
+    (AreScriptSteps-of _ _ _ _ _ c.script.ensures.files_stay (c.in_ok-script.ensures.read.1 ∙ ap sections_of c.deref.ensures.value) c.in_ok-steps.ensures.steps) refl _
+    c.in_err-answers.ensures.fault)
+
+pub returns-in_err-put_all-clause-err : goal.returns-in_err-put_all-clause-err
+returns-in_err-put_all-clause-err g c =
+    let p = err_from_is_err_and c.from_residual-in_err-put_all.result c.from_residual-in_err-put_all.ensures.1 in
+    rw (p.1, p.2)
+    (began _ _ _ c.in_ok-text.text.items (steps_listed c.in_ok-steps.steps) c.in_ok-answers.answers.items c.as_bytes.result.now _ _ c.in_ok-text.ensures.given
+    (ap script_fault (sym c.deref.ensures.value) ∙ c.in_ok-script.ensures.read.0)
+    (seats_fit c.args.room c.in_ok-text.text.items c.in_ok-script.script c.len.result (search rules) (c.in_ok-script.ensures.read.1 ∙ ap sections_of c.deref.ensures.value) c.in_ok-check_sections.ensures.fits)
+    (AreScriptSteps-of _ _ _ _ _ c.script.ensures.files_stay (c.in_ok-script.ensures.read.1 ∙ ap sections_of c.deref.ensures.value) c.in_ok-steps.ensures.steps) c.in_ok-answers.ensures.answers
+    (c.as_bytes.ensures.value ∙ c.in_ok-lines.ensures ∙ ap (flat_map reply_line) c.deref-2.ensures.value) c.in_err-put_all.ensures.err)
+
+pub returns-in_err-check_sections-clause-err : goal.returns-in_err-check_sections-clause-err
+returns-in_err-check_sections-clause-err g c =
+    let p = err_from_is_err_and c.from_residual-in_err-check_sections.result c.from_residual-in_err-check_sections.ensures.1 in
+    rw (p.1, p.2)
+    (crowded _ _ _ c.in_ok-text.text.items c.in_ok-script.script _ _ _ c.in_ok-text.ensures.given
+    (ap script_fault (sym c.deref.ensures.value) ∙ c.in_ok-script.ensures.read.0) (search rules)
+    (c.in_ok-script.ensures.read.1 ∙ ap sections_of c.deref.ensures.value) refl _ c.in_err-check_sections.ensures.crowded)
+
+pub returns-in_err-steps-clause-err : goal.returns-in_err-steps-clause-err
+returns-in_err-steps-clause-err g c =
+    let p = err_from_is_err_and c.from_residual-in_err-steps.result c.from_residual-in_err-steps.ensures.1 in
+    rw (p.1, p.2)
+    (ends _ _ _ c.in_ok-text.text.items _ _ c.in_ok-text.ensures.given
+    (ap script_fault (sym c.deref.ensures.value) ∙ c.in_ok-script.ensures.read.0)
+    (seats_fit c.args.room c.in_ok-text.text.items c.in_ok-script.script c.len.result (search rules) (c.in_ok-script.ensures.read.1 ∙ ap sections_of c.deref.ensures.value) c.in_ok-check_sections.ensures.fits)
+    refl _
+    (IsWhyNotLoaded-of _ _ (all_of (sections_of c.in_ok-text.text.items)) _ _ c.script.ensures.files_stay
+    (ap all_of (c.in_ok-script.ensures.read.1 ∙ ap sections_of c.deref.ensures.value)) c.in_err-steps.ensures.fault))

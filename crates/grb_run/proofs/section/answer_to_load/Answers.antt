@@ -1,0 +1,13 @@
+use Rattle.std.proofs.Common.{◌≡◌, Bool, true, false, length, rules}
+use Rattle.std.specs.Result.{is_err}
+use Rattle.grb_run.proofs.Steps.{load_told}
+use Rattle.grb_run.proofs.section.answer_to_load.Goals as goal
+
+pub returns-clause-told : goal.returns-clause-told
+returns-clause-told c =
+    let unrefused : false ≡ is_err c.in_ok-made.made = search rules in
+    let named : c.len-name.result ≡ length c.args.objects.now.items = search rules in
+    load_told c.args.context.now (record { objects = c.args.objects.now.items; pass = c.args.pass.now })
+    (record { objects = c.answer_to.new.objects.items; pass = c.answer_to.new.pass })
+    (record { objects = c.answer_to-2.new.objects.items; pass = c.answer_to-2.new.pass }) c.args.loaded _ _ _ c.in_ok-made.made c.answer_to-2.result c.making.ensures named c.filling.ensures
+    unrefused (record { answered = c.in_ok-made.ensures.answered; objects = c.in_ok-made.ensures.objects }) c.answer_to-2.ensures.answered c.answer_to-2.ensures.objects

@@ -1,0 +1,14 @@
+use Rattle.std.proofs.Common.{List}
+use Rattle.std.specs.Prelude.{All, IfOk}
+use Rattle.grb_context.specs.Explains.{Answer}
+use Rattle.grb_context.specs.Known.{Knowing, IsPassOf}
+use Rattle.grb_run.specs.Threads.{AreGathered}
+use Rattle.grb_run.proofs.threads.gather_all.Given as goal
+
+abbrev pub invariant-loop-one : goal.invariant-loop-one
+invariant-loop-one l = record {
+  main : IsPassOf l.context l.main;
+  passes : All (λ one. IfOk one (λ ended. IsPassOf l.context ended.pass)) l.one-iterator.rest.items;
+  gathered : (after : Knowing) (answers : List Answer) → AreGathered l.context l.main l.answers.items l.one-iterator.rest.items after answers
+      → AreGathered l.context l.initial.main l.initial.answers.items l.fn.ended.items after answers;
+}

@@ -1,0 +1,12 @@
+pub mod Calls
+pub mod CommandLine
+pub mod Files
+pub mod Loads
+pub mod Objects
+pub mod Printed
+pub mod ReplyLine
+pub mod Run
+pub mod RunFault
+pub mod Sections
+pub mod Source
+pub mod Threads

@@ -1,0 +1,102 @@
+//! One section of a script by one pass: its answers, in order.
+ghost use Rattle.std.specs.Prelude.{◌≡◌, IfOk};
+ghost use Rattle.grb_context.specs.Answered.{Answered};
+ghost use Rattle.grb_context.specs.Known.{IsPassOf};
+ghost use Rattle.grb_run.specs.Calls.{call_of};
+ghost use Rattle.grb_run.specs.Objects.{made_sort, objects_after};
+ghost use Rattle.grb_run.specs.Sections.{IsLoadTold, IsStepTold, AreTold};
+
+use crate::calls::call_of;
+use crate::gate::Gate;
+use crate::loads::{Step, filling, making};
+use crate::objects::{keep_object, made_sort};
+use crate::reply_line::Answer;
+use grb_call::Object;
+use grb_context::{Context, Pass};
+use grb_market::Loaded;
+use grb_script::Statement;
+use std::alloc::{AllocError, Global};
+
+/// Makes the call of a statement, and keeps what its name stands for.
+fn answer_to(
+    context: &Context,
+    pass: &mut Pass,
+    objects: &mut Vec<Object>,
+    statement: Statement,
+) -> Result<Answer, AllocError>
+    requires pass { IsPassOf context.now pass.old }
+    ensures pass { IsPassOf context.now pass.new }
+    ensures answered { IfOk result (λ answer. Answered context.now pass.old pass.new (call_of objects.old.items statement) answer) }
+    ensures objects { IfOk result (λ answer. objects.new.items ≡ objects_after objects.old.items (made_sort statement) answer) }
+{
+    let made = made_sort(&statement);
+    let answer = context.call(pass, call_of(objects, statement));
+    keep_object(objects, made, &answer)?;
+    Ok(answer)
+}
+
+/// Makes and fills the matrix of a load, and keeps it for the next name. Where it is not made, nothing is filled.
+fn answer_to_load(
+    context: &Context,
+    pass: &mut Pass,
+    objects: &mut Vec<Object>,
+    loaded: Loaded,
+) -> Result<Answer, AllocError>
+    requires pass { IsPassOf context.now pass.old }
+    ensures pass { IsPassOf context.now pass.new }
+    ensures told { IfOk result (λ answer. IsLoadTold context.now (record { objects = objects.old.items; pass = pass.old }) loaded answer
+        (record { objects = objects.new.items; pass = pass.new })) }
+{
+    let name = objects.len();
+    let made = answer_to(context, pass, objects, making(&loaded))?;
+    if made.is_err() {
+        return Ok(made);
+    }
+    answer_to(context, pass, objects, filling(name, loaded))
+}
+
+/// Makes the calls of a step.
+fn answer_to_step(
+    context: &Context,
+    pass: &mut Pass,
+    objects: &mut Vec<Object>,
+    step: Step,
+) -> Result<Answer, AllocError>
+    requires pass { IsPassOf context.now pass.old }
+    ensures pass { IsPassOf context.now pass.new }
+    ensures told { IfOk result (λ answer. IsStepTold context.now (record { objects = objects.old.items; pass = pass.old }) step answer
+        (record { objects = objects.new.items; pass = pass.new })) }
+{
+    match step {
+        Step::Statement(statement) => answer_to(context, pass, objects, statement),
+        Step::Load(loaded) => answer_to_load(context, pass, objects, loaded),
+    }
+}
+
+/// The answers to the steps of a section, one behind another, by its pass. The gate is called round each, with the number of the pass and
+/// a number behind those of the statements that were begun before.
+pub(crate) fn answers_by<G: Gate>(
+    alloc: Global,
+    context: &Context,
+    pass: &mut Pass,
+    objects: &mut Vec<Object>,
+    steps: Vec<Step>,
+    begun: u32,
+    gate: &G,
+) -> Result<Vec<Answer>, AllocError>
+    requires pass { IsPassOf context.now pass.old }
+    ensures pass { IsPassOf context.now pass.new }
+    ensures told { IfOk result (λ answers. AreTold context.now (record { objects = objects.old.items; pass = pass.old }) steps.items answers.items
+        (record { objects = objects.new.items; pass = pass.new })) }
+{
+    let section = pass.number();
+    let mut answers = Vec::with_capacity(alloc, steps.len())?;
+    let mut number = begun;
+    for step in steps {
+        number = number.saturating_add(1);
+        gate.before(section, number);
+        answers.push(answer_to_step(context, pass, objects, step)?)?;
+        gate.after(section, number);
+    }
+    Ok(answers)
+}

@@ -1,0 +1,362 @@
+//! The thread sections of a script, each by a pass and a thread of its own.
+ghost use Rattle.std.specs.Prelude.{◌≡◌, ◌+◌, ◌*◌, ◌<◌, ◌≤◌, length, map, All, Ok, IfOk, IfErr, OnOk, OnErr};
+ghost use Rattle.grb_order.specs.declared.limits.TheConstants.{MOST_PASSES, MOST_ROOM, MOST_SEATS};
+ghost use Rattle.grb_run.specs.declared.fault.RunFault.TheVariants as run;
+ghost use Rattle.grb_context.specs.Known.{IsPassOf};
+ghost use Rattle.grb_context.specs.Meeting.{Met};
+ghost use Rattle.grb_run.specs.Threads.{IsJob, AreJobs, IsEnded, AreEnded, AreAsked, IsGathered, AreGathered, AreThreadsRun, IsStop};
+
+use crate::fault::RunFault;
+use crate::gate::Gate;
+use crate::loads::Step;
+use crate::reply_line::Answer;
+use crate::section::answers_by;
+use grb_call::Object;
+use grb_context::{Context, MOST_SEATS, Pass};
+use grb_script::Statement;
+use std::alloc::{AllocError, Global};
+use std::snapshot::Snapshot;
+use std::sync::Wait;
+use std::thread;
+use std::thread::{Promise, PromisedHandle, Scope, Threads};
+
+/// Whether the passes of a script with so many thread sections have places for so many calls each, main's pass too.
+pub(crate) fn check_sections(room: u32, threads: usize) -> Result<(), RunFault>
+    requires room { room ≤ MOST_ROOM }
+    requires threads { threads < MOST_PASSES }
+    ensures fits { OnOk result (room * (threads + 1) ≤ MOST_SEATS) }
+    ensures crowded { IfErr result (λ fault. (fault ≡ run.TooManySections) × (MOST_SEATS < room * (threads + 1))) }
+{
+    let passes = threads as u32 + 1;
+    if room * passes > MOST_SEATS {
+        Err(RunFault::TooManySections)
+    } else {
+        Ok(())
+    }
+}
+
+/// A thread section that is to run: its pass, which has met main's, what main's names stand for, and its steps.
+#[derive(Drop)]
+pub(crate) struct Job {
+    pass: Pass,
+    objects: Vec<Object>,
+    steps: Vec<Step>,
+}
+
+/// A thread section that has run: its pass, and the answers to its steps.
+#[derive(Drop)]
+pub(crate) struct Ended {
+    pass: Pass,
+    answers: Vec<Answer>,
+}
+
+/// What the thread of a job promises of what it returns.
+#[derive(Drop)]
+pub(crate) struct Asked {
+    context: Snapshot<Context>,
+    job: Snapshot<Job>,
+}
+
+impl Promise<Result<Ended, AllocError>> for Asked {
+    ghost kept_by = { λ asked result. IfOk result (IsEnded asked.context.value asked.job.value) };
+}
+
+/// A thread that runs a job.
+type Running = PromisedHandle<Result<Ended, AllocError>, Asked>;
+
+/// Runs a thread section.
+fn run_job<G: Gate>(
+    alloc: Global,
+    context: &Context,
+    job: Job,
+    gate: &G,
+) -> Result<Ended, AllocError>
+    requires { IsPassOf context.now job.pass }
+    ensures { IfOk result (IsEnded context.now job) }
+{
+    let Job {
+        mut pass,
+        mut objects,
+        steps,
+    } = job;
+    let answers = answers_by(alloc, context, &mut pass, &mut objects, steps, 0, gate)?;
+    Ok(Ended { pass, answers })
+}
+
+/// Lets a thread section's pass adopt main's, and gives the names that the section begins with.
+fn names_for(
+    alloc: Global,
+    context: &Context,
+    main: &mut Pass,
+    objects: &[Object],
+    pass: &mut Pass,
+) -> Result<Vec<Object>, RunFault>
+    requires main { IsPassOf context.now main.old }
+    requires pass { IsPassOf context.now pass.old }
+    ensures main { main.new ≡ main.old }
+    ensures pass { IsPassOf context.now pass.new }
+    ensures met { IfOk result (λ names. Met context.now pass.old pass.new main.old (Ok tt)) }
+    ensures names { IfOk result (λ names. names.items ≡ objects.now) }
+    ensures fault { IfErr result IsStop }
+{
+    match context.adopt(pass, main) {
+        Ok(()) => {}
+        Err(_) => return Err(RunFault::Panic),
+    }
+    Ok(Vec::from_slice(alloc, objects)?)
+}
+
+/// A thread section that is to run by this pass, which meets main's.
+fn job_of(
+    alloc: Global,
+    context: &Context,
+    main: &mut Pass,
+    objects: &[Object],
+    mut pass: Pass,
+    steps: Vec<Step>,
+) -> Result<Job, RunFault>
+    requires main { IsPassOf context.now main.old }
+    requires pass { IsPassOf context.now pass }
+    ensures main { main.new ≡ main.old }
+    ensures job { IfOk result (IsJob context.now (record { objects = objects.now; pass = main.old }) pass steps.items) }
+    ensures fault { IfErr result IsStop }
+{
+    let objects = names_for(alloc, context, main, objects, &mut pass)?;
+    Ok(Job {
+        pass,
+        objects,
+        steps,
+    })
+}
+
+/// The thread sections that are to run, each by the next of these passes. Each pass meets main's.
+fn jobs_of(
+    alloc: Global,
+    context: &Context,
+    main: &mut Pass,
+    objects: &[Object],
+    mut passes: Vec<Pass>,
+    threads: Vec<Vec<Step>>,
+) -> Result<Vec<Job>, RunFault>
+    requires main { IsPassOf context.now main.old }
+    requires passes { All (IsPassOf context.now) passes.items }
+    requires count { length passes.items ≡ length threads.items }
+    ensures main { main.new ≡ main.old }
+    ensures jobs { IfOk result (λ jobs. AreJobs context.now (record { objects = objects.now; pass = main.old }) passes.items (map (λ steps. steps.items) threads.items) jobs.items) }
+    ensures fault { IfErr result IsStop }
+{
+    let mut jobs = Vec::with_capacity(alloc, threads.len())?;
+    for steps in threads {
+        let pass = passes.remove(0);
+        jobs.push(job_of(alloc, context, main, objects, pass, steps)?)
+            .map_err(AllocError::from)?;
+    }
+    Ok(jobs)
+}
+
+/// Starts the thread of a job.
+fn start<'s, E, G: Gate + Sync>(
+    alloc: Global,
+    scope: &Scope<'s, E>,
+    context: &'s Context,
+    job: Job,
+    gate: &'s G,
+) -> Result<Running, RunFault>
+    requires { IsPassOf context.now job.pass }
+    ensures context { IfOk result (λ running. running.promise.context.value ≡ context.now) }
+    ensures job { IfOk result (λ running. running.promise.job.value ≡ job) }
+    ensures fault { IfErr result IsStop }
+{
+    let asked = Asked {
+        context: Snapshot::of(context),
+        job: Snapshot::of(&job),
+    };
+    let run = move || -> Result<Ended, AllocError>
+        requires { IsPassOf context.now job.pass }
+        ensures { IfOk result (IsEnded context.entry.now job) }
+    { run_job(alloc, context, job, gate) };
+    match scope.spawn_with(asked, run) {
+        Ok(running) => Ok(running),
+        Err(_) => Err(RunFault::NoThread),
+    }
+}
+
+/// Starts the threads of all jobs. Where one is not started, those before it run on.
+fn start_all<'s, E, G: Gate + Sync>(
+    alloc: Global,
+    scope: &Scope<'s, E>,
+    context: &'s Context,
+    jobs: Vec<Job>,
+    gate: &'s G,
+) -> Result<Vec<Running>, RunFault>
+    requires { All (λ job. IsPassOf context.now job.pass) jobs.items }
+    ensures running { IfOk result (λ running. AreAsked context.now jobs.items running.items) }
+    ensures fault { IfErr result IsStop }
+{
+    let mut running = Vec::with_capacity(alloc, jobs.len())?;
+    for job in jobs {
+        running
+            .push(start(alloc, scope, context, job, gate)?)
+            .map_err(AllocError::from)?;
+    }
+    Ok(running)
+}
+
+/// Runs these jobs, each on a thread, and returns when all threads have ended that were started.
+fn run_jobs<R: Threads + Wait + Sync, G: Gate + Sync>(
+    rt: &R,
+    alloc: Global,
+    context: &Context,
+    jobs: Vec<Job>,
+    gate: &G,
+) -> Result<Vec<Result<Ended, AllocError>>, RunFault>
+    requires { All (λ job. IsPassOf context.now job.pass) jobs.items }
+    ensures ended { IfOk result (λ ended. AreEnded context.now jobs.items ended.items) }
+    ensures fault { IfErr result IsStop }
+{
+    thread::scope(
+        thread::scope_env(),
+        rt,
+        |scope| -> Result<Vec<Result<Ended, AllocError>>, RunFault>
+            requires { All (λ job. IsPassOf context.now job.pass) jobs.items }
+            ensures ended { IfOk result (λ ended. AreEnded context.entry.now jobs.items ended.items) }
+            ensures fault { IfErr result IsStop }
+        {
+            let running = start_all(alloc, scope, context, jobs, gate)?;
+            match thread::join_promised(rt, running) {
+                Ok(ended) => Ok(ended),
+                Err(_) => Err(RunFault::OutOfMemory),
+            }
+        },
+    )
+}
+
+/// Lets main's pass adopt what a thread section's pass knows, and moves the answers of the section behind these.
+fn gather_from(
+    context: &Context,
+    main: &mut Pass,
+    answers: &mut Vec<Answer>,
+    ended: &mut Ended,
+) -> Result<(), RunFault>
+    requires main { IsPassOf context.now main.old }
+    requires ended { IsPassOf context.now ended.old.pass }
+    ensures main { IsPassOf context.now main.new }
+    ensures gathered { OnOk result (IsGathered context.now main.old answers.old.items ended.old main.new answers.new.items) }
+    ensures fault { IfErr result IsStop }
+{
+    match context.adopt(main, &mut ended.pass) {
+        Ok(()) => {}
+        Err(_) => return Err(RunFault::Panic),
+    }
+    answers.append(&mut ended.answers)?;
+    Ok(())
+}
+
+/// Lets main's pass learn what the pass of a thread section knows, moves the answers of the section behind these, and lets the section go.
+fn gather(
+    context: &Context,
+    main: &mut Pass,
+    answers: &mut Vec<Answer>,
+    mut ended: Ended,
+) -> Result<(), RunFault>
+    requires main { IsPassOf context.now main.old }
+    requires ended { IsPassOf context.now ended.pass }
+    ensures main { IsPassOf context.now main.new }
+    ensures gathered { OnOk result (IsGathered context.now main.old answers.old.items ended main.new answers.new.items) }
+    ensures fault { IfErr result IsStop }
+{
+    gather_from(context, main, answers, &mut ended)
+}
+
+/// Does so of each thread section in turn.
+fn gather_all(
+    context: &Context,
+    main: &mut Pass,
+    answers: &mut Vec<Answer>,
+    ended: Vec<Result<Ended, AllocError>>,
+) -> Result<(), RunFault>
+    requires main { IsPassOf context.now main.old }
+    requires ended { All (λ one. IfOk one (λ ended. IsPassOf context.now ended.pass)) ended.items }
+    ensures main { IsPassOf context.now main.new }
+    ensures gathered { OnOk result (AreGathered context.now main.old answers.old.items ended.items main.new answers.new.items) }
+    ensures fault { IfErr result IsStop }
+{
+    for one in ended {
+        gather(context, main, answers, one?)?;
+    }
+    Ok(())
+}
+
+/// Whether a statement of the section asks for entries, or checks them.
+fn asks(steps: &[Step]) -> bool {
+    for step in steps {
+        if let Step::Statement(statement) = step {
+            match statement {
+                Statement::Nvals { .. }
+                | Statement::GetMatrix { .. }
+                | Statement::GetVector { .. }
+                | Statement::BuildMatrix { .. }
+                | Statement::BuildVector { .. }
+                | Statement::Total { .. }
+                | Statement::Wait { .. } => return true,
+                _ => {}
+            }
+        }
+    }
+    false
+}
+
+/// Whether several sections ask for entries.
+fn several_ask(threads: &[Vec<Step>]) -> bool {
+    let mut one = false;
+    for steps in threads {
+        if asks(steps) {
+            if one {
+                return true;
+            }
+            one = true;
+        }
+    }
+    false
+}
+
+/// Lets main's pass evaluate what main left, where several sections ask for entries.
+fn prepare_main(context: &Context, main: &mut Pass, threads: &[Vec<Step>])
+    requires { IsPassOf context.now main.old }
+    ensures { main.new ≡ main.old }
+{
+    if several_ask(threads) {
+        context.prepare(main);
+    }
+}
+
+/// Runs the thread sections of a script, all at the same time, each on a thread and by one of these passes, and puts their answers behind
+/// those of main. Where there is none, nothing is done. Where several ask for entries, main's pass first evaluates what main left, and each section
+/// goes on from there.
+pub(crate) fn run_threads<R: Threads + Wait + Sync, G: Gate + Sync>(
+    rt: &R,
+    alloc: Global,
+    context: &Context,
+    main: &mut Pass,
+    objects: &[Object],
+    passes: Vec<Pass>,
+    threads: Vec<Vec<Step>>,
+    answers: &mut Vec<Answer>,
+    gate: &G,
+) -> Result<(), RunFault>
+    requires main { IsPassOf context.now main.old }
+    requires passes { All (IsPassOf context.now) passes.items }
+    requires count { length passes.items ≡ length threads.items }
+    ensures main { IsPassOf context.now main.new }
+    ensures run { OnOk result (AreThreadsRun context.now (record { objects = objects.now; pass = main.old }) passes.items (map (λ steps. steps.items) threads.items) answers.old.items main.new answers.new.items) }
+    ensures fault { IfErr result IsStop }
+    ensures none { length threads.items ≡ 0 → OnErr result ⊥ }
+{
+    if threads.is_empty() {
+        return Ok(());
+    }
+    prepare_main(context, main, &threads);
+    let jobs = jobs_of(alloc, context, main, objects, passes, threads)?;
+    let ended = run_jobs(rt, alloc, context, jobs, gate)?;
+    gather_all(context, main, answers, ended)
+}

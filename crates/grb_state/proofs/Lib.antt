@@ -1,0 +1,10 @@
+mod Accepted
+mod Applied
+mod Assembled
+mod Dispatched
+mod Folded
+mod Lent
+mod LentProducts
+pub mod Numbered
+mod Objects
+mod Totals

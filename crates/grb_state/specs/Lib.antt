@@ -1,0 +1,6 @@
+pub mod Evaluated
+pub mod Fits
+pub mod Operation
+pub mod Places
+pub mod Settled
+pub mod State

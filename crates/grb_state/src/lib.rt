@@ -1,0 +1,23 @@
+//! The store that a list of calls leaves, evaluated.
+//!
+//! A `State` holds the matrices and vectors that the calls made, with their entries. One unit is one call: `apply` makes of the
+//! store what the call makes of it, and nothing of it where the call is refused; `settle` does what waits in the objects and changes
+//! no entry; `reply` and `refused_build` read it. All places for objects to come are reserved where a state is cloned: an empty state has
+//! none. Nothing here knows of passes, of an order, or of which calls there are: the caller brings them, one after another.
+#![tactic(auto)]
+
+mod copies;
+mod fold;
+mod matrices;
+mod matrix_operations;
+mod operations;
+mod places;
+mod product_operations;
+mod shared;
+mod state;
+mod stored_object;
+mod vector_operations;
+mod vectors;
+
+pub use fold::replay;
+pub use state::State;

@@ -1,0 +1,67 @@
+//! What a state asks of the objects of one sort that it holds.
+ghost use Rattle.std.specs.Prelude.{◌≡◌, ℕ, Bool, true, OnOk, OnErr, IfOk};
+ghost use Rattle.grb_call.specs.declared.call.Call.{Call};
+
+use grb_call::Call;
+use std::alloc::{AllocError, Global};
+
+/// An object of a sort that a state holds in places.
+pub(crate) trait StoredObject: Drop {
+    /// What names an object of the sort.
+    type Id: Copy;
+
+    /// The number of its place.
+    ghost number: { Self.Id → ℕ };
+
+    /// What a contract sees of what an object stores.
+    ghost Contents: { Type 0 };
+
+    /// What the object stores.
+    ghost contents: { Self → Contents };
+
+    /// Whether no change waits in the object.
+    ghost is_assembled: { Self → Bool };
+
+    /// When the call may change an object that stores this.
+    ghost fits: { Call → Contents → Type 0 };
+
+    /// What the call makes of this, where it does not end the object.
+    ghost after: { Call → Contents → Contents };
+
+    /// Whether the call ends the object that it changes.
+    ghost ends: { Call → Bool };
+
+    /// The number of the object's place.
+    fn number(id: Self::Id) -> u32
+        ensures { result ≡ number id };
+
+    /// Whether the call ends the object that it changes.
+    fn is_ended_by(call: &Call) -> bool
+        ensures { result ≡ ends call.now };
+
+    /// Changes the object as the call says. `AllocError` where memory is refused; then its entries are as before.
+    fn change(&mut self, call: &Call) -> Result<(), AllocError>
+        requires { fits call.now (contents self.old) }
+        ensures ok { OnOk result (contents self.new ≡ after call.now (contents self.old)) }
+        ensures err { OnErr result (contents self.new ≡ contents self.old) };
+
+    /// An object to change as the call says in place of this one, which others hold: a copy, or one without entries where the call clears
+    /// it. `AllocError` where memory is refused.
+    fn copy_to_change(&self, alloc: Global, call: &Call) -> Result<Self, AllocError>
+        requires { fits call.now (contents self.now) }
+        ensures fits { IfOk result (λ copy. fits call.now (contents copy)) }
+        ensures after { IfOk result (λ copy. after call.now (contents copy) ≡ after call.now (contents self.now)) };
+
+    /// Whether no change waits in the object. Takes no memory.
+    fn is_assembled(&self) -> bool
+        ensures { result ≡ is_assembled self.now };
+
+    /// Does the changes that wait in the object. `AllocError` where memory is refused; its entries are as before in any case.
+    fn assemble(&mut self) -> Result<(), AllocError>
+        ensures same { contents self.new ≡ contents self.old }
+        ensures assembled { OnOk result (is_assembled self.new ≡ true) };
+
+    /// An equal object. `AllocError` where memory is refused.
+    fn try_clone(&self) -> Result<Self, AllocError>
+        ensures { IfOk result (λ copy. contents copy ≡ contents self.now) };
+}

@@ -1,4 +1,0 @@
-pub mod NextTarget
-pub mod Onward
-pub mod Partial
-pub mod Valued

@@ -1,3 +1,0 @@
-mod Begins
-mod SameCalls
-mod Served
