@@ -13,7 +13,6 @@ use std::marker::Model;
 pub struct Statuses {
     matrices: Vec<Option<Info>>,
     vectors: Vec<Option<Info>>,
-    room: u32,
 }
 
 impl Model for Statuses {
@@ -22,9 +21,9 @@ impl Model for Statuses {
 
     ghost Value = { RoomyStatuses };
 
-    ghost view = { λ s. record { rows = record { matrices = s.matrices.items; vectors = s.vectors.items }; room = s.room } };
+    ghost view = { λ s. record { rows = record { matrices = s.matrices.items; vectors = s.vectors.items }; room = length s.matrices.items } };
 
-    ghost invariant = { λ s. AreRows s.matrices.items s.vectors.items s.room };
+    ghost invariant = { λ s. AreRows s.matrices.items s.vectors.items (length s.matrices.items) };
 }
 
 // Puts the status at its place in a row, if it has one.
@@ -44,15 +43,7 @@ impl Statuses {
         Ok(Statuses {
             matrices: vec![in alloc; None; room as usize]?,
             vectors: vec![in alloc; None; room as usize]?,
-            room,
         })
-    }
-
-    /// Below which number an object has a place.
-    pub fn room(&self) -> u32
-        ensures { result ≡ self.now.room }
-    {
-        self.room
     }
 
     /// The status of the object. Takes no memory.

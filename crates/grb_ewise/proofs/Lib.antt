@@ -4,7 +4,7 @@ pub mod Lent
 pub mod Whole
 pub mod MatrixRows
 pub mod PushedRows
-pub mod Ranks
+pub mod RankLemmas
 pub mod RowEntries
 pub mod RowMerges
 pub mod Scattering

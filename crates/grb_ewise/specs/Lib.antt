@@ -1,2 +1,4 @@
+pub mod Premises
 pub mod Rows
 pub mod Transposing
+pub mod Ranks

@@ -1,20 +1,21 @@
 //! eWiseAdd and eWiseMult of vectors.
-ghost use Rattle.std.specs.Prelude.{◌≡◌, true, IfOk, IfSome};
+ghost use Rattle.std.specs.Prelude.{◌≡◌, true, IfOk};
 ghost use Rattle.std.specs.Ordering.{nat_cmp};
 ghost use Rattle.std.specs.Option.{option_map};
 ghost use Rattle.grb_core.specs.Operator.{op_domain, value_of_op};
 ghost use Rattle.grb_core.specs.Contents.{IsVector, edited_vector};
 ghost use Rattle.grb_core.specs.Mask.{is_inside};
-ghost use Rattle.grb_core.specs.Written.{AccumulatesIn, pointwise, written};
+ghost use Rattle.grb_core.specs.Written.{pointwise, written};
 ghost use Rattle.grb_core.specs.Results.{ewise_add, ewise_mult};
 ghost use Rattle.grb_kernels.specs.Typed.{entries_of};
 ghost use Rattle.grb_kernels.specs.Pairing.{paired};
+ghost use Rattle.grb_ewise.specs.Premises.{IsVectorInput, IsVectorOutput};
 
-use crate::typed::{Stored, keep_bools, keep_numbers};
+use crate::stored::{Stored, keep_bools, keep_numbers};
 use crate::writing::write_masked_vector;
 use grb_call::Descriptor;
 use grb_core::{BinaryOp, Domain};
-use grb_kernels::{EntryList, Pairing};
+use grb_kernels::{EntryList, Pairing, pair};
 use grb_sparse::SparseVector;
 use std::alloc::{AllocError, Global};
 
@@ -35,7 +36,7 @@ fn pair_typed<T: Stored + Drop>(
     ensures entries { IfOk result (λ made. entries_of T.value made.indices.items made.values.items ≡ pointwise nat_cmp (paired pairing (value_of_op op)) u.now.vector.entries v.now.vector.entries) }
     ensures whole { IfOk result (λ made. IsVector (record { domain = T.domain; size = u.now.vector.size; entries = entries_of T.value made.indices.items made.values.items })) }
 {
-    let entries = T::pair(alloc, pairing, op, &T::lend(u), &T::lend(v))?;
+    let entries = pair(alloc, pairing, op, &T::lend(u), &T::lend(v))?;
     Ok(entries)
 }
 
@@ -86,17 +87,10 @@ pub fn ewise_add_vector(
     v: &SparseVector,
     descriptor: Descriptor,
 ) -> Result<SparseVector, AllocError>
-    requires output_assembled { output.now.assembled ≡ true }
-    requires u_assembled { u.now.assembled ≡ true }
-    requires v_assembled { v.now.assembled ≡ true }
-    requires mask_assembled { IfSome mask (λ m. m.now.assembled ≡ true) }
-    requires accum_domain { AccumulatesIn output.now.vector.domain accum }
+    requires output { IsVectorOutput output.now mask accum }
     requires op_domain { op_domain op ≡ output.now.vector.domain }
-    requires u_domain { u.now.vector.domain ≡ output.now.vector.domain }
-    requires v_domain { v.now.vector.domain ≡ output.now.vector.domain }
-    requires u_size { u.now.vector.size ≡ output.now.vector.size }
-    requires v_size { v.now.vector.size ≡ output.now.vector.size }
-    requires mask_size { IfSome mask (λ m. m.now.vector.size ≡ output.now.vector.size) }
+    requires u { IsVectorInput output.now.vector.domain output.now.vector.size u.now }
+    requires v { IsVectorInput output.now.vector.domain output.now.vector.size v.now }
     ensures vector { IfOk result (λ made. made.vector ≡ edited_vector (λ w. written nat_cmp (is_inside nat_cmp descriptor.structure descriptor.comp (option_map (λ m. m.now.vector.entries) mask.entry)) descriptor.replace accum w (ewise_add nat_cmp op u.now.vector.entries v.now.vector.entries)) output.now.vector) }
     ensures assembled { IfOk result (λ made. made.assembled ≡ true) }
 {
@@ -120,17 +114,10 @@ pub fn ewise_mult_vector(
     v: &SparseVector,
     descriptor: Descriptor,
 ) -> Result<SparseVector, AllocError>
-    requires output_assembled { output.now.assembled ≡ true }
-    requires u_assembled { u.now.assembled ≡ true }
-    requires v_assembled { v.now.assembled ≡ true }
-    requires mask_assembled { IfSome mask (λ m. m.now.assembled ≡ true) }
-    requires accum_domain { AccumulatesIn output.now.vector.domain accum }
+    requires output { IsVectorOutput output.now mask accum }
     requires op_domain { op_domain op ≡ output.now.vector.domain }
-    requires u_domain { u.now.vector.domain ≡ output.now.vector.domain }
-    requires v_domain { v.now.vector.domain ≡ output.now.vector.domain }
-    requires u_size { u.now.vector.size ≡ output.now.vector.size }
-    requires v_size { v.now.vector.size ≡ output.now.vector.size }
-    requires mask_size { IfSome mask (λ m. m.now.vector.size ≡ output.now.vector.size) }
+    requires u { IsVectorInput output.now.vector.domain output.now.vector.size u.now }
+    requires v { IsVectorInput output.now.vector.domain output.now.vector.size v.now }
     ensures vector { IfOk result (λ made. made.vector ≡ edited_vector (λ w. written nat_cmp (is_inside nat_cmp descriptor.structure descriptor.comp (option_map (λ m. m.now.vector.entries) mask.entry)) descriptor.replace accum w (ewise_mult nat_cmp op u.now.vector.entries v.now.vector.entries)) output.now.vector) }
     ensures assembled { IfOk result (λ made. made.assembled ≡ true) }
 {

@@ -10,7 +10,8 @@ ghost use Rattle.grb_kernels.specs.Typed.{entries_of};
 ghost use Rattle.grb_rows.specs.Cells.{decoded, IsFlat};
 ghost use Rattle.grb_ewise.specs.Rows.{flat_entries};
 
-use crate::typed_matrix::StoredRows;
+use crate::stored::Stored;
+use crate::typed_rows::TypedRows;
 use grb_kernels::{EntrySlice, Rule, merge};
 use grb_sparse::FlatRows;
 use std::alloc::{AllocError, Global};
@@ -47,18 +48,20 @@ fn lower(p: u64, q: u64) -> u32
 }
 
 /// The row at a cursor, if it is its turn, and where the cursor then stands; no entries and the same cursor, if it is not.
-fn take_row<T: StoredRows>(lists: &FlatRows, i: usize, here: bool) -> (EntrySlice<'_, T>, usize)
-    requires at { here ≡ true → i < length lists.now.rows }
+fn take_row<'a, T: Stored>(
+    rows: &TypedRows<'a, T>,
+    i: usize,
+    here: bool,
+) -> (EntrySlice<'a, T>, usize)
+    requires at { here ≡ true → i < length rows.now.lists.now.rows }
     requires few { i < 2 ^ 63 }
-    requires domain { lists.now.domain ≡ T.domain }
-    requires ordered { IsTrue (is_sorted cell_cmp (decoded lists.now.entries)) }
-    ensures row { here ≡ true → entries_of T.value result.0.indices.now result.0.values.now ≡ row_of (slice_index lists.now.rows i) (decoded lists.now.entries) }
+    ensures row { here ≡ true → entries_of T.value result.0.indices.now result.0.values.now ≡ row_of (slice_index rows.now.lists.now.rows i) (decoded rows.now.lists.now.entries) }
     ensures on { here ≡ true → result.1 ≡ i + 1 }
     ensures none { here ≡ false → result.0.indices.now ≡ [] }
     ensures stays { here ≡ false → result.1 ≡ i }
 {
     if here {
-        return (T::row(lists, i), i + 1);
+        return (T::row(rows.lists, i), i + 1);
     }
     let nothing = EntrySlice {
         indices: &[],
@@ -68,7 +71,7 @@ fn take_row<T: StoredRows>(lists: &FlatRows, i: usize, here: bool) -> (EntrySlic
 }
 
 /// Writes what the rule makes of two rows behind the first `k` columns and values. Answers how many entries it has.
-fn merge_row<T: StoredRows, U: StoredRows, R: Rule<T, U>>(
+fn merge_row<T: Stored, U: Stored, R: Rule<T, U>>(
     rule: &R,
     x: &EntrySlice<T>,
     y: &EntrySlice<U>,
@@ -115,32 +118,28 @@ fn push_row(rows: &mut Vec<u32>, starts: &mut Vec<usize>, row: u32, start: usize
 
 /// Writes what the rule makes of two matrices, row by row: each row by the two cursors over the rows of both. Answers how many entries
 /// it has.
-fn fill_rows<T: StoredRows, U: StoredRows, R: Rule<T, U>>(
+fn fill_rows<T: Stored, U: Stored, R: Rule<T, U>>(
     rule: &R,
-    a: &FlatRows,
-    b: &FlatRows,
+    a: &TypedRows<T>,
+    b: &TypedRows<U>,
     rows: &mut Vec<u32>,
     starts: &mut Vec<usize>,
     columns: &mut [u32],
     values: &mut [T],
 ) -> usize
-    requires a_domain { a.now.domain ≡ T.domain }
-    requires b_domain { b.now.domain ≡ U.domain }
-    requires a_ordered { IsTrue (is_sorted cell_cmp (decoded a.now.entries)) }
-    requires b_ordered { IsTrue (is_sorted cell_cmp (decoded b.now.entries)) }
     requires no_rows { rows.old.items ≡ [] }
     requires no_starts { starts.old.items ≡ [] }
-    requires rows_room { length a.now.rows + length b.now.rows ≤ vec_capacity rows.old }
-    requires starts_room { length a.now.rows + length b.now.rows ≤ vec_capacity starts.old }
-    requires room { length a.now.entries + length b.now.entries ≤ length columns.old }
+    requires rows_room { length a.now.lists.now.rows + length b.now.lists.now.rows ≤ vec_capacity rows.old }
+    requires starts_room { length a.now.lists.now.rows + length b.now.lists.now.rows ≤ vec_capacity starts.old }
+    requires room { length a.now.lists.now.entries + length b.now.lists.now.entries ≤ length columns.old }
     requires same { length columns.old ≡ length values.old }
     ensures flat { IsFlat rows.new.items starts.new.items (take result columns.new) }
-    ensures entries { flat_entries T.value rows.new.items starts.new.items (take result columns.new) (take result values.new) ≡ pointwise cell_cmp (R.gives rule.now) (decoded a.now.entries) (decoded b.now.entries) }
+    ensures entries { flat_entries T.value rows.new.items starts.new.items (take result columns.new) (take result values.new) ≡ pointwise cell_cmp (R.gives rule.now) (decoded a.now.lists.now.entries) (decoded b.now.lists.now.entries) }
     ensures ordered { IsTrue (is_sorted cell_cmp (flat_entries T.value rows.new.items starts.new.items (take result columns.new) (take result values.new))) }
     ensures most { result ≤ length columns.new }
 {
-    let rows_a = a.rows();
-    let rows_b = b.rows();
+    let rows_a = a.lists.rows();
+    let rows_b = b.lists.rows();
     let total = rows_a.len() + rows_b.len();
     let mut i = 0;
     let mut j = 0;
@@ -148,8 +147,8 @@ fn fill_rows<T: StoredRows, U: StoredRows, R: Rule<T, U>>(
     'merging: while i + j < total {
         let p = number_at(rows_a, i);
         let q = number_at(rows_b, j);
-        let (x, next_i) = take_row::<T>(a, i, is_upto(p, q));
-        let (y, next_j) = take_row::<U>(b, j, is_upto(q, p));
+        let (x, next_i) = take_row::<T>(&*a, i, is_upto(p, q));
+        let (y, next_j) = take_row::<U>(&*b, j, is_upto(q, p));
         let count = merge_row(rule, &x, &y, columns, values, k);
         push_row(rows, starts, lower(p, q), k, count);
         k += count;
@@ -161,22 +160,18 @@ fn fill_rows<T: StoredRows, U: StoredRows, R: Rule<T, U>>(
 
 /// The map that the rule makes of two matrices. Takes memory for as many entries and rows as both have; none is refused once anything
 /// was written.
-pub(crate) fn merge_rows<T: StoredRows + Drop, U: StoredRows, R: Rule<T, U>>(
+pub(crate) fn merge_rows<T: Stored + Drop, U: Stored, R: Rule<T, U>>(
     alloc: Global,
     rule: &R,
-    a: &FlatRows,
-    b: &FlatRows,
+    a: &TypedRows<T>,
+    b: &TypedRows<U>,
 ) -> Result<FlatRows, AllocError>
-    requires a_domain { a.now.domain ≡ T.domain }
-    requires b_domain { b.now.domain ≡ U.domain }
-    requires a_ordered { IsTrue (is_sorted cell_cmp (decoded a.now.entries)) }
-    requires b_ordered { IsTrue (is_sorted cell_cmp (decoded b.now.entries)) }
-    ensures entries { IfOk result (λ made. decoded made.entries ≡ pointwise cell_cmp (R.gives rule.now) (decoded a.now.entries) (decoded b.now.entries)) }
+    ensures entries { IfOk result (λ made. decoded made.entries ≡ pointwise cell_cmp (R.gives rule.now) (decoded a.now.lists.now.entries) (decoded b.now.lists.now.entries)) }
     ensures ordered { IfOk result (λ made. IsTrue (is_sorted cell_cmp (decoded made.entries))) }
     ensures domain { IfOk result (λ made. made.domain ≡ T.domain) }
 {
-    let room = a.len() + b.len();
-    let rows_room = a.rows().len() + b.rows().len();
+    let room = a.lists.len() + b.lists.len();
+    let rows_room = a.lists.rows().len() + b.lists.rows().len();
     let mut rows = Vec::with_capacity(alloc, rows_room)?;
     let mut starts = Vec::with_capacity(alloc, rows_room)?;
     let mut columns = vec![in alloc; 0u32; room]?;

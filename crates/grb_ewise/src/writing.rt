@@ -1,14 +1,15 @@
 //! How what was computed goes into a vector: the accumulator, and then the mask with replace.
-ghost use Rattle.std.specs.Prelude.{◌≡◌, true, [], Some, None, IfOk, IfSome};
+ghost use Rattle.std.specs.Prelude.{◌≡◌, true, Some, None, IfOk};
 ghost use Rattle.std.specs.Ordering.{nat_cmp};
 ghost use Rattle.std.specs.Option.{option_map};
 ghost use Rattle.grb_core.specs.Contents.{IsVector, edited_vector};
 ghost use Rattle.grb_core.specs.Mask.{is_inside};
-ghost use Rattle.grb_core.specs.Written.{AccumulatesIn, accumulated, written};
+ghost use Rattle.grb_core.specs.Written.{accumulated, written};
 ghost use Rattle.grb_kernels.specs.Typed.{entries_of};
+ghost use Rattle.grb_ewise.specs.Premises.{IsVectorInput, IsVectorOutput};
 
 use crate::ewise::pair_vectors;
-use crate::typed::{Stored, keep_bools, keep_numbers};
+use crate::stored::{Stored, keep_bools, keep_numbers};
 use grb_call::Descriptor;
 use grb_core::{BinaryOp, Domain};
 use grb_kernels::{EntryList, MaskReading, Pairing, write};
@@ -22,11 +23,8 @@ fn accumulate(
     accum: Option<BinaryOp>,
     computed: SparseVector,
 ) -> Result<SparseVector, AllocError>
-    requires output_assembled { output.now.assembled ≡ true }
-    requires computed_assembled { computed.assembled ≡ true }
-    requires computed_domain { computed.vector.domain ≡ output.now.vector.domain }
-    requires accum_domain { AccumulatesIn output.now.vector.domain accum }
-    requires sizes { computed.vector.size ≡ output.now.vector.size }
+    requires output { IsVectorOutput output.now None accum }
+    requires computed { IsVectorInput output.now.vector.domain output.now.vector.size computed }
     requires whole { IsVector computed.vector }
     ensures vector { IfOk result (λ made. made.vector ≡ edited_vector (λ w. accumulated nat_cmp accum w computed.vector.entries) output.now.vector) }
     ensures whole { IfOk result (λ made. IsVector made.vector) }
@@ -50,14 +48,10 @@ fn write_by<T: Stored + Drop, M: Stored>(
     descriptor: Descriptor,
     computed: &SparseVector,
 ) -> Result<EntryList<T>, AllocError>
-    requires output_assembled { output.now.assembled ≡ true }
-    requires mask_assembled { mask.now.assembled ≡ true }
-    requires computed_assembled { computed.now.assembled ≡ true }
+    requires output { IsVectorOutput output.now (Some mask) accum }
+    requires computed { IsVectorInput output.now.vector.domain output.now.vector.size computed.now }
     requires output_domain { output.now.vector.domain ≡ T.domain }
-    requires computed_domain { computed.now.vector.domain ≡ T.domain }
-    requires accum_domain { AccumulatesIn T.domain accum }
     requires mask_domain { mask.now.vector.domain ≡ M.domain }
-    requires sizes { computed.now.vector.size ≡ output.now.vector.size }
     ensures entries { IfOk result (λ made. entries_of T.value made.indices.items made.values.items ≡ written nat_cmp (is_inside nat_cmp descriptor.structure descriptor.comp (Some mask.now.vector.entries)) descriptor.replace accum output.now.vector.entries computed.now.vector.entries) }
     ensures whole { IfOk result (λ made. IsVector (record { domain = T.domain; size = output.now.vector.size; entries = entries_of T.value made.indices.items made.values.items })) }
 {
@@ -86,13 +80,9 @@ fn write_typed<T: Stored + Drop>(
     descriptor: Descriptor,
     computed: &SparseVector,
 ) -> Result<EntryList<T>, AllocError>
-    requires output_assembled { output.now.assembled ≡ true }
-    requires mask_assembled { mask.now.assembled ≡ true }
-    requires computed_assembled { computed.now.assembled ≡ true }
+    requires output { IsVectorOutput output.now (Some mask) accum }
+    requires computed { IsVectorInput output.now.vector.domain output.now.vector.size computed.now }
     requires output_domain { output.now.vector.domain ≡ T.domain }
-    requires computed_domain { computed.now.vector.domain ≡ T.domain }
-    requires accum_domain { AccumulatesIn T.domain accum }
-    requires sizes { computed.now.vector.size ≡ output.now.vector.size }
     ensures entries { IfOk result (λ made. entries_of T.value made.indices.items made.values.items ≡ written nat_cmp (is_inside nat_cmp descriptor.structure descriptor.comp (Some mask.now.vector.entries)) descriptor.replace accum output.now.vector.entries computed.now.vector.entries) }
     ensures whole { IfOk result (λ made. IsVector (record { domain = T.domain; size = output.now.vector.size; entries = entries_of T.value made.indices.items made.values.items })) }
 {
@@ -111,12 +101,8 @@ fn write_with_mask(
     descriptor: Descriptor,
     computed: &SparseVector,
 ) -> Result<SparseVector, AllocError>
-    requires output_assembled { output.now.assembled ≡ true }
-    requires mask_assembled { mask.now.assembled ≡ true }
-    requires computed_assembled { computed.now.assembled ≡ true }
-    requires accum_domain { AccumulatesIn output.now.vector.domain accum }
-    requires computed_domain { computed.now.vector.domain ≡ output.now.vector.domain }
-    requires sizes { computed.now.vector.size ≡ output.now.vector.size }
+    requires output { IsVectorOutput output.now (Some mask) accum }
+    requires computed { IsVectorInput output.now.vector.domain output.now.vector.size computed.now }
     ensures vector { IfOk result (λ made. made.vector ≡ edited_vector (λ w. written nat_cmp (is_inside nat_cmp descriptor.structure descriptor.comp (Some mask.now.vector.entries)) descriptor.replace accum w computed.now.vector.entries) output.now.vector) }
     ensures assembled { IfOk result (λ made. made.assembled ≡ true) }
 {
@@ -142,11 +128,8 @@ fn write_unmasked(
     descriptor: Descriptor,
     computed: SparseVector,
 ) -> Result<SparseVector, AllocError>
-    requires output_assembled { output.now.assembled ≡ true }
-    requires computed_assembled { computed.assembled ≡ true }
-    requires accum_domain { AccumulatesIn output.now.vector.domain accum }
-    requires computed_domain { computed.vector.domain ≡ output.now.vector.domain }
-    requires sizes { computed.vector.size ≡ output.now.vector.size }
+    requires output { IsVectorOutput output.now None accum }
+    requires computed { IsVectorInput output.now.vector.domain output.now.vector.size computed }
     requires whole { IsVector computed.vector }
     ensures vector { IfOk result (λ made. made.vector ≡ edited_vector (λ w. written nat_cmp (is_inside nat_cmp descriptor.structure descriptor.comp None) descriptor.replace accum w computed.vector.entries) output.now.vector) }
     ensures assembled { IfOk result (λ made. made.assembled ≡ true) }
@@ -179,13 +162,8 @@ pub fn write_masked_vector(
     descriptor: Descriptor,
     computed: SparseVector,
 ) -> Result<SparseVector, AllocError>
-    requires output_assembled { output.now.assembled ≡ true }
-    requires computed_assembled { computed.assembled ≡ true }
-    requires mask_assembled { IfSome mask (λ m. m.now.assembled ≡ true) }
-    requires accum_domain { AccumulatesIn output.now.vector.domain accum }
-    requires computed_domain { computed.vector.domain ≡ output.now.vector.domain }
-    requires sizes { computed.vector.size ≡ output.now.vector.size }
-    requires mask_size { IfSome mask (λ m. m.now.vector.size ≡ output.now.vector.size) }
+    requires output { IsVectorOutput output.now mask accum }
+    requires computed { IsVectorInput output.now.vector.domain output.now.vector.size computed }
     ensures vector { IfOk result (λ made. made.vector ≡ edited_vector (λ w. written nat_cmp (is_inside nat_cmp descriptor.structure descriptor.comp (option_map (λ m. m.now.vector.entries) mask.entry)) descriptor.replace accum w computed.vector.entries) output.now.vector) }
     ensures assembled { IfOk result (λ made. made.assembled ≡ true) }
 {

@@ -1,5 +1,5 @@
 //! How what was computed goes into a matrix: the accumulator, and then the mask with replace.
-ghost use Rattle.std.specs.Prelude.{◌≡◌, not, true, false, [], Some, None, IsTrue, IfOk, IfSome};
+ghost use Rattle.std.specs.Prelude.{◌≡◌, not, true, false, Some, None, IsTrue, IfOk};
 ghost use Rattle.std.specs.Option.{option_map};
 ghost use Rattle.std.specs.FinMap.{is_sorted};
 ghost use Rattle.grb_core.specs.Operator.{op_domain};
@@ -9,15 +9,18 @@ ghost use Rattle.grb_core.specs.Mask.{is_inside};
 ghost use Rattle.grb_core.specs.Written.{AccumulatesIn, accumulated, pointwise, masked, written};
 ghost use Rattle.grb_kernels.specs.Masked.{by_mask};
 ghost use Rattle.grb_rows.specs.Cells.{decoded};
+ghost use Rattle.grb_ewise.specs.Premises.{IsMatrixInput, IsMatrixOutput};
 
-use crate::ewise_matrix::{PairedRows, pair_matrices};
+use crate::ewise_matrix::{pair_matrices, pair_rows};
 use crate::rows::merge_rows;
-use crate::typed_matrix::StoredRows;
+use crate::stored::Stored;
+use crate::typed_rows::{TypedRows, lend_rows};
 use grb_call::Descriptor;
 use grb_core::{BinaryOp, Domain};
 use grb_kernels::{ByMask, MaskReading, Over, Pairing};
 use grb_sparse::{FlatRows, SparseMatrix};
 use std::alloc::{AllocError, Global};
+use std::marker::PhantomData;
 
 /// What the accumulator makes of the old output and what was computed; without one that is what was computed itself.
 fn accumulate(
@@ -26,12 +29,8 @@ fn accumulate(
     accum: Option<BinaryOp>,
     computed: SparseMatrix,
 ) -> Result<SparseMatrix, AllocError>
-    requires output_assembled { output.now.assembled ≡ true }
-    requires computed_assembled { computed.assembled ≡ true }
-    requires computed_domain { computed.matrix.domain ≡ output.now.matrix.domain }
-    requires accum_domain { AccumulatesIn output.now.matrix.domain accum }
-    requires rows { computed.matrix.nrows ≡ output.now.matrix.nrows }
-    requires columns { computed.matrix.ncols ≡ output.now.matrix.ncols }
+    requires output { IsMatrixOutput output.now None accum }
+    requires computed { IsMatrixInput false output.now.matrix.domain output.now.matrix.nrows output.now.matrix.ncols computed }
     requires whole { IsMatrix computed.matrix }
     ensures matrix { IfOk result (λ made. made.matrix ≡ edited_matrix (λ c. accumulated cell_cmp accum c computed.matrix.entries) output.now.matrix) }
     ensures whole { IfOk result (λ made. IsMatrix made.matrix) }
@@ -47,17 +46,13 @@ fn accumulate(
 }
 
 /// What the mask lets in of flat lists.
-fn rows_inside<T: StoredRows + Drop, M: StoredRows>(
+fn rows_inside<T: Stored + Drop, M: Stored>(
     alloc: Global,
     reading: MaskReading,
-    mask: &FlatRows,
-    made: &FlatRows,
+    mask: &TypedRows<M>,
+    made: &TypedRows<T>,
 ) -> Result<FlatRows, AllocError>
-    requires mask_domain { mask.now.domain ≡ M.domain }
-    requires made_domain { made.now.domain ≡ T.domain }
-    requires mask_ordered { IsTrue (is_sorted cell_cmp (decoded mask.now.entries)) }
-    requires made_ordered { IsTrue (is_sorted cell_cmp (decoded made.now.entries)) }
-    ensures entries { IfOk result (λ inside. decoded inside.entries ≡ pointwise cell_cmp (by_mask reading.structure (not reading.comp)) (decoded made.now.entries) (decoded mask.now.entries)) }
+    ensures entries { IfOk result (λ inside. decoded inside.entries ≡ pointwise cell_cmp (by_mask reading.structure (not reading.comp)) (decoded made.now.lists.now.entries) (decoded mask.now.lists.now.entries)) }
     ensures ordered { IfOk result (λ inside. IsTrue (is_sorted cell_cmp (decoded inside.entries))) }
     ensures domain { IfOk result (λ inside. inside.domain ≡ T.domain) }
 {
@@ -69,21 +64,15 @@ fn rows_inside<T: StoredRows + Drop, M: StoredRows>(
 }
 
 /// The flat lists of the new output by a mask: inside it what `made` has, outside what `output` has, or with `replace` nothing.
-fn mask_rows<T: StoredRows + Drop, M: StoredRows>(
+fn mask_rows<T: Stored + Drop, M: Stored>(
     alloc: Global,
     reading: MaskReading,
     replace: bool,
-    mask: &FlatRows,
-    output: &FlatRows,
-    made: &FlatRows,
+    mask: &TypedRows<M>,
+    output: &TypedRows<T>,
+    made: &TypedRows<T>,
 ) -> Result<FlatRows, AllocError>
-    requires mask_domain { mask.now.domain ≡ M.domain }
-    requires output_domain { output.now.domain ≡ T.domain }
-    requires made_domain { made.now.domain ≡ T.domain }
-    requires mask_ordered { IsTrue (is_sorted cell_cmp (decoded mask.now.entries)) }
-    requires output_ordered { IsTrue (is_sorted cell_cmp (decoded output.now.entries)) }
-    requires made_ordered { IsTrue (is_sorted cell_cmp (decoded made.now.entries)) }
-    ensures entries { IfOk result (λ new. decoded new.entries ≡ masked cell_cmp (is_inside cell_cmp reading.structure reading.comp (Some (decoded mask.now.entries))) replace (decoded output.now.entries) (decoded made.now.entries)) }
+    ensures entries { IfOk result (λ new. decoded new.entries ≡ masked cell_cmp (is_inside cell_cmp reading.structure reading.comp (Some (decoded mask.now.lists.now.entries))) replace (decoded output.now.lists.now.entries) (decoded made.now.lists.now.entries)) }
     ensures domain { IfOk result (λ new. new.domain ≡ T.domain) }
 {
     let inside = rows_inside::<T, M>(alloc, reading, mask, made)?;
@@ -95,53 +84,53 @@ fn mask_rows<T: StoredRows + Drop, M: StoredRows>(
         wanted: reading.comp,
     };
     let outside = merge_rows::<T, M, ByMask>(alloc, &keep_outside, output, mask)?;
+    let inside: TypedRows<T> = TypedRows {
+        lists: &inside,
+        of: PhantomData,
+    };
+    let outside: TypedRows<T> = TypedRows {
+        lists: &outside,
+        of: PhantomData,
+    };
     let both = merge_rows::<T, T, Over>(alloc, &Over, &inside, &outside)?;
     Ok(both)
 }
 
 /// The flat lists of the new output by the accumulator, where what lies outside of the mask stays: what is inside of the result alone goes
 /// into the old output, which is read once.
-fn accumulate_inside<T: PairedRows + Drop, M: StoredRows>(
+fn accumulate_inside<T: Stored + Drop, M: Stored>(
     alloc: Global,
     op: BinaryOp,
     reading: MaskReading,
-    mask: &FlatRows,
-    output: &FlatRows,
-    computed: &FlatRows,
+    mask: &TypedRows<M>,
+    output: &TypedRows<T>,
+    computed: &TypedRows<T>,
 ) -> Result<FlatRows, AllocError>
     requires op_domain { op_domain op ≡ T.domain }
-    requires mask_domain { mask.now.domain ≡ M.domain }
-    requires output_domain { output.now.domain ≡ T.domain }
-    requires computed_domain { computed.now.domain ≡ T.domain }
-    requires mask_ordered { IsTrue (is_sorted cell_cmp (decoded mask.now.entries)) }
-    requires output_ordered { IsTrue (is_sorted cell_cmp (decoded output.now.entries)) }
-    requires computed_ordered { IsTrue (is_sorted cell_cmp (decoded computed.now.entries)) }
-    ensures entries { IfOk result (λ new. decoded new.entries ≡ written cell_cmp (is_inside cell_cmp reading.structure reading.comp (Some (decoded mask.now.entries))) false (Some op) (decoded output.now.entries) (decoded computed.now.entries)) }
+    ensures entries { IfOk result (λ new. decoded new.entries ≡ written cell_cmp (is_inside cell_cmp reading.structure reading.comp (Some (decoded mask.now.lists.now.entries))) false (Some op) (decoded output.now.lists.now.entries) (decoded computed.now.lists.now.entries)) }
     ensures domain { IfOk result (λ new. new.domain ≡ T.domain) }
 {
     let inside = rows_inside::<T, M>(alloc, reading, mask, computed)?;
-    let new = T::pair_rows(alloc, Pairing::Union, op, output, &inside)?;
+    let inside: TypedRows<T> = TypedRows {
+        lists: &inside,
+        of: PhantomData,
+    };
+    let new = pair_rows::<T>(alloc, Pairing::Union, op, output, &inside)?;
     Ok(new)
 }
 
 /// The flat lists of the new output by the accumulator and then by a mask.
-fn write_rows<T: PairedRows + Drop, M: StoredRows>(
+fn write_rows<T: Stored + Drop, M: Stored>(
     alloc: Global,
     accum: Option<BinaryOp>,
     reading: MaskReading,
     replace: bool,
-    mask: &FlatRows,
-    output: &FlatRows,
-    computed: &FlatRows,
+    mask: &TypedRows<M>,
+    output: &TypedRows<T>,
+    computed: &TypedRows<T>,
 ) -> Result<FlatRows, AllocError>
     requires accum_domain { AccumulatesIn T.domain accum }
-    requires mask_domain { mask.now.domain ≡ M.domain }
-    requires output_domain { output.now.domain ≡ T.domain }
-    requires computed_domain { computed.now.domain ≡ T.domain }
-    requires mask_ordered { IsTrue (is_sorted cell_cmp (decoded mask.now.entries)) }
-    requires output_ordered { IsTrue (is_sorted cell_cmp (decoded output.now.entries)) }
-    requires computed_ordered { IsTrue (is_sorted cell_cmp (decoded computed.now.entries)) }
-    ensures entries { IfOk result (λ new. decoded new.entries ≡ written cell_cmp (is_inside cell_cmp reading.structure reading.comp (Some (decoded mask.now.entries))) replace accum (decoded output.now.entries) (decoded computed.now.entries)) }
+    ensures entries { IfOk result (λ new. decoded new.entries ≡ written cell_cmp (is_inside cell_cmp reading.structure reading.comp (Some (decoded mask.now.lists.now.entries))) replace accum (decoded output.now.lists.now.entries) (decoded computed.now.lists.now.entries)) }
     ensures domain { IfOk result (λ new. new.domain ≡ T.domain) }
 {
     match accum {
@@ -150,7 +139,11 @@ fn write_rows<T: PairedRows + Drop, M: StoredRows>(
             if !replace {
                 return accumulate_inside::<T, M>(alloc, op, reading, mask, output, computed);
             }
-            let made = T::pair_rows(alloc, Pairing::Union, op, output, computed)?;
+            let made = pair_rows::<T>(alloc, Pairing::Union, op, output, computed)?;
+            let made: TypedRows<T> = TypedRows {
+                lists: &made,
+                of: PhantomData,
+            };
             let new = mask_rows::<T, M>(alloc, reading, replace, mask, output, &made)?;
             Ok(new)
         }
@@ -158,7 +151,7 @@ fn write_rows<T: PairedRows + Drop, M: StoredRows>(
 }
 
 /// The new output by a mask, whose values are of the Rust type `M`, and those of the output of `T`.
-fn write_by<T: PairedRows + Drop, M: StoredRows>(
+fn write_by<T: Stored + Drop, M: Stored>(
     alloc: Global,
     output: &SparseMatrix,
     mask: &SparseMatrix,
@@ -166,15 +159,10 @@ fn write_by<T: PairedRows + Drop, M: StoredRows>(
     descriptor: Descriptor,
     computed: &SparseMatrix,
 ) -> Result<SparseMatrix, AllocError>
-    requires output_assembled { output.now.assembled ≡ true }
-    requires mask_assembled { mask.now.assembled ≡ true }
-    requires computed_assembled { computed.now.assembled ≡ true }
+    requires output { IsMatrixOutput output.now (Some mask) accum }
+    requires computed { IsMatrixInput false output.now.matrix.domain output.now.matrix.nrows output.now.matrix.ncols computed.now }
     requires output_domain { output.now.matrix.domain ≡ T.domain }
-    requires computed_domain { computed.now.matrix.domain ≡ T.domain }
-    requires accum_domain { AccumulatesIn T.domain accum }
     requires mask_domain { mask.now.matrix.domain ≡ M.domain }
-    requires rows { computed.now.matrix.nrows ≡ output.now.matrix.nrows }
-    requires columns { computed.now.matrix.ncols ≡ output.now.matrix.ncols }
     ensures matrix { IfOk result (λ made. made.matrix ≡ edited_matrix (λ c. written cell_cmp (is_inside cell_cmp descriptor.structure descriptor.comp (Some mask.now.matrix.entries)) descriptor.replace accum c computed.now.matrix.entries) output.now.matrix) }
     ensures assembled { IfOk result (λ made. made.assembled ≡ true) }
 {
@@ -188,15 +176,15 @@ fn write_by<T: PairedRows + Drop, M: StoredRows>(
         accum,
         reading,
         descriptor.replace,
-        mask.lists(),
-        output.lists(),
-        computed.lists(),
+        &lend_rows(mask),
+        &lend_rows(output),
+        &lend_rows(computed),
     )?;
     Ok(SparseMatrix::from_lists(alloc, nrows, ncols, lists))
 }
 
 /// The same by a mask of either domain.
-fn write_typed<T: PairedRows + Drop>(
+fn write_typed<T: Stored + Drop>(
     alloc: Global,
     output: &SparseMatrix,
     mask: &SparseMatrix,
@@ -204,14 +192,9 @@ fn write_typed<T: PairedRows + Drop>(
     descriptor: Descriptor,
     computed: &SparseMatrix,
 ) -> Result<SparseMatrix, AllocError>
-    requires output_assembled { output.now.assembled ≡ true }
-    requires mask_assembled { mask.now.assembled ≡ true }
-    requires computed_assembled { computed.now.assembled ≡ true }
+    requires output { IsMatrixOutput output.now (Some mask) accum }
+    requires computed { IsMatrixInput false output.now.matrix.domain output.now.matrix.nrows output.now.matrix.ncols computed.now }
     requires output_domain { output.now.matrix.domain ≡ T.domain }
-    requires computed_domain { computed.now.matrix.domain ≡ T.domain }
-    requires accum_domain { AccumulatesIn T.domain accum }
-    requires rows { computed.now.matrix.nrows ≡ output.now.matrix.nrows }
-    requires columns { computed.now.matrix.ncols ≡ output.now.matrix.ncols }
     ensures matrix { IfOk result (λ made. made.matrix ≡ edited_matrix (λ c. written cell_cmp (is_inside cell_cmp descriptor.structure descriptor.comp (Some mask.now.matrix.entries)) descriptor.replace accum c computed.now.matrix.entries) output.now.matrix) }
     ensures assembled { IfOk result (λ made. made.assembled ≡ true) }
 {
@@ -230,13 +213,8 @@ fn write_with_mask(
     descriptor: Descriptor,
     computed: &SparseMatrix,
 ) -> Result<SparseMatrix, AllocError>
-    requires output_assembled { output.now.assembled ≡ true }
-    requires mask_assembled { mask.now.assembled ≡ true }
-    requires computed_assembled { computed.now.assembled ≡ true }
-    requires accum_domain { AccumulatesIn output.now.matrix.domain accum }
-    requires computed_domain { computed.now.matrix.domain ≡ output.now.matrix.domain }
-    requires rows { computed.now.matrix.nrows ≡ output.now.matrix.nrows }
-    requires columns { computed.now.matrix.ncols ≡ output.now.matrix.ncols }
+    requires output { IsMatrixOutput output.now (Some mask) accum }
+    requires computed { IsMatrixInput false output.now.matrix.domain output.now.matrix.nrows output.now.matrix.ncols computed.now }
     ensures matrix { IfOk result (λ made. made.matrix ≡ edited_matrix (λ c. written cell_cmp (is_inside cell_cmp descriptor.structure descriptor.comp (Some mask.now.matrix.entries)) descriptor.replace accum c computed.now.matrix.entries) output.now.matrix) }
     ensures assembled { IfOk result (λ made. made.assembled ≡ true) }
 {
@@ -254,12 +232,8 @@ fn write_unmasked(
     descriptor: Descriptor,
     computed: SparseMatrix,
 ) -> Result<SparseMatrix, AllocError>
-    requires output_assembled { output.now.assembled ≡ true }
-    requires computed_assembled { computed.assembled ≡ true }
-    requires accum_domain { AccumulatesIn output.now.matrix.domain accum }
-    requires computed_domain { computed.matrix.domain ≡ output.now.matrix.domain }
-    requires rows { computed.matrix.nrows ≡ output.now.matrix.nrows }
-    requires columns { computed.matrix.ncols ≡ output.now.matrix.ncols }
+    requires output { IsMatrixOutput output.now None accum }
+    requires computed { IsMatrixInput false output.now.matrix.domain output.now.matrix.nrows output.now.matrix.ncols computed }
     requires whole { IsMatrix computed.matrix }
     ensures matrix { IfOk result (λ made. made.matrix ≡ edited_matrix (λ c. written cell_cmp (is_inside cell_cmp descriptor.structure descriptor.comp None) descriptor.replace accum c computed.matrix.entries) output.now.matrix) }
     ensures assembled { IfOk result (λ made. made.assembled ≡ true) }
@@ -292,15 +266,8 @@ pub fn write_masked_matrix(
     descriptor: Descriptor,
     computed: SparseMatrix,
 ) -> Result<SparseMatrix, AllocError>
-    requires output_assembled { output.now.assembled ≡ true }
-    requires computed_assembled { computed.assembled ≡ true }
-    requires mask_assembled { IfSome mask (λ m. m.now.assembled ≡ true) }
-    requires accum_domain { AccumulatesIn output.now.matrix.domain accum }
-    requires computed_domain { computed.matrix.domain ≡ output.now.matrix.domain }
-    requires rows { computed.matrix.nrows ≡ output.now.matrix.nrows }
-    requires columns { computed.matrix.ncols ≡ output.now.matrix.ncols }
-    requires mask_rows { IfSome mask (λ m. m.now.matrix.nrows ≡ output.now.matrix.nrows) }
-    requires mask_columns { IfSome mask (λ m. m.now.matrix.ncols ≡ output.now.matrix.ncols) }
+    requires output { IsMatrixOutput output.now mask accum }
+    requires computed { IsMatrixInput false output.now.matrix.domain output.now.matrix.nrows output.now.matrix.ncols computed }
     ensures matrix { IfOk result (λ made. made.matrix ≡ edited_matrix (λ c. written cell_cmp (is_inside cell_cmp descriptor.structure descriptor.comp (option_map (λ m. m.now.matrix.entries) mask.entry)) descriptor.replace accum c computed.matrix.entries) output.now.matrix) }
     ensures assembled { IfOk result (λ made. made.assembled ≡ true) }
 {

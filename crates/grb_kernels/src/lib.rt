@@ -5,6 +5,7 @@
 //! was written. Nothing here knows of objects, dimensions, stores or calls.
 #![tactic(auto)]
 
+mod choice;
 mod list;
 mod merging;
 pub mod operators;
@@ -13,13 +14,14 @@ mod rules;
 mod scalar;
 mod writing;
 
+pub use choice::{ByOperator, Operated};
 pub use list::{EntryList, EntrySlice};
-pub use merging::{Rule, merge, merged};
+pub use merging::{Rule, emit, merge, merged};
 pub use operators::{
     First, FirstBool, Land, Lor, Lxnor, Lxor, Max, Min, Minus, Operator, Plus, Second, SecondBool,
     Times,
 };
-pub use pairing::{Paired, Pairing};
+pub use pairing::{Pairing, pair};
 pub use rules::{Both, ByMask, Either, Over};
-pub use scalar::Scalar;
+pub use scalar::{Scalar, chosen};
 pub use writing::{MaskReading, write, write_masked};

@@ -41,8 +41,11 @@ pub trait Rule<T: Scalar, U: Scalar> {
     ghost none: { (rule : Self) → gives rule None None ≡ None };
 }
 
-/// Writes an entry at place `k` of a result, if it is to be kept, and answers how many entries there are then.
-pub(crate) fn emit<T: Scalar>(
+/// Writes an entry at place `k` of a result, if it is to be kept, and answers how many entries there are then. Takes no memory. What
+/// stands at places behind those is any.
+///
+/// Source: own.
+pub fn emit<T: Scalar>(
     columns: &mut [u32],
     values: &mut [T],
     k: usize,

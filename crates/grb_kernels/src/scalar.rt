@@ -50,8 +50,10 @@ impl Scalar for u64 {
     }
 }
 
-/// The first value where it is wanted, else the second.
-pub(crate) fn chosen<T: Scalar>(wanted: bool, first: T, second: T) -> T
+/// The first value where it is wanted, else the second. Takes no memory.
+///
+/// Source: own.
+pub fn chosen<T: Scalar>(wanted: bool, first: T, second: T) -> T
     ensures { result ≡ (if wanted then first else second) }
 {
     if wanted { first } else { second }

@@ -7,9 +7,10 @@ ghost use Rattle.grb_core.specs.Written.{AccumulatesIn, pointwise, masked, writt
 ghost use Rattle.grb_kernels.specs.Typed.{entries_of};
 ghost use Rattle.grb_kernels.specs.Masked.{by_mask};
 
+use crate::choice::Operated;
 use crate::list::{EntryList, EntrySlice};
 use crate::merging::merged;
-use crate::pairing::{Paired, Pairing};
+use crate::pairing::{Pairing, pair};
 use crate::rules::{ByMask, Over};
 use crate::scalar::Scalar;
 use grb_core::BinaryOp;
@@ -69,7 +70,7 @@ pub fn write_masked<T: Scalar + Drop, M: Scalar>(
 
 /// The new output by the accumulator, where what lies outside of the mask stays: what is inside of the result alone goes into the old
 /// output, which is read once.
-fn accumulate_inside<T: Paired + Drop, M: Scalar>(
+fn accumulate_inside<T: Operated + Drop, M: Scalar>(
     alloc: Global,
     op: BinaryOp,
     reading: MaskReading,
@@ -81,14 +82,14 @@ fn accumulate_inside<T: Paired + Drop, M: Scalar>(
     ensures { IfOk result (λ new. entries_of T.value new.indices.items new.values.items ≡ written nat_cmp (is_inside nat_cmp reading.structure reading.comp (Some (entries_of M.value mask.now.indices.now mask.now.values.now))) false (Some op) (entries_of T.value output.now.indices.now output.now.values.now) (entries_of T.value computed.now.indices.now computed.now.values.now)) }
 {
     let inside = inside_of(alloc, reading, mask, computed)?;
-    let new = T::pair(alloc, Pairing::Union, op, output, &inside.lend())?;
+    let new = pair(alloc, Pairing::Union, op, output, &inside.lend())?;
     Ok(new)
 }
 
 /// The new output by the accumulator and then by a mask. Takes memory in proportion to the entries of the three.
 ///
 /// Source: GraphBLAS C API 2.0, the accumulator in "eWiseAdd" and in each other operation, "Masks" and "Descriptors".
-pub fn write<T: Paired + Drop, M: Scalar>(
+pub fn write<T: Operated + Drop, M: Scalar>(
     alloc: Global,
     accum: Option<BinaryOp>,
     reading: MaskReading,
@@ -106,7 +107,7 @@ pub fn write<T: Paired + Drop, M: Scalar>(
             if !replace {
                 return accumulate_inside(alloc, op, reading, mask, output, computed);
             }
-            let made = T::pair(alloc, Pairing::Union, op, output, computed)?;
+            let made = pair(alloc, Pairing::Union, op, output, computed)?;
             let new = write_masked(alloc, reading, replace, mask, output, &made.lend())?;
             Ok(new)
         }

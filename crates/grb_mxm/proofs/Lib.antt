@@ -9,7 +9,6 @@ pub mod RowSums
 pub mod OpenRow
 pub mod ProductRows
 pub mod Making
-pub mod RankLemmas
 pub mod WholeProduct
 pub mod MaskedSums
 pub mod MaskedProduct

@@ -12,7 +12,8 @@ use lib.Dec.{T}
 use Rattle.grb_core.specs.declared.value.Value.{Value}
 use Rattle.grb_core.specs.Entries.{VectorEntries}
 use Rattle.grb_kernels.specs.Typed.{entries_of}
-use Rattle.grb_mxm.specs.Rows.{name_in, renamed, Rise}
+use Rattle.grb_ewise.specs.Ranks.{Rise}
+use Rattle.grb_mxm.specs.Rows.{name_in, renamed}
 use Rattle.grb_mxm.proofs.Renamed.{holds, passes}
 
 fst : (a b : Bool) → T (a && b) → T a

@@ -2,8 +2,9 @@
 use Rattle.std.proofs.Common.{◌≡◌, ℕ, ◌+◌, ◌<◌, ◌≤◌, List, length, get_or, set, ap, sym, ◌∙◌, arith, inl, inr}
 use Rattle.std.proofs.lemmas.Bool.{cases_eq}
 use Rattle.std.proofs.lemmas.List.{get_or-set_same, get_or-set_other}
-use Rattle.grb_mxm.specs.Rows.{Rise, IsTable}
-use Rattle.grb_mxm.proofs.RankLemmas.{rise_weakly}
+use Rattle.grb_ewise.specs.Ranks.{Rise}
+use Rattle.grb_mxm.specs.Rows.{IsTable}
+use Rattle.grb_ewise.proofs.RankLemmas.{rise_weakly}
 
 -- different rows have different numbers
 other_row : (rows : List ℕ) → Rise rows → (j k : ℕ) → j < k → k < length rows → get_or rows j 0 ≡ get_or rows k 0 → ⊥

@@ -21,10 +21,6 @@ name_in names p = slice_index names p
 abbrev pub renamed : (ℕ → ℕ) → VectorEntries → VectorEntries
 renamed name m = map (λ e. (name e.0, e.1)) m
 
--- numbers of which each is above those before it
-abbrev pub Rise : List ℕ → Type 0
-Rise names = (i j : ℕ) → i < j → j < length names → slice_index names i < slice_index names j
-
 -- at the number of each row a table has its place
 abbrev pub IsTable : List ℕ → List ℕ → Type 0
 IsTable rows table = (k : ℕ) → k < length rows → (slice_index rows k < length table) × (slice_index table (slice_index rows k) ≡ k)

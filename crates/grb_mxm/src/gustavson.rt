@@ -1,5 +1,5 @@
 //! One row of the product of two matrices: the sum of rows of the second, each times a value of the first (Gustavson 1978).
-ghost use Rattle.std.specs.Prelude.{◌≡◌, ◌+◌, ◌<◌, ◌≤◌, ℕ, ◌^◌, ◌*◌, length, Option, Some, None, IsTrue, All, slice_index};
+ghost use Rattle.std.specs.Prelude.{◌≡◌, ◌<◌, ◌≤◌, ℕ, ◌^◌, ◌*◌, length, Some, IsTrue, All, slice_index};
 ghost use Rattle.std.specs.List.{AllByRecursion};
 ghost use Rattle.std.specs.Ordering.{nat_cmp};
 ghost use Rattle.std.specs.FinMap.{is_sorted, find};
@@ -18,8 +18,9 @@ ghost use Rattle.grb_mxm.specs.Bits.{marks_of, AreMarks, HoldAll, HoldUnmarked, 
 
 use crate::bits::{mark, take_listed, take_words};
 use crate::ranked::RankedRows;
+use grb_ewise::Stored;
 use grb_kernels::Operator;
-use grb_products::{MonoidOver, Stored};
+use grb_products::MonoidOver;
 
 /// Adds a row, times `x`, to the sums: at a place there is a sum where its bit of `words` is set, and elsewhere the identity. The first `count`
 /// of `touched` list the words that have a bit, unless they fill it. Answers how many there are then.

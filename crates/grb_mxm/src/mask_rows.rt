@@ -7,12 +7,13 @@ ghost use Rattle.grb_core.specs.Mask.{selects};
 ghost use Rattle.grb_core.specs.Results.{row_of};
 ghost use Rattle.grb_kernels.specs.Typed.{entries_of};
 ghost use Rattle.grb_rows.specs.Cells.{decoded};
-ghost use Rattle.grb_mxm.specs.Rows.{name_in, Rise};
+ghost use Rattle.grb_ewise.specs.Ranks.{Rise};
+ghost use Rattle.grb_mxm.specs.Rows.{name_in};
 ghost use Rattle.grb_mxm.specs.Bits.{StandsIn};
 
 use crate::ranked::row_at;
 use grb_core::Domain;
-use grb_products::Stored;
+use grb_ewise::Stored;
 use grb_rows::FlatRows;
 
 /// A mask whose columns have ranks, as those of `RankedRows` do, read by structure or by value. It may be of either domain.

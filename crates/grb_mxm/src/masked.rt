@@ -1,5 +1,5 @@
 //! One row of the product of two matrices where a mask selects it: sums are made at the columns of the mask's row alone.
-ghost use Rattle.std.specs.Prelude.{◌≡◌, ◌≢◌, ◌+◌, ◌<◌, ◌≤◌, ◌++◌, ℕ, length, true, false, Some, All, IsTrue, IfOk, slice_index, slice_index_or, map};
+ghost use Rattle.std.specs.Prelude.{◌≡◌, ◌≢◌, ◌<◌, ◌≤◌, ℕ, length, true, false, Some, All, IsTrue, slice_index, slice_index_or};
 ghost use Rattle.std.specs.List.{AllByRecursion};
 ghost use Rattle.std.specs.Ordering.{nat_cmp};
 ghost use Rattle.std.specs.FinMap.{is_sorted, find};
@@ -20,8 +20,9 @@ ghost use Rattle.grb_mxm.specs.Bits.{HoldUnmarked, AreAmong, StandsIn};
 
 use crate::mask_rows::MaskRows;
 use crate::ranked::RankedRows;
-use grb_kernels::{Operator, Scalar};
-use grb_products::{MonoidOver, Stored, emit};
+use grb_ewise::Stored;
+use grb_kernels::{Operator, Scalar, emit};
+use grb_products::MonoidOver;
 
 /// Adds a product to the sum at a place, where that is allowed.
 fn add_where<T: Scalar, M: MonoidOver<T>>(

@@ -1,7 +1,5 @@
 //! The product of two matrices at the cells that a mask selects, by the rows of the mask.
-ghost use Rattle.std.specs.Prelude.{◌≡◌, ◌<◌, ◌≤◌, ℕ, length, false, Some, IsTrue, IfOk, slice_index, slice_index_or};
-ghost use Rattle.std.specs.FinMap.{is_sorted};
-ghost use Rattle.grb_core.specs.Entries.{cell_cmp};
+ghost use Rattle.std.specs.Prelude.{◌≡◌, ◌<◌, ◌≤◌, ℕ, length, false, Some, IfOk, slice_index, slice_index_or};
 ghost use Rattle.grb_core.specs.Monoid.{identity_of};
 ghost use Rattle.grb_core.specs.Results.{row_of};
 ghost use Rattle.grb_kernels.specs.Typed.{entries_of};
@@ -14,33 +12,33 @@ use crate::masked::multiply_masked_row;
 use crate::places::place_in;
 use crate::ranked::RankedRows;
 use crate::rows::{MadeRows, push_row};
+use grb_ewise::Stored;
 use grb_kernels::{EntrySlice, Operator};
-use grb_products::{MonoidOver, Stored};
-use grb_rows::FlatRows;
+use grb_products::{MatrixRows, MonoidOver};
 use std::alloc::{AllocError, Global};
 
 /// The `k`th row that has entries.
-fn row_placed<'a, T: Stored>(lists: &'a FlatRows, k: usize) -> EntrySlice<'a, T>
-    requires at { k < length lists.now.rows }
-    requires domain { lists.now.domain ≡ T.domain }
-    requires ordered { IsTrue (is_sorted cell_cmp (decoded lists.now.entries)) }
-    ensures { entries_of T.value result.indices.now result.values.now ≡ row_of (slice_index lists.now.rows k) (decoded lists.now.entries) }
+fn row_placed<'a, T: Stored>(rows: &MatrixRows<'a, T>, k: usize) -> EntrySlice<'a, T>
+    requires at { k < length rows.now.lists.now.rows }
+    ensures { entries_of T.value result.indices.now result.values.now ≡ row_of (slice_index rows.now.lists.now.rows k) (decoded rows.now.lists.now.entries) }
 {
     EntrySlice {
-        indices: lists.row_columns(k),
-        values: T::of_row(lists, k),
+        indices: rows.lists.row_columns(k),
+        values: T::of_row(rows.lists, k),
     }
 }
 
 /// The row of a number; no entries, where it stores nothing.
-fn row_numbered<'a, T: Stored>(lists: &'a FlatRows, table: &[u32], number: u32) -> EntrySlice<'a, T>
-    requires domain { lists.now.domain ≡ T.domain }
-    requires ordered { IsTrue (is_sorted cell_cmp (decoded lists.now.entries)) }
-    requires tabled { 0 < length table.now → IsTable lists.now.rows table.now }
-    ensures { entries_of T.value result.indices.now result.values.now ≡ row_of number (decoded lists.now.entries) }
+fn row_numbered<'a, T: Stored>(
+    rows: &MatrixRows<'a, T>,
+    table: &[u32],
+    number: u32,
+) -> EntrySlice<'a, T>
+    requires tabled { 0 < length table.now → IsTable rows.now.lists.now.rows table.now }
+    ensures { entries_of T.value result.indices.now result.values.now ≡ row_of number (decoded rows.now.lists.now.entries) }
 {
-    if let Some(k) = place_in(lists.rows(), table, number) {
-        return row_placed(lists, k);
+    if let Some(k) = place_in(rows.lists.rows(), table, number) {
+        return row_placed(&*rows, k);
     }
     EntrySlice {
         indices: &[],
@@ -52,7 +50,7 @@ fn row_numbered<'a, T: Stored>(lists: &'a FlatRows, table: &[u32], number: u32) 
 /// of the mask, and of the first matrix those alone in which the mask stores something.
 pub(crate) fn multiply_masked_rows<T: Stored + Drop, M: MonoidOver<T>, O: Operator<T>>(
     alloc: Global,
-    a: &FlatRows,
+    a: &MatrixRows<T>,
     a_table: &[u32],
     b: &RankedRows<T>,
     mask: &MaskRows,
@@ -62,9 +60,7 @@ pub(crate) fn multiply_masked_rows<T: Stored + Drop, M: MonoidOver<T>, O: Operat
     made_columns: &mut [u32],
     made_values: &mut [T],
 ) -> Result<MadeRows<T>, AllocError>
-    requires domain { a.now.domain ≡ T.domain }
-    requires ordered { IsTrue (is_sorted cell_cmp (decoded a.now.entries)) }
-    requires tabled { 0 < length a_table.now → IsTable a.now.rows a_table.now }
+    requires tabled { 0 < length a_table.now → IsTable a.now.lists.now.rows a_table.now }
     requires names { mask.now.names.now ≡ b.now.names.now }
     requires open { length marks.old ≡ length sums.old }
     requires named { length sums.old ≡ length b.now.names.now }
@@ -74,7 +70,7 @@ pub(crate) fn multiply_masked_rows<T: Stored + Drop, M: MonoidOver<T>, O: Operat
     requires clear { HoldUnmarked T.value (identity_of M.monoid) marks.old sums.old }
     requires room { length marks.old ≤ length made_columns.old }
     requires room_same { length made_columns.old ≡ length made_values.old }
-    ensures { IfOk result (λ made. AreRows T.value made.rows.items made.starts.items made.columns.items made.values.items (selected_product (record { monoid = M.monoid; op = O.op }) mask.now.structure (Some (decoded mask.now.lists.now.entries)) (decoded a.now.entries) (decoded b.now.lists.now.entries))) }
+    ensures { IfOk result (λ made. AreRows T.value made.rows.items made.starts.items made.columns.items made.values.items (selected_product (record { monoid = M.monoid; op = O.op }) mask.now.structure (Some (decoded mask.now.lists.now.entries)) (decoded a.now.lists.now.entries) (decoded b.now.lists.now.entries))) }
 {
     let numbers = mask.lists.rows();
     let mut rows = Vec::new(alloc);
@@ -82,7 +78,7 @@ pub(crate) fn multiply_masked_rows<T: Stored + Drop, M: MonoidOver<T>, O: Operat
     let mut columns = Vec::new(alloc);
     let mut values = Vec::new(alloc);
     'rows: for place in 0..numbers.len() {
-        let row = row_numbered::<T>(a, a_table, numbers[place]);
+        let row = row_numbered::<T>(&*a, a_table, numbers[place]);
         let count = multiply_masked_row::<T, M, O>(
             row.indices,
             row.values,

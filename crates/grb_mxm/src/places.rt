@@ -1,8 +1,9 @@
 //! Where a row stands among the rows that store something: by a table of places, or by search.
 ghost use Rattle.std.specs.Prelude.{◌≡◌, ◌≢◌, ◌<◌, ◌≤◌, ◌*◌, ◌+◌, ℕ, length, slice_index, IfOk, IfSome, IfNone};
-ghost use Rattle.grb_mxm.specs.Rows.{Rise, IsTable};
+ghost use Rattle.grb_ewise.specs.Ranks.{Rise};
+ghost use Rattle.grb_mxm.specs.Rows.{IsTable};
 
-use grb_products::{is_worth_opening, place_of};
+use grb_ewise::{is_worth_opening, place_of};
 use std::alloc::{AllocError, Global};
 
 /// The length of a table of the rows' places: one place for each number up to the last row, or none, where that is more than 8 times

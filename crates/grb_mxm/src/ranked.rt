@@ -5,11 +5,12 @@ ghost use Rattle.grb_core.specs.Entries.{cell_cmp};
 ghost use Rattle.grb_core.specs.Results.{row_of};
 ghost use Rattle.grb_kernels.specs.Typed.{entries_of};
 ghost use Rattle.grb_rows.specs.Cells.{decoded};
-ghost use Rattle.grb_mxm.specs.Rows.{name_in, renamed, Rise, IsTable};
+ghost use Rattle.grb_ewise.specs.Ranks.{Rise};
+ghost use Rattle.grb_mxm.specs.Rows.{name_in, renamed, IsTable};
 
 use crate::places::place_in;
+use grb_ewise::Stored;
 use grb_kernels::EntrySlice;
-use grb_products::Stored;
 use grb_rows::FlatRows;
 use std::marker::PhantomData;
 

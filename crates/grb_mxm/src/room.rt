@@ -2,7 +2,7 @@
 ghost use Rattle.std.specs.Prelude.{IfOk};
 ghost use Rattle.grb_mxm.specs.Bits.{IsRoom};
 
-use grb_products::Stored;
+use grb_ewise::Stored;
 use std::alloc::{AllocError, Global};
 
 /// A sum for each place, and room for the columns and the values of a row's entries.

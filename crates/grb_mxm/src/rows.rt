@@ -1,7 +1,5 @@
 //! The product of two matrices, row by row.
-ghost use Rattle.std.specs.Prelude.{◌≡◌, ◌+◌, ◌*◌, ◌<◌, ◌≤◌, ◌^◌, ◌++◌, ℕ, [], ◌∷◌, length, IsTrue, IfOk, OnOk, slice_index};
-ghost use Rattle.std.specs.FinMap.{is_sorted};
-ghost use Rattle.grb_core.specs.Entries.{cell_cmp};
+ghost use Rattle.std.specs.Prelude.{◌≡◌, ◌+◌, ◌*◌, ◌<◌, ◌≤◌, ◌^◌, ◌++◌, ℕ, [], ◌∷◌, length, IfOk, OnOk, slice_index};
 ghost use Rattle.grb_core.specs.Monoid.{identity_of};
 ghost use Rattle.grb_core.specs.Results.{mxm_of};
 ghost use Rattle.grb_rows.specs.Cells.{decoded};
@@ -10,9 +8,9 @@ ghost use Rattle.grb_mxm.specs.Bits.{HoldAll};
 
 use crate::gustavson::multiply_row;
 use crate::ranked::RankedRows;
+use grb_ewise::Stored;
 use grb_kernels::Operator;
-use grb_products::{MonoidOver, Stored};
-use grb_rows::FlatRows;
+use grb_products::{MatrixRows, MonoidOver};
 use std::alloc::{AllocError, Global};
 
 /// The rows that have entries, where each of them begins, and the column and the value of each entry.
@@ -54,7 +52,7 @@ pub(crate) fn push_row<T: Stored>(
 /// The product of two matrices, with memory to work in. Takes memory for the result.
 pub(crate) fn multiply_rows<T: Stored + Drop, M: MonoidOver<T>, O: Operator<T>>(
     alloc: Global,
-    a: &FlatRows,
+    a: &MatrixRows<T>,
     b: &RankedRows<T>,
     sums: &mut [T],
     words: &mut [u64],
@@ -62,8 +60,6 @@ pub(crate) fn multiply_rows<T: Stored + Drop, M: MonoidOver<T>, O: Operator<T>>(
     made_columns: &mut [u32],
     made_values: &mut [T],
 ) -> Result<MadeRows<T>, AllocError>
-    requires domain { a.now.domain ≡ T.domain }
-    requires ordered { IsTrue (is_sorted cell_cmp (decoded a.now.entries)) }
     requires named { length sums.old ≡ length b.now.names.now }
     requires enough { length sums.old ≤ 64 * length words.old }
     requires words_few { length words.old ≤ 2 ^ 58 }
@@ -71,17 +67,17 @@ pub(crate) fn multiply_rows<T: Stored + Drop, M: MonoidOver<T>, O: Operator<T>>(
     requires clear { HoldAll T.value (identity_of M.monoid) sums.old }
     requires room { length sums.old ≤ length made_columns.old }
     requires room_same { length made_columns.old ≡ length made_values.old }
-    ensures { IfOk result (λ made. AreRows T.value made.rows.items made.starts.items made.columns.items made.values.items (mxm_of (record { monoid = M.monoid; op = O.op }) (decoded a.now.entries) (decoded b.now.lists.now.entries))) }
+    ensures { IfOk result (λ made. AreRows T.value made.rows.items made.starts.items made.columns.items made.values.items (mxm_of (record { monoid = M.monoid; op = O.op }) (decoded a.now.lists.now.entries) (decoded b.now.lists.now.entries))) }
 {
-    let numbers = a.rows();
+    let numbers = a.lists.rows();
     let mut rows = Vec::new(alloc);
     let mut starts = Vec::new(alloc);
     let mut columns = Vec::new(alloc);
     let mut values = Vec::new(alloc);
     'rows: for place in 0..numbers.len() {
         let count = multiply_row::<T, M, O>(
-            a.row_columns(place),
-            T::of_row(a, place),
+            a.lists.row_columns(place),
+            T::of_row(a.lists, place),
             &*b,
             sums,
             words,

@@ -5,7 +5,7 @@ use native.Mathlib.Decide.{ℕ_discrete, dec_le}
 use Rattle.std.specs.Prelude.{Some, slice_get}
 use Rattle.std.specs.List.{All}
 use Rattle.atomic_table.specs.Seated.{TableId}
-use Rattle.grb_order.specs.declared.limits.TheConstants.{MOST_PASSES}
+use Rattle.grb_order.specs.declared.limits.TheConstants.{MOST_PASSES, MOST_ROOM}
 use Rattle.grb_order.specs.Holding.{Holding}
 use Rattle.grb_order.specs.Order.{AreFresh}
 use Rattle.grb_order.specs.Steps.{placed}
@@ -55,40 +55,46 @@ within room v all last =
     let all' : All (λ n. n < room) (earlier ++ length v.words ∷ []) = subst (All (λ n. n < room)) last.1 all in
     subst (λ (n : ℕ). n < room) (get_or_at earlier (length v.words) [] 0 (length earlier) refl) (all' (length earlier) 0 at)
 
-module _ (tag room : ℕ) (words : List ℕ) (capacity : ℕ) (v : Standing) (p : IsSeated tag room words capacity v) (near : length v.view.words < room) where
-  pub seated_vacant : IsSeated tag room words capacity (record v { view = finds_vacant v.view })
+module _ (tag size room : ℕ) (words : List ℕ) (capacity : ℕ) (v : Standing) (p : IsSeated tag size room words capacity v) (near : length v.view.words < room) where
+  pub seated_vacant : IsSeated tag size room words capacity (record v { view = finds_vacant v.view })
   seated_vacant = record {
     role = p.role;
     number_is = p.number_is;
+    size_is = p.size_is;
+    small = p.small;
     passes = p.passes;
     words_are = p.words_are;
     roomy = p.roomy;
     sound = sound_vacant room v.view near p.sound;
   }
 
-  pub seated_learns : (x : ℕ) → IsOthers v.view x → IsSeated tag room (words ++ x ∷ []) capacity (record v { view = learns v.view x })
+  pub seated_learns : (x : ℕ) → IsOthers v.view x → IsSeated tag size room (words ++ x ∷ []) capacity (record v { view = learns v.view x })
   seated_learns x other = record {
     role = p.role;
     number_is = p.number_is;
+    size_is = p.size_is;
+    small = p.small;
     passes = p.passes;
     words_are = ap (λ (l : List ℕ). l ++ x ∷ []) p.words_are;
     roomy = p.roomy;
     sound = sound_learns room v.view x near p.sound other;
   }
 
-  pub seated_enters : (index : ℕ) → index < 2 ^ 48 → IsSeated tag room (words ++ order_word v.view.number index ∷ []) capacity (record v { view = enters_word v.view (order_word v.view.number index) })
+  pub seated_enters : (index : ℕ) → index < 2 ^ 48 → IsSeated tag size room (words ++ order_word v.view.number index ∷ []) capacity (record v { view = enters_word v.view (order_word v.view.number index) })
   seated_enters index small = let x : ℕ = order_word v.view.number index in record {
     role = p.role;
     number_is = p.number_is;
+    size_is = p.size_is;
+    small = p.small;
     passes = p.passes;
     words_are = ap (λ (l : List ℕ). l ++ x ∷ []) p.words_are;
     roomy = p.roomy;
     sound = sound_enters room v.view index small near p.sound;
   }
 
-pub moved : (tag room room' : ℕ) (words words' : List ℕ) (capacity capacity' : ℕ) (v v' : Standing) → room' ≡ room → words' ≡ words → capacity' ≡ capacity → v' ≡ v → IsSeated tag room words capacity v → IsSeated tag room' words' capacity' v'
-moved tag room room' words words' capacity capacity' v v' same_room same_words same_capacity same p =
-    subst (λ (y : ℕ × List ℕ × ℕ × Standing). IsSeated tag y.0 y.1 y.2 y.3) (λ k. (sym same_room k, sym same_words k, sym same_capacity k, sym same k)) p
+pub moved : (tag size room room' : ℕ) (words words' : List ℕ) (capacity capacity' : ℕ) (v v' : Standing) → room' ≡ room → words' ≡ words → capacity' ≡ capacity → v' ≡ v → IsSeated tag size room words capacity v → IsSeated tag size room' words' capacity' v'
+moved tag size room room' words words' capacity capacity' v v' same_room same_words same_capacity same p =
+    subst (λ (y : ℕ × List ℕ × ℕ × Standing). IsSeated tag size y.0 y.1 y.2 y.3) (λ k. (sym same_room k, sym same_words k, sym same_capacity k, sym same k)) p
 
 get_before : {A : Type 0} (xs : List A) (y : A) (k : ℕ) → k < length xs → slice_get (xs ++ y ∷ []) k ≡ slice_get xs k
 get_before [] y k lt = absurd (omega arith)
@@ -117,11 +123,13 @@ fresh_more order passes places upto p are is = record {
 }
 
 -- a place that has just been dealt
-pub seated_fresh : (tag room capacity passes : ℕ) → tag < passes → passes ≤ MOST_PASSES → room ≤ capacity → IsSeated tag room [] capacity (placed tag passes)
-seated_fresh tag room capacity passes few small roomy = record {
+pub seated_fresh : (tag size room capacity passes : ℕ) → tag < passes → passes ≤ MOST_PASSES → size ≡ room → room ≤ MOST_ROOM → room ≤ capacity → IsSeated tag size room [] capacity (placed tag passes)
+seated_fresh tag size room capacity passes few most size_is small roomy = record {
   role = refl;
   number_is = refl;
-  passes = small;
+  size_is = size_is;
+  small = small;
+  passes = most;
   words_are = refl;
   roomy = roomy;
   sound = record { number = few; few = omega arith; words = All-nil (IsWord passes); own = refl; looks = All-nil (λ n. n < room) };

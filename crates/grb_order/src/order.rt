@@ -36,6 +36,7 @@ type Row = Shared<(), Standing, Size, Rule>;
 fn deal(alloc: Global, row: &Row, mut dealer: Seat, size: Size) -> Result<Vec<Place>, AllocError>
     requires row { (row.now.key ≡ size) × (row.now.table_id.words ≡ size.room) × (0 < size.room) }
     requires dealer { (dealer.table_id ≡ row.now.table_id) × (dealer.me ≡ (dealing 0 size.passes, [])) }
+    requires room { size.room ≤ MOST_ROOM }
     requires passes { size.passes ≤ MOST_PASSES }
     ensures { IfOk result (λ places. AreFresh row.now.table_id size.passes places.items size.passes) }
 {
@@ -45,6 +46,7 @@ fn deal(alloc: Global, row: &Row, mut dealer: Seat, size: Size) -> Result<Vec<Pl
         let seat = row.split_seat::<Deal>(&mut dealer);
         places.push(Place {
             number,
+            room: size.room,
             seat,
             words,
         })?;

@@ -1,5 +1,7 @@
 //! A pass's place in the order.
-ghost use Rattle.std.specs.Prelude.{◌≡◌};
+ghost use Rattle.std.specs.Prelude.{◌≡◌, ◌≤◌};
+ghost use Rattle.grb_order.specs.declared.limits.TheConstants.{MOST_ROOM};
+ghost use Rattle.grb_order.specs.Order.{room_of};
 
 use crate::standing::Standing;
 use std::marker::Model;
@@ -10,6 +12,8 @@ pub type Seat = atomic_table::Seat<(), Standing>;
 #[derive(Drop)]
 pub struct Place {
     pub(crate) number: u32,
+    // How many words the order has.
+    pub(crate) room: u32,
     pub(crate) seat: Seat,
     // The words learnt, with room for all words of the order.
     pub(crate) words: Vec<u64>,
@@ -29,6 +33,14 @@ impl Model for Place {
 
 impl Place {
     ghost use Rattle.grb_order.specs.View.{IsSound};
+
+    /// How many words the order has. Takes no memory.
+    pub fn room(&self) -> u32
+        ensures room { result ≡ room_of self.now.table_id }
+        ensures few { result ≤ MOST_ROOM }
+    {
+        self.room
+    }
 
     /// The words learnt, from the first of the order on. Takes no memory.
     pub fn words(&self) -> &[u64]

@@ -23,7 +23,7 @@ ghost use Rattle.grb_pass.specs.Settled.{is_materialize};
 use crate::back_off::BackOff;
 use crate::evaluated::Evaluated;
 use crate::reader::Reader;
-use crate::row::Row;
+use crate::row::RecordRow;
 use grb_call::{Call, Kind, Object, Reply, WaitMode};
 use grb_core::{Info, Refusal};
 use grb_order::{Order, Place};
@@ -40,7 +40,7 @@ pub struct Pass {
     // What it has evaluated of the calls that it knows.
     evaluated: Evaluated,
     // Where its own records go.
-    row: Row,
+    row: RecordRow,
     // How long it holds back after a lost try.
     back_off: BackOff,
 }
@@ -100,7 +100,7 @@ impl Pass {
         Ok(Pass {
             reader,
             evaluated,
-            row: Row::open(room),
+            row: RecordRow::open(),
             back_off: BackOff::new(),
         })
     }
@@ -189,7 +189,7 @@ impl Pass {
         self.reader.room_left()
     }
 
-    /// Puts the call as the next record of the pass, as [`Row::put`] does.
+    /// Puts the call as the next record of the pass, as [`RecordRow::put`] does.
     #[inline(always)]
     pub(crate) fn put(&mut self, records: &Records, call: Call) -> Result<Token, Refusal>
         ensures same { self.new ≡ self.old }
@@ -199,7 +199,8 @@ impl Pass {
         ensures refused { IfErr result (λ refusal. (refusal ≡ Refusal.Panic) ⊎ (refusal ≡ Refusal.OutOfMemory)) }
     {
         let number = self.number();
-        self.row.put(records, number, call)
+        let room = self.reader.room();
+        self.row.put(records, number, room, call)
     }
 
     /// Goes on from what the other has evaluated, whose calls begin those that this pass knows.

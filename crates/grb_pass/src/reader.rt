@@ -166,7 +166,7 @@ impl Reader {
     pub(crate) fn room_left(&self) -> u32
         ensures { result + length self.now.view.words ≡ room_of self.now.order }
     {
-        self.statuses.room() - self.words()
+        self.place.room() - self.words()
     }
 
     /// How many words the order has.
@@ -174,7 +174,7 @@ impl Reader {
         ensures room { result ≡ room_of self.now.order }
         ensures few { result ≤ MOST_ROOM }
     {
-        self.statuses.room()
+        self.place.room()
     }
 
     /// How many records were shown.

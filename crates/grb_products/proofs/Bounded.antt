@@ -1,6 +1,6 @@
 -- A result of which only what some places have is computed: what lies elsewhere is not written.
 use Rattle.std.proofs.Common.{◌≡◌, ℕ, zero, suc, Bool, true, false, cond, List, [], ◌∷◌, refl, sym, ap, subst, ◌∙◌, arith, inl, inr}
-use Rattle.std.specs.Prelude.{◌&&◌, map, Option, Some, None, is_some, IsTrue}
+use Rattle.std.specs.Prelude.{◌&&◌, map, Option, Some, None, is_some, IsTrue, IfSome}
 use Rattle.std.specs.List.{AllByRecursion}
 use Rattle.std.specs.declared.cmp.Ordering.TheVariants.{Less, Equal, Greater}
 use Rattle.std.specs.Ordering.{nat_cmp, is_eq, eq_by_cmp}
@@ -20,7 +20,8 @@ use Rattle.grb_core.proofs.Edits.{find-restricted}
 use Rattle.grb_core.proofs.Maps.{find-before, is_sorted-map_on_indices, same_entries_at}
 use Rattle.grb_core.proofs.Written.{find-masked, is_sorted-masked, find-accumulated, accumulated_value}
 use Rattle.grb_rows.proofs.FlatLists.{rises}
-use Rattle.grb_products.specs.ColumnSums.{Rise, column_folds}
+use Rattle.grb_ewise.specs.Ranks.{Rise}
+use Rattle.grb_products.specs.ColumnSums.{column_folds}
 use Rattle.grb_products.specs.Pushes.{is_among, Covers, IsBounded}
 use Rattle.grb_products.proofs.ColumnFolds.{find-built}
 use Rattle.grb_products.proofs.RowByRow.{below-map_on, is_sorted-map_rising, rise_rest}
@@ -143,3 +144,8 @@ indices_rise_of m d h i j l n =
 pub indices_rise : (m : VectorEntries) (places : List ℕ) → IsTrue (is_sorted nat_cmp m) → places ≡ map (λ e. e.0) m → Rise places
 indices_rise [] places h same = subst Rise (sym same) (λ i j l n. absurd (omega arith))
 indices_rise (e ∷ m) places h same = subst Rise (sym same) (indices_rise_of (e ∷ m) e (subst T (sym h) tt))
+
+-- what holds of each value that there is holds of the one that there may be
+pub if_some : {X : Type 0} (P : X → Type 0) (o : Option X) → ((x : X) → o ≡ Some x → P x) → IfSome o P
+if_some P None of = tt
+if_some P (Some x) of = of x refl

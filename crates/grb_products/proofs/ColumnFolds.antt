@@ -13,7 +13,8 @@ use Rattle.grb_core.specs.declared.monoid.Monoid.{Monoid}
 use Rattle.grb_core.specs.Fold.{fold_of_some}
 use Rattle.grb_core.specs.Entries.{VectorEntries, built_from, restricted, values_at, values_of}
 use Rattle.grb_core.proofs.Maps.{find-map_on_indices, is_sorted-map_on_indices, same_entries_at}
-use Rattle.grb_products.specs.ColumnSums.{Rise, column_folds, numbers_below}
+use Rattle.grb_ewise.specs.Ranks.{Rise}
+use Rattle.grb_products.specs.ColumnSums.{column_folds, numbers_below}
 use Rattle.grb_products.specs.Numbers.{numbers_below-at, numbers_below-length, numbers_below-rise}
 use Rattle.grb_products.proofs.RowByRow.{find-map_rising, is_sorted-map_rising}
 

@@ -12,7 +12,6 @@ pub mod Ordered
 pub mod Marks
 pub mod Searching
 pub mod ByColumn
-pub mod NamedRise
 pub mod SumsByColumn
 pub mod ColumnFolds
 pub mod RunFolds

@@ -8,7 +8,8 @@ use Rattle.grb_core.specs.Results.{row_of}
 use Rattle.grb_core.proofs.Made.{all-append}
 use Rattle.grb_kernels.specs.Typed.{entries_of, first_entries}
 use Rattle.grb_kernels.proofs.Lists.{append_nil, first-all, first-set_more, first-read}
-use Rattle.grb_products.specs.ColumnSums.{Rise, with_values}
+use Rattle.grb_ewise.specs.Ranks.{Rise}
+use Rattle.grb_products.specs.ColumnSums.{with_values}
 use Rattle.grb_products.specs.Pushes.{pushed, at_numbers}
 use Rattle.grb_products.proofs.RowByRow.{in_its_row, is_in}
 

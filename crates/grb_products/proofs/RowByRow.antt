@@ -15,7 +15,7 @@ use Rattle.grb_core.proofs.Maps.{find-before, is_sorted-before, same_entries_at,
 use Rattle.grb_core.specs.Results.{row_of, each_row}
 use Rattle.grb_kernels.proofs.Lists.{before-append, append_nil}
 use Rattle.grb_kernels.proofs.Merges.{less}
-use Rattle.grb_products.specs.ColumnSums.{Rise}
+use Rattle.grb_ewise.specs.Ranks.{Rise}
 
 abbrev pub by_its_row : (ℕ × ℕ) × Value → ℕ × Value
 by_its_row e = (e.0.0, e.1)

@@ -24,7 +24,8 @@ use Rattle.grb_core.proofs.Maps.{is_sorted-before}
 use Rattle.grb_kernels.proofs.Lists.{append_nil}
 use Rattle.grb_kernels.specs.Typed.{kept}
 use Rattle.grb_products.specs.Open.{marked_at}
-use Rattle.grb_products.specs.ColumnSums.{AreSums, Rise, column_folds, marked_entries, with_values}
+use Rattle.grb_ewise.specs.Ranks.{Rise}
+use Rattle.grb_products.specs.ColumnSums.{AreSums, column_folds, marked_entries, with_values}
 use Rattle.grb_products.proofs.ColumnFolds.{other_column}
 use Rattle.grb_products.proofs.Folds.{IsFolding, folded_more}
 use Rattle.grb_products.proofs.Marks.{marked-set_same, marked-set_other, nothing_marked}

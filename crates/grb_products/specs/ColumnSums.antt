@@ -12,10 +12,6 @@ use Rattle.grb_core.specs.Entries.{VectorEntries, MatrixEntries, before_entries,
 use Rattle.grb_kernels.specs.Typed.{kept}
 use Rattle.grb_products.specs.Open.{marked_at}
 
--- numbers of which each is above those before it
-abbrev pub Rise : List ℕ → Type 0
-Rise names = (i j : ℕ) → i < j → j < length names → slice_index names i < slice_index names j
-
 -- the numbers below n
 abbrev pub numbers_from : ℕ → ℕ → List ℕ
 numbers_from j zero = []

@@ -1,7 +1,8 @@
 -- inside: no public contract names it. The numbers below another are names of places that rise: what a law of `Columns` asks.
 use Rattle.std.proofs.Common.{◌≡◌, ℕ, zero, suc, ◌+◌, ◌<◌, length, refl, ap, arith}
 use Rattle.std.specs.Prelude.{slice_index}
-use Rattle.grb_products.specs.ColumnSums.{Rise, numbers_from, numbers_below}
+use Rattle.grb_ewise.specs.Ranks.{Rise}
+use Rattle.grb_products.specs.ColumnSums.{numbers_from, numbers_below}
 
 numbers_from-length : (j n : ℕ) → length (numbers_from j n) ≡ n
 numbers_from-length j zero = refl

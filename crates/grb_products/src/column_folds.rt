@@ -1,19 +1,17 @@
 //! Each column of a matrix folded to one value, in one pass over its entries.
-ghost use Rattle.std.specs.Prelude.{◌≡◌, ◌<◌, ◌^◌, All, IfOk, IsTrue};
-ghost use Rattle.std.specs.FinMap.{is_sorted};
-ghost use Rattle.grb_core.specs.Entries.{cell_cmp};
+ghost use Rattle.std.specs.Prelude.{◌≡◌, ◌<◌, All, IfOk};
 ghost use Rattle.grb_core.specs.Results.{reduce_rows_of, transposed};
 ghost use Rattle.grb_kernels.specs.Typed.{entries_of};
 ghost use Rattle.grb_rows.specs.Cells.{decoded};
 ghost use Rattle.grb_products.specs.ColumnSums.{by_column, column_folds};
 
 use crate::column_sums::{
-    AllColumns, Columns, NamedColumns, Term, add_entries, close_sums, distinct, open_sums,
+    AllColumns, Columns, NamedColumns, Term, add_entries, close_sums, open_sums,
 };
+use crate::matrix_rows::MatrixRows;
 use crate::monoids::MonoidOver;
-use crate::multiply::is_worth_opening;
-use crate::stored::Stored;
 use grb_core::transposed_exchanges_rows_and_columns;
+use grb_ewise::{Stored, distinct, is_worth_opening};
 use grb_kernels::{EntryList, Scalar};
 use grb_rows::FlatRows;
 use std::alloc::{AllocError, Global};
@@ -59,25 +57,21 @@ fn fold_these_columns<T: Stored + Drop, M: MonoidOver<T>, C: Columns>(
 /// are sorted first, and that of each entry is searched among them. Values behind a terminal one are read too.
 pub(crate) fn fold_columns<T: Stored + Drop, M: MonoidOver<T>>(
     alloc: Global,
-    ncols: u64,
-    lists: &FlatRows,
+    rows: &MatrixRows<T>,
 ) -> Result<EntryList<T>, AllocError>
-    requires domain { lists.now.domain ≡ T.domain }
-    requires few { ncols < 2 ^ 32 }
-    requires ordered { IsTrue (is_sorted cell_cmp (decoded lists.now.entries)) }
-    requires in_range { All (λ e. e.0.1 < ncols) (decoded lists.now.entries) }
-    ensures { IfOk result (λ made. entries_of T.value made.indices.items made.values.items ≡ reduce_rows_of M.monoid (transposed (decoded lists.now.entries))) }
+    ensures { IfOk result (λ made. entries_of T.value made.indices.items made.values.items ≡ reduce_rows_of M.monoid (transposed (decoded rows.now.lists.now.entries))) }
 {
     // The rows of the transposed are the columns.
     transposed_exchanges_rows_and_columns();
-    if is_worth_opening(ncols, lists.len()) {
+    let lists = rows.lists;
+    if is_worth_opening(rows.ncols, lists.len()) {
         let all = AllColumns {
-            ncols: ncols as u32,
+            ncols: rows.ncols as u32,
         };
         let made = fold_these_columns::<T, M, AllColumns>(alloc, &all, lists)?;
         return Ok(made);
     }
-    let names = distinct(alloc, lists.columns())?;
+    let names = distinct(alloc, lists.columns(), &[])?;
     let named = NamedColumns {
         names: names.as_slice(),
     };

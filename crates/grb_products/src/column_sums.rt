@@ -1,18 +1,16 @@
 //! Sums by column. What is added comes in any order of columns; the columns that are summed have places, and at each place a sum lies open.
 ghost use Rattle.std.specs.Prelude.{◌≡◌, ◌≢◌, ◌<◌, ◌≤◌, ◌^◌, ◌++◌, ℕ, [], List, length, slice_index, All, IfOk, IfSome, IfNone};
-ghost use Rattle.std.specs.List.{Contains};
 ghost use Rattle.grb_core.specs.declared.value.Value.{Value};
 ghost use Rattle.grb_core.specs.declared.monoid.Monoid.{Monoid};
 ghost use Rattle.grb_core.specs.Entries.{VectorEntries};
 ghost use Rattle.grb_kernels.specs.Typed.{entries_of, first_entries};
-ghost use Rattle.grb_products.specs.ColumnSums.{AreSums, Rise, column_folds, marked_entries, numbers_below, with_values};
+ghost use Rattle.grb_ewise.specs.Ranks.{Rise};
+ghost use Rattle.grb_products.specs.ColumnSums.{AreSums, column_folds, marked_entries, numbers_below, with_values};
 ghost use Rattle.grb_products.specs.Numbers.{numbers_below-rise};
 
-use crate::lookup::place_of;
 use crate::monoids::MonoidOver;
-use crate::rows::emit;
-use crate::stored::Stored;
-use grb_kernels::{EntryList, Scalar};
+use grb_ewise::{Stored, place_of};
+use grb_kernels::{EntryList, Scalar, emit};
 use std::alloc::{AllocError, Global};
 
 /// The columns that are summed: each has a place, in rising order.
@@ -199,16 +197,4 @@ fn close_into<T: Stored, C: Columns>(
         k = emit(indices, values, k, columns.name(p), sums[p], marks[p]);
     }
     k
-}
-
-/// The columns of a list, each once and in rising order.
-pub(crate) fn distinct(alloc: Global, columns: &[u32]) -> Result<Vec<u32>, AllocError>
-    ensures rising { IfOk result (λ names. Rise names.items) }
-    ensures all { IfOk result (λ names. (j : ℕ) → Contains columns.now j → Contains names.items j) }
-{
-    let mut names = Vec::new(alloc);
-    names.extend_from_slice(columns)?;
-    names.sort_unstable();
-    names.dedup();
-    Ok(names)
 }

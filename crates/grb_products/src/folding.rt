@@ -3,10 +3,10 @@ ghost use Rattle.std.specs.Prelude.{◌≡◌, map};
 ghost use Rattle.grb_core.specs.Fold.{fold_of};
 ghost use Rattle.grb_core.specs.Monoid.{monoid_domain};
 
+use crate::choice::{ByMonoid, Folded};
 use crate::monoids::MonoidOver;
-use crate::stored::Stored;
 use grb_core::Monoid;
-use grb_kernels::operators::{Land, Lor, Lxnor, Lxor, Max, Min, Plus, Times};
+use grb_ewise::Stored;
 
 /// The values combined by a monoid as a type; its identity, where there are none. Values behind a terminal one are not read.
 pub(crate) fn fold_values<T: Stored, M: MonoidOver<T>>(values: &[T]) -> T
@@ -23,34 +23,26 @@ pub(crate) fn fold_values<T: Stored, M: MonoidOver<T>>(values: &[T]) -> T
     sum
 }
 
-/// A Rust type that has the monoids of its domain.
-pub(crate) trait Folded: Stored {
-    /// The values combined by a monoid of the domain; its identity, where there are none. Takes no memory.
-    fn fold(monoid: Monoid, values: &[Self]) -> Self
-        requires domain { monoid_domain monoid ≡ Self.domain }
-        ensures { Self.value result ≡ fold_of monoid (map Self.value values.now) };
+/// Values that are combined by whichever monoid.
+#[derive(Drop)]
+struct Values<'a, T> {
+    values: &'a [T],
 }
 
-impl Folded for bool {
-    fn fold(monoid: Monoid, values: &[bool]) -> bool {
-        match monoid {
-            Monoid::Lor => fold_values::<bool, Lor>(values),
-            Monoid::Land => fold_values::<bool, Land>(values),
-            Monoid::Lxor => fold_values::<bool, Lxor>(values),
-            Monoid::Lxnor => fold_values::<bool, Lxnor>(values),
-            Monoid::Plus | Monoid::Times | Monoid::Min | Monoid::Max => unreachable!(),
-        }
+impl<'a, T: Stored> ByMonoid<T> for Values<'a, T> {
+    type Output = T;
+
+    ghost Gives = { λ v monoid result. T.value result ≡ fold_of monoid (map T.value v.values.now) };
+
+    fn by<M: MonoidOver<T>>(self) -> T {
+        fold_values::<T, M>(self.values)
     }
 }
 
-impl Folded for u64 {
-    fn fold(monoid: Monoid, values: &[u64]) -> u64 {
-        match monoid {
-            Monoid::Plus => fold_values::<u64, Plus>(values),
-            Monoid::Times => fold_values::<u64, Times>(values),
-            Monoid::Min => fold_values::<u64, Min>(values),
-            Monoid::Max => fold_values::<u64, Max>(values),
-            Monoid::Lor | Monoid::Land | Monoid::Lxor | Monoid::Lxnor => unreachable!(),
-        }
-    }
+/// The values combined by a monoid of the domain; its identity, where there are none. Takes no memory.
+pub(crate) fn fold<T: Stored + Folded>(monoid: Monoid, values: &[T]) -> T
+    requires domain { monoid_domain monoid ≡ T.domain }
+    ensures { T.value result ≡ fold_of monoid (map T.value values.now) }
+{
+    T::choose_monoid(monoid, Values { values })
 }

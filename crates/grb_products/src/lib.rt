@@ -5,10 +5,12 @@
 //! lent is changed. Nothing here checks domains or dimensions, which the caller owes, and nothing here knows of stores or threads.
 #![tactic(auto)]
 
+mod choice;
 mod column_folds;
 mod column_sums;
 mod folding;
 mod lookup;
+mod matrix_rows;
 mod monoids;
 mod multiply;
 mod picks;
@@ -18,14 +20,12 @@ mod row_folds;
 mod row_products;
 mod rows;
 mod runs;
-mod stored;
 mod totals;
 
-pub use lookup::place_of;
+pub use choice::{ByMonoid, BySemiring, Folded, by_semiring};
+pub use matrix_rows::{MatrixRows, lend_matrix};
 pub use monoids::MonoidOver;
-pub use multiply::{is_worth_opening, mxv};
+pub use multiply::mxv;
 pub use pushes::vxm;
 pub use row_folds::reduce_rows;
-pub use rows::emit;
-pub use stored::Stored;
 pub use totals::{reduce_matrix, reduce_vector};

@@ -1,11 +1,12 @@
 //! What a vector stores at an index, in the forms that a product reads it in.
-ghost use Rattle.std.specs.Prelude.{◌≡◌, ◌<◌, ◌^◌, ◌≤◌, ◌≢◌, ℕ, length, slice_index, Option, None, All, IfSome, IfNone};
+ghost use Rattle.std.specs.Prelude.{◌≡◌, ◌<◌, ◌^◌, ℕ, length, Option, None, All};
 ghost use Rattle.std.specs.Ordering.{nat_cmp};
 ghost use Rattle.std.specs.FinMap.{find};
 ghost use Rattle.grb_core.specs.declared.value.Value.{Value};
 ghost use Rattle.grb_kernels.specs.Typed.{kept, entries_of};
 ghost use Rattle.grb_products.specs.Open.{marked_at};
 
+use grb_ewise::place_of;
 use grb_kernels::{EntrySlice, Scalar};
 
 /// A vector, however its entries are kept.
@@ -38,18 +39,6 @@ impl<'a, T: Scalar> Lookup<T> for Open<'a, T> {
     fn at(&self, index: u32) -> (T, bool) {
         let at = index as usize;
         (self.dense[at], self.marks[at])
-    }
-}
-
-/// Where an index stands among those that rise.
-pub fn place_of(indices: &[u32], index: u32) -> Option<usize>
-    requires { (i j : ℕ) → i ≤ j → j < length indices.now → slice_index indices.now i ≤ slice_index indices.now j }
-    ensures found { IfSome result (λ at. (at < length indices.now) × (slice_index indices.now at ≡ index)) }
-    ensures absent { IfNone result ((k : ℕ) → k < length indices.now → slice_index indices.now k ≢ index) }
-{
-    match indices.binary_search(&index) {
-        Ok(at) => Some(at),
-        Err(_) => None,
     }
 }
 

@@ -3,10 +3,10 @@ ghost use Rattle.std.specs.Prelude.{◌≡◌, ◌≢◌, ◌<◌, ◌≤◌, �
 ghost use Rattle.grb_core.specs.declared.value.Value.{Value};
 ghost use Rattle.grb_kernels.specs.Typed.{entries_of, first_entries};
 ghost use Rattle.grb_rows.specs.Cells.{decoded};
-ghost use Rattle.grb_products.specs.ColumnSums.{Rise};
+ghost use Rattle.grb_ewise.specs.Ranks.{Rise};
 ghost use Rattle.grb_products.specs.Pushes.{pushed, at_numbers};
 
-use crate::stored::Stored;
+use grb_ewise::Stored;
 use grb_kernels::EntrySlice;
 use grb_rows::FlatRows;
 use std::alloc::{AllocError, Global};

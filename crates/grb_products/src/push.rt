@@ -1,27 +1,27 @@
 //! The product of a vector and a matrix by the rows that the vector picks: each is read once and added by column.
-ghost use Rattle.std.specs.Prelude.{◌≡◌, ◌-◌, ◌<◌, ◌^◌, [], length, min, All, IsTrue, IfOk, IfSome};
+ghost use Rattle.std.specs.Prelude.{◌≡◌, ◌-◌, ◌<◌, ◌^◌, [], length, min, All, IfOk, IfSome};
 ghost use Rattle.std.specs.Option.{option_map};
 ghost use Rattle.std.specs.Ordering.{nat_cmp};
-ghost use Rattle.std.specs.FinMap.{is_sorted};
 ghost use Rattle.grb_core.specs.declared.value.Value.{Value};
 ghost use Rattle.grb_core.specs.declared.operator.BinaryOp.{BinaryOp};
 ghost use Rattle.grb_core.specs.Value.{IsValueOf};
 ghost use Rattle.grb_core.specs.Operator.{op_domain, value_of_op};
 ghost use Rattle.grb_core.proofs.Made.{op_closed};
-ghost use Rattle.grb_core.specs.Entries.{cell_cmp, built_from, restricted};
+ghost use Rattle.grb_core.specs.Entries.{built_from, restricted};
 ghost use Rattle.grb_kernels.specs.Typed.{entries_of};
 ghost use Rattle.grb_rows.specs.Cells.{decoded};
-ghost use Rattle.grb_products.specs.ColumnSums.{AreSums, Rise, as_entries, column_folds};
+ghost use Rattle.grb_ewise.specs.Ranks.{Rise};
+ghost use Rattle.grb_products.specs.ColumnSums.{AreSums, as_entries, column_folds};
 ghost use Rattle.grb_products.specs.Pushes.{pushed, pushed_of, at_numbers, columns_at, is_among, IsBounded};
 
 use crate::column_sums::{
     AllColumns, Columns, NamedColumns, OpenSums, Term, add_entries, close_sums, open_sums,
 };
+use crate::matrix_rows::MatrixRows;
 use crate::monoids::MonoidOver;
-use crate::multiply::is_worth_opening;
 use crate::picks::{Picks, pick_rows};
 use crate::runs::{folds_of, push_row};
-use crate::stored::Stored;
+use grb_ewise::{Stored, is_worth_opening};
 use grb_kernels::{EntryList, EntrySlice, Operator, Scalar};
 use grb_rows::FlatRows;
 use std::alloc::{AllocError, Global};
@@ -260,22 +260,18 @@ fn sum_few<T: Stored + Drop, M: MonoidOver<T>, O: Operator<T>, S: Side>(
 /// rows that it picks.
 pub(crate) fn push<T: Stored + Drop, M: MonoidOver<T>, O: Operator<T>, S: Side>(
     alloc: Global,
-    ncols: u64,
     bound: Option<&[u32]>,
     u: &EntrySlice<T>,
-    lists: &FlatRows,
+    rows: &MatrixRows<T>,
 ) -> Result<EntryList<T>, AllocError>
     requires rising { IfSome bound (λ names. Rise names.now) }
-    requires domain { lists.now.domain ≡ T.domain }
-    requires few { ncols < 2 ^ 32 }
-    requires ordered { IsTrue (is_sorted cell_cmp (decoded lists.now.entries)) }
-    requires in_range { All (λ e. e.0.1 < ncols) (decoded lists.now.entries) }
-    ensures { IfOk result (λ made. IsBounded (option_map (λ names. names.now) bound.entry) (pushed_of M.monoid (S.makes O.op) (entries_of T.value u.now.indices.now u.now.values.now) (decoded lists.now.entries)) (entries_of T.value made.indices.items made.values.items)) }
+    ensures { IfOk result (λ made. IsBounded (option_map (λ names. names.now) bound.entry) (pushed_of M.monoid (S.makes O.op) (entries_of T.value u.now.indices.now u.now.values.now) (decoded rows.now.lists.now.entries)) (entries_of T.value made.indices.items made.values.items)) }
 {
+    let lists = rows.lists;
     let picks = pick_rows(alloc, lists, u)?;
     let count = picked_len(lists, picks.places.as_slice());
-    if is_worth_opening(ncols, count) {
-        let made = sum_all::<T, M, O, S>(alloc, ncols as u32, lists, &picks)?;
+    if is_worth_opening(rows.ncols, count) {
+        let made = sum_all::<T, M, O, S>(alloc, rows.ncols as u32, lists, &picks)?;
         return Ok(made);
     }
     let made = sum_few::<T, M, O, S>(alloc, bound, lists, &picks, count)?;

@@ -1,155 +1,74 @@
 //! The products of a vector and a matrix by the rows that the vector picks: vxm, and mxv of the transposed.
-ghost use Rattle.std.specs.Prelude.{◌≡◌, ◌<◌, ◌^◌, true, All, IsTrue, IfOk, IfSome};
+ghost use Rattle.std.specs.Prelude.{◌≡◌, ◌<◌, true, All, IfOk, IfSome, ℕ, List, Some, false};
+ghost use Rattle.std.specs.Borrow.{Bor};
 ghost use Rattle.std.specs.Ordering.{nat_cmp};
 ghost use Rattle.std.specs.Option.{option_map};
-ghost use Rattle.std.specs.FinMap.{is_sorted};
-ghost use Rattle.grb_core.specs.declared.value.Value.TheVariants as value;
 ghost use Rattle.grb_core.specs.Operator.{op_domain};
 ghost use Rattle.grb_core.specs.Monoid.{monoid_domain};
-ghost use Rattle.grb_core.specs.Entries.{cell_cmp};
 ghost use Rattle.grb_core.specs.Contents.{edited_vector};
 ghost use Rattle.grb_core.specs.Mask.{is_inside};
-ghost use Rattle.grb_core.specs.Written.{AccumulatesIn, written};
+ghost use Rattle.grb_core.specs.Written.{written};
 ghost use Rattle.grb_core.specs.Results.{transposed, mxv_of, vxm_of};
 ghost use Rattle.grb_kernels.specs.Typed.{entries_of};
+ghost use Rattle.grb_ewise.specs.Premises.{IsMatrixInput, IsVectorInput, IsVectorOutput};
 ghost use Rattle.grb_rows.specs.Cells.{decoded};
-ghost use Rattle.grb_products.specs.ColumnSums.{Rise};
+ghost use Rattle.grb_ewise.specs.Ranks.{Rise};
 ghost use Rattle.grb_products.specs.Pushes.{pushed_of, Covers, IsBounded};
 
+use crate::choice::{BySemiring, Folded, by_semiring};
+use crate::matrix_rows::{MatrixRows, lend_matrix};
 use crate::monoids::MonoidOver;
 use crate::push::{MatrixFirst, Side, VectorFirst, push};
-use crate::stored::{Stored, keep_bools, keep_numbers};
 use grb_call::Descriptor;
-use grb_core::{BinaryOp, Domain, Monoid, Semiring};
-use grb_ewise::write_masked_vector;
-use grb_kernels::operators::{
-    First, FirstBool, Land, Lor, Lxnor, Lxor, Max, Min, Minus, Plus, Second, SecondBool, Times,
-};
-use grb_kernels::{EntryList, EntrySlice};
-use grb_rows::FlatRows;
+use grb_core::{BinaryOp, Domain, Semiring};
+use grb_ewise::{Stored, keep_bools, keep_numbers, write_masked_vector};
+use grb_kernels::{EntryList, EntrySlice, Operator, Scalar};
 use grb_sparse::{SparseMatrix, SparseVector};
 use std::alloc::{AllocError, Global};
+use std::marker::PhantomData;
 
-/// The product of a vector and a matrix of truth values, by a monoid as a type.
-fn push_bools_by<M: MonoidOver<bool>, S: Side>(
+/// A vector and a matrix that are multiplied by whichever semiring, at the columns that bound the result.
+#[derive(Drop)]
+struct Factors<'a, T: Scalar, S> {
     alloc: Global,
-    op: BinaryOp,
-    ncols: u64,
-    bound: Option<&[u32]>,
-    u: &EntrySlice<bool>,
-    lists: &FlatRows,
-) -> Result<EntryList<bool>, AllocError>
-    requires rising { IfSome bound (λ names. Rise names.now) }
-    requires op_domain { op_domain op ≡ Domain.Bool }
-    requires domain { lists.now.domain ≡ Domain.Bool }
-    requires few { ncols < 2 ^ 32 }
-    requires ordered { IsTrue (is_sorted cell_cmp (decoded lists.now.entries)) }
-    requires in_range { All (λ e. e.0.1 < ncols) (decoded lists.now.entries) }
-    ensures { IfOk result (λ made. IsBounded (option_map (λ names. names.now) bound.entry) (pushed_of M.monoid (S.makes op) (entries_of (λ b. value.Bool b) u.now.indices.now u.now.values.now) (decoded lists.now.entries)) (entries_of (λ b. value.Bool b) made.indices.items made.values.items)) }
-{
-    match op {
-        BinaryOp::Lor => push::<bool, M, Lor, S>(alloc, ncols, bound, u, lists),
-        BinaryOp::Land => push::<bool, M, Land, S>(alloc, ncols, bound, u, lists),
-        BinaryOp::Lxor => push::<bool, M, Lxor, S>(alloc, ncols, bound, u, lists),
-        BinaryOp::Lxnor => push::<bool, M, Lxnor, S>(alloc, ncols, bound, u, lists),
-        BinaryOp::FirstBool => push::<bool, M, FirstBool, S>(alloc, ncols, bound, u, lists),
-        BinaryOp::SecondBool => push::<bool, M, SecondBool, S>(alloc, ncols, bound, u, lists),
-        BinaryOp::Plus
-        | BinaryOp::Times
-        | BinaryOp::Min
-        | BinaryOp::Max
-        | BinaryOp::Minus
-        | BinaryOp::First
-        | BinaryOp::Second => unreachable!(),
+    bound: Option<&'a [u32]>,
+    u: &'a EntrySlice<'a, T>,
+    rows: MatrixRows<'a, T>,
+    of: PhantomData<S>,
+    ghost rising: { (names : Bor (List ℕ)) → bound ≡ Some names → Rise names.now },
+}
+
+impl<'a, T: Stored + Drop, S: Side> BySemiring<T> for Factors<'a, T, S> {
+    type Output = Result<EntryList<T>, AllocError>;
+
+    ghost Gives = { λ f semiring result. IfOk result (λ made. IsBounded (option_map (λ names. names.now) f.bound) (pushed_of semiring.monoid (S.makes semiring.op) (entries_of T.value f.u.now.indices.now f.u.now.values.now) (decoded f.rows.lists.now.entries)) (entries_of T.value made.indices.items made.values.items)) };
+
+    fn by<M: MonoidOver<T>, O: Operator<T>>(self) -> Result<EntryList<T>, AllocError> {
+        push::<T, M, O, S>(self.alloc, self.bound, self.u, &self.rows)
     }
 }
 
-/// The same of numbers.
-fn push_numbers_by<M: MonoidOver<u64>, S: Side>(
-    alloc: Global,
-    op: BinaryOp,
-    ncols: u64,
-    bound: Option<&[u32]>,
-    u: &EntrySlice<u64>,
-    lists: &FlatRows,
-) -> Result<EntryList<u64>, AllocError>
-    requires rising { IfSome bound (λ names. Rise names.now) }
-    requires op_domain { op_domain op ≡ Domain.Uint64 }
-    requires domain { lists.now.domain ≡ Domain.Uint64 }
-    requires few { ncols < 2 ^ 32 }
-    requires ordered { IsTrue (is_sorted cell_cmp (decoded lists.now.entries)) }
-    requires in_range { All (λ e. e.0.1 < ncols) (decoded lists.now.entries) }
-    ensures { IfOk result (λ made. IsBounded (option_map (λ names. names.now) bound.entry) (pushed_of M.monoid (S.makes op) (entries_of (λ n. value.Uint64 n) u.now.indices.now u.now.values.now) (decoded lists.now.entries)) (entries_of (λ n. value.Uint64 n) made.indices.items made.values.items)) }
-{
-    match op {
-        BinaryOp::Plus => push::<u64, M, Plus, S>(alloc, ncols, bound, u, lists),
-        BinaryOp::Times => push::<u64, M, Times, S>(alloc, ncols, bound, u, lists),
-        BinaryOp::Min => push::<u64, M, Min, S>(alloc, ncols, bound, u, lists),
-        BinaryOp::Max => push::<u64, M, Max, S>(alloc, ncols, bound, u, lists),
-        BinaryOp::Minus => push::<u64, M, Minus, S>(alloc, ncols, bound, u, lists),
-        BinaryOp::First => push::<u64, M, First, S>(alloc, ncols, bound, u, lists),
-        BinaryOp::Second => push::<u64, M, Second, S>(alloc, ncols, bound, u, lists),
-        BinaryOp::Lor
-        | BinaryOp::Land
-        | BinaryOp::Lxor
-        | BinaryOp::Lxnor
-        | BinaryOp::FirstBool
-        | BinaryOp::SecondBool => unreachable!(),
-    }
-}
-
-/// The product of a vector and a matrix of truth values.
-fn push_bools<S: Side>(
+/// The product of a vector and a matrix whose values are of one Rust type.
+fn push_by<T: Stored + Folded + Drop, S: Side>(
     alloc: Global,
     semiring: Semiring,
-    ncols: u64,
     bound: Option<&[u32]>,
-    u: &EntrySlice<bool>,
-    lists: &FlatRows,
-) -> Result<EntryList<bool>, AllocError>
+    u: &EntrySlice<T>,
+    rows: MatrixRows<T>,
+) -> Result<EntryList<T>, AllocError>
     requires rising { IfSome bound (λ names. Rise names.now) }
-    requires monoid_domain { monoid_domain semiring.monoid ≡ Domain.Bool }
-    requires op_domain { op_domain semiring.op ≡ Domain.Bool }
-    requires domain { lists.now.domain ≡ Domain.Bool }
-    requires few { ncols < 2 ^ 32 }
-    requires ordered { IsTrue (is_sorted cell_cmp (decoded lists.now.entries)) }
-    requires in_range { All (λ e. e.0.1 < ncols) (decoded lists.now.entries) }
-    ensures { IfOk result (λ made. IsBounded (option_map (λ names. names.now) bound.entry) (pushed_of semiring.monoid (S.makes semiring.op) (entries_of (λ b. value.Bool b) u.now.indices.now u.now.values.now) (decoded lists.now.entries)) (entries_of (λ b. value.Bool b) made.indices.items made.values.items)) }
+    requires monoid_domain { monoid_domain semiring.monoid ≡ T.domain }
+    requires op_domain { op_domain semiring.op ≡ T.domain }
+    ensures { IfOk result (λ made. IsBounded (option_map (λ names. names.now) bound.entry) (pushed_of semiring.monoid (S.makes semiring.op) (entries_of T.value u.now.indices.now u.now.values.now) (decoded rows.entry.lists.now.entries)) (entries_of T.value made.indices.items made.values.items)) }
 {
-    match semiring.monoid() {
-        Monoid::Lor => push_bools_by::<Lor, S>(alloc, semiring.op(), ncols, bound, u, lists),
-        Monoid::Land => push_bools_by::<Land, S>(alloc, semiring.op(), ncols, bound, u, lists),
-        Monoid::Lxor => push_bools_by::<Lxor, S>(alloc, semiring.op(), ncols, bound, u, lists),
-        Monoid::Lxnor => push_bools_by::<Lxnor, S>(alloc, semiring.op(), ncols, bound, u, lists),
-        Monoid::Plus | Monoid::Times | Monoid::Min | Monoid::Max => unreachable!(),
-    }
-}
-
-/// The product of a vector and a matrix of numbers.
-fn push_numbers<S: Side>(
-    alloc: Global,
-    semiring: Semiring,
-    ncols: u64,
-    bound: Option<&[u32]>,
-    u: &EntrySlice<u64>,
-    lists: &FlatRows,
-) -> Result<EntryList<u64>, AllocError>
-    requires rising { IfSome bound (λ names. Rise names.now) }
-    requires monoid_domain { monoid_domain semiring.monoid ≡ Domain.Uint64 }
-    requires op_domain { op_domain semiring.op ≡ Domain.Uint64 }
-    requires domain { lists.now.domain ≡ Domain.Uint64 }
-    requires few { ncols < 2 ^ 32 }
-    requires ordered { IsTrue (is_sorted cell_cmp (decoded lists.now.entries)) }
-    requires in_range { All (λ e. e.0.1 < ncols) (decoded lists.now.entries) }
-    ensures { IfOk result (λ made. IsBounded (option_map (λ names. names.now) bound.entry) (pushed_of semiring.monoid (S.makes semiring.op) (entries_of (λ n. value.Uint64 n) u.now.indices.now u.now.values.now) (decoded lists.now.entries)) (entries_of (λ n. value.Uint64 n) made.indices.items made.values.items)) }
-{
-    match semiring.monoid() {
-        Monoid::Plus => push_numbers_by::<Plus, S>(alloc, semiring.op(), ncols, bound, u, lists),
-        Monoid::Times => push_numbers_by::<Times, S>(alloc, semiring.op(), ncols, bound, u, lists),
-        Monoid::Min => push_numbers_by::<Min, S>(alloc, semiring.op(), ncols, bound, u, lists),
-        Monoid::Max => push_numbers_by::<Max, S>(alloc, semiring.op(), ncols, bound, u, lists),
-        Monoid::Lor | Monoid::Land | Monoid::Lxor | Monoid::Lxnor => unreachable!(),
-    }
+    let factors: Factors<T, S> = Factors {
+        alloc,
+        bound,
+        u,
+        rows,
+        of: PhantomData,
+    };
+    by_semiring(semiring, factors)
 }
 
 /// The indices that a mask stores, where nothing is written at others.
@@ -185,17 +104,16 @@ fn pushed_product<S: Side>(
     ensures entries { IfOk result (λ made. IsBounded (option_map (λ names. names.now) bound.entry) (pushed_of semiring.monoid (S.makes semiring.op) u.now.vector.entries a.now.matrix.entries) made.vector.entries) }
     ensures assembled { IfOk result (λ made. made.assembled ≡ true) }
 {
-    let lists = a.lists();
     let (_nrows, ncols) = a.dims();
     match semiring.domain() {
         Domain::Bool => {
             let lent = bool::lend(u);
-            let entries = push_bools::<S>(alloc, semiring, ncols, bound, &lent, lists)?;
+            let entries = push_by::<bool, S>(alloc, semiring, bound, &lent, lend_matrix(a))?;
             keep_bools(alloc, ncols, entries)
         }
         Domain::Uint64 => {
             let lent = u64::lend(u);
-            let entries = push_numbers::<S>(alloc, semiring, ncols, bound, &lent, lists)?;
+            let entries = push_by::<u64, S>(alloc, semiring, bound, &lent, lend_matrix(a))?;
             keep_numbers(alloc, ncols, entries)
         }
     }
@@ -244,17 +162,10 @@ pub fn vxm(
     a: &SparseMatrix,
     descriptor: Descriptor,
 ) -> Result<SparseVector, AllocError>
-    requires output_assembled { output.now.assembled ≡ true }
-    requires u_assembled { u.now.assembled ≡ true }
-    requires a_assembled { a.now.assembled ≡ true }
-    requires mask_assembled { IfSome mask (λ m. m.now.assembled ≡ true) }
-    requires accum_domain { AccumulatesIn output.now.vector.domain accum }
+    requires output { IsVectorOutput output.now mask accum }
     requires semiring_domain { op_domain semiring.op ≡ output.now.vector.domain }
-    requires u_domain { u.now.vector.domain ≡ output.now.vector.domain }
-    requires a_domain { a.now.matrix.domain ≡ output.now.vector.domain }
-    requires a_rows { a.now.matrix.nrows ≡ u.now.vector.size }
-    requires a_columns { a.now.matrix.ncols ≡ output.now.vector.size }
-    requires mask_size { IfSome mask (λ m. m.now.vector.size ≡ output.now.vector.size) }
+    requires u { IsVectorInput output.now.vector.domain u.now.vector.size u.now }
+    requires a { IsMatrixInput false output.now.vector.domain u.now.vector.size output.now.vector.size a.now }
     ensures vector { IfOk result (λ made. made.vector ≡ edited_vector (λ w. written nat_cmp (is_inside nat_cmp descriptor.structure descriptor.comp (option_map (λ m. m.now.vector.entries) mask.entry)) descriptor.replace accum w (vxm_of semiring u.now.vector.entries a.now.matrix.entries)) output.now.vector) }
     ensures assembled { IfOk result (λ made. made.assembled ≡ true) }
 {

@@ -1,30 +1,28 @@
 //! Each row of a matrix, or of its transposed, folded to one value.
-ghost use Rattle.std.specs.Prelude.{◌≡◌, true, refl, if◌then◌else◌, IfOk, IfSome, IsTrue, All, ◌<◌, ◌^◌};
+ghost use Rattle.std.specs.Prelude.{◌≡◌, true, refl, if◌then◌else◌, IfOk, All, ◌<◌};
 ghost use Rattle.std.specs.Ordering.{nat_cmp};
 ghost use Rattle.std.specs.Option.{option_map};
-ghost use Rattle.std.specs.FinMap.{is_sorted};
-ghost use Rattle.grb_core.specs.declared.value.Value.TheVariants as value;
 ghost use Rattle.grb_core.specs.Monoid.{monoid_domain};
-ghost use Rattle.grb_core.specs.Entries.{cell_cmp, values_of};
+ghost use Rattle.grb_core.specs.Entries.{values_of};
 ghost use Rattle.grb_core.specs.Fold.{fold_of_some};
-ghost use Rattle.grb_core.specs.Contents.{IsVector, edited_vector};
+ghost use Rattle.grb_core.specs.Contents.{edited_vector};
 ghost use Rattle.grb_core.specs.Mask.{is_inside};
-ghost use Rattle.grb_core.specs.Written.{AccumulatesIn, written};
+ghost use Rattle.grb_core.specs.Written.{written};
 ghost use Rattle.grb_core.specs.Results.{reduce_rows_of, turned};
 ghost use Rattle.grb_kernels.specs.Typed.{entries_of};
+ghost use Rattle.grb_ewise.specs.Premises.{IsMatrixInput, IsVectorOutput};
 ghost use Rattle.grb_rows.specs.Cells.{decoded};
 
+use crate::choice::{ByMonoid, Folded};
 use crate::column_folds::fold_columns;
 use crate::folding::fold_values;
+use crate::matrix_rows::{MatrixRows, lend_matrix};
 use crate::monoids::MonoidOver;
 use crate::rows::{RowRule, made_rows};
-use crate::stored::{Stored, keep_bools, keep_numbers};
 use grb_call::Descriptor;
 use grb_core::{BinaryOp, Domain, Monoid};
-use grb_ewise::write_masked_vector;
-use grb_kernels::EntryList;
-use grb_kernels::operators::{Land, Lor, Lxnor, Lxor, Max, Min, Plus, Times};
-use grb_rows::FlatRows;
+use grb_ewise::{Stored, keep_bools, keep_numbers, write_masked_vector};
+use grb_kernels::{EntryList, Scalar};
 use grb_sparse::{SparseMatrix, SparseVector};
 use std::alloc::{AllocError, Global};
 use std::marker::PhantomData;
@@ -53,73 +51,51 @@ impl<T: Stored, M: MonoidOver<T>> RowRule<T> for Sum<M> {
 fn fold_rows<T: Stored + Drop, M: MonoidOver<T>>(
     alloc: Global,
     tran: bool,
-    ncols: u64,
-    lists: &FlatRows,
+    rows: &MatrixRows<T>,
 ) -> Result<EntryList<T>, AllocError>
-    requires domain { lists.now.domain ≡ T.domain }
-    requires few { ncols < 2 ^ 32 }
-    requires ordered { IsTrue (is_sorted cell_cmp (decoded lists.now.entries)) }
-    requires in_range { All (λ e. e.0.1 < ncols) (decoded lists.now.entries) }
-    ensures { IfOk result (λ made. entries_of T.value made.indices.items made.values.items ≡ reduce_rows_of M.monoid (turned tran (decoded lists.now.entries))) }
+    ensures { IfOk result (λ made. entries_of T.value made.indices.items made.values.items ≡ reduce_rows_of M.monoid (turned tran (decoded rows.now.lists.now.entries))) }
 {
     if tran {
-        let made = fold_columns::<T, M>(alloc, ncols, lists)?;
+        let made = fold_columns::<T, M>(alloc, rows)?;
         return Ok(made);
     }
     let rule: Sum<M> = Sum {
-        ncols,
+        ncols: rows.ncols,
         of: PhantomData,
     };
-    let made = made_rows(alloc, &rule, lists)?;
+    let made = made_rows(alloc, &rule, rows.lists)?;
     Ok(made)
 }
 
-/// The same of truth values, by a monoid.
-fn fold_rows_of_bools(
+/// A matrix whose rows are folded by whichever monoid; its columns, where `tran` says that it is read transposed.
+#[derive(Drop)]
+struct Rows<'a, T: Scalar> {
     alloc: Global,
-    monoid: Monoid,
     tran: bool,
-    ncols: u64,
-    lists: &FlatRows,
-) -> Result<EntryList<bool>, AllocError>
-    requires monoid_domain { monoid_domain monoid ≡ Domain.Bool }
-    requires domain { lists.now.domain ≡ Domain.Bool }
-    requires few { ncols < 2 ^ 32 }
-    requires ordered { IsTrue (is_sorted cell_cmp (decoded lists.now.entries)) }
-    requires in_range { All (λ e. e.0.1 < ncols) (decoded lists.now.entries) }
-    ensures { IfOk result (λ made. entries_of (λ b. value.Bool b) made.indices.items made.values.items ≡ reduce_rows_of monoid (turned tran (decoded lists.now.entries))) }
-{
-    match monoid {
-        Monoid::Lor => fold_rows::<bool, Lor>(alloc, tran, ncols, lists),
-        Monoid::Land => fold_rows::<bool, Land>(alloc, tran, ncols, lists),
-        Monoid::Lxor => fold_rows::<bool, Lxor>(alloc, tran, ncols, lists),
-        Monoid::Lxnor => fold_rows::<bool, Lxnor>(alloc, tran, ncols, lists),
-        Monoid::Plus | Monoid::Times | Monoid::Min | Monoid::Max => unreachable!(),
+    rows: MatrixRows<'a, T>,
+}
+
+impl<'a, T: Stored + Drop> ByMonoid<T> for Rows<'a, T> {
+    type Output = Result<EntryList<T>, AllocError>;
+
+    ghost Gives = { λ r monoid result. IfOk result (λ made. entries_of T.value made.indices.items made.values.items ≡ reduce_rows_of monoid (turned r.tran (decoded r.rows.lists.now.entries))) };
+
+    fn by<M: MonoidOver<T>>(self) -> Result<EntryList<T>, AllocError> {
+        fold_rows::<T, M>(self.alloc, self.tran, &self.rows)
     }
 }
 
-/// The same of numbers, by a monoid.
-fn fold_rows_of_numbers(
+/// Each row folded by a monoid; each column, where `tran` says that the matrix is read transposed.
+fn fold_rows_by<T: Stored + Folded + Drop>(
     alloc: Global,
     monoid: Monoid,
     tran: bool,
-    ncols: u64,
-    lists: &FlatRows,
-) -> Result<EntryList<u64>, AllocError>
-    requires monoid_domain { monoid_domain monoid ≡ Domain.Uint64 }
-    requires domain { lists.now.domain ≡ Domain.Uint64 }
-    requires few { ncols < 2 ^ 32 }
-    requires ordered { IsTrue (is_sorted cell_cmp (decoded lists.now.entries)) }
-    requires in_range { All (λ e. e.0.1 < ncols) (decoded lists.now.entries) }
-    ensures { IfOk result (λ made. entries_of (λ n. value.Uint64 n) made.indices.items made.values.items ≡ reduce_rows_of monoid (turned tran (decoded lists.now.entries))) }
+    rows: MatrixRows<T>,
+) -> Result<EntryList<T>, AllocError>
+    requires monoid_domain { monoid_domain monoid ≡ T.domain }
+    ensures { IfOk result (λ made. entries_of T.value made.indices.items made.values.items ≡ reduce_rows_of monoid (turned tran (decoded rows.entry.lists.now.entries))) }
 {
-    match monoid {
-        Monoid::Plus => fold_rows::<u64, Plus>(alloc, tran, ncols, lists),
-        Monoid::Times => fold_rows::<u64, Times>(alloc, tran, ncols, lists),
-        Monoid::Min => fold_rows::<u64, Min>(alloc, tran, ncols, lists),
-        Monoid::Max => fold_rows::<u64, Max>(alloc, tran, ncols, lists),
-        Monoid::Lor | Monoid::Land | Monoid::Lxor | Monoid::Lxnor => unreachable!(),
-    }
+    T::choose_monoid(monoid, Rows { alloc, tran, rows })
 }
 
 /// The number of rows of a matrix with these dimensions; of its columns, where it is read transposed.
@@ -141,16 +117,15 @@ fn row_folds(
     ensures vector { IfOk result (λ made. made.vector ≡ record { domain = a.now.matrix.domain; size = (if tran then a.now.matrix.ncols else a.now.matrix.nrows); entries = reduce_rows_of monoid (turned tran a.now.matrix.entries) }) }
     ensures assembled { IfOk result (λ made. made.assembled ≡ true) }
 {
-    let lists = a.lists();
     let (nrows, ncols) = a.dims();
     let size = turned_rows(tran, nrows, ncols);
-    match lists.domain() {
+    match a.domain() {
         Domain::Bool => {
-            let entries = fold_rows_of_bools(alloc, monoid, tran, ncols, lists)?;
+            let entries = fold_rows_by::<bool>(alloc, monoid, tran, lend_matrix(a))?;
             keep_bools(alloc, size, entries)
         }
         Domain::Uint64 => {
-            let entries = fold_rows_of_numbers(alloc, monoid, tran, ncols, lists)?;
+            let entries = fold_rows_by::<u64>(alloc, monoid, tran, lend_matrix(a))?;
             keep_numbers(alloc, size, entries)
         }
     }
@@ -174,14 +149,9 @@ pub fn reduce_rows(
     a: &SparseMatrix,
     descriptor: Descriptor,
 ) -> Result<SparseVector, AllocError>
-    requires output_assembled { output.now.assembled ≡ true }
-    requires a_assembled { a.now.assembled ≡ true }
-    requires mask_assembled { IfSome mask (λ m. m.now.assembled ≡ true) }
-    requires accum_domain { AccumulatesIn output.now.vector.domain accum }
+    requires output { IsVectorOutput output.now mask accum }
     requires monoid_domain { monoid_domain monoid ≡ output.now.vector.domain }
-    requires a_domain { a.now.matrix.domain ≡ output.now.vector.domain }
-    requires a_rows { (if descriptor.tran then a.now.matrix.ncols else a.now.matrix.nrows) ≡ output.now.vector.size }
-    requires mask_size { IfSome mask (λ m. m.now.vector.size ≡ output.now.vector.size) }
+    requires a { IsMatrixInput descriptor.tran output.now.vector.domain output.now.vector.size (if descriptor.tran then a.now.matrix.nrows else a.now.matrix.ncols) a.now }
     ensures vector { IfOk result (λ made. made.vector ≡ edited_vector (λ w. written nat_cmp (is_inside nat_cmp descriptor.structure descriptor.comp (option_map (λ m. m.now.vector.entries) mask.entry)) descriptor.replace accum w (reduce_rows_of monoid (turned descriptor.tran a.now.matrix.entries))) output.now.vector) }
     ensures assembled { IfOk result (λ made. made.assembled ≡ true) }
 {

@@ -1,5 +1,5 @@
 //! The product of a row with a vector.
-ghost use Rattle.std.specs.Prelude.{◌≡◌, ◌<◌, length, All, refl, if◌then◌else◌};
+ghost use Rattle.std.specs.Prelude.{◌≡◌, ◌<◌, length, All, refl};
 ghost use Rattle.grb_core.specs.Fold.{fold_of_some};
 ghost use Rattle.grb_kernels.specs.Typed.{kept, entries_of};
 ghost use Rattle.grb_products.specs.Products.{products};
@@ -7,16 +7,9 @@ ghost use Rattle.grb_products.specs.Products.{products};
 use crate::lookup::Lookup;
 use crate::monoids::MonoidOver;
 use crate::rows::RowRule;
-use crate::stored::Stored;
-use grb_kernels::{Operator, Scalar};
+use grb_ewise::Stored;
+use grb_kernels::{Operator, chosen};
 use std::marker::PhantomData;
-
-/// The first value where it is wanted, else the second.
-fn chosen<T: Scalar>(wanted: bool, first: T, second: T) -> T
-    ensures { result ≡ (if wanted then first else second) }
-{
-    if wanted { first } else { second }
-}
 
 /// The fold of the products of a row with a vector, and whether there is one. Products behind a terminal one are not made.
 pub(crate) fn dot<T: Stored, M: MonoidOver<T>, O: Operator<T>, L: Lookup<T>>(

@@ -1,15 +1,15 @@
 //! A value made of each row of a matrix.
-ghost use Rattle.std.specs.Prelude.{◌≡◌, ◌<◌, ◌≤◌, ◌+◌, ◌++◌, ℕ, [], length, map, Option, None, All, IfOk, IsTrue};
+ghost use Rattle.std.specs.Prelude.{◌≡◌, ◌<◌, ◌≤◌, ◌+◌, ℕ, [], length, Option, None, All, IfOk, IsTrue};
 ghost use Rattle.std.specs.Ordering.{nat_cmp};
 ghost use Rattle.std.specs.FinMap.{is_sorted};
 ghost use Rattle.grb_core.specs.declared.value.Value.{Value};
-ghost use Rattle.grb_core.specs.Entries.{VectorEntries, before_entries};
+ghost use Rattle.grb_core.specs.Entries.{VectorEntries};
 ghost use Rattle.grb_core.specs.Results.{each_row};
 ghost use Rattle.grb_kernels.specs.Typed.{kept, entries_of, first_entries};
 ghost use Rattle.grb_rows.specs.Cells.{decoded};
 
-use crate::stored::Stored;
-use grb_kernels::{EntryList, Scalar};
+use grb_ewise::Stored;
+use grb_kernels::{EntryList, Scalar, emit};
 use grb_rows::FlatRows;
 use std::alloc::{AllocError, Global};
 
@@ -29,26 +29,6 @@ pub(crate) trait RowRule<T: Scalar> {
 
     /// Of a row without entries nothing is made.
     ghost none: { (rule : Self) → gives rule [] ≡ None };
-}
-
-/// Writes an entry at place `k` of a result, if it is to be kept, and answers how many entries there are then. Takes no memory. What
-/// stands at places behind those is any.
-pub fn emit<T: Scalar>(
-    indices: &mut [u32],
-    values: &mut [T],
-    k: usize,
-    index: u32,
-    value: T,
-    keep: bool,
-) -> usize
-    requires room { k < length indices.old }
-    requires same { length indices.old ≡ length values.old }
-    ensures first { first_entries T.value result indices.new values.new ≡ first_entries T.value k indices.old values.old ++ before_entries index (kept (T.value value) keep) [] }
-    ensures most { result ≤ k + 1 }
-{
-    indices[k] = index;
-    values[k] = value;
-    if keep { k + 1 } else { k }
 }
 
 /// Makes a value of each row, written to the front of `indices` and `results`. Answers how many there are.

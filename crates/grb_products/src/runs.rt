@@ -12,7 +12,7 @@ ghost use Rattle.grb_products.specs.ColumnSums.{as_entries, with_values};
 
 use crate::column_sums::Term;
 use crate::monoids::MonoidOver;
-use crate::stored::Stored;
+use grb_ewise::Stored;
 use grb_kernels::EntryList;
 use std::alloc::{AllocError, Global};
 

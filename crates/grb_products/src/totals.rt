@@ -3,9 +3,9 @@ ghost use Rattle.std.specs.Prelude.{◌≡◌, true};
 ghost use Rattle.grb_core.specs.Monoid.{monoid_domain};
 ghost use Rattle.grb_core.specs.Results.{reduce_of};
 
-use crate::folding::Folded;
-use crate::stored::Stored;
+use crate::folding::fold;
 use grb_core::{Domain, Monoid, Value};
+use grb_ewise::Stored;
 use grb_sparse::{SparseMatrix, SparseVector};
 
 /// All values that a vector stores, combined by the monoid; the monoid's identity where it stores none. Takes no memory, and time in
@@ -20,8 +20,8 @@ pub fn reduce_vector(vector: &SparseVector, monoid: Monoid) -> Value
     ensures { result ≡ reduce_of monoid vector.now.vector.entries }
 {
     match vector.domain() {
-        Domain::Bool => Value::Bool(bool::fold(monoid, bool::of_vector(vector))),
-        Domain::Uint64 => Value::Uint64(u64::fold(monoid, u64::of_vector(vector))),
+        Domain::Bool => Value::Bool(fold(monoid, bool::of_vector(vector))),
+        Domain::Uint64 => Value::Uint64(fold(monoid, u64::of_vector(vector))),
     }
 }
 
@@ -38,7 +38,7 @@ pub fn reduce_matrix(matrix: &SparseMatrix, monoid: Monoid) -> Value
 {
     let lists = matrix.lists();
     match lists.domain() {
-        Domain::Bool => Value::Bool(bool::fold(monoid, bool::of_lists(lists))),
-        Domain::Uint64 => Value::Uint64(u64::fold(monoid, u64::of_lists(lists))),
+        Domain::Bool => Value::Bool(fold(monoid, bool::of_lists(lists))),
+        Domain::Uint64 => Value::Uint64(fold(monoid, u64::of_lists(lists))),
     }
 }

@@ -6,7 +6,7 @@ use Rattle.std.specs.Prelude.{Option, None, Err}
 use Rattle.grb_order.specs.declared.limits.TheConstants.{MOST_SEATS}
 use Rattle.grb_script.specs.declared.command.Command.{Command}
 use Rattle.grb_script.specs.declared.command.Command.TheVariants as command
-use Rattle.grb_script.specs.declared.command.Numbered.{Numbered}
+use Rattle.grb_script.specs.declared.command.NumberedCommand.{NumberedCommand}
 use Rattle.grb_script.specs.ScriptFault.{script_fault}
 use Rattle.grb_words.specs.declared.fault.FaultKind.{FaultKind}
 use Rattle.grb_run.specs.declared.fault.RunFault.{RunFault}
@@ -19,41 +19,41 @@ use Rattle.grb_run.specs.Run.{EndsWith, seats_of, sink_failures_after}
 use Rattle.grb_run.specs.Source.{IsGiven}
 
 module _ (files : Files) where
-  pub AreSteps-push : (before : List Numbered) (steps : List Step) (asked : Numbered) (s : Step) → AreSteps files before steps → IsStep files asked.command s
+  pub AreSteps-push : (before : List NumberedCommand) (steps : List Step) (asked : NumberedCommand) (s : Step) → AreSteps files before steps → IsStep files asked.command s
       → AreSteps files (before ++ asked ∷ []) (steps ++ s ∷ [])
   AreSteps-push [] [] asked s are is = (is, tt)
   AreSteps-push [] (t ∷ steps) asked s are is = absurd are
   AreSteps-push (first ∷ before) [] asked s are is = absurd are
   AreSteps-push (first ∷ before) (t ∷ steps) asked s are is = (are.0, AreSteps-push before steps asked s are.1 is)
 
-  AreSteps-append : (fs bs : List Numbered) (xs ys : List Step) → AreSteps files fs xs → AreSteps files bs ys → AreSteps files (fs ++ bs) (xs ++ ys)
+  AreSteps-append : (fs bs : List NumberedCommand) (xs ys : List Step) → AreSteps files fs xs → AreSteps files bs ys → AreSteps files (fs ++ bs) (xs ++ ys)
   AreSteps-append [] bs [] ys first second = second
   AreSteps-append [] bs (x ∷ xs) ys first second = absurd first
   AreSteps-append (a ∷ fs) bs [] ys first second = absurd first
   AreSteps-append (a ∷ fs) bs (x ∷ xs) ys first second = (first.0, AreSteps-append fs bs xs ys first.1 second)
 
-  pub AreThreadSteps-push : (before : List (List Numbered)) (all : List (List Step)) (asked : List Numbered) (steps : List Step) → AreThreadSteps files before all
+  pub AreThreadSteps-push : (before : List (List NumberedCommand)) (all : List (List Step)) (asked : List NumberedCommand) (steps : List Step) → AreThreadSteps files before all
       → AreSteps files asked steps → AreThreadSteps files (before ++ asked ∷ []) (all ++ steps ∷ [])
   AreThreadSteps-push [] [] asked steps are is = (is, tt)
   AreThreadSteps-push [] (t ∷ all) asked steps are is = absurd are
   AreThreadSteps-push (first ∷ before) [] asked steps are is = absurd are
   AreThreadSteps-push (first ∷ before) (t ∷ all) asked steps are is = (are.0, AreThreadSteps-push before all asked steps are.1 is)
 
-  pub length-AreThreadSteps : (threads : List (List Numbered)) (all : List (List Step)) → AreThreadSteps files threads all → length all ≡ length threads
+  pub length-AreThreadSteps : (threads : List (List NumberedCommand)) (all : List (List Step)) → AreThreadSteps files threads all → length all ≡ length threads
   length-AreThreadSteps [] [] are = refl
   length-AreThreadSteps [] (t ∷ all) are = absurd are
   length-AreThreadSteps (asked ∷ threads) [] are = absurd are
   length-AreThreadSteps (asked ∷ threads) (t ∷ all) are = omega (arith, length-AreThreadSteps threads all are.1)
 
   -- the steps of thread sections, one behind another
-  flat_steps : (threads : List (List Numbered)) (all : List (List Step)) → AreThreadSteps files threads all
-      → AreSteps files (flat_map (λ (more : List Numbered). more) threads) (flat_map (λ (more : List Step). more) all)
+  flat_steps : (threads : List (List NumberedCommand)) (all : List (List Step)) → AreThreadSteps files threads all
+      → AreSteps files (flat_map (λ (more : List NumberedCommand). more) threads) (flat_map (λ (more : List Step). more) all)
   flat_steps [] [] are = tt
   flat_steps [] (t ∷ all) are = absurd are
   flat_steps (asked ∷ threads) [] are = absurd are
-  flat_steps (asked ∷ threads) (t ∷ all) are = AreSteps-append asked (flat_map (λ (more : List Numbered). more) threads) t (flat_map (λ (more : List Step). more) all) are.0 (flat_steps threads all are.1)
+  flat_steps (asked ∷ threads) (t ∷ all) are = AreSteps-append asked (flat_map (λ (more : List NumberedCommand). more) threads) t (flat_map (λ (more : List Step). more) all) are.0 (flat_steps threads all are.1)
 
-  pub why_not : (commands : List Numbered) (fault : RunFault) → StopsWith files commands fault → IsWhyNotLoaded files commands fault
+  pub why_not : (commands : List NumberedCommand) (fault : RunFault) → StopsWith files commands fault → IsWhyNotLoaded files commands fault
   why_not commands (run.Script line kind) stops = stops
   why_not commands (run.Load line fault) stops = stops
   why_not commands run.TooManySections stops = stops
@@ -67,7 +67,7 @@ module _ (files : Files) where
   why_not commands run.CannotWrite stops = stops
 
   -- what stops some lines stops those around them too
-  stops_more : (fs bs cs : List Numbered) (xs : List Step) (fault : RunFault) → AreSteps files fs xs → StopsWith files bs fault → StopsWith files (fs ++ bs ++ cs) fault
+  stops_more : (fs bs cs : List NumberedCommand) (xs : List Step) (fault : RunFault) → AreSteps files fs xs → StopsWith files bs fault → StopsWith files (fs ++ bs ++ cs) fault
   stops_more fs bs cs xs fault loaded stops = record {
     before = fs ++ stops.before;
     asked = stops.asked;
@@ -80,7 +80,7 @@ module _ (files : Files) where
     stops = stops.stops;
   }
 
-  pub why_more : (fs bs cs : List Numbered) (xs : List Step) (fault : RunFault) → AreSteps files fs xs → IsWhyNotLoaded files bs fault
+  pub why_more : (fs bs cs : List NumberedCommand) (xs : List Step) (fault : RunFault) → AreSteps files fs xs → IsWhyNotLoaded files bs fault
       → IsWhyNotLoaded files (fs ++ bs ++ cs) fault
   why_more fs bs cs xs (run.Script line kind) loaded why = stops_more fs bs cs xs (run.Script line kind) loaded why
   why_more fs bs cs xs (run.Load line fault) loaded why = stops_more fs bs cs xs (run.Load line fault) loaded why
@@ -95,29 +95,29 @@ module _ (files : Files) where
   why_more fs bs cs xs run.CannotWrite loaded why = stops_more fs bs cs xs run.CannotWrite loaded why
 
   -- the same of the first, the next and the last of three parts
-  pub why_main : (fs bs : List Numbered) (fault : RunFault) → IsWhyNotLoaded files fs fault → IsWhyNotLoaded files (fs ++ bs) fault
+  pub why_main : (fs bs : List NumberedCommand) (fault : RunFault) → IsWhyNotLoaded files fs fault → IsWhyNotLoaded files (fs ++ bs) fault
   why_main fs bs fault why = why_more [] fs bs [] fault tt why
 
-  pub why_threads : (fs : List Numbered) (threads : List (List Numbered)) (cs : List Numbered) (xs : List Step) (fault : RunFault) → AreSteps files fs xs
-      → IsWhyNotLoaded files (flat_map (λ (more : List Numbered). more) threads) fault → IsWhyNotLoaded files (fs ++ flat_map (λ (more : List Numbered). more) threads ++ cs) fault
-  why_threads fs threads cs xs fault loaded why = why_more fs (flat_map (λ (more : List Numbered). more) threads) cs xs fault loaded why
+  pub why_threads : (fs : List NumberedCommand) (threads : List (List NumberedCommand)) (cs : List NumberedCommand) (xs : List Step) (fault : RunFault) → AreSteps files fs xs
+      → IsWhyNotLoaded files (flat_map (λ (more : List NumberedCommand). more) threads) fault → IsWhyNotLoaded files (fs ++ flat_map (λ (more : List NumberedCommand). more) threads ++ cs) fault
+  why_threads fs threads cs xs fault loaded why = why_more fs (flat_map (λ (more : List NumberedCommand). more) threads) cs xs fault loaded why
 
-  pub why_last : (fs : List Numbered) (threads : List (List Numbered)) (cs : List Numbered) (xs : List Step) (all : List (List Step)) (fault : RunFault) → AreSteps files fs xs
-      → AreThreadSteps files threads all → IsWhyNotLoaded files cs fault → IsWhyNotLoaded files (fs ++ flat_map (λ (more : List Numbered). more) threads ++ cs) fault
+  pub why_last : (fs : List NumberedCommand) (threads : List (List NumberedCommand)) (cs : List NumberedCommand) (xs : List Step) (all : List (List Step)) (fault : RunFault) → AreSteps files fs xs
+      → AreThreadSteps files threads all → IsWhyNotLoaded files cs fault → IsWhyNotLoaded files (fs ++ flat_map (λ (more : List NumberedCommand). more) threads ++ cs) fault
   why_last fs threads cs xs all fault loaded others why =
-      let flat : List Numbered = flat_map (λ (more : List Numbered). more) threads in
+      let flat : List NumberedCommand = flat_map (λ (more : List NumberedCommand). more) threads in
       subst (λ l. IsWhyNotLoaded files l fault) (append-nil ((fs ++ flat) ++ cs))
       (why_more (fs ++ flat) cs [] (xs ++ flat_map (λ (more : List Step). more) all) fault
       (AreSteps-append fs flat xs (flat_map (λ (more : List Step). more) all) loaded (flat_steps threads all others)) why)
 
   -- the same of one thread section among others
-  pub why_one : (before : List (List Numbered)) (asked : List Numbered) (rest all : List (List Numbered)) (steps : List (List Step)) (fault : RunFault) → all ≡ before ++ asked ∷ rest
-      → AreThreadSteps files before steps → IsWhyNotLoaded files asked fault → IsWhyNotLoaded files (flat_map (λ (more : List Numbered). more) all) fault
+  pub why_one : (before : List (List NumberedCommand)) (asked : List NumberedCommand) (rest all : List (List NumberedCommand)) (steps : List (List Step)) (fault : RunFault) → all ≡ before ++ asked ∷ rest
+      → AreThreadSteps files before steps → IsWhyNotLoaded files asked fault → IsWhyNotLoaded files (flat_map (λ (more : List NumberedCommand). more) all) fault
   why_one before asked rest all steps fault are loaded why =
       subst (λ l. IsWhyNotLoaded files l fault)
-      (append_assoc (flat_map (λ (more : List Numbered). more) before) asked (flat_map (λ (more : List Numbered). more) rest)
-      ∙ sym (flat_map-append (λ (more : List Numbered). more) before (asked ∷ rest)) ∙ ap (λ l. flat_map (λ (more : List Numbered). more) l) (sym are))
-      (why_more (flat_map (λ (more : List Numbered). more) before) asked (flat_map (λ (more : List Numbered). more) rest) (flat_map (λ (more : List Step). more) steps) fault
+      (append_assoc (flat_map (λ (more : List NumberedCommand). more) before) asked (flat_map (λ (more : List NumberedCommand). more) rest)
+      ∙ sym (flat_map-append (λ (more : List NumberedCommand). more) before (asked ∷ rest)) ∙ ap (λ l. flat_map (λ (more : List NumberedCommand). more) l) (sym are))
+      (why_more (flat_map (λ (more : List NumberedCommand). more) before) asked (flat_map (λ (more : List NumberedCommand). more) rest) (flat_map (λ (more : List Step). more) steps) fault
       (flat_steps before steps loaded) why)
 
   module _ (now : Files) where
@@ -125,22 +125,22 @@ module _ (files : Files) where
     pub IsStep-of : (c : Command) (s : Step) → ((path : List ℕ) → now path ≡ files path) → IsStep now c s → IsStep files c s
     IsStep-of c s same is = subst (λ f. IsStep f c s) (λ j path. same path j) is
 
-    pub AreSteps-of : (commands there : List Numbered) (steps : List Step) → ((path : List ℕ) → now path ≡ files path) → there ≡ commands → AreSteps now there steps → AreSteps files commands steps
+    pub AreSteps-of : (commands there : List NumberedCommand) (steps : List Step) → ((path : List ℕ) → now path ≡ files path) → there ≡ commands → AreSteps now there steps → AreSteps files commands steps
     AreSteps-of commands there steps same are loaded = subst (λ f. AreSteps f commands steps) (λ j path. same path j) (subst (λ cs. AreSteps now cs steps) are loaded)
 
-    pub AreThreadSteps-of : (threads : List (List Numbered)) (all : List (List Step)) → ((path : List ℕ) → now path ≡ files path) → AreThreadSteps now threads all → AreThreadSteps files threads all
+    pub AreThreadSteps-of : (threads : List (List NumberedCommand)) (all : List (List Step)) → ((path : List ℕ) → now path ≡ files path) → AreThreadSteps now threads all → AreThreadSteps files threads all
     AreThreadSteps-of threads all same loaded = subst (λ f. AreThreadSteps f threads all) (λ j path. same path j) loaded
 
     pub AreScriptSteps-of : (asked there : Sections) (script : Steps) → ((path : List ℕ) → now path ≡ files path) → there ≡ asked → AreScriptSteps now there script → AreScriptSteps files asked script
     AreScriptSteps-of asked there script same are loaded = subst (λ f. AreScriptSteps f asked script) (λ j path. same path j) (subst (λ a. AreScriptSteps now a script) are loaded)
 
-    pub IsWhyNotLoaded-of : (commands there : List Numbered) (fault : RunFault) → ((path : List ℕ) → now path ≡ files path) → there ≡ commands → IsWhyNotLoaded now there fault
+    pub IsWhyNotLoaded-of : (commands there : List NumberedCommand) (fault : RunFault) → ((path : List ℕ) → now path ≡ files path) → there ≡ commands → IsWhyNotLoaded now there fault
         → IsWhyNotLoaded files commands fault
     IsWhyNotLoaded-of commands there fault same are why =
         subst (λ f. IsWhyNotLoaded f commands fault) (λ j path. same path j) (subst (λ cs. IsWhyNotLoaded now cs fault) are why)
 
     -- a load that ends with a fault behind those that do not
-    pub StopsWith-of : (before : List Numbered) (asked : Numbered) (behind commands : List Numbered) (steps : List Step) (fault : RunFault) → commands ≡ before ++ asked ∷ behind
+    pub StopsWith-of : (before : List NumberedCommand) (asked : NumberedCommand) (behind commands : List NumberedCommand) (steps : List Step) (fault : RunFault) → commands ≡ before ++ asked ∷ behind
         → AreSteps files before steps → ((path : List ℕ) → now path ≡ files path) → IsStepFault now asked.line asked.command fault → IsWhyNotLoaded files commands fault
     StopsWith-of before asked behind commands steps fault are loaded same stops =
         why_not commands fault (record {
@@ -189,7 +189,7 @@ module _ (files : Files) where
   ends room told text before after given none fits same run.Panic why = absurd (no_panic_fault why.asked.line why.asked.command why.stops)
   ends room told text before after given none fits same run.CannotWrite why = absurd (no_sink_fault why.asked.line why.asked.command why.stops)
 
-  pub no_failure : (failures : ℕ) (commands : List Numbered) (fault : RunFault) → IsWhyNotLoaded files commands fault → failures ≡ sink_failures_after failures (Err fault)
+  pub no_failure : (failures : ℕ) (commands : List NumberedCommand) (fault : RunFault) → IsWhyNotLoaded files commands fault → failures ≡ sink_failures_after failures (Err fault)
   no_failure failures commands (run.Script line kind) why = refl
   no_failure failures commands (run.Load line fault) why = refl
   no_failure failures commands run.TooManySections why = refl

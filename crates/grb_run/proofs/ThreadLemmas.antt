@@ -12,8 +12,8 @@ use Rattle.grb_context.specs.Known.{Shared, Knowing, IsPassOf}
 use Rattle.grb_run.specs.declared.fault.RunFault.{RunFault}
 use Rattle.grb_run.specs.declared.fault.RunFault.TheVariants as run
 use Rattle.grb_run.specs.declared.loads.Step.{Step}
-use Rattle.grb_run.specs.declared.threads.Asked.{Asked}
-use Rattle.grb_run.specs.declared.threads.Ended.{Ended}
+use Rattle.grb_run.specs.declared.threads.ThreadPromise.{ThreadPromise}
+use Rattle.grb_run.specs.declared.threads.FinishedSection.{FinishedSection}
 use Rattle.grb_run.specs.declared.threads.Job.{Job}
 use Rattle.grb_run.specs.Sections.{Stage, AreTold, AreThreadsTold, MeetsAll}
 use Rattle.grb_run.specs.Threads.{IsJob, AreJobs, IsEnded, AreEnded, AreAsked, IsGathered, AreGathered, AreThreadsRun, IsStop, IsStopOf}
@@ -43,34 +43,34 @@ module _ (context : Shared) where
   passes_of main (p ∷ passes) (s ∷ threads) [] are = absurd are
   passes_of main (p ∷ passes) (s ∷ threads) (job ∷ jobs) are = All-cons (λ (job : Job). IsPassOf context job.pass) job jobs are.0.pass (passes_of main passes threads jobs are.1)
 
-  pub ended_passes : (jobs : List Job) (ended : List (Result Ended AllocError)) → AreEnded context jobs ended
-      → All (λ one. IfOk one (λ (e : Ended). IsPassOf context e.pass)) ended
-  ended_passes [] [] are = All-nil (λ (one : Result Ended AllocError). IfOk one (λ (e : Ended). IsPassOf context e.pass))
+  pub ended_passes : (jobs : List Job) (ended : List (Result FinishedSection AllocError)) → AreEnded context jobs ended
+      → All (λ one. IfOk one (λ (e : FinishedSection). IsPassOf context e.pass)) ended
+  ended_passes [] [] are = All-nil (λ (one : Result FinishedSection AllocError). IfOk one (λ (e : FinishedSection). IsPassOf context e.pass))
   ended_passes [] (one ∷ ended) are = absurd are
   ended_passes (job ∷ jobs) [] are = absurd are
   ended_passes (job ∷ jobs) (Ok one ∷ ended) are =
-      All-cons (λ (one : Result Ended AllocError). IfOk one (λ (e : Ended). IsPassOf context e.pass)) (Ok one) ended are.0.pass (ended_passes jobs ended are.1)
+      All-cons (λ (one : Result FinishedSection AllocError). IfOk one (λ (e : FinishedSection). IsPassOf context e.pass)) (Ok one) ended are.0.pass (ended_passes jobs ended are.1)
   ended_passes (job ∷ jobs) (Err e ∷ ended) are =
-      All-cons (λ (one : Result Ended AllocError). IfOk one (λ (e : Ended). IsPassOf context e.pass)) (Err e) ended tt (ended_passes jobs ended are.1)
+      All-cons (λ (one : Result FinishedSection AllocError). IfOk one (λ (e : FinishedSection). IsPassOf context e.pass)) (Err e) ended tt (ended_passes jobs ended are.1)
 
   -- one thread more
-  pub AreAsked-next : (all here rest : List Job) (job : Job) (running now : List (PromisedHandle (Result Ended AllocError) Asked)) (one : PromisedHandle (Result Ended AllocError) Asked)
+  pub AreAsked-next : (all here rest : List Job) (job : Job) (running now : List (PromisedHandle (Result FinishedSection AllocError) ThreadPromise)) (one : PromisedHandle (Result FinishedSection AllocError) ThreadPromise)
       → here ≡ job ∷ rest → now ≡ running ++ one ∷ [] → one.promise.context.value ≡ context → one.promise.job.value ≡ job
-      → ((more : List (PromisedHandle (Result Ended AllocError) Asked)) → AreAsked context here more → AreAsked context all (running ++ more))
-      → (more : List (PromisedHandle (Result Ended AllocError) Asked)) → AreAsked context rest more → AreAsked context all (now ++ more)
+      → ((more : List (PromisedHandle (Result FinishedSection AllocError) ThreadPromise)) → AreAsked context here more → AreAsked context all (running ++ more))
+      → (more : List (PromisedHandle (Result FinishedSection AllocError) ThreadPromise)) → AreAsked context rest more → AreAsked context all (now ++ more)
   AreAsked-next all here rest job running now one here_is pushed of_context of_job so_far more are =
       subst (AreAsked context all) (sym (append_assoc running (one ∷ []) more) ∙ ap (λ l. l ++ more) (sym pushed))
       (so_far (one ∷ more) (subst (λ l. AreAsked context l (one ∷ more)) (sym here_is) (of_context, of_job, are)))
 
   -- what joined threads return
-  module _ (g : Promise.Ghosts Asked (Result Ended AllocError)) (keeps : (p : Asked) (r : Result Ended AllocError) → g.kept_by p r → IfOk r (IsEnded p.context.value p.job.value)) where
-    kept_at : (job : Job) (h : PromisedHandle (Result Ended AllocError) Asked) (hs : List (PromisedHandle (Result Ended AllocError) Asked)) (r : Result Ended AllocError)
+  module _ (g : Promise.Ghosts ThreadPromise (Result FinishedSection AllocError)) (keeps : (p : ThreadPromise) (r : Result FinishedSection AllocError) → g.kept_by p r → IfOk r (IsEnded p.context.value p.job.value)) where
+    kept_at : (job : Job) (h : PromisedHandle (Result FinishedSection AllocError) ThreadPromise) (hs : List (PromisedHandle (Result FinishedSection AllocError) ThreadPromise)) (r : Result FinishedSection AllocError)
         → h.promise.context.value ≡ context → h.promise.job.value ≡ job → KeepsAt g (h ∷ hs) 0 r → IfOk r (IsEnded context job)
     kept_at job h hs r of_context of_job at =
         subst (λ c. IfOk r (IsEnded c job)) of_context
-        (subst (λ j. IfOk r (IsEnded h.promise.context.value j)) of_job (subst (λ (x : PromisedHandle (Result Ended AllocError) Asked). IfOk r (IsEnded x.promise.context.value x.promise.job.value)) at.handle_is (keeps at.handle.promise r at.kept)))
+        (subst (λ j. IfOk r (IsEnded h.promise.context.value j)) of_job (subst (λ (x : PromisedHandle (Result FinishedSection AllocError) ThreadPromise). IfOk r (IsEnded x.promise.context.value x.promise.job.value)) at.handle_is (keeps at.handle.promise r at.kept)))
 
-    pub AreEnded-of : (jobs : List Job) (running : List (PromisedHandle (Result Ended AllocError) Asked)) (ended : List (Result Ended AllocError)) (n : ℕ) → AreAsked context jobs running
+    pub AreEnded-of : (jobs : List Job) (running : List (PromisedHandle (Result FinishedSection AllocError) ThreadPromise)) (ended : List (Result FinishedSection AllocError)) (n : ℕ) → AreAsked context jobs running
         → length running ≡ n → length ended ≡ n → KeepsEach g n running ended → AreEnded context jobs ended
     AreEnded-of [] [] [] n asked long same keep = tt
     AreEnded-of [] [] (r ∷ rs) n asked long same keep = absurd (omega (arith, long, same))
@@ -84,7 +84,7 @@ module _ (context : Shared) where
     )
 
   -- one thread section more that is gathered
-  pub AreGathered-next : (first : Knowing) (begun : List Answer) (all here rest : List (Result Ended AllocError)) (one : Ended) (main next : Knowing) (before more : List Answer)
+  pub AreGathered-next : (first : Knowing) (begun : List Answer) (all here rest : List (Result FinishedSection AllocError)) (one : FinishedSection) (main next : Knowing) (before more : List Answer)
       → here ≡ Ok one ∷ rest → IsGathered context main before one next more
       → ((after : Knowing) (answers : List Answer) → AreGathered context main before here after answers → AreGathered context first begun all after answers)
       → (after : Knowing) (answers : List Answer) → AreGathered context next more rest after answers → AreGathered context first begun all after answers
@@ -92,7 +92,7 @@ module _ (context : Shared) where
       so_far after answers (subst (λ l. AreGathered context main before l after answers) (sym here_is) (next, more, is, are))
 
   -- all of it together
-  gathered : (main : Stage) (passes : List Knowing) (threads : List (List Step)) (jobs : List Job) (results : List (Result Ended AllocError)) (p : Knowing) (before : List Answer)
+  gathered : (main : Stage) (passes : List Knowing) (threads : List (List Step)) (jobs : List Job) (results : List (Result FinishedSection AllocError)) (p : Knowing) (before : List Answer)
       (after : Knowing) (all : List Answer) → AreJobs context main passes threads jobs → AreEnded context jobs results → AreGathered context p before results after all
       → (answers : List (List Answer)) × (ended : List Knowing) × AreThreadsTold context main passes threads answers ended × MeetsAll context p ended after
       × (all ≡ before ++ flat_map (λ (more : List Answer). more) answers)
@@ -114,7 +114,7 @@ module _ (context : Shared) where
       )
   gathered main passes threads jobs results p before after all are_jobs ended are = absurd are_jobs
 
-  pub threads_run : (main : Stage) (passes : List Knowing) (threads : List (List Step)) (jobs : List Job) (results : List (Result Ended AllocError)) (before : List Answer) (after : Knowing)
+  pub threads_run : (main : Stage) (passes : List Knowing) (threads : List (List Step)) (jobs : List Job) (results : List (Result FinishedSection AllocError)) (before : List Answer) (after : Knowing)
       (all : List Answer) → AreJobs context main passes threads jobs → AreEnded context jobs results → AreGathered context main.pass before results after all
       → AreThreadsRun context main passes threads before after all
   threads_run main passes threads jobs results before after all are_jobs ended are =

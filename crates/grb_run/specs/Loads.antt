@@ -9,7 +9,7 @@ use Rattle.grb_market.specs.Loaded.{matrix_loaded}
 use Rattle.grb_market.specs.Spells.{Spells}
 use Rattle.grb_script.specs.declared.command.Command.{Command}
 use Rattle.grb_script.specs.declared.command.Command.TheVariants as command
-use Rattle.grb_script.specs.declared.command.Numbered.{Numbered}
+use Rattle.grb_script.specs.declared.command.NumberedCommand.{NumberedCommand}
 use Rattle.grb_script.specs.Script.{Sections}
 use Rattle.grb_run.specs.declared.fault.RunFault.{RunFault}
 use Rattle.grb_run.specs.declared.fault.RunFault.TheVariants as run
@@ -42,7 +42,7 @@ IsStep files (command.Load path) (step.Load m) = IsLoaded (files path) m
 IsStep files _ _ = ⊥
 
 -- the same of line after line
-abbrev pub AreSteps : Files → List Numbered → List Step → Type 0
+abbrev pub AreSteps : Files → List NumberedCommand → List Step → Type 0
 AreSteps files [] [] = Unit {0}
 AreSteps files (asked ∷ more) (s ∷ steps) = IsStep files asked.command s × AreSteps files more steps
 AreSteps files _ _ = ⊥
@@ -61,17 +61,17 @@ IsStepFault files line (command.Load path) fault = IsLoadFault (files path) line
 IsStepFault files line (command.Statement s) fault = ⊥
 
 -- the first load of these lines that ends with a fault does so with this one: the file of each load before it spells a matrix
-pub record StopsWith (files : Files) (commands : List Numbered) (fault : RunFault) : Type 0 where
-  pub before : List Numbered
-  pub asked : Numbered
-  pub behind : List Numbered
+pub record StopsWith (files : Files) (commands : List NumberedCommand) (fault : RunFault) : Type 0 where
+  pub before : List NumberedCommand
+  pub asked : NumberedCommand
+  pub behind : List NumberedCommand
   pub are : commands ≡ before ++ asked ∷ behind
   pub steps : List Step
   pub loaded : AreSteps files before steps
   pub stops : IsStepFault files asked.line asked.command fault
 
 -- why not all lines are steps: the first load that ends with a fault, or want of memory
-abbrev pub IsWhyNotLoaded : Files → List Numbered → RunFault → Type 0
+abbrev pub IsWhyNotLoaded : Files → List NumberedCommand → RunFault → Type 0
 IsWhyNotLoaded files commands run.OutOfMemory = Unit {0}
 IsWhyNotLoaded files commands fault = StopsWith files commands fault
 
@@ -85,11 +85,11 @@ abbrev pub steps_listed : ScriptSteps → Steps
 steps_listed script = record { main = script.main.items; threads = map (λ steps. steps.items) script.threads.items; finally = script.finally.items }
 
 -- what all sections of a script ask for, in the order of its text
-abbrev pub all_of : Sections → List Numbered
+abbrev pub all_of : Sections → List NumberedCommand
 all_of asked = asked.main ++ flat_map (λ more. more) asked.threads ++ asked.finally
 
 -- what thread sections ask for as steps
-abbrev pub AreThreadSteps : Files → List (List Numbered) → List (List Step) → Type 0
+abbrev pub AreThreadSteps : Files → List (List NumberedCommand) → List (List Step) → Type 0
 AreThreadSteps files [] [] = Unit {0}
 AreThreadSteps files (asked ∷ threads) (steps ∷ more) = AreSteps files asked steps × AreThreadSteps files threads more
 AreThreadSteps files _ _ = ⊥

@@ -10,8 +10,8 @@ use Rattle.grb_context.specs.Meeting.{Met}
 use Rattle.grb_run.specs.declared.fault.RunFault.{RunFault}
 use Rattle.grb_run.specs.declared.fault.RunFault.TheVariants as run
 use Rattle.grb_run.specs.declared.loads.Step.{Step}
-use Rattle.grb_run.specs.declared.threads.Asked.{Asked}
-use Rattle.grb_run.specs.declared.threads.Ended.{Ended}
+use Rattle.grb_run.specs.declared.threads.ThreadPromise.{ThreadPromise}
+use Rattle.grb_run.specs.declared.threads.FinishedSection.{FinishedSection}
 use Rattle.grb_run.specs.declared.threads.Job.{Job}
 use Rattle.grb_run.specs.Sections.{Stage, AreTold, AreThreadsTold, MeetsAll}
 
@@ -28,28 +28,28 @@ AreJobs context main (new ∷ passes) (steps ∷ threads) (job ∷ jobs) = IsJob
 AreJobs context main _ _ _ = ⊥
 
 -- what the thread of a job returned
-pub record IsEnded (context : Shared) (job : Job) (ended : Ended) : Type 0 where
+pub record IsEnded (context : Shared) (job : Job) (ended : FinishedSection) : Type 0 where
   pub pass : IsPassOf context ended.pass
   pub objects : List Object
   pub told : AreTold context (record { objects = job.objects.items; pass = job.pass }) job.steps.items ended.answers.items (record { objects = objects; pass = ended.pass })
 
-abbrev pub AreEnded : Shared → List Job → List (Result Ended AllocError) → Type 0
+abbrev pub AreEnded : Shared → List Job → List (Result FinishedSection AllocError) → Type 0
 AreEnded context [] [] = Unit {0}
 AreEnded context (job ∷ jobs) (one ∷ ended) = IfOk one (IsEnded context job) × AreEnded context jobs ended
 AreEnded context _ _ = ⊥
 
 -- these threads run these jobs
-abbrev pub AreAsked : Shared → List Job → List (PromisedHandle (Result Ended AllocError) Asked) → Type 0
+abbrev pub AreAsked : Shared → List Job → List (PromisedHandle (Result FinishedSection AllocError) ThreadPromise) → Type 0
 AreAsked context [] [] = Unit {0}
 AreAsked context (job ∷ jobs) (one ∷ running) = (one.promise.context.value ≡ context) × (one.promise.job.value ≡ job) × AreAsked context jobs running
 AreAsked context _ _ = ⊥
 
 -- main's pass met that of a thread section, and the section's answers stand behind those before
-pub record IsGathered (context : Shared) (main : Knowing) (before : List Answer) (ended : Ended) (after : Knowing) (answers : List Answer) : Type 0 where
+pub record IsGathered (context : Shared) (main : Knowing) (before : List Answer) (ended : FinishedSection) (after : Knowing) (answers : List Answer) : Type 0 where
   pub meets : Met context main after ended.pass (Ok tt)
   pub answers_are : answers ≡ before ++ ended.answers.items
 
-abbrev pub AreGathered : Shared → Knowing → List Answer → List (Result Ended AllocError) → Knowing → List Answer → Type 0
+abbrev pub AreGathered : Shared → Knowing → List Answer → List (Result FinishedSection AllocError) → Knowing → List Answer → Type 0
 AreGathered context main before [] after answers = (after ≡ main) × (answers ≡ before)
 AreGathered context main before (Ok one ∷ ended) after answers =
     (next : Knowing) × (more : List Answer) × IsGathered context main before one next more × AreGathered context next more ended after answers

@@ -3,7 +3,7 @@ ghost use Rattle.std.specs.Prelude.{◌≡◌};
 ghost use Rattle.grb_run.specs.Calls.{dup_call, free_call, nvals_call, size_call, clear_call, total_call, wait_call, call_of};
 
 use crate::objects::{matrix_named, vector_named};
-use crate::operations::{
+use crate::operation_calls::{
     ewise_add_call, ewise_mult_call, mxm_call, mxv_call, reduce_call, vxm_call,
 };
 use grb_call::{Call, Object, WaitMode};

@@ -44,7 +44,7 @@ fn open_store(
 }
 
 /// The answers to the steps of a script, in a new store with these passes: main's, and one for each thread section.
-fn answers_in<R: Threads + Wait + Sync, G: Gate + Sync>(
+fn run_sections<R: Threads + Wait + Sync, G: Gate + Sync>(
     rt: &R,
     alloc: Global,
     context: &Context,
@@ -100,7 +100,7 @@ fn answers_to<R: Threads + Wait + Sync, G: Gate + Sync>(
     ensures fault { IfErr result (IsStopOf (map (λ steps. steps.items) script.threads.items)) }
 {
     let (context, mut main, passes) = open_store(alloc, room, script.threads.len())?;
-    answers_in(rt, alloc, &context, &mut main, passes, script, gate)
+    run_sections(rt, alloc, &context, &mut main, passes, script, gate)
 }
 
 /// Runs the script of a source in a new store with room for `room` calls, and puts a line for each statement into the sink: main's, those

@@ -15,7 +15,7 @@ mod files;
 mod gate;
 mod loads;
 mod objects;
-mod operations;
+mod operation_calls;
 mod output;
 mod reply_line;
 mod report;

@@ -14,7 +14,7 @@ use crate::source::{Source, SourceFault};
 use grb_call::MatrixTuples;
 use grb_core::{Domain, Monoid};
 use grb_market::{Loaded, ReadError, read};
-use grb_script::{Command, FilePath, Numbered, Script, Statement};
+use grb_script::{Command, FilePath, NumberedCommand, Script, Statement};
 use std::alloc::{AllocError, Global};
 
 /// What a line of a script does in the store, once the file of each load is read.
@@ -98,7 +98,7 @@ fn step_of<S: Source>(
 fn steps_of<S: Source>(
     alloc: Global,
     source: &mut S,
-    commands: Vec<Numbered>,
+    commands: Vec<NumberedCommand>,
 ) -> Result<Vec<Step>, RunFault>
     requires { AreCountable (S.faults source.old) }
     ensures steps { IfOk result (λ steps. AreSteps (S.file_bytes source.old) commands.items steps.items) }
@@ -127,7 +127,7 @@ pub struct ScriptSteps {
 fn thread_steps<S: Source>(
     alloc: Global,
     source: &mut S,
-    threads: Vec<Vec<Numbered>>,
+    threads: Vec<Vec<NumberedCommand>>,
 ) -> Result<Vec<Vec<Step>>, RunFault>
     requires { AreCountable (S.faults source.old) }
     ensures steps { IfOk result (λ steps. AreThreadSteps (S.file_bytes source.old) (map (λ asked. asked.items) threads.items) (map (λ more. more.items) steps.items)) }

@@ -45,24 +45,24 @@ pub(crate) struct Job {
 
 /// A thread section that has run: its pass, and the answers to its steps.
 #[derive(Drop)]
-pub(crate) struct Ended {
+pub(crate) struct FinishedSection {
     pass: Pass,
     answers: Vec<Answer>,
 }
 
 /// What the thread of a job promises of what it returns.
 #[derive(Drop)]
-pub(crate) struct Asked {
+pub(crate) struct ThreadPromise {
     context: Snapshot<Context>,
     job: Snapshot<Job>,
 }
 
-impl Promise<Result<Ended, AllocError>> for Asked {
+impl Promise<Result<FinishedSection, AllocError>> for ThreadPromise {
     ghost kept_by = { λ asked result. IfOk result (IsEnded asked.context.value asked.job.value) };
 }
 
 /// A thread that runs a job.
-type Running = PromisedHandle<Result<Ended, AllocError>, Asked>;
+type Running = PromisedHandle<Result<FinishedSection, AllocError>, ThreadPromise>;
 
 /// Runs a thread section.
 fn run_job<G: Gate>(
@@ -70,7 +70,7 @@ fn run_job<G: Gate>(
     context: &Context,
     job: Job,
     gate: &G,
-) -> Result<Ended, AllocError>
+) -> Result<FinishedSection, AllocError>
     requires { IsPassOf context.now job.pass }
     ensures { IfOk result (IsEnded context.now job) }
 {
@@ -80,7 +80,7 @@ fn run_job<G: Gate>(
         steps,
     } = job;
     let answers = answers_by(alloc, context, &mut pass, &mut objects, steps, 0, gate)?;
-    Ok(Ended { pass, answers })
+    Ok(FinishedSection { pass, answers })
 }
 
 /// Lets a thread section's pass adopt main's, and gives the names that the section begins with.
@@ -167,11 +167,11 @@ fn start<'s, E, G: Gate + Sync>(
     ensures job { IfOk result (λ running. running.promise.job.value ≡ job) }
     ensures fault { IfErr result IsStop }
 {
-    let asked = Asked {
+    let asked = ThreadPromise {
         context: Snapshot::of(context),
         job: Snapshot::of(&job),
     };
-    let run = move || -> Result<Ended, AllocError>
+    let run = move || -> Result<FinishedSection, AllocError>
         requires { IsPassOf context.now job.pass }
         ensures { IfOk result (IsEnded context.entry.now job) }
     { run_job(alloc, context, job, gate) };
@@ -209,7 +209,7 @@ fn run_jobs<R: Threads + Wait + Sync, G: Gate + Sync>(
     context: &Context,
     jobs: Vec<Job>,
     gate: &G,
-) -> Result<Vec<Result<Ended, AllocError>>, RunFault>
+) -> Result<Vec<Result<FinishedSection, AllocError>>, RunFault>
     requires { All (λ job. IsPassOf context.now job.pass) jobs.items }
     ensures ended { IfOk result (λ ended. AreEnded context.now jobs.items ended.items) }
     ensures fault { IfErr result IsStop }
@@ -217,7 +217,7 @@ fn run_jobs<R: Threads + Wait + Sync, G: Gate + Sync>(
     thread::scope(
         thread::scope_env(),
         rt,
-        |scope| -> Result<Vec<Result<Ended, AllocError>>, RunFault>
+        |scope| -> Result<Vec<Result<FinishedSection, AllocError>>, RunFault>
             requires { All (λ job. IsPassOf context.now job.pass) jobs.items }
             ensures ended { IfOk result (λ ended. AreEnded context.entry.now jobs.items ended.items) }
             ensures fault { IfErr result IsStop }
@@ -236,7 +236,7 @@ fn gather_from(
     context: &Context,
     main: &mut Pass,
     answers: &mut Vec<Answer>,
-    ended: &mut Ended,
+    ended: &mut FinishedSection,
 ) -> Result<(), RunFault>
     requires main { IsPassOf context.now main.old }
     requires ended { IsPassOf context.now ended.old.pass }
@@ -257,7 +257,7 @@ fn gather(
     context: &Context,
     main: &mut Pass,
     answers: &mut Vec<Answer>,
-    mut ended: Ended,
+    mut ended: FinishedSection,
 ) -> Result<(), RunFault>
     requires main { IsPassOf context.now main.old }
     requires ended { IsPassOf context.now ended.pass }
@@ -273,7 +273,7 @@ fn gather_all(
     context: &Context,
     main: &mut Pass,
     answers: &mut Vec<Answer>,
-    ended: Vec<Result<Ended, AllocError>>,
+    ended: Vec<Result<FinishedSection, AllocError>>,
 ) -> Result<(), RunFault>
     requires main { IsPassOf context.now main.old }
     requires ended { All (λ one. IfOk one (λ ended. IsPassOf context.now ended.pass)) ended.items }

@@ -14,7 +14,7 @@ use Rattle.grb_market.specs.Line.{Line, lines_from, lines_of}
 use Rattle.grb_words.specs.Line.{words_of}
 use Rattle.grb_words.specs.declared.fault.FaultKind.{FaultKind}
 use Rattle.grb_script.specs.declared.command.Command.{Command}
-use Rattle.grb_script.specs.declared.command.Numbered.{Numbered}
+use Rattle.grb_script.specs.declared.command.NumberedCommand.{NumberedCommand}
 use Rattle.grb_script.specs.Command.{asking, commands_on}
 use Rattle.grb_script.specs.Names.{Name}
 use Rattle.grb_script.specs.Scope.{section_on, scope_of}
@@ -46,12 +46,12 @@ length-numbered_on : (number : ℕ) (settled : Option Version) (names : List Nam
 length-numbered_on number settled names line =
     omega (
       arith,
-      length-map {B = Numbered} (commands_on settled names line) (λ c. record { line = number; command = c }),
+      length-map {B = NumberedCommand} (commands_on settled names line) (λ c. record { line = number; command = c }),
       none_or_one (says_nothing settled (words_of line.bytes)) (asking (version_by settled (words_of line.bytes)) names (words_of line.bytes)),
     )
 
 -- how many commands the thread sections have
-abbrev pub count_of : List (List Numbered) → ℕ
+abbrev pub count_of : List (List NumberedCommand) → ℕ
 count_of [] = 0
 count_of (asked ∷ more) = length asked + count_of more
 
@@ -59,7 +59,7 @@ count_of (asked ∷ more) = length asked + count_of more
 abbrev pub count_in : Sections → ℕ
 count_in s = length s.main + count_of s.threads + length s.finally
 
-count_with : (own : Option Section) (p : List Line × Line) (more : List (List Line × Line)) (rest : List Numbered) → count_in (sections_in more) ≤ length more → rest ≡ asked_in_section more
+count_with : (own : Option Section) (p : List Line × Line) (more : List (List Line × Line)) (rest : List NumberedCommand) → count_in (sections_in more) ≤ length more → rest ≡ asked_in_section more
     → length (flat_map asked_at (cond (not (is_some own)) (p ∷ take_while (λ q. not (is_some (section_on q.1))) more) [])) + count_of (thread_part own rest ++ threads_in more) + length (finally_part own rest ++ finally_in more) ≤ length more + 1
 count_with None p more rest few is = omega (arith, few, length-numbered_on (length p.0 + 1) (scope_of p.0).version (scope_of p.0).names p.1, length-append (asked_at p) (asked_in_section more))
 count_with (Some (section.Thread k)) p more rest few is = omega (arith, few, ap length is)

@@ -14,7 +14,7 @@ use Rattle.grb_market.specs.Line.{Line, lines_of}
 use Rattle.grb_words.specs.Line.{Word, has_allowed_bytes, words_of}
 use Rattle.grb_words.specs.Section.{section_of}
 use Rattle.grb_words.specs.Word.{numeral_value}
-use Rattle.grb_script.specs.declared.command.Numbered.{Numbered}
+use Rattle.grb_script.specs.declared.command.NumberedCommand.{NumberedCommand}
 use Rattle.grb_script.specs.declared.fault.ScriptFault.{ScriptFault}
 use Rattle.grb_script.specs.Command.{commands_in, names_behind_words}
 use Rattle.grb_script.specs.Laws.{version_behind_lines, names_behind_lines, commands_of}
@@ -167,7 +167,7 @@ module _ (before : List Line) (line : Line) (f : Follows before) where
         ∙ ap (map (λ c. record { line = length before + 1; command = c })) (finally-asks (version_behind_lines None before) (names_behind_lines None [] before))
 
 -- line by line
-abbrev plain : List (List Line × Line) → List Numbered
+abbrev plain : List (List Line × Line) → List NumberedCommand
 plain ps = flat_map (λ p. numbered_on (length p.0 + 1) (version_behind_lines None p.0) (names_behind_lines None [] p.0) p.1) ps
 
 -- what is asked for in main or in the section where these lines begin, and in 'finally', is what is asked for line by line

@@ -16,14 +16,14 @@ use Rattle.grb_words.specs.Section.{section_of}
 use Rattle.grb_words.specs.Version.{is_version_two}
 use Rattle.grb_words.specs.Word.{numeral_value}
 use Rattle.grb_script.specs.declared.command.Command.{Command}
-use Rattle.grb_script.specs.declared.line.Said.TheVariants as said
+use Rattle.grb_script.specs.declared.line.LineMeaning.TheVariants as said
 use Rattle.grb_script.specs.declared.names.Sort.{Sort}
 use Rattle.grb_script.specs.declared.names.Sort.TheVariants as sort
 use Rattle.grb_script.specs.declared.scope.Scope.{Scope as Kept}
 use Rattle.grb_script.specs.Command.{asking, names_asked, names_behind_load, names_behind_words, IsAsked}
 use Rattle.grb_script.specs.Names.{Name, sort_of}
 use Rattle.grb_script.specs.Reading.{names_behind}
-use Rattle.grb_script.specs.Said.{IsRead}
+use Rattle.grb_script.specs.LineMeaning.{IsRead}
 use Rattle.grb_script.specs.Scope.{Scope, begun, main_behind, main_kept, with_names, with_version, seen, IsKept}
 use Rattle.grb_script.specs.ScriptFault.{section_fault, saying_fault, wording_fault}
 use Rattle.grb_script.specs.Version.{version_by, says_nothing}

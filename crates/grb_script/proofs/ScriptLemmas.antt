@@ -14,13 +14,13 @@ use Rattle.grb_market.specs.Line.{Line, ended, lines_of}
 use Rattle.grb_words.specs.Line.{words_of}
 use Rattle.grb_words.specs.Section.{section_of}
 use Rattle.grb_script.specs.declared.command.Command.{Command}
-use Rattle.grb_script.specs.declared.command.Numbered.{Numbered}
+use Rattle.grb_script.specs.declared.command.NumberedCommand.{NumberedCommand}
 use Rattle.grb_script.specs.declared.fault.ReadFault.{ReadFault}
 use Rattle.grb_script.specs.declared.fault.ReadFault.TheVariants as read
-use Rattle.grb_script.specs.declared.line.Said.{Said}
-use Rattle.grb_script.specs.declared.line.Said.TheVariants as said
+use Rattle.grb_script.specs.declared.line.LineMeaning.{LineMeaning}
+use Rattle.grb_script.specs.declared.line.LineMeaning.TheVariants as said
 use Rattle.grb_script.specs.Command.{commands_in, names_behind_words}
-use Rattle.grb_script.specs.Said.{IsTaken, Says}
+use Rattle.grb_script.specs.LineMeaning.{IsTaken, Says}
 use Rattle.grb_script.specs.Version.{version_by}
 use Rattle.grb_script.specs.Scope.{Scope, at_start, begun, with_names, with_version, most_threads, may_follow, section_on, scope_behind_line, scope_behind_lines, scope_behind_words, scope_of}
 use Rattle.grb_script.specs.Script.{with_before, asked_at, asked_in_section, thread_part, finally_part, main_part, part_of, threads_in, finally_in, Sections, nothing, sections_in, sections_of, joined}
@@ -32,17 +32,17 @@ scope_behind_lines-push scope [] line = refl
 scope_behind_lines-push scope (first ∷ more) line = scope_behind_lines-push (scope_behind_line scope first) more line
 
 -- what a script asks for in all: what its ended sections ask for, this section so far, and these lines behind that
-abbrev pub total : Sections → Option Section → List Numbered → List (List Line × Line) → Sections
+abbrev pub total : Sections → Option Section → List NumberedCommand → List (List Line × Line) → Sections
 total ended section asked lines =
     joined ended (joined (part_of section (asked ++ asked_in_section lines)) (record { main = []; threads = threads_in lines; finally = finally_in lines }))
 
 total-start : (lines : List (List Line × Line)) → total nothing None [] lines ≡ sections_in lines
 total-start lines = λ j. record { main = append-nil (asked_in_section lines) j; threads = threads_in lines; finally = finally_in lines }
 
-main_part-nil : (here : Option Section) (asked : List Numbered) → main_part here (asked ++ []) ++ [] ≡ main_part here asked
+main_part-nil : (here : Option Section) (asked : List NumberedCommand) → main_part here (asked ++ []) ++ [] ≡ main_part here asked
 main_part-nil here asked = append-nil (main_part here (asked ++ [])) ∙ ap (main_part here) (append-nil asked)
 
-total-end : (ended : Sections) (here : Option Section) (asked : List Numbered) → total ended here asked [] ≡ joined ended (part_of here asked)
+total-end : (ended : Sections) (here : Option Section) (asked : List NumberedCommand) → total ended here asked [] ≡ joined ended (part_of here asked)
 total-end ended here asked = λ j. record {
   main = ended.main ++ main_part-nil here asked j;
   threads = ended.threads ++ (append-nil (thread_part here (asked ++ [])) ∙ ap (thread_part here) (append-nil asked)) j;
@@ -54,7 +54,7 @@ module _ (p : List Line × Line) (more : List (List Line × Line)) where
   in_section = ap (flat_map asked_at) (take_while-cons (λ q. not (is_some (section_on q.1))) p more)
 
   -- behind a line that begins no section
-  total-line : (ended : Sections) (here : Option Section) (asked : List Numbered) → section_on p.1 ≡ None → total ended here asked (p ∷ more) ≡ total ended here (asked ++ asked_at p) more
+  total-line : (ended : Sections) (here : Option Section) (asked : List NumberedCommand) → section_on p.1 ≡ None → total ended here asked (p ∷ more) ≡ total ended here (asked ++ asked_at p) more
   total-line ended here asked none =
       let own : asked ++ asked_in_section (p ∷ more) ≡ (asked ++ asked_at p) ++ asked_in_section more =
       ap (λ l. asked ++ l) (in_section ∙ ap (λ s. flat_map asked_at (cond (not (is_some s)) (p ∷ take_while (λ q. not (is_some (section_on q.1))) more) [])) none)
@@ -66,7 +66,7 @@ module _ (p : List Line × Line) (more : List (List Line × Line)) where
       }))
 
   -- behind one that begins a section
-  total-section : (ended : Sections) (here : Option Section) (next : Section) (asked : List Numbered) → section_on p.1 ≡ Some next
+  total-section : (ended : Sections) (here : Option Section) (next : Section) (asked : List NumberedCommand) → section_on p.1 ≡ Some next
       → total ended here asked (p ∷ more) ≡ total (joined ended (part_of here asked)) (Some next) [] more
   total-section ended here next asked is =
       let own : asked ++ asked_in_section (p ∷ more) ≡ asked =
@@ -94,29 +94,29 @@ IsCounted None count = count ≡ 0
 IsCounted (Some (section.Thread k)) count = (count + 1 ≡ k) × (k ≤ most_threads Two)
 IsCounted (Some section.Finally) count = count ≤ most_threads Two
 
-counted-thread : (version : Version) (here : Option Section) (asked : List Numbered) (count k : ℕ) → IsCounted here count → may_follow version here (section.Thread k) ≡ true
+counted-thread : (version : Version) (here : Option Section) (asked : List NumberedCommand) (count k : ℕ) → IsCounted here count → may_follow version here (section.Thread k) ≡ true
     → (count + length (thread_part here asked) + 1 ≡ k) × (k ≤ most_threads Two)
 counted-thread version None asked count k c f = let e = eqb-true k 1 f in (omega (arith, c, e), omega (arith, e))
 counted-thread version (Some (section.Thread n)) asked count k c f = let most = most_threads-le version in (grind (arith, nat_tests), grind (arith, nat_tests))
 counted-thread version (Some section.Finally) asked count k c f = absurd (true≢false (sym f))
 
-counted-here : (here : Option Section) (asked : List Numbered) (count : ℕ) → IsCounted here count → count + length (thread_part here asked) ≤ most_threads Two
+counted-here : (here : Option Section) (asked : List NumberedCommand) (count : ℕ) → IsCounted here count → count + length (thread_part here asked) ≤ most_threads Two
 counted-here None asked count c = omega (arith, c)
 counted-here (Some (section.Thread n)) asked count c = omega (arith, c.0, c.1)
 counted-here (Some section.Finally) asked count c = omega (arith, c)
 
 -- a section more
-pub IsCounted-next : (version : Version) (here : Option Section) (next : Section) (ended : Sections) (asked : List Numbered) → IsCounted here (length ended.threads) → may_follow version here next ≡ true
+pub IsCounted-next : (version : Version) (here : Option Section) (next : Section) (ended : Sections) (asked : List NumberedCommand) → IsCounted here (length ended.threads) → may_follow version here next ≡ true
     → IsCounted (Some next) (length (joined ended (part_of here asked)).threads)
 IsCounted-next version here (section.Thread k) ended asked c f =
     let t = counted-thread version here asked (length ended.threads) k c f in (omega (arith, t.0, length-append ended.threads (thread_part here asked)), t.1)
 IsCounted-next version here section.Finally ended asked c f = omega (arith, counted-here here asked (length ended.threads) c, length-append ended.threads (thread_part here asked))
 
-pub few-threads : (here : Option Section) (ended : Sections) (asked : List Numbered) → IsCounted here (length ended.threads) → length (joined ended (part_of here asked)).threads ≤ most_threads Two
+pub few-threads : (here : Option Section) (ended : Sections) (asked : List NumberedCommand) → IsCounted here (length ended.threads) → length (joined ended (part_of here asked)).threads ≤ most_threads Two
 few-threads here ended asked c = omega (arith, counted-here here asked (length ended.threads) c, length-append ended.threads (thread_part here asked))
 
 -- how far a text is read: these lines are, and the rest leaves the first fault and what the text asks for
-pub record Reached (text rest : List ℕ) (number : ℕ) (scope : Scope) (ended : Sections) (asked : List Numbered) : Type 0 where
+pub record Reached (text rest : List ℕ) (number : ℕ) (scope : Scope) (ended : Sections) (asked : List NumberedCommand) : Type 0 where
   pub before : List Line
   pub stands : scope ≡ scope_of before
   pub numbered : number ≡ length before + 1
@@ -124,7 +124,7 @@ pub record Reached (text rest : List ℕ) (number : ℕ) (scope : Scope) (ended 
   pub sections : total ended scope.section asked (with_before before (lines_of rest)) ≡ sections_of text
   pub counted : IsCounted scope.section (length ended.threads)
 
-pub Reached-start : (text : List ℕ) (scope : Scope) (ended : Sections) (asked : List Numbered) → scope ≡ scope_of [] → ended ≡ nothing → asked ≡ [] → Reached text text 1 scope ended asked
+pub Reached-start : (text : List ℕ) (scope : Scope) (ended : Sections) (asked : List NumberedCommand) → scope ≡ scope_of [] → ended ≡ nothing → asked ≡ [] → Reached text text 1 scope ended asked
 Reached-start text scope ended asked at none empty = record {
   before = [];
   stands = at;
@@ -134,12 +134,12 @@ Reached-start text scope ended asked at none empty = record {
   counted = rw (at, none) refl;
 }
 
-pub Reached-end : (text rest : List ℕ) (number : ℕ) (scope : Scope) (ended : Sections) (asked : List Numbered) → length rest ≡ 0 → Reached text rest number scope ended asked
+pub Reached-end : (text rest : List ℕ) (number : ℕ) (scope : Scope) (ended : Sections) (asked : List NumberedCommand) → length rest ≡ 0 → Reached text rest number scope ended asked
     → (script_fault text ≡ None) × (joined ended (part_of scope.section asked) ≡ sections_of text)
 Reached-end text [] number scope ended asked empty reached = (sym reached.fault, sym (total-end ended scope.section asked) ∙ reached.sections)
 Reached-end text (b ∷ bs) number scope ended asked empty reached = absurd (omega arith)
 
-module _ (text rest : List ℕ) (number : ℕ) (scope : Scope) (whole : Sections) (asked : List Numbered) (reached : Reached text rest number scope whole asked) where
+module _ (text rest : List ℕ) (number : ℕ) (scope : Scope) (whole : Sections) (asked : List NumberedCommand) (reached : Reached text rest number scope whole asked) where
   -- a line that is not read is why the text is not read
   pub unread : (line : Line) (later : List Line) → lines_of rest ≡ line ∷ later → (e : ReadFault) → IsWhyLineUnread number scope line e → IsWhyTextUnread text e
   unread line later are (read.Fault f) h =
@@ -178,7 +178,7 @@ module _ (text rest : List ℕ) (number : ℕ) (scope : Scope) (whole : Sections
     asked-is = λ j. map (λ c. record { line = sym reached.numbered j; command = c }) (commands_in (sym reached.stands j).version (sym reached.stands j).names (words_of bytes))
 
     -- the line begins no section, and asks for these
-    next-asked : (commands : List Command) (next_asked : List Numbered) → section_of (words_of bytes) ≡ None → commands_in scope.version scope.names (words_of bytes) ≡ commands
+    next-asked : (commands : List Command) (next_asked : List NumberedCommand) → section_of (words_of bytes) ≡ None → commands_in scope.version scope.names (words_of bytes) ≡ commands
         → next_asked ≡ asked ++ map (λ c. record { line = number; command = c }) commands → Reached text after (number + 1) next_scope whole next_asked
     next-asked commands next_asked none are_commands is =
         let same : next_scope.section ≡ scope.section =
@@ -195,7 +195,7 @@ module _ (text rest : List ℕ) (number : ℕ) (scope : Scope) (whole : Sections
         }
 
     -- the line begins a section
-    next-section : (next : Section) (next_whole : Sections) (next_asked : List Numbered) → section_of (words_of bytes) ≡ Some next → may_follow (version_by scope.version (words_of bytes)) scope.section next ≡ true
+    next-section : (next : Section) (next_whole : Sections) (next_asked : List NumberedCommand) → section_of (words_of bytes) ≡ Some next → may_follow (version_by scope.version (words_of bytes)) scope.section next ≡ true
         → next_whole ≡ joined whole (part_of scope.section asked) → next_asked ≡ [] → Reached text after (number + 1) next_scope next_whole next_asked
     next-section next next_whole next_asked is follows ends empty =
         let begins : next_scope.section ≡ Some next =
@@ -210,7 +210,7 @@ module _ (text rest : List ℕ) (number : ℕ) (scope : Scope) (whole : Sections
         }
 
     -- one line more
-    pub Reached-next : (says : Option Said) (next_whole : Sections) (next_asked : List Numbered) → Says scope (words_of bytes) says → IsTaken number scope.section says whole asked next_whole next_asked
+    pub Reached-next : (says : Option LineMeaning) (next_whole : Sections) (next_asked : List NumberedCommand) → Says scope (words_of bytes) says → IsTaken number scope.section says whole asked next_whole next_asked
         → Reached text after (number + 1) next_scope next_whole next_asked
     Reached-next None next_whole next_asked s t = rw t.0 (next-asked [] next_asked s.0 s.1 (t.1 ∙ sym (append-nil asked)))
     Reached-next (Some (said.Section next)) next_whole next_asked s t = next-section next next_whole next_asked s.0 s.1 t.0 t.1

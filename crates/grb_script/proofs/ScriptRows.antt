@@ -9,7 +9,7 @@ use Rattle.grb_core.specs.declared.value.Value.TheVariants as value
 use Rattle.grb_words.specs.declared.fault.FaultKind.{FaultKind}
 use Rattle.grb_words.specs.declared.fault.FaultKind.TheVariants.{UnendedLine, BadByte, Section, Statement, NameTaken, UnknownName, WrongKind, Semiring}
 use Rattle.grb_script.specs.declared.command.Command.TheVariants as command
-use Rattle.grb_script.specs.declared.command.Numbered.{Numbered}
+use Rattle.grb_script.specs.declared.command.NumberedCommand.{NumberedCommand}
 use Rattle.grb_script.specs.declared.names.Sort.TheVariants as sort
 use Rattle.grb_script.specs.declared.statement.Statement.{Statement as SaidStatement}
 use Rattle.grb_script.specs.declared.statement.Statement.TheVariants as statement
@@ -21,14 +21,14 @@ abbrev IsFaulty : List ℕ → ℕ → FaultKind → Type 0
 IsFaulty text line kind = script_fault text ≡ Some (record { line = line; kind = kind })
 
 -- what main asks for
-abbrev main_of : List ℕ → List Numbered
+abbrev main_of : List ℕ → List NumberedCommand
 main_of text = (sections_of text).main
 
 -- a statement on the line of this number, and a load
-abbrev says : ℕ → SaidStatement → Numbered
+abbrev says : ℕ → SaidStatement → NumberedCommand
 says number s = record { line = number; command = command.Statement s }
 
-abbrev loads : ℕ → List ℕ → Numbered
+abbrev loads : ℕ → List ℕ → NumberedCommand
 loads number path = record { line = number; command = command.Load path }
 
 -- the line ended

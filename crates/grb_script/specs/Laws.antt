@@ -1,7 +1,7 @@
 -- believed: What a reader of the definitions of scripts relies on, as laws about these.
 use Rattle.std.specs.Prelude.{◌≡◌, ℕ, ◌+◌, List, [], ◌∷◌, ◌++◌, Option, Some, None, length}
 use Rattle.std.specs.List.{flat_map}
-use Rattle.grb_script.specs.declared.command.Numbered.{Numbered}
+use Rattle.grb_script.specs.declared.command.NumberedCommand.{NumberedCommand}
 use Rattle.grb_words.specs.declared.version.Version.{Version}
 use Rattle.grb_market.specs.Line.{Line, lines_of}
 use Rattle.grb_words.specs.Line.{words_of}
@@ -23,7 +23,7 @@ names_behind_lines settled names (line ∷ more) =
     names_behind_lines (version_behind_lines settled (line ∷ [])) (names_behind_words settled names (words_of line.bytes)) more
 
 -- what a text asks for as one list of lines, in which a line that begins a section asks for nothing
-abbrev pub commands_of : List ℕ → List Numbered
+abbrev pub commands_of : List ℕ → List NumberedCommand
 commands_of text =
     flat_map (λ p. numbered_on (length p.0 + 1) (version_behind_lines None p.0) (names_behind_lines None [] p.0) p.1) (with_before [] (lines_of text))
 

@@ -2,7 +2,7 @@ pub mod Command
 pub mod Faults
 pub mod Laws
 pub mod Names
-pub mod Said
+pub mod LineMeaning
 pub mod Reading
 pub mod Scope
 pub mod Script

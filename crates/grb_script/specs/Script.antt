@@ -2,7 +2,7 @@
 -- the number of the line and the numbers of its names; the commands of main, of each thread section and of 'finally'.
 use Rattle.std.specs.Prelude.{ℕ, ◌+◌, not, List, [], ◌∷◌, ◌++◌, Option, Some, None, length, map, is_some}
 use Rattle.std.specs.List.{flat_map, take_while}
-use Rattle.grb_script.specs.declared.command.Numbered.{Numbered}
+use Rattle.grb_script.specs.declared.command.NumberedCommand.{NumberedCommand}
 use Rattle.grb_script.specs.declared.script.Script.{Script}
 use Rattle.grb_words.specs.declared.section.Section.{Section}
 use Rattle.grb_words.specs.declared.section.Section.TheVariants as section
@@ -18,43 +18,43 @@ with_before before [] = []
 with_before before (line ∷ more) = (before, line) ∷ with_before (before ++ line ∷ []) more
 
 -- what the line of this number asks for, if it asks for something
-abbrev pub numbered_on : ℕ → Option Version → List Name → Line → List Numbered
+abbrev pub numbered_on : ℕ → Option Version → List Name → Line → List NumberedCommand
 numbered_on number settled names line = map (λ c. record { line = number; command = c }) (commands_on settled names line)
 
 -- what a line asks for behind the lines before it, which count from 1
-abbrev pub asked_at : List Line × Line → List Numbered
+abbrev pub asked_at : List Line × Line → List NumberedCommand
 asked_at p = numbered_on (length p.0 + 1) (scope_of p.0).version (scope_of p.0).names p.1
 
 -- what lines ask for, up to the first that begins a section
-abbrev pub asked_in_section : List (List Line × Line) → List Numbered
+abbrev pub asked_in_section : List (List Line × Line) → List NumberedCommand
 asked_in_section lines = flat_map asked_at (take_while (λ p. not (is_some (section_on p.1))) lines)
 
 -- this, if it is asked for in a thread section, or in 'finally'
-abbrev pub thread_part : Option Section → List Numbered → List (List Numbered)
+abbrev pub thread_part : Option Section → List NumberedCommand → List (List NumberedCommand)
 thread_part (Some (section.Thread k)) asked = asked ∷ []
 thread_part (Some section.Finally) asked = []
 thread_part None asked = []
 
-abbrev pub finally_part : Option Section → List Numbered → List Numbered
+abbrev pub finally_part : Option Section → List NumberedCommand → List NumberedCommand
 finally_part (Some (section.Thread k)) asked = []
 finally_part (Some section.Finally) asked = asked
 finally_part None asked = []
 
 -- what each thread section of these lines asks for, in their order
-abbrev pub threads_in : List (List Line × Line) → List (List Numbered)
+abbrev pub threads_in : List (List Line × Line) → List (List NumberedCommand)
 threads_in [] = []
 threads_in (p ∷ more) = thread_part (section_on p.1) (asked_in_section more) ++ threads_in more
 
 -- what stands behind 'finally' in these lines asks for
-abbrev pub finally_in : List (List Line × Line) → List Numbered
+abbrev pub finally_in : List (List Line × Line) → List NumberedCommand
 finally_in [] = []
 finally_in (p ∷ more) = finally_part (section_on p.1) (asked_in_section more) ++ finally_in more
 
 -- what a script asks for, by its sections
 pub record Sections : Type 0 where
-  pub main : List Numbered
-  pub threads : List (List Numbered)
-  pub finally : List Numbered
+  pub main : List NumberedCommand
+  pub threads : List (List NumberedCommand)
+  pub finally : List NumberedCommand
 
 -- where nothing is asked for
 abbrev pub nothing : Sections
@@ -73,11 +73,11 @@ abbrev pub listed : Script → Sections
 listed script = record { main = script.main.items; threads = map (λ asked. asked.items) script.threads.items; finally = script.finally.items }
 
 -- what one section asks for, or main, as a part of a script
-abbrev pub main_part : Option Section → List Numbered → List Numbered
+abbrev pub main_part : Option Section → List NumberedCommand → List NumberedCommand
 main_part None asked = asked
 main_part (Some section) asked = []
 
-abbrev pub part_of : Option Section → List Numbered → Sections
+abbrev pub part_of : Option Section → List NumberedCommand → Sections
 part_of section asked = record { main = main_part section asked; threads = thread_part section asked; finally = finally_part section asked }
 
 -- what two parts ask for, the second behind the first

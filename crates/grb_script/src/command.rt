@@ -51,7 +51,7 @@ pub enum Command {
 
 /// A line of a script that asks for something.
 #[derive(Debug, Drop)]
-pub struct Numbered {
+pub struct NumberedCommand {
     /// The number of the line, from 1.
     pub line: u64,
     /// What it asks for.

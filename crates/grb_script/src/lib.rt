@@ -17,7 +17,7 @@ mod script;
 mod statement;
 mod version;
 
-pub use command::{Command, FilePath, Numbered};
+pub use command::{Command, FilePath, NumberedCommand};
 pub use ewise::Elementwise;
 pub use fault::{ReadFault, ScriptFault};
 pub use grb_words::FaultKind;

@@ -4,7 +4,7 @@ ghost use Rattle.grb_market.specs.Line.{ended};
 ghost use Rattle.grb_words.specs.Line.{words_of, is_section};
 ghost use Rattle.grb_words.specs.Section.{section_of};
 ghost use Rattle.grb_script.specs.Scope.{begun, may_follow, seen, IsKept};
-ghost use Rattle.grb_script.specs.Said.{IsRead, IsWhyNotRead};
+ghost use Rattle.grb_script.specs.LineMeaning.{IsRead, IsWhyNotRead};
 ghost use Rattle.grb_script.specs.ScriptFault.{fault_at, line_fault, section_fault, IsWhyLineUnread};
 
 use crate::command::{Command, read_command};
@@ -18,7 +18,7 @@ use std::alloc::Global;
 
 /// What a line of a script says that says something.
 #[derive(Drop)]
-pub(crate) enum Said {
+pub(crate) enum LineMeaning {
     /// A section begins.
     Section(Section),
     /// It asks for something.
@@ -59,7 +59,11 @@ fn begin_section(version: Version, words: &[&[u8]], scope: &mut Scope) -> Result
 }
 
 /// What these words say. The version is settled then, the name that they make joins the names, and a section that they begin begins.
-fn read_words(alloc: Global, words: &[&[u8]], scope: &mut Scope) -> Result<Option<Said>, Unread>
+fn read_words(
+    alloc: Global,
+    words: &[&[u8]],
+    scope: &mut Scope,
+) -> Result<Option<LineMeaning>, Unread>
     requires kept { IsKept scope.old }
     ensures read { IfOk result (λ said. IsRead (seen scope.old) (map (λ word. word.now) words.now) said (seen scope.new)) }
     ensures kept { OnOk result (IsKept scope.new) }
@@ -73,10 +77,10 @@ fn read_words(alloc: Global, words: &[&[u8]], scope: &mut Scope) -> Result<Optio
     }
     if is_section(words) {
         let section = begin_section(version, words, scope)?;
-        return Ok(Some(Said::Section(section)));
+        return Ok(Some(LineMeaning::Section(section)));
     }
     let command = read_command(alloc, version, words, &mut scope.names)?;
-    Ok(Some(Said::Command(command)))
+    Ok(Some(LineMeaning::Command(command)))
 }
 
 /// What the line with these bytes says, which has this number.
@@ -85,7 +89,7 @@ pub(crate) fn read_line(
     number: u64,
     bytes: &[u8],
     scope: &mut Scope,
-) -> Result<Option<Said>, ReadFault>
+) -> Result<Option<LineMeaning>, ReadFault>
     requires kept { IsKept scope.old }
     ensures faultless { OnOk result (line_fault (seen scope.old) (ended bytes.now) ≡ None) }
     ensures read { IfOk result (λ said. IsRead (seen scope.old) (words_of bytes.now) said (seen scope.new)) }

@@ -5,12 +5,12 @@ ghost use Rattle.grb_words.specs.Line.{words_of};
 ghost use Rattle.grb_words.specs.declared.version.Version.TheVariants as versions;
 ghost use Rattle.grb_script.specs.Scope.{at_start, most_threads, seen, IsKept};
 ghost use Rattle.grb_script.specs.Script.{listed, joined, nothing, part_of, sections_of};
-ghost use Rattle.grb_script.specs.Said.{IsLineTaken, IsTaken};
+ghost use Rattle.grb_script.specs.LineMeaning.{IsLineTaken, IsTaken};
 ghost use Rattle.grb_script.specs.ScriptFault.{line_fault, script_fault, IsWhyLineUnread, IsWhyTextUnread};
 
-use crate::command::Numbered;
+use crate::command::NumberedCommand;
 use crate::fault::ReadFault;
-use crate::line::{Said, fault, read_line};
+use crate::line::{LineMeaning, fault, read_line};
 use crate::scope::Scope;
 use grb_market::next_line;
 use grb_words::{FaultKind, Section};
@@ -22,11 +22,11 @@ use std::mem;
 #[derive(Debug, Drop)]
 pub struct Script {
     /// What stands before the first section.
-    pub main: Vec<Numbered>,
+    pub main: Vec<NumberedCommand>,
     /// The thread sections: that of `thread K` at K - 1. There are at most 255, and at most 63 in version 1.
-    pub threads: Vec<Vec<Numbered>>,
+    pub threads: Vec<Vec<NumberedCommand>>,
     /// What stands behind `finally`, where that stands.
-    pub finally: Vec<Numbered>,
+    pub finally: Vec<NumberedCommand>,
 }
 
 /// Adds what a section asks for to a script, and empties that list.
@@ -34,7 +34,7 @@ fn end_section(
     alloc: Global,
     script: &mut Script,
     section: Option<Section>,
-    asked: &mut Vec<Numbered>,
+    asked: &mut Vec<NumberedCommand>,
 ) -> Result<(), AllocError>
     ensures added { OnOk result (listed script.new ≡ joined (listed script.old) (part_of section asked.old.items)) }
     ensures emptied { OnOk result (asked.new.items ≡ []) }
@@ -54,17 +54,17 @@ fn take(
     alloc: Global,
     script: &mut Script,
     section: Option<Section>,
-    asked: &mut Vec<Numbered>,
+    asked: &mut Vec<NumberedCommand>,
     number: u64,
-    said: Option<Said>,
+    said: Option<LineMeaning>,
 ) -> Result<(), AllocError>
     ensures { OnOk result (IsTaken number section said (listed script.old) asked.old.items (listed script.new) asked.new.items) }
 {
     match said {
         None => Ok(()),
-        Some(Said::Section(_)) => end_section(alloc, script, section, asked),
-        Some(Said::Command(command)) => asked
-            .push(Numbered {
+        Some(LineMeaning::Section(_)) => end_section(alloc, script, section, asked),
+        Some(LineMeaning::Command(command)) => asked
+            .push(NumberedCommand {
                 line: number,
                 command,
             })
@@ -76,7 +76,7 @@ fn take(
 fn take_line(
     alloc: Global,
     script: &mut Script,
-    asked: &mut Vec<Numbered>,
+    asked: &mut Vec<NumberedCommand>,
     scope: &mut Scope,
     number: u64,
     line: &[u8],
@@ -97,7 +97,7 @@ fn read_lines(
     alloc: Global,
     text: &[u8],
     script: &mut Script,
-    asked: &mut Vec<Numbered>,
+    asked: &mut Vec<NumberedCommand>,
     scope: &mut Scope,
 ) -> Result<(), ReadFault>
     requires start { seen scope.old ≡ at_start }

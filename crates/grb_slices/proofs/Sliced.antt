@@ -9,7 +9,7 @@ use Rattle.grb_call.specs.History.{after_all}
 use Rattle.grb_call.proofs.ShapesAfter.{shapes_of-after}
 use Rattle.grb_call.specs.Status.{is_same_object}
 use Rattle.grb_slices.specs.Content.{Content, Contents, content_at, effective_target, outcome}
-use Rattle.grb_slices.specs.Slice.{Step, Entry, Known, Deed, Make, Recall, Task, chosen, Wants, wants_before, Sliced, sliced_step, sliced, result_of, with_content, evaluated}
+use Rattle.grb_slices.specs.Slice.{Step, Entry, Known, Origin, Make, Recall, Task, chosen, Wants, wants_before, Sliced, sliced_step, sliced, result_of, with_content, evaluated}
 use Rattle.grb_slices.specs.Steps.{steps_of, AreSteps, AgreeOn}
 use Rattle.grb_slices.proofs.Effects.{own, other, effective, frame}
 use Rattle.grb_slices.proofs.Wants.{is_same_object-self, is_same_object-true, read_before, other_before}
@@ -22,7 +22,7 @@ if_object : (o p : Object) → is_same_object o p ≡ false → o ≢ p
 if_object o p apart e = let same : is_same_object o p ≡ true = subst (λ (q : Object). is_same_object o q ≡ true) e (is_same_object-self o) in cc
 
 -- one deed of a slice: from the contents before it to those after it, where it changes no object but its own
-module _ (before after_it : Contents) (o : Object) (d : Deed) (ws : Wants) (r : Contents)
+module _ (before after_it : Contents) (o : Object) (d : Origin) (ws : Wants) (r : Contents)
     (others : (p : Object) → is_same_object o p ≡ false → after_it p ≡ before p) (own_is : after_it o ≡ result_of r d) (agree : AgreeOn (wants_before ws o d) before r) where
   done-by : (p : Object) → ws p ≡ true → (b : Bool) → is_same_object o p ≡ b → after_it p ≡ (if b then result_of r d else r p)
   done-by p wanted true same = subst (λ (q : Object). after_it q ≡ result_of r d) (is_same_object-true o p same) own_is
@@ -32,7 +32,7 @@ module _ (before after_it : Contents) (o : Object) (d : Deed) (ws : Wants) (r : 
   done p wanted = done-by p wanted (is_same_object o p) refl
 
 -- a deed that is chosen where its object is wanted
-module _ (before after_it : Contents) (o : Object) (d : Deed) (ws : Wants) (end : Contents) (rest : Sliced)
+module _ (before after_it : Contents) (o : Object) (d : Origin) (ws : Wants) (end : Contents) (rest : Sliced)
     (others : (p : Object) → is_same_object o p ≡ false → after_it p ≡ before p)
     (own_is : (r : Contents) → AgreeOn (wants_before rest.wanted o d) before r → after_it o ≡ result_of r d)
     (goes_on : (r : Contents) → AgreeOn rest.wanted after_it r → Right ws end r rest.tasks) where

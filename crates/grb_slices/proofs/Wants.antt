@@ -4,7 +4,7 @@ use Rattle.std.specs.List.{list_any}
 use Rattle.grb_call.specs.declared.ids.Object.{Object}
 use Rattle.grb_call.specs.declared.ids.Object.TheVariants as object
 use Rattle.grb_call.specs.Status.{is_same_object}
-use Rattle.grb_slices.specs.Slice.{Deed, Wants, is_among, needs, wants_before}
+use Rattle.grb_slices.specs.Slice.{Origin, Wants, is_among, needs, wants_before}
 
 same_number : (n : ℕ) → nat_eq n n ≡ true
 same_number n = grind arith
@@ -37,11 +37,11 @@ pub among_next : (p o : Object) (os : List Object) → is_among os p ≡ true �
 among_next p o os e = or_right (is_same_object p o) _ e
 
 -- what an entry reads is wanted before it
-pub read_before : (w : Wants) (o : Object) (d : Deed) (p : Object) → is_among (needs d) p ≡ true → wants_before w o d p ≡ true
+pub read_before : (w : Wants) (o : Object) (d : Origin) (p : Object) → is_among (needs d) p ≡ true → wants_before w o d p ≡ true
 read_before w o d p e = or_left (is_among (needs d) p) _ e
 
 -- and so is what else is wanted after it
-pub other_before : (w : Wants) (o : Object) (d : Deed) (p : Object) → is_same_object o p ≡ false → w p ≡ true → wants_before w o d p ≡ true
+pub other_before : (w : Wants) (o : Object) (d : Origin) (p : Object) → is_same_object o p ≡ false → w p ≡ true → wants_before w o d p ≡ true
 other_before w o d p apart wanted = or_right (is_among (needs d) p) _ (subst (λ (b : Bool). (if b then false else w p) ≡ true) (sym apart) wanted)
 
 pub among_before : (p : Object) (os ps : List Object) → is_among os p ≡ true → is_among (os ++ ps) p ≡ true

@@ -16,13 +16,13 @@ pub data Step : Type 0 where
   Known : Object → Content → Step
 
 -- how what an object holds is had: by making a call, or from an earlier evaluation
-pub data Deed : Type 0 where
-  Make : Call → Deed
-  Recall : Content → Deed
+pub data Origin : Type 0 where
+  Make : Call → Origin
+  Recall : Content → Origin
 
 -- an element of a slice
 abbrev pub Task : Type 0
-Task = Object × Deed
+Task = Object × Origin
 
 -- which objects are wanted at a place
 abbrev pub Wants : Type 0
@@ -32,12 +32,12 @@ abbrev pub is_among : List Object → Object → Bool
 is_among os o = list_any (is_same_object o) os
 
 -- the objects that are read: of a call its inputs, its mask, and what its output held
-abbrev pub needs : Deed → List Object
+abbrev pub needs : Origin → List Object
 needs (Make c) = objects_read c
 needs (Recall x) = []
 
 -- the objects wanted before an entry with this target, which is wanted after it: what it reads, and what else was wanted
-abbrev pub wants_before : Wants → Object → Deed → Wants
+abbrev pub wants_before : Wants → Object → Origin → Wants
 wants_before w o d p = is_among (needs d) p || (if is_same_object o p then false else w p)
 
 -- the objects wanted before the entries, and their slice
@@ -46,7 +46,7 @@ pub record Sliced : Type 0 where
   pub tasks : List Task
 
 -- a deed belongs to the slice where its object is wanted after it
-abbrev pub chosen : Object → Deed → Sliced → Sliced
+abbrev pub chosen : Object → Origin → Sliced → Sliced
 chosen o d rest = if rest.wanted o then (record { wanted = wants_before rest.wanted o d; tasks = (o, d) ∷ rest.tasks }) else rest
 
 abbrev pub sliced_step : Step → Sliced → Sliced
@@ -57,7 +57,7 @@ abbrev pub sliced : Wants → List Step → Sliced
 sliced w [] = record { wanted = w; tasks = [] }
 sliced w (x ∷ xs) = sliced_step x (sliced w xs)
 
-abbrev pub result_of : Contents → Deed → Option Content
+abbrev pub result_of : Contents → Origin → Option Content
 result_of r (Make c) = outcome r c
 result_of r (Recall x) = Some x
 

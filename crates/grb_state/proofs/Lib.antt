@@ -7,4 +7,5 @@ mod Lent
 mod LentProducts
 pub mod Numbered
 mod Objects
+mod Premises
 mod Totals

@@ -9,7 +9,7 @@ ghost use Rattle.grb_state.specs.State.{stored};
 
 use crate::places::{lent, lent_mask};
 use crate::product_operations::multiplied_matrix;
-use crate::shared::Shared;
+use crate::shared::SharedObject;
 use grb_call::{Call, MatrixId};
 use grb_ewise::{ewise_add_matrix, ewise_mult_matrix};
 use grb_sparse::{SparseMatrix, SparseVector};
@@ -18,8 +18,8 @@ use std::alloc::{AllocError, Global};
 /// The matrix that an element-wise operation leaves of its output `c`. `AllocError` where memory is refused.
 fn elementwise_matrix(
     alloc: Global,
-    matrices: &[Option<Shared<SparseMatrix>>],
-    vectors: &[Option<Shared<SparseVector>>],
+    matrices: &[Option<SharedObject<SparseMatrix>>],
+    vectors: &[Option<SharedObject<SparseVector>>],
     c: MatrixId,
     call: &Call,
 ) -> Result<SparseMatrix, AllocError>
@@ -67,8 +67,8 @@ fn elementwise_matrix(
 /// `AllocError` where memory is refused.
 pub(crate) fn operated_matrix(
     alloc: Global,
-    matrices: &[Option<Shared<SparseMatrix>>],
-    vectors: &[Option<Shared<SparseVector>>],
+    matrices: &[Option<SharedObject<SparseMatrix>>],
+    vectors: &[Option<SharedObject<SparseVector>>],
     c: MatrixId,
     call: &Call,
 ) -> Result<SparseMatrix, AllocError>

@@ -7,7 +7,7 @@ ghost use Rattle.grb_state.specs.State.{stored};
 
 use crate::matrix_operations::operated_matrix;
 use crate::places::{assemble, put};
-use crate::shared::Shared;
+use crate::shared::SharedObject;
 use crate::vector_operations::operated_vector;
 use grb_call::{Call, Object, objects_read};
 use grb_sparse::{SparseMatrix, SparseVector};
@@ -41,8 +41,8 @@ fn object_at(objects: &[Object], at: usize) -> Object
 /// Assembles the object, if it is there. `AllocError` where memory is refused; the entries are as before in any case, and what was
 /// assembled stays so.
 fn assemble_object(
-    matrices: &mut Vec<Option<Shared<SparseMatrix>>>,
-    vectors: &mut Vec<Option<Shared<SparseVector>>>,
+    matrices: &mut Vec<Option<SharedObject<SparseMatrix>>>,
+    vectors: &mut Vec<Option<SharedObject<SparseVector>>>,
     object: Object,
 ) -> Result<(), AllocError>
     ensures same { stored matrices.new.items vectors.new.items ≡ stored matrices.old.items vectors.old.items }
@@ -59,8 +59,8 @@ fn assemble_object(
 
 /// Assembles each of the objects that is there. `AllocError` where memory is refused; the entries are as before in any case.
 fn assemble_each(
-    matrices: &mut Vec<Option<Shared<SparseMatrix>>>,
-    vectors: &mut Vec<Option<Shared<SparseVector>>>,
+    matrices: &mut Vec<Option<SharedObject<SparseMatrix>>>,
+    vectors: &mut Vec<Option<SharedObject<SparseVector>>>,
     objects: &[Object],
 ) -> Result<(), AllocError>
     ensures same { stored matrices.new.items vectors.new.items ≡ stored matrices.old.items vectors.old.items }
@@ -79,8 +79,8 @@ fn assemble_each(
 /// Assembles all that the operation reads, its old output and its mask among it. `AllocError` where memory is refused; the entries
 /// of each object are as before in any case.
 fn assemble_operands(
-    matrices: &mut Vec<Option<Shared<SparseMatrix>>>,
-    vectors: &mut Vec<Option<Shared<SparseVector>>>,
+    matrices: &mut Vec<Option<SharedObject<SparseMatrix>>>,
+    vectors: &mut Vec<Option<SharedObject<SparseVector>>>,
     call: &Call,
 ) -> Result<(), AllocError>
     ensures same { stored matrices.new.items vectors.new.items ≡ stored matrices.old.items vectors.old.items }
@@ -95,8 +95,8 @@ fn assemble_operands(
 /// The objects that an operation which is not refused leaves: its output is made from what stood before, and put last. `AllocError`
 /// where memory is refused; then each has the entries that it had.
 pub(crate) fn operate(
-    matrices: &mut Vec<Option<Shared<SparseMatrix>>>,
-    vectors: &mut Vec<Option<Shared<SparseVector>>>,
+    matrices: &mut Vec<Option<SharedObject<SparseMatrix>>>,
+    vectors: &mut Vec<Option<SharedObject<SparseVector>>>,
     call: &Call,
 ) -> Result<(), AllocError>
     requires operation { is_operation call.now ≡ true }

@@ -4,7 +4,7 @@ ghost use Rattle.std.specs.Option.{option_map};
 ghost use Rattle.grb_call.specs.Shapes.{object_at};
 ghost use Rattle.grb_state.specs.Places.{contents_at, left_of, IsAssembledAt};
 
-use crate::shared::Shared;
+use crate::shared::SharedObject;
 use crate::stored_object::StoredObject;
 use grb_call::Call;
 use std::alloc::{AllocError, Global};
@@ -14,7 +14,7 @@ use std::sync::Arc;
 /// entries are as before.
 fn change_shared<T: StoredObject>(
     alloc: Global,
-    shared: &mut Shared<T>,
+    shared: &mut SharedObject<T>,
     call: &Call,
 ) -> Result<(), AllocError>
     requires { T.fits call.now (T.contents shared.old) }
@@ -26,14 +26,14 @@ fn change_shared<T: StoredObject>(
     }
     let mut copy = shared.lent().copy_to_change(alloc, call)?;
     copy.change(call)?;
-    *shared = Shared::new(alloc, copy)?;
+    *shared = SharedObject::new(alloc, copy)?;
     Ok(())
 }
 
 /// Changes or ends the object of this place, if there is one, as the call says. `AllocError` where memory is refused.
 fn change_place<T: StoredObject>(
     alloc: Global,
-    place: &mut Option<Shared<T>>,
+    place: &mut Option<SharedObject<T>>,
     call: &Call,
 ) -> Result<(), AllocError>
     requires { IfSome (option_map T.contents place.old) (T.fits call.now) }
@@ -53,7 +53,7 @@ fn change_place<T: StoredObject>(
 /// Changes or ends the object with this number, if it is there, as the call says. `AllocError` where memory is refused; then its
 /// entries are as before.
 pub(crate) fn edit<T: StoredObject>(
-    places: &mut Vec<Option<Shared<T>>>,
+    places: &mut Vec<Option<SharedObject<T>>>,
     id: T::Id,
     call: &Call,
 ) -> Result<(), AllocError>
@@ -71,9 +71,9 @@ pub(crate) fn edit<T: StoredObject>(
 
 /// The object with this number for one more place, if it is there; no entry is copied. `AllocError` where 2^63 - 1 places hold it.
 fn share<T: StoredObject>(
-    places: &[Option<Shared<T>>],
+    places: &[Option<SharedObject<T>>],
     id: T::Id,
-) -> Result<Option<Shared<T>>, AllocError>
+) -> Result<Option<SharedObject<T>>, AllocError>
     ensures { IfOk result (λ shared. option_map T.contents shared ≡ object_at (contents_at T.contents places.now) (T.number id)) }
 {
     match places.get(T::number(id) as usize) {
@@ -85,7 +85,7 @@ fn share<T: StoredObject>(
 /// Makes one more object, equal to the one with this number: the same object, until one of the two is changed. `AllocError` where
 /// 2^63 - 1 places hold it. Takes no memory.
 pub(crate) fn dup<T: StoredObject>(
-    places: &mut Vec<Option<Shared<T>>>,
+    places: &mut Vec<Option<SharedObject<T>>>,
     id: T::Id,
 ) -> Result<(), AllocError>
     requires { vec_len places.old < vec_capacity places.old }
@@ -99,7 +99,10 @@ pub(crate) fn dup<T: StoredObject>(
 }
 
 /// The object with this number, if it was made and not freed. Takes no memory.
-pub(crate) fn object_of<T: StoredObject>(places: &[Option<Shared<T>>], id: T::Id) -> Option<&T>
+pub(crate) fn object_of<T: StoredObject>(
+    places: &[Option<SharedObject<T>>],
+    id: T::Id,
+) -> Option<&T>
     ensures stored { option_map (λ x. T.contents x.now) result ≡ object_at (contents_at T.contents places.now) (T.number id) }
     ensures object { option_map (λ x. x.now) result ≡ object_at places.now (T.number id) }
 {
@@ -111,7 +114,10 @@ pub(crate) fn object_of<T: StoredObject>(places: &[Option<Shared<T>>], id: T::Id
 
 /// Assembles the object, or a copy of it where another store holds it; one that is assembled stays as it is. `AllocError` where memory is
 /// refused; its entries are as before in any case.
-fn assemble_shared<T: StoredObject>(alloc: Global, shared: &mut Shared<T>) -> Result<(), AllocError>
+fn assemble_shared<T: StoredObject>(
+    alloc: Global,
+    shared: &mut SharedObject<T>,
+) -> Result<(), AllocError>
     ensures same { T.contents shared.new ≡ T.contents shared.old }
     ensures assembled { OnOk result (T.is_assembled shared.new ≡ true) }
     ensures kept { T.is_assembled shared.old ≡ true → T.is_assembled shared.new ≡ true }
@@ -124,14 +130,14 @@ fn assemble_shared<T: StoredObject>(alloc: Global, shared: &mut Shared<T>) -> Re
     }
     let mut copy = shared.lent().try_clone()?;
     copy.assemble()?;
-    *shared = Shared::new(alloc, copy)?;
+    *shared = SharedObject::new(alloc, copy)?;
     Ok(())
 }
 
 /// Assembles the object of this place, if there is one. `AllocError` where memory is refused; its entries are as before in any case.
 fn assemble_place<T: StoredObject>(
     alloc: Global,
-    place: &mut Option<Shared<T>>,
+    place: &mut Option<SharedObject<T>>,
 ) -> Result<(), AllocError>
     ensures same { option_map T.contents place.new ≡ option_map T.contents place.old }
     ensures assembled { OnOk result (IfSome place.new (λ x. T.is_assembled x ≡ true)) }
@@ -146,7 +152,7 @@ fn assemble_place<T: StoredObject>(
 /// Assembles the object of the place with this number, if there is one. `AllocError` where memory is refused; its entries are as before
 /// in any case, and what was assembled stays so.
 fn assemble_at<T: StoredObject>(
-    places: &mut Vec<Option<Shared<T>>>,
+    places: &mut Vec<Option<SharedObject<T>>>,
     at: usize,
 ) -> Result<(), AllocError>
     ensures same { contents_at T.contents places.new.items ≡ contents_at T.contents places.old.items }
@@ -164,7 +170,7 @@ fn assemble_at<T: StoredObject>(
 /// Assembles the object with this number, if it is there. `AllocError` where memory is refused; its entries are as before in any
 /// case, and what was assembled stays so.
 pub(crate) fn assemble<T: StoredObject>(
-    places: &mut Vec<Option<Shared<T>>>,
+    places: &mut Vec<Option<SharedObject<T>>>,
     id: T::Id,
 ) -> Result<(), AllocError>
     ensures same { contents_at T.contents places.new.items ≡ contents_at T.contents places.old.items }
@@ -177,7 +183,7 @@ pub(crate) fn assemble<T: StoredObject>(
 
 /// Assembles each object. `AllocError` where memory is refused; the entries are as before in any case.
 pub(crate) fn assemble_all<T: StoredObject>(
-    places: &mut Vec<Option<Shared<T>>>,
+    places: &mut Vec<Option<SharedObject<T>>>,
 ) -> Result<(), AllocError>
     ensures same { contents_at T.contents places.new.items ≡ contents_at T.contents places.old.items }
     ensures assembled { OnOk result ((n : ℕ) → IsAssembledAt T.is_assembled places.new.items n) }
@@ -191,7 +197,7 @@ pub(crate) fn assemble_all<T: StoredObject>(
 
 /// Puts the object in the place of the one with this number. `AllocError` where memory is refused; then each is as before.
 pub(crate) fn put<T: StoredObject>(
-    places: &mut Vec<Option<Shared<T>>>,
+    places: &mut Vec<Option<SharedObject<T>>>,
     id: T::Id,
     object: T,
 ) -> Result<(), AllocError>
@@ -199,7 +205,7 @@ pub(crate) fn put<T: StoredObject>(
     ensures err { OnErr result (places.new.items ≡ places.old.items) }
     ensures capacity { vec_capacity places.new ≡ vec_capacity places.old }
 {
-    let shared = Shared::new(*places.allocator(), object)?;
+    let shared = SharedObject::new(*places.allocator(), object)?;
     if let Some(place) = places.get_mut(T::number(id) as usize) {
         *place = Some(shared);
     }
@@ -207,7 +213,7 @@ pub(crate) fn put<T: StoredObject>(
 }
 
 /// The object with this number, which is there. Takes no memory.
-pub(crate) fn lent<T: StoredObject>(places: &[Option<Shared<T>>], id: T::Id) -> &T
+pub(crate) fn lent<T: StoredObject>(places: &[Option<SharedObject<T>>], id: T::Id) -> &T
     requires { is_some (object_at places.now (T.number id)) ≡ true }
     ensures { object_at places.now (T.number id) ≡ Some result.now }
 {
@@ -219,7 +225,7 @@ pub(crate) fn lent<T: StoredObject>(places: &[Option<Shared<T>>], id: T::Id) -> 
 
 /// The mask with this number, which is there, or none. Takes no memory.
 pub(crate) fn lent_mask<T: StoredObject>(
-    places: &[Option<Shared<T>>],
+    places: &[Option<SharedObject<T>>],
     mask: Option<T::Id>,
 ) -> Option<&T>
     requires { IfSome mask (λ id. is_some (object_at places.now (T.number id)) ≡ true) }

@@ -7,7 +7,7 @@ ghost use Rattle.grb_state.specs.Operation.{AreAssembled};
 ghost use Rattle.grb_state.specs.State.{stored};
 
 use crate::places::{lent, lent_mask};
-use crate::shared::Shared;
+use crate::shared::SharedObject;
 use grb_call::{Call, Descriptor, MatrixId, VectorId};
 use grb_core::{BinaryOp, Monoid, Semiring};
 use grb_mxm::mxm;
@@ -18,8 +18,8 @@ use std::alloc::{AllocError, Global};
 /// The vector that mxv leaves of its output `w`. `AllocError` where memory is refused.
 pub(crate) fn multiplied_vector(
     alloc: Global,
-    matrices: &[Option<Shared<SparseMatrix>>],
-    vectors: &[Option<Shared<SparseVector>>],
+    matrices: &[Option<SharedObject<SparseMatrix>>],
+    vectors: &[Option<SharedObject<SparseVector>>],
     w: VectorId,
     mask: Option<VectorId>,
     accum: Option<BinaryOp>,
@@ -42,8 +42,8 @@ pub(crate) fn multiplied_vector(
 /// The vector that vxm leaves of its output `w`. `AllocError` where memory is refused.
 pub(crate) fn pushed_vector(
     alloc: Global,
-    matrices: &[Option<Shared<SparseMatrix>>],
-    vectors: &[Option<Shared<SparseVector>>],
+    matrices: &[Option<SharedObject<SparseMatrix>>],
+    vectors: &[Option<SharedObject<SparseVector>>],
     w: VectorId,
     mask: Option<VectorId>,
     accum: Option<BinaryOp>,
@@ -66,8 +66,8 @@ pub(crate) fn pushed_vector(
 /// The matrix that mxm leaves of its output `c`. `AllocError` where memory is refused.
 pub(crate) fn multiplied_matrix(
     alloc: Global,
-    matrices: &[Option<Shared<SparseMatrix>>],
-    vectors: &[Option<Shared<SparseVector>>],
+    matrices: &[Option<SharedObject<SparseMatrix>>],
+    vectors: &[Option<SharedObject<SparseVector>>],
     c: MatrixId,
     mask: Option<MatrixId>,
     accum: Option<BinaryOp>,
@@ -90,8 +90,8 @@ pub(crate) fn multiplied_matrix(
 /// The vector that a reduction of rows leaves of its output `w`. `AllocError` where memory is refused.
 pub(crate) fn reduced_rows(
     alloc: Global,
-    matrices: &[Option<Shared<SparseMatrix>>],
-    vectors: &[Option<Shared<SparseVector>>],
+    matrices: &[Option<SharedObject<SparseMatrix>>],
+    vectors: &[Option<SharedObject<SparseVector>>],
     w: VectorId,
     mask: Option<VectorId>,
     accum: Option<BinaryOp>,

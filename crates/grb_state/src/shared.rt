@@ -7,11 +7,11 @@ use std::sync::Arc;
 
 /// An object that several stores may hold. One that changes it does so in place where no other holds it, and else changes a copy.
 #[derive(Drop)]
-pub(crate) struct Shared<T> {
+pub(crate) struct SharedObject<T> {
     pub(crate) object: Arc<T>,
 }
 
-impl<T> Model for Shared<T> {
+impl<T> Model for SharedObject<T> {
     ghost use Rattle.std.specs.Arc.{arc_value};
 
     ghost Value = { T };
@@ -19,24 +19,24 @@ impl<T> Model for Shared<T> {
     ghost view = { λ s. arc_value s.object };
 }
 
-impl<T> Shared<T> {
+impl<T> SharedObject<T> {
     /// The object, which one store holds. `AllocError` where memory is refused.
-    pub(crate) fn new(alloc: Global, object: T) -> Result<Shared<T>, AllocError>
+    pub(crate) fn new(alloc: Global, object: T) -> Result<SharedObject<T>, AllocError>
     where
         T: Drop,
         ensures { IfOk result (λ shared. shared ≡ object) }
     {
         match Arc::new(alloc, object) {
-            Ok(object) => Ok(Shared { object }),
+            Ok(object) => Ok(SharedObject { object }),
             Err(_refused) => Err(AllocError),
         }
     }
 
     /// The same object for one more store; nothing of it is copied, and no memory is taken. `AllocError` where 2^63 - 1 hold it.
-    pub(crate) fn share(&self) -> Result<Shared<T>, AllocError>
+    pub(crate) fn share(&self) -> Result<SharedObject<T>, AllocError>
         ensures { IfOk result (λ shared. shared ≡ self.now) }
     {
-        Ok(Shared {
+        Ok(SharedObject {
             object: Arc::try_clone(&self.object)?,
         })
     }
@@ -51,7 +51,7 @@ impl<T> Shared<T> {
 
 /// The object of a place for one more store, if it has one; nothing of it is copied, and no memory is taken. `AllocError` where 2^63 - 1
 /// hold it.
-fn share_place<T>(place: &Option<Shared<T>>) -> Result<Option<Shared<T>>, AllocError>
+fn share_place<T>(place: &Option<SharedObject<T>>) -> Result<Option<SharedObject<T>>, AllocError>
     ensures { IfOk result (λ shared. shared ≡ place.now) }
 {
     match place {
@@ -63,9 +63,9 @@ fn share_place<T>(place: &Option<Shared<T>>) -> Result<Option<Shared<T>>, AllocE
 /// The same objects for one more store, at the same places, with places reserved for so many more. `AllocError` where memory is refused, or
 /// where 2^63 - 1 hold one of them.
 pub(crate) fn share_all<T>(
-    places: &Vec<Option<Shared<T>>>,
+    places: &Vec<Option<SharedObject<T>>>,
     room: u32,
-) -> Result<Vec<Option<Shared<T>>>, AllocError>
+) -> Result<Vec<Option<SharedObject<T>>>, AllocError>
 where
     T: Drop,
     requires { length places.now.items + room < 2 ^ 32 }

@@ -15,7 +15,7 @@ ghost use Rattle.grb_state.specs.State.{stored, is_assembled};
 
 use crate::operations::{is_operation, operate};
 use crate::places::{assemble, assemble_all, dup, edit, lent, object_of};
-use crate::shared::Shared;
+use crate::shared::SharedObject;
 use grb_call::{Call, Kind, MatrixId, Object, Reply, Shapes, VectorId, WaitMode, check};
 use grb_core::{Monoid, Refusal, Value};
 use grb_products::{reduce_matrix, reduce_vector};
@@ -27,8 +27,8 @@ use std::marker::Model;
 #[derive(Drop)]
 pub struct State {
     pub(crate) shapes: Shapes,
-    pub(crate) matrices: Vec<Option<Shared<SparseMatrix>>>,
-    pub(crate) vectors: Vec<Option<Shared<SparseVector>>>,
+    pub(crate) matrices: Vec<Option<SharedObject<SparseMatrix>>>,
+    pub(crate) vectors: Vec<Option<SharedObject<SparseVector>>>,
 }
 
 impl Model for State {
@@ -44,8 +44,8 @@ impl Model for State {
 
 /// Makes the object that the call makes, if it makes one. `AllocError` where memory is refused.
 fn make(
-    matrices: &mut Vec<Option<Shared<SparseMatrix>>>,
-    vectors: &mut Vec<Option<Shared<SparseVector>>>,
+    matrices: &mut Vec<Option<SharedObject<SparseMatrix>>>,
+    vectors: &mut Vec<Option<SharedObject<SparseVector>>>,
     call: &Call,
 ) -> Result<(), AllocError>
     requires accepted { refused (stored matrices.old.items vectors.old.items) call.now ≡ None }
@@ -65,13 +65,13 @@ fn make(
         } => {
             let alloc = *matrices.allocator();
             let matrix = SparseMatrix::new(alloc, *domain, *nrows, *ncols);
-            matrices.push_reserved(Some(Shared::new(alloc, matrix)?));
+            matrices.push_reserved(Some(SharedObject::new(alloc, matrix)?));
             Ok(())
         }
         Call::NewVector { domain, size } => {
             let alloc = *vectors.allocator();
             let vector = SparseVector::new(alloc, *domain, *size);
-            vectors.push_reserved(Some(Shared::new(alloc, vector)?));
+            vectors.push_reserved(Some(SharedObject::new(alloc, vector)?));
             Ok(())
         }
         Call::DupMatrix { a } => dup(matrices, *a),
@@ -82,8 +82,8 @@ fn make(
 
 /// The objects that a call which is not refused leaves. `AllocError` where memory is refused; then each has the entries that it had.
 fn change(
-    matrices: &mut Vec<Option<Shared<SparseMatrix>>>,
-    vectors: &mut Vec<Option<Shared<SparseVector>>>,
+    matrices: &mut Vec<Option<SharedObject<SparseMatrix>>>,
+    vectors: &mut Vec<Option<SharedObject<SparseVector>>>,
     call: &Call,
 ) -> Result<(), AllocError>
     requires accepted { refused (stored matrices.old.items vectors.old.items) call.now ≡ None }

@@ -9,7 +9,7 @@ ghost use Rattle.grb_state.specs.State.{stored};
 
 use crate::places::{lent, lent_mask};
 use crate::product_operations::{multiplied_vector, pushed_vector, reduced_rows};
-use crate::shared::Shared;
+use crate::shared::SharedObject;
 use grb_call::{Call, VectorId};
 use grb_ewise::{ewise_add_vector, ewise_mult_vector};
 use grb_sparse::{SparseMatrix, SparseVector};
@@ -18,8 +18,8 @@ use std::alloc::{AllocError, Global};
 /// The vector that an element-wise operation leaves of its output `w`. `AllocError` where memory is refused.
 fn elementwise_vector(
     alloc: Global,
-    matrices: &[Option<Shared<SparseMatrix>>],
-    vectors: &[Option<Shared<SparseVector>>],
+    matrices: &[Option<SharedObject<SparseMatrix>>],
+    vectors: &[Option<SharedObject<SparseVector>>],
     w: VectorId,
     call: &Call,
 ) -> Result<SparseVector, AllocError>
@@ -67,8 +67,8 @@ fn elementwise_vector(
 /// `AllocError` where memory is refused.
 pub(crate) fn operated_vector(
     alloc: Global,
-    matrices: &[Option<Shared<SparseMatrix>>],
-    vectors: &[Option<Shared<SparseVector>>],
+    matrices: &[Option<SharedObject<SparseMatrix>>],
+    vectors: &[Option<SharedObject<SparseVector>>],
     w: VectorId,
     call: &Call,
 ) -> Result<SparseVector, AllocError>

@@ -9,7 +9,7 @@ use crate::same::same;
 use crate::texts_changed::{changed, push_bytes, push_pieces};
 use grb_core::{Domain, Value};
 use grb_market::{Loaded, ReadError, read};
-use grb_script::{Command, Numbered, ReadFault, Script, read_script};
+use grb_script::{Command, NumberedCommand, ReadFault, Script, read_script};
 use std::alloc::{AllocError, Global};
 use std::process::Abort;
 
@@ -145,7 +145,12 @@ fn is_same_command(found: &Command, wanted: &Command) -> bool {
     }
 }
 
-fn expect_commands(rt: &impl Abort, found: &[Numbered], wanted: &[Numbered], lines: u64) {
+fn expect_commands(
+    rt: &impl Abort,
+    found: &[NumberedCommand],
+    wanted: &[NumberedCommand],
+    lines: u64,
+) {
     same(rt, found.len(), wanted.len(), "the commands");
     for (one, other) in found.iter().zip(wanted) {
         same(rt, one.line, other.line, "the line of a command");

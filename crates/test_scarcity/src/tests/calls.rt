@@ -3,7 +3,7 @@ use crate::tests::same::same;
 use grb_call::{Call, MatrixId, Object, VectorId};
 use grb_core::{Monoid, Value};
 use grb_run::call_of;
-use grb_script::{Command, Numbered, read_script};
+use grb_script::{Command, NumberedCommand, read_script};
 use std::alloc::{AllocError, Global};
 use std::process::Abort;
 
@@ -102,7 +102,7 @@ fn call_in(command: Command) -> Option<Call> {
     }
 }
 
-fn calls_of(alloc: Global, section: Vec<Numbered>) -> Result<Vec<Call>, AllocError> {
+fn calls_of(alloc: Global, section: Vec<NumberedCommand>) -> Result<Vec<Call>, AllocError> {
     let mut calls = Vec::new(alloc);
     for numbered in section {
         if let Some(call) = call_in(numbered.command) {

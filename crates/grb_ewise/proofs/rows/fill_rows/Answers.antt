@@ -9,8 +9,8 @@ use Rattle.grb_ewise.proofs.rows.fill_rows.Goals as goal
 
 pub merging-init : goal.merging-init
 merging-init g c =
-    let a = c.args.a.now in
-    let b = c.args.b.now in
+    let a = c.args.a.now.lists.now in
+    let b = c.args.b.now.lists.now in
     let long_a = length-decoded a.entries in
     let long_b = length-decoded b.entries in
     record {
@@ -20,15 +20,15 @@ merging-init g c =
       starts_capacity = search rules;
       filling = filling_begins g.T.Scalar.value (g.R.Rule.gives c.args.rule.now) (g.met.R.Rule.none c.args.rule.now) (decoded a.entries) (decoded b.entries) a.rows b.rows
           c.args.rows.now.items c.args.starts.now.items c.args.columns.now c.args.values.now
-          (rows_from-all (decoded a.entries) (holds _ c.requires.a_ordered) a.rows c.rows-rows_a.ensures.rise c.rows-rows_a.ensures.all)
-          (rows_from-all (decoded b.entries) (holds _ c.requires.b_ordered) b.rows c.rows-rows_b.ensures.rise c.rows-rows_b.ensures.all)
+          (rows_from-all (decoded a.entries) (holds _ c.args.a.now.ordered) a.rows c.rows-rows_a.ensures.rise c.rows-rows_a.ensures.all)
+          (rows_from-all (decoded b.entries) (holds _ c.args.b.now.ordered) b.rows c.rows-rows_b.ensures.rise c.rows-rows_b.ensures.all)
           c.requires.no_rows c.requires.no_starts (omega (arith, c.requires.room, long_a, long_b)) c.requires.same;
     }
 
 pub merge_row-count-requires-clause-room : goal.merge_row-count-requires-clause-room
 merge_row-count-requires-clause-room g c =
-    let a = c.args.a.now in
-    let b = c.args.b.now in
+    let a = c.args.a.now.lists.now in
+    let b = c.args.b.now.lists.now in
     let tv = g.T.Scalar.value in
     let uv = g.U.Scalar.value in
     let held = c.merging.invariant.filling in
@@ -62,8 +62,8 @@ merge_row-count-requires-clause-room g c =
 
 pub merging-preserved : goal.merging-preserved
 merging-preserved g c =
-    let a = c.args.a.now in
-    let b = c.args.b.now in
+    let a = c.args.a.now.lists.now in
+    let b = c.args.b.now.lists.now in
     let tv = g.T.Scalar.value in
     let uv = g.U.Scalar.value in
     let before = c.merging.invariant in
@@ -119,16 +119,16 @@ merging-preserved g c =
 
 pub returns-clause-entries : goal.returns-clause-entries
 returns-clause-entries g c =
-    let a = c.args.a.now in
-    let b = c.args.b.now in
+    let a = c.args.a.now.lists.now in
+    let b = c.args.b.now.lists.now in
     let past : length a.rows + length b.rows ≤ c.merging.i + c.merging.j = omega (arith, c.merging-test.false, ap length c.rows-rows_a.ensures.list, ap length c.rows-rows_b.ensures.list) in
     filling_ends g.T.Scalar.value (g.R.Rule.gives c.args.rule.now) (g.met.R.Rule.none c.args.rule.now) (decoded a.entries) (decoded b.entries) a.rows b.rows
     c.merging.rows.items c.merging.starts.items c.merging.columns c.merging.values _ c.merging.i c.merging.j c.merging.k c.merging.invariant.filling past
 
 pub returns-clause-ordered : goal.returns-clause-ordered
 returns-clause-ordered g c =
-    let a = c.args.a.now in
-    let b = c.args.b.now in
+    let a = c.args.a.now.lists.now in
+    let b = c.args.b.now.lists.now in
     let past : length a.rows + length b.rows ≤ c.merging.i + c.merging.j = omega (arith, c.merging-test.false, ap length c.rows-rows_a.ensures.list, ap length c.rows-rows_b.ensures.list) in
     merged_in_order (g.R.Rule.gives c.args.rule.now) (decoded a.entries) (decoded b.entries) _
     (filling_ends g.T.Scalar.value (g.R.Rule.gives c.args.rule.now) (g.met.R.Rule.none c.args.rule.now) (decoded a.entries) (decoded b.entries) a.rows b.rows

@@ -12,10 +12,10 @@ invariant-merging g l = record {
   starts_len : vec_len l.starts ≤ l.i + l.j;
   rows_capacity : vec_capacity l.rows ≡ vec_capacity l.fn.rows;
   starts_capacity : vec_capacity l.starts ≡ vec_capacity l.fn.starts;
-  filling : IsFilling g.T.Scalar.value (g.R.Rule.gives l.rule) (g.met.R.Rule.none l.rule) (decoded l.a.entries) (decoded l.b.entries) l.a.rows l.b.rows
-      (pointwise cell_cmp (g.R.Rule.gives l.rule) (decoded l.a.entries) (decoded l.b.entries))
+  filling : IsFilling g.T.Scalar.value (g.R.Rule.gives l.rule) (g.met.R.Rule.none l.rule) (decoded l.a.lists.now.entries) (decoded l.b.lists.now.entries) l.a.lists.now.rows l.b.lists.now.rows
+      (pointwise cell_cmp (g.R.Rule.gives l.rule) (decoded l.a.lists.now.entries) (decoded l.b.lists.now.entries))
       l.i l.j l.k l.rows.items l.starts.items l.columns l.values;
 }
 
 abbrev pub decreases-merging : goal.decreases-merging
-decreases-merging g l = (length l.a.rows - l.i) + (length l.b.rows - l.j)
+decreases-merging g l = (length l.a.lists.now.rows - l.i) + (length l.b.lists.now.rows - l.j)

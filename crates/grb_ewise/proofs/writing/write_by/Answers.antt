@@ -1,9 +1,10 @@
-use Rattle.std.proofs.Common.{◌∙◌, ap}
+use Rattle.std.proofs.Common.{◌∙◌, ap, subst}
 use Rattle.std.specs.Prelude.{Some}
 use Rattle.std.specs.Ordering.{nat_cmp}
+use Rattle.grb_core.specs.declared.domain.Domain.{Domain}
 use Rattle.grb_core.specs.Entries.{VectorEntries}
 use Rattle.grb_core.specs.Mask.{is_inside}
-use Rattle.grb_core.specs.Written.{written}
+use Rattle.grb_core.specs.Written.{AccumulatesIn, written}
 use Rattle.grb_kernels.specs.Typed.{entries_of}
 use Rattle.grb_ewise.proofs.Whole.{written_whole, whole-same}
 use Rattle.grb_ewise.proofs.writing.write_by.Goals as goal
@@ -30,4 +31,4 @@ returns-clause-whole g c =
     let mask = c.args.mask.now.vector.entries in
     let made = entries_of tv c.in_ok-entries.entries.indices.items c.in_ok-entries.entries.values.items in
     whole-same g.T.Scalar.domain w.size made (written nat_cmp (is_inside nat_cmp d.structure d.comp (Some mask)) d.replace c.args.accum w.entries t.entries) (returns-clause-entries g c)
-    (written_whole (is_inside nat_cmp d.structure d.comp (Some mask)) d.replace c.args.accum g.T.Scalar.domain w t c.lend-2.ensures.whole c.lend-3.ensures.whole c.requires.output_domain c.requires.computed_domain c.requires.sizes c.requires.accum_domain)
+    (written_whole (is_inside nat_cmp d.structure d.comp (Some mask)) d.replace c.args.accum g.T.Scalar.domain w t c.lend-2.ensures.whole c.lend-3.ensures.whole c.requires.output_domain (c.requires.computed.domain ∙ c.requires.output_domain) c.requires.computed.same_size (subst (λ (d : Domain). AccumulatesIn d c.args.accum) c.requires.output_domain c.requires.output.accumulates))

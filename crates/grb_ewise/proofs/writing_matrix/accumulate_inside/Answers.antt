@@ -7,7 +7,7 @@ use Rattle.grb_ewise.proofs.writing_matrix.accumulate_inside.Goals as goal
 
 pub returns-clause-entries : goal.returns-clause-entries
 returns-clause-entries g c =
-    accumulated_inside cell_cmp cell_cmp_total cell_cmp-IsAntisymmetric c.args.reading.structure c.args.reading.comp (decoded c.args.mask.now.entries)
-    (value_of_op c.args.op) (decoded c.args.output.now.entries) (decoded c.args.computed.now.entries)
+    accumulated_inside cell_cmp cell_cmp_total cell_cmp-IsAntisymmetric c.args.reading.structure c.args.reading.comp (decoded c.args.mask.now.lists.now.entries)
+    (value_of_op c.args.op) (decoded c.args.output.now.lists.now.entries) (decoded c.args.computed.now.lists.now.entries)
     (decoded c.in_ok-inside.inside.entries) (decoded c.in_ok-new.new.entries)
     c.in_ok-inside.ensures.entries c.in_ok-new.ensures.entries

@@ -24,7 +24,7 @@ places-preserved g c =
     record {
       k = omega (arith, c.emit-k.ensures.most, c.places.invariant.k);
       so_far = picked_step name (marked_at tv ms ss) ps i (kept (tv x) (get_or ms q false)) (first_entries tv c.places.k c.places.columns c.places.values)
-          (first_entries tv c.emit-k.result c.emit-k.new.indices c.emit-k.new.values) (picked name (marked_at tv ms ss) ps) inside c.places.invariant.so_far
+          (first_entries tv c.emit-k.result c.emit-k.new.columns c.emit-k.new.values) (picked name (marked_at tv ms ss) ps) inside c.places.invariant.so_far
           (sym (marked-read tv ms ss q x in_marks c.requires.same c.index-sums-at.is)) c.emit-k.ensures.first;
     }
 

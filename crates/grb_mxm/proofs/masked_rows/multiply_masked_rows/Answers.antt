@@ -21,7 +21,7 @@ rows-init g c =
     let s : SemiringParts = record { monoid = g.M.MonoidOver.monoid; op = g.O.Operator.op } in
     let structure = c.args.mask.now.structure in
     let m = decoded c.args.mask.now.lists.now.entries in
-    let a = decoded c.args.a.now.entries in
+    let a = decoded c.args.a.now.lists.now.entries in
     let b = decoded c.args.b.now.lists.now.entries in
     let numbers = c.rows-numbers.result.now in
     let listed = c.rows-numbers.ensures in
@@ -39,7 +39,7 @@ rows-preserved g c =
     let s : SemiringParts = record { monoid = g.M.MonoidOver.monoid; op = g.O.Operator.op } in
     let structure = c.args.mask.now.structure in
     let m = decoded c.args.mask.now.lists.now.entries in
-    let a = decoded c.args.a.now.entries in
+    let a = decoded c.args.a.now.lists.now.entries in
     let b = decoded c.args.b.now.lists.now.entries in
     let numbers = c.rows-numbers.result.now in
     let listed = c.rows-numbers.ensures in
@@ -72,5 +72,5 @@ returns g c =
     record {
       flat = c.rows.invariant.making.flat;
       same = sym c.rows.invariant.making.same;
-      entries = making_ends g.T.Scalar.value (selected_product s c.args.mask.now.structure (Some (decoded c.args.mask.now.lists.now.entries)) (decoded c.args.a.now.entries) (decoded c.args.b.now.lists.now.entries)) numbers (rise_as numbers c.args.mask.now.lists.now.rows listed.list listed.rise) c.rows.place c.rows.rows.items c.rows.starts.items c.rows.columns.items c.rows.values.items c.rows.invariant.making c.rows-test.false;
+      entries = making_ends g.T.Scalar.value (selected_product s c.args.mask.now.structure (Some (decoded c.args.mask.now.lists.now.entries)) (decoded c.args.a.now.lists.now.entries) (decoded c.args.b.now.lists.now.entries)) numbers (rise_as numbers c.args.mask.now.lists.now.rows listed.list listed.rise) c.rows.place c.rows.rows.items c.rows.starts.items c.rows.columns.items c.rows.values.items c.rows.invariant.making c.rows-test.false;
     }

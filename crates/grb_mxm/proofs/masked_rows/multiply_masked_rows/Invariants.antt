@@ -13,6 +13,6 @@ invariant-rows g l = record {
   none_allowed : (p : ℕ) → get_or l.allowed p false ≡ false;
   none : (p : ℕ) → get_or l.marks p false ≡ false;
   clear : HoldUnmarked g.T.Scalar.value (identity_of g.M.MonoidOver.monoid) l.marks l.sums;
-  making : IsMaking g.T.Scalar.value (selected_product (record { monoid = g.M.MonoidOver.monoid; op = g.O.Operator.op }) l.mask.structure (Some (decoded l.mask.lists.now.entries)) (decoded l.a.entries) (decoded l.b.lists.now.entries)) l.numbers l.place
+  making : IsMaking g.T.Scalar.value (selected_product (record { monoid = g.M.MonoidOver.monoid; op = g.O.Operator.op }) l.mask.structure (Some (decoded l.mask.lists.now.entries)) (decoded l.a.lists.now.entries) (decoded l.b.lists.now.entries)) l.numbers l.place
       l.rows.items l.starts.items l.columns.items l.values.items;
 }

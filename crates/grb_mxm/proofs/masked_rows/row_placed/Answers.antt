@@ -7,14 +7,14 @@ use Rattle.grb_mxm.proofs.masked_rows.row_placed.Goals as goal
 
 pub invariant_of-result : goal.invariant_of-result
 invariant_of-result g c =
-    let lists = c.args.lists.now in
+    let lists = c.args.rows.now.lists.now in
     let row = row_of (get_or lists.rows c.args.k 0) (decoded lists.entries) in
     record {
       same = lent-same g.T.Scalar.value c.row_columns.result.now c.of_row.result.now row c.row_columns.ensures.columns c.of_row.ensures;
-      rising = lent-rising g.T.Scalar.value c.row_columns.result.now c.of_row.result.now row c.row_columns.ensures.columns c.of_row.ensures (row_in_order (get_or lists.rows c.args.k 0) (decoded lists.entries) c.requires.ordered);
+      rising = lent-rising g.T.Scalar.value c.row_columns.result.now c.of_row.result.now row c.row_columns.ensures.columns c.of_row.ensures (row_in_order (get_or lists.rows c.args.k 0) (decoded lists.entries) c.args.rows.now.ordered);
     }
 
 pub returns : goal.returns
 returns g c =
-    let lists = c.args.lists.now in
+    let lists = c.args.rows.now.lists.now in
     lent g.T.Scalar.value c.row_columns.result.now c.of_row.result.now (row_of (get_or lists.rows c.args.k 0) (decoded lists.entries)) c.row_columns.ensures.columns c.of_row.ensures

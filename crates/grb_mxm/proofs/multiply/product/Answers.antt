@@ -4,26 +4,26 @@ use Rattle.grb_rows.specs.Cells.{decoded}
 use Rattle.grb_mxm.proofs.WholeProduct.{product_whole}
 use Rattle.grb_mxm.proofs.multiply.product.Goals as goal
 
-pub keep_bools-requires-clause-whole : goal.keep_bools-requires-clause-whole
-keep_bools-requires-clause-whole c =
-    product_whole c.args.semiring c.args.structure _ domain.Bool c.dims-nrows.result.0 c.dims-rows.result.1 c.args.a.now.matrix c.args.b.now.matrix (decoded c.lists.result.now.entries) (decoded c.lists-in-Bool.result.now.entries) _
-    (sym c.in-Bool.is ∙ c.domain.ensures.op) c.requires.a_domain (ap (λ (p : ℕ × ℕ). p.0) c.dims-nrows.ensures.dims) (ap (λ (p : ℕ × ℕ). p.1) c.dims-rows.ensures.dims) c.lists.ensures.entries c.lists-in-Bool.ensures.entries c.in_ok-made-in-Bool.ensures.entries
-    c.lists.ensures.whole c.lists-in-Bool.ensures.whole (sym c.domain.ensures.monoid ∙ c.domain.ensures.op) c.requires.b_domain c.requires.inner
+pub keep_rows-requires-clause-whole : goal.keep_rows-requires-clause-whole
+keep_rows-requires-clause-whole c =
+    product_whole c.args.semiring c.args.structure _ domain.Bool c.dims-nrows.result.0 c.dims-rows.result.1 c.args.a.now.matrix c.args.b.now.matrix (decoded c.lend_matrix.result.lists.now.entries) (decoded c.lend_matrix-in-Bool.result.lists.now.entries) _
+    (sym c.in-Bool.is ∙ c.domain.ensures.op) c.requires.a_domain (ap (λ (p : ℕ × ℕ). p.0) c.dims-nrows.ensures.dims) (ap (λ (p : ℕ × ℕ). p.1) c.dims-rows.ensures.dims) c.lend_matrix.ensures.entries c.lend_matrix-in-Bool.ensures.entries c.in_ok-made-in-Bool.ensures.entries
+    c.lend_matrix.ensures.whole c.lend_matrix-in-Bool.ensures.whole (sym c.domain.ensures.monoid ∙ c.domain.ensures.op) c.requires.b_domain c.requires.inner
 
-pub keep_numbers-requires-clause-whole : goal.keep_numbers-requires-clause-whole
-keep_numbers-requires-clause-whole c =
-    product_whole c.args.semiring c.args.structure _ domain.Uint64 c.dims-nrows.result.0 c.dims-rows.result.1 c.args.a.now.matrix c.args.b.now.matrix (decoded c.lists-in-Uint64.result.now.entries) (decoded c.lists-in-Uint64-2.result.now.entries) _
-    (sym c.in-Uint64.is ∙ c.domain.ensures.op) c.requires.a_domain (ap (λ (p : ℕ × ℕ). p.0) c.dims-nrows.ensures.dims) (ap (λ (p : ℕ × ℕ). p.1) c.dims-rows.ensures.dims) c.lists-in-Uint64.ensures.entries c.lists-in-Uint64-2.ensures.entries c.in_ok-made-in-Uint64.ensures.entries
-    c.lists-in-Uint64.ensures.whole c.lists-in-Uint64-2.ensures.whole (sym c.domain.ensures.monoid ∙ c.domain.ensures.op) c.requires.b_domain c.requires.inner
+pub keep_rows-requires-in-Uint64-clause-whole : goal.keep_rows-requires-in-Uint64-clause-whole
+keep_rows-requires-in-Uint64-clause-whole c =
+    product_whole c.args.semiring c.args.structure _ domain.Uint64 c.dims-nrows.result.0 c.dims-rows.result.1 c.args.a.now.matrix c.args.b.now.matrix (decoded c.lend_matrix-in-Uint64.result.lists.now.entries) (decoded c.lend_matrix-in-Uint64-2.result.lists.now.entries) _
+    (sym c.in-Uint64.is ∙ c.domain.ensures.op) c.requires.a_domain (ap (λ (p : ℕ × ℕ). p.0) c.dims-nrows.ensures.dims) (ap (λ (p : ℕ × ℕ). p.1) c.dims-rows.ensures.dims) c.lend_matrix-in-Uint64.ensures.entries c.lend_matrix-in-Uint64-2.ensures.entries c.in_ok-made-in-Uint64.ensures.entries
+    c.lend_matrix-in-Uint64.ensures.whole c.lend_matrix-in-Uint64-2.ensures.whole (sym c.domain.ensures.monoid ∙ c.domain.ensures.op) c.requires.b_domain c.requires.inner
 
-pub keep_bools-requires-clause-flat : goal.keep_bools-requires-clause-flat
-keep_bools-requires-clause-flat c = c.in_ok-made-in-Bool.ensures.flat
+pub keep_rows-requires-clause-flat : goal.keep_rows-requires-clause-flat
+keep_rows-requires-clause-flat c = c.in_ok-made-in-Bool.ensures.flat
 
-pub keep_bools-requires-clause-same : goal.keep_bools-requires-clause-same
-keep_bools-requires-clause-same c = c.in_ok-made-in-Bool.ensures.same
+pub keep_rows-requires-clause-same : goal.keep_rows-requires-clause-same
+keep_rows-requires-clause-same c = c.in_ok-made-in-Bool.ensures.same
 
-pub keep_numbers-requires-clause-flat : goal.keep_numbers-requires-clause-flat
-keep_numbers-requires-clause-flat c = c.in_ok-made-in-Uint64.ensures.flat
+pub keep_rows-requires-in-Uint64-clause-flat : goal.keep_rows-requires-in-Uint64-clause-flat
+keep_rows-requires-in-Uint64-clause-flat c = c.in_ok-made-in-Uint64.ensures.flat
 
-pub keep_numbers-requires-clause-same : goal.keep_numbers-requires-clause-same
-keep_numbers-requires-clause-same c = c.in_ok-made-in-Uint64.ensures.same
+pub keep_rows-requires-in-Uint64-clause-same : goal.keep_rows-requires-in-Uint64-clause-same
+keep_rows-requires-in-Uint64-clause-same c = c.in_ok-made-in-Uint64.ensures.same

@@ -1,5 +1,5 @@
 use Rattle.std.proofs.Common.{◌<◌, arith, ap, ◌∙◌, length, get_or, set}
-use Rattle.grb_mxm.proofs.RankLemmas.{rise_above}
+use Rattle.grb_ewise.proofs.RankLemmas.{rise_above}
 use Rattle.grb_mxm.proofs.Tables.{table_step}
 use Rattle.grb_mxm.proofs.places.fill_table.Goals as goal
 

@@ -17,31 +17,31 @@ pub rows-init : goal.rows-init
 rows-init g c =
     let tv = g.T.Scalar.value in
     let s : SemiringParts = record { monoid = g.M.MonoidOver.monoid; op = g.O.Operator.op } in
-    let a = decoded c.args.a.now.entries in
+    let a = decoded c.args.a.now.lists.now.entries in
     let b = decoded c.args.b.now.lists.now.entries in
     let numbers = c.rows-numbers.result.now in
     let listed = c.rows-numbers.ensures in
     record {
       none = c.requires.none;
       clear = c.requires.clear;
-      making = making_begins tv (mxm_of s a b) numbers (rise_as numbers c.args.a.now.rows listed.list listed.rise) _ _ _ _ c.new-rows.ensures.items c.new-starts.ensures.items c.new-columns.ensures.items c.new-values.ensures.items
+      making = making_begins tv (mxm_of s a b) numbers (rise_as numbers c.args.a.now.lists.now.rows listed.list listed.rise) _ _ _ _ c.new-rows.ensures.items c.new-starts.ensures.items c.new-columns.ensures.items c.new-values.ensures.items
           (sorted-mxm s a b) (λ i none. no_row-mxm s a b i (listed.all i (subst (λ (m : List ℕ). (k : ℕ) → k < length m → get_or m k 0 ≡ i → ⊥) listed.list none)));
     }
 
 pub multiply_row-count-requires-clause-same : goal.multiply_row-count-requires-clause-same
 multiply_row-count-requires-clause-same g c =
-    lent-same g.T.Scalar.value c.row_columns.result.now c.of_row.result.now (row_of (get_or c.args.a.now.rows c.rows.place 0) (decoded c.args.a.now.entries)) c.row_columns.ensures.columns c.of_row.ensures
+    lent-same g.T.Scalar.value c.row_columns.result.now c.of_row.result.now (row_of (get_or c.args.a.now.lists.now.rows c.rows.place 0) (decoded c.args.a.now.lists.now.entries)) c.row_columns.ensures.columns c.of_row.ensures
 
 pub multiply_row-count-requires-clause-rising : goal.multiply_row-count-requires-clause-rising
 multiply_row-count-requires-clause-rising g c =
-    let row = row_of (get_or c.args.a.now.rows c.rows.place 0) (decoded c.args.a.now.entries) in
-    lent-rising g.T.Scalar.value c.row_columns.result.now c.of_row.result.now row c.row_columns.ensures.columns c.of_row.ensures (row_in_order _ (decoded c.args.a.now.entries) c.requires.ordered)
+    let row = row_of (get_or c.args.a.now.lists.now.rows c.rows.place 0) (decoded c.args.a.now.lists.now.entries) in
+    lent-rising g.T.Scalar.value c.row_columns.result.now c.of_row.result.now row c.row_columns.ensures.columns c.of_row.ensures (row_in_order _ (decoded c.args.a.now.lists.now.entries) c.args.a.now.ordered)
 
 pub rows-preserved : goal.rows-preserved
 rows-preserved g c =
     let tv = g.T.Scalar.value in
     let s : SemiringParts = record { monoid = g.M.MonoidOver.monoid; op = g.O.Operator.op } in
-    let a = decoded c.args.a.now.entries in
+    let a = decoded c.args.a.now.lists.now.entries in
     let b = decoded c.args.b.now.lists.now.entries in
     let numbers = c.rows-numbers.result.now in
     let listed = c.rows-numbers.ensures in
@@ -49,12 +49,12 @@ rows-preserved g c =
     let done = c.multiply_row-count in
     let n = done.result in
     let pushed = c.in_ok-push_row.ensures in
-    let row = row_of (get_or c.args.a.now.rows place 0) a in
+    let row = row_of (get_or c.args.a.now.lists.now.rows place 0) a in
     let whole : length done.new.made_columns ≡ length done.new.made_values = omega arith in
     record {
       none = done.ensures.none;
       clear = done.ensures.clear;
-      making = made_row tv (mxm_of s a b) numbers (rise_as numbers c.args.a.now.rows listed.list listed.rise) place
+      making = made_row tv (mxm_of s a b) numbers (rise_as numbers c.args.a.now.lists.now.rows listed.list listed.rise) place
           c.rows.rows.items c.rows.starts.items c.rows.columns.items c.push_row.new.rows.items c.push_row.new.starts.items c.push_row.new.columns.items (take n done.new.made_columns)
           c.rows.values.items c.push_row.new.values.items (take n done.new.made_values)
           c.rows.invariant.making c.rows-test.true c.push_row.ensures.fit (same_taken n done.new.made_columns done.new.made_values whole)
@@ -68,12 +68,12 @@ rows-preserved g c =
 pub returns : goal.returns
 returns g c =
     let s : SemiringParts = record { monoid = g.M.MonoidOver.monoid; op = g.O.Operator.op } in
-    let a = decoded c.args.a.now.entries in
+    let a = decoded c.args.a.now.lists.now.entries in
     let b = decoded c.args.b.now.lists.now.entries in
     let numbers = c.rows-numbers.result.now in
     let listed = c.rows-numbers.ensures in
     record {
       flat = c.rows.invariant.making.flat;
       same = sym c.rows.invariant.making.same;
-      entries = making_ends g.T.Scalar.value (mxm_of s a b) numbers (rise_as numbers c.args.a.now.rows listed.list listed.rise) c.rows.place c.rows.rows.items c.rows.starts.items c.rows.columns.items c.rows.values.items c.rows.invariant.making c.rows-test.false;
+      entries = making_ends g.T.Scalar.value (mxm_of s a b) numbers (rise_as numbers c.args.a.now.lists.now.rows listed.list listed.rise) c.rows.place c.rows.rows.items c.rows.starts.items c.rows.columns.items c.rows.values.items c.rows.invariant.making c.rows-test.false;
     }

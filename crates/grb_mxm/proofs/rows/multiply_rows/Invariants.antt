@@ -11,6 +11,6 @@ abbrev pub invariant-rows : goal.invariant-rows
 invariant-rows g l = record {
   none : (w : ℕ) → get_or l.words w 0 ≡ 0;
   clear : HoldAll g.T.Scalar.value (identity_of g.M.MonoidOver.monoid) l.sums;
-  making : IsMaking g.T.Scalar.value (mxm_of (record { monoid = g.M.MonoidOver.monoid; op = g.O.Operator.op }) (decoded l.a.entries) (decoded l.b.lists.now.entries)) l.numbers l.place
+  making : IsMaking g.T.Scalar.value (mxm_of (record { monoid = g.M.MonoidOver.monoid; op = g.O.Operator.op }) (decoded l.a.lists.now.entries) (decoded l.b.lists.now.entries)) l.numbers l.place
       l.rows.items l.starts.items l.columns.items l.values.items;
 }

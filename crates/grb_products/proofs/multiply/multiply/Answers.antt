@@ -12,8 +12,8 @@ returns g c =
     let tv = g.T.Scalar.value in
     let u = c.args.u.now in
     c.in_ok-made-2.ensures
-    ∙ mxv_of-products (record { monoid = g.M.MonoidOver.monoid; op = g.O.Operator.op }) (decoded c.args.lists.now.entries) (entries_of tv u.indices.now u.values.now)
-    (λ j. find nat_cmp j (entries_of tv u.indices.now u.values.now)) c.requires.ordered (λ j. refl)
+    ∙ mxv_of-products (record { monoid = g.M.MonoidOver.monoid; op = g.O.Operator.op }) (decoded c.args.rows.now.lists.now.entries) (entries_of tv u.indices.now u.values.now)
+    (λ j. find nat_cmp j (entries_of tv u.indices.now u.values.now)) c.args.rows.now.ordered (λ j. refl)
 
 pub multiply_open-requires-clause-short : goal.multiply_open-requires-clause-short
 multiply_open-requires-clause-short g c = search rules

@@ -11,10 +11,10 @@ keep_bools-requires c =
     let made = c.in_ok-entries-in-Bool.entries in
     let lent = c.lend in
     record {
-      whole = mxv_whole c.args.semiring domain.Bool c.dims-nrows.result.0 c.args.a.now.matrix c.args.u.now.vector (decoded c.lists-lists.result.now.entries)
+      whole = mxv_whole c.args.semiring domain.Bool c.dims-nrows.result.0 c.args.a.now.matrix c.args.u.now.vector (decoded c.lend_matrix.result.lists.now.entries)
           (entries_of (λ (b : Bool). value.Bool b) lent.result.indices.now lent.result.values.now) (entries_of (λ (b : Bool). value.Bool b) made.indices.items made.values.items)
-          c.lists-lists.ensures.whole lent.ensures.whole (sym c.domain.ensures.monoid ∙ c.domain.ensures.op) c.requires.a_domain c.requires.u_domain c.requires.columns
-          (sym c.in-Bool.is ∙ c.domain.ensures.op) (ap (λ p. p.0) c.dims-nrows.ensures.dims) c.lists-lists.ensures.entries lent.ensures.entries
+          c.lend_matrix.ensures.whole lent.ensures.whole (sym c.domain.ensures.monoid ∙ c.domain.ensures.op) c.requires.a_domain c.requires.u_domain c.requires.columns
+          (sym c.in-Bool.is ∙ c.domain.ensures.op) (ap (λ p. p.0) c.dims-nrows.ensures.dims) c.lend_matrix.ensures.entries lent.ensures.entries
           c.in_ok-entries-in-Bool.ensures;
     }
 
@@ -23,9 +23,9 @@ keep_numbers-requires c =
     let made = c.in_ok-entries-in-Uint64.entries in
     let lent = c.lend-in-Uint64 in
     record {
-      whole = mxv_whole c.args.semiring domain.Uint64 c.dims-nrows.result.0 c.args.a.now.matrix c.args.u.now.vector (decoded c.lists-lists.result.now.entries)
+      whole = mxv_whole c.args.semiring domain.Uint64 c.dims-nrows.result.0 c.args.a.now.matrix c.args.u.now.vector (decoded c.lend_matrix-in-Uint64.result.lists.now.entries)
           (entries_of (λ (n : ℕ). value.Uint64 n) lent.result.indices.now lent.result.values.now) (entries_of (λ (n : ℕ). value.Uint64 n) made.indices.items made.values.items)
-          c.lists-lists.ensures.whole lent.ensures.whole (sym c.domain.ensures.monoid ∙ c.domain.ensures.op) c.requires.a_domain c.requires.u_domain c.requires.columns
-          (sym c.in-Uint64.is ∙ c.domain.ensures.op) (ap (λ p. p.0) c.dims-nrows.ensures.dims) c.lists-lists.ensures.entries lent.ensures.entries
+          c.lend_matrix-in-Uint64.ensures.whole lent.ensures.whole (sym c.domain.ensures.monoid ∙ c.domain.ensures.op) c.requires.a_domain c.requires.u_domain c.requires.columns
+          (sym c.in-Uint64.is ∙ c.domain.ensures.op) (ap (λ p. p.0) c.dims-nrows.ensures.dims) c.lend_matrix-in-Uint64.ensures.entries lent.ensures.entries
           c.in_ok-entries-in-Uint64.ensures;
     }

@@ -15,12 +15,12 @@ returns-then-is_worth_opening g c =
     let m = g.M.MonoidOver.monoid in
     let f = g.S.Side.makes g.O.Operator.op in
     let u = c.args.u.now in
-    let a = decoded c.args.lists.now.entries in
+    let a = decoded c.args.rows.now.lists.now.entries in
     let made = c.in_ok-made.made in
     whole_is_bounded (option_map (λ names. names.now) c.args.bound) (pushed_of m f (entries_of tv u.indices.now u.values.now) a) (entries_of tv made.indices.items made.values.items)
     (c.in_ok-made.ensures
     ∙ ap (built_from nat_cmp m) (c.in_ok-picks.ensures.picked f)
-    ∙ built_from-pushed f m (entries_of tv u.indices.now u.values.now) a (holds _ u.rising) (holds _ c.requires.ordered))
+    ∙ built_from-pushed f m (entries_of tv u.indices.now u.values.now) a (holds _ u.rising) (holds _ c.args.rows.now.ordered))
 
 pub returns : goal.returns
 returns g c =
@@ -28,12 +28,12 @@ returns g c =
     let m = g.M.MonoidOver.monoid in
     let f = g.S.Side.makes g.O.Operator.op in
     let u = c.args.u.now in
-    let a = decoded c.args.lists.now.entries in
+    let a = decoded c.args.rows.now.lists.now.entries in
     let made = c.in_ok-made-2.made in
     let picks = c.in_ok-picks.picks in
-    let picked = pushed f (at_numbers c.args.lists.now.rows (entries_of tv picks.places.items picks.values.items)) a in
+    let picked = pushed f (at_numbers c.args.rows.now.lists.now.rows (entries_of tv picks.places.items picks.values.items)) a in
     bounded-same (option_map (λ names. names.now) c.args.bound) (built_from nat_cmp m picked) (pushed_of m f (entries_of tv u.indices.now u.values.now) a)
     (entries_of tv made.indices.items made.values.items)
     (ap (built_from nat_cmp m) (c.in_ok-picks.ensures.picked f)
-    ∙ built_from-pushed f m (entries_of tv u.indices.now u.values.now) a (holds _ u.rising) (holds _ c.requires.ordered))
+    ∙ built_from-pushed f m (entries_of tv u.indices.now u.values.now) a (holds _ u.rising) (holds _ c.args.rows.now.ordered))
     c.in_ok-made-2.ensures

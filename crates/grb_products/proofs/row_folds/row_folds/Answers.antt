@@ -14,9 +14,9 @@ keep_bools-requires c =
     let rows : c.turned_rows-size.result ≡ (if c.args.tran then a.ncols else a.nrows) =
     c.turned_rows-size.ensures ∙ ap (λ n. if c.args.tran then n else c.dims-nrows.result.0) (ap (λ p. p.1) c.dims-nrows.ensures.dims) ∙ ap (λ n. if c.args.tran then a.ncols else n) (ap (λ p. p.0) c.dims-nrows.ensures.dims) in
     record {
-      whole = row_folds_whole c.args.tran c.args.monoid domain.Bool c.turned_rows-size.result a (decoded c.lists-lists.result.now.entries)
-          (entries_of (λ (b : Bool). value.Bool b) made.indices.items made.values.items) c.lists-lists.ensures.whole c.requires.domain
-          (sym c.in-Bool.is ∙ c.domain.ensures ∙ c.lists-lists.ensures.domain) rows c.lists-lists.ensures.entries
+      whole = row_folds_whole c.args.tran c.args.monoid domain.Bool c.turned_rows-size.result a (decoded c.lend_matrix.result.lists.now.entries)
+          (entries_of (λ (b : Bool). value.Bool b) made.indices.items made.values.items) c.lend_matrix.ensures.whole c.requires.domain
+          (sym c.in-Bool.is ∙ c.domain.ensures) rows c.lend_matrix.ensures.entries
           c.in_ok-entries-in-Bool.ensures;
     }
 
@@ -27,8 +27,8 @@ keep_numbers-requires c =
     let rows : c.turned_rows-size.result ≡ (if c.args.tran then a.ncols else a.nrows) =
     c.turned_rows-size.ensures ∙ ap (λ n. if c.args.tran then n else c.dims-nrows.result.0) (ap (λ p. p.1) c.dims-nrows.ensures.dims) ∙ ap (λ n. if c.args.tran then a.ncols else n) (ap (λ p. p.0) c.dims-nrows.ensures.dims) in
     record {
-      whole = row_folds_whole c.args.tran c.args.monoid domain.Uint64 c.turned_rows-size.result a (decoded c.lists-lists.result.now.entries)
-          (entries_of (λ (n : ℕ). value.Uint64 n) made.indices.items made.values.items) c.lists-lists.ensures.whole c.requires.domain
-          (sym c.in-Uint64.is ∙ c.domain.ensures ∙ c.lists-lists.ensures.domain) rows c.lists-lists.ensures.entries
+      whole = row_folds_whole c.args.tran c.args.monoid domain.Uint64 c.turned_rows-size.result a (decoded c.lend_matrix-in-Uint64.result.lists.now.entries)
+          (entries_of (λ (n : ℕ). value.Uint64 n) made.indices.items made.values.items) c.lend_matrix-in-Uint64.ensures.whole c.requires.domain
+          (sym c.in-Uint64.is ∙ c.domain.ensures) rows c.lend_matrix-in-Uint64.ensures.entries
           c.in_ok-entries-in-Uint64.ensures;
     }

@@ -16,7 +16,7 @@ rows-preserved g c =
     record {
       k = omega (arith, c.emit-k.ensures.most);
       so_far = row_step (λ i. f (row_of i a)) rows c.rows.place (kept (tv c.row-value.result.0) c.row-value.result.1)
-          (first_entries tv c.rows.k c.rows.indices c.rows.results) (first_entries tv c.emit-k.result c.emit-k.new.indices c.emit-k.new.values)
+          (first_entries tv c.rows.k c.rows.indices c.rows.results) (first_entries tv c.emit-k.result c.emit-k.new.columns c.emit-k.new.values)
           (map_on rows (λ i. f (row_of i a))) c.rows-test.true c.rows.invariant.so_far
           (c.row-value.ensures
           ∙ ap f (lent tv c.row_columns.result.now c.of_row.result.now (row_of (get_or c.args.lists.now.rows c.rows.place 0) a) c.row_columns.ensures.columns c.of_row.ensures)

@@ -1,11 +1,11 @@
 use Rattle.std.proofs.Common.{◌≡◌, ℕ, List, ◌++◌}
-use Rattle.grb_script.specs.declared.command.Numbered.{Numbered}
+use Rattle.grb_script.specs.declared.command.NumberedCommand.{NumberedCommand}
 use Rattle.grb_run.specs.Loads.{AreSteps}
 use Rattle.grb_run.proofs.loads.steps_of.Given as goal
 
 abbrev pub invariant-loop-asked : goal.invariant-loop-asked
 invariant-loop-asked g l = record {
-  before : List Numbered;
+  before : List NumberedCommand;
   are : l.fn.commands.items ≡ before ++ l.asked-iterator.rest.items;
   loaded : AreSteps (g.S.Source.file_bytes l.initial.source) before l.steps.items;
   faults : g.S.Source.faults l.source ≡ g.S.Source.faults l.initial.source;

@@ -1,7 +1,7 @@
 use Rattle.std.proofs.Common.{◌≡◌, List, [], ◌∷◌, ◌++◌, map, refl, sym, ap, subst, ◌∙◌, append_assoc, rules}
 use Rattle.std.proofs.lemmas.Result.{err_from_is_err_and}
 use Rattle.std.proofs.lemmas.List.{map-append}
-use Rattle.grb_script.specs.declared.command.Numbered.{Numbered}
+use Rattle.grb_script.specs.declared.command.NumberedCommand.{NumberedCommand}
 use Rattle.grb_run.specs.declared.loads.Step.{Step}
 use Rattle.grb_run.specs.Loads.{AreSteps, AreThreadSteps}
 use Rattle.grb_run.proofs.LoadLemmas.{AreThreadSteps-push, AreSteps-of, IsWhyNotLoaded-of, why_one}

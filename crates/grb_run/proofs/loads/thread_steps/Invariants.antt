@@ -1,11 +1,11 @@
 use Rattle.std.proofs.Common.{◌≡◌, ℕ, List, ◌++◌, map}
-use Rattle.grb_script.specs.declared.command.Numbered.{Numbered}
+use Rattle.grb_script.specs.declared.command.NumberedCommand.{NumberedCommand}
 use Rattle.grb_run.specs.Loads.{AreThreadSteps}
 use Rattle.grb_run.proofs.loads.thread_steps.Given as goal
 
 abbrev pub invariant-loop-commands : goal.invariant-loop-commands
 invariant-loop-commands g l = record {
-  before : List (List Numbered);
+  before : List (List NumberedCommand);
   are : map (λ asked. asked.items) l.fn.threads.items ≡ before ++ map (λ asked. asked.items) l.commands-iterator.rest.items;
   loaded : AreThreadSteps (g.S.Source.file_bytes l.initial.source) before (map (λ more. more.items) l.all.items);
   faults : g.S.Source.faults l.source ≡ g.S.Source.faults l.initial.source;

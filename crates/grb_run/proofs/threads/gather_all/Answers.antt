@@ -3,7 +3,7 @@ use Rattle.std.specs.Prelude.{All, IfOk, Result, Ok, Err}
 use Rattle.std.specs.declared.alloc.AllocError.{AllocError}
 use Rattle.std.proofs.lemmas.List.Elements.{All-tail}
 use Rattle.grb_context.specs.Known.{IsPassOf}
-use Rattle.grb_run.specs.declared.threads.Ended.{Ended}
+use Rattle.grb_run.specs.declared.threads.FinishedSection.{FinishedSection}
 use Rattle.grb_run.proofs.ThreadLemmas.{AreGathered-next}
 use Rattle.grb_run.proofs.threads.gather_all.Goals as goal
 
@@ -13,7 +13,7 @@ loop-one-preserved c =
     record {
       main = c.gather.ensures.main;
       passes =
-          All-tail (λ (one : Result Ended AllocError). IfOk one (λ (ended : Ended). IsPassOf c.args.context.now ended.pass)) (Ok c.in_ok-one.field-0) c.next.new.self.rest.items
-          (subst (All (λ (one : Result Ended AllocError). IfOk one (λ (ended : Ended). IsPassOf c.args.context.now ended.pass))) here c.loop-one.invariant.passes);
+          All-tail (λ (one : Result FinishedSection AllocError). IfOk one (λ (ended : FinishedSection). IsPassOf c.args.context.now ended.pass)) (Ok c.in_ok-one.field-0) c.next.new.self.rest.items
+          (subst (All (λ (one : Result FinishedSection AllocError). IfOk one (λ (ended : FinishedSection). IsPassOf c.args.context.now ended.pass))) here c.loop-one.invariant.passes);
       gathered = AreGathered-next _ _ _ _ _ _ _ _ _ _ _ here c.in_ok-gather.ensures.gathered c.loop-one.invariant.gathered;
     }

@@ -3,14 +3,14 @@ use Rattle.std.specs.Prelude.{All, Result}
 use Rattle.std.specs.declared.alloc.AllocError.{AllocError}
 use Rattle.std.specs.declared.thread.PromisedHandle.{PromisedHandle}
 use Rattle.grb_context.specs.Known.{IsPassOf}
-use Rattle.grb_run.specs.declared.threads.Asked.{Asked}
-use Rattle.grb_run.specs.declared.threads.Ended.{Ended}
+use Rattle.grb_run.specs.declared.threads.ThreadPromise.{ThreadPromise}
+use Rattle.grb_run.specs.declared.threads.FinishedSection.{FinishedSection}
 use Rattle.grb_run.specs.Threads.{AreAsked}
 use Rattle.grb_run.proofs.threads.start_all.Given as goal
 
 abbrev pub invariant-loop-job : goal.invariant-loop-job
 invariant-loop-job g l = record {
   passes : All (λ job. IsPassOf l.context job.pass) l.job-iterator.rest.items;
-  asked : (more : List (PromisedHandle (Result Ended AllocError) Asked)) → AreAsked l.context l.job-iterator.rest.items more
+  asked : (more : List (PromisedHandle (Result FinishedSection AllocError) ThreadPromise)) → AreAsked l.context l.job-iterator.rest.items more
       → AreAsked l.context l.fn.jobs.items (l.running.items ++ more);
 }

@@ -1,5 +1,8 @@
+use Rattle.std.proofs.Common.{subst}
+use Rattle.grb_state.specs.Operation.{AreAssembled}
 use Rattle.grb_state.specs.State.{stored}
-use Rattle.grb_state.proofs.Lent.{if_ok, if_both-0, if_both-1, held_output_matrix, add_matrix-is, mult_matrix-is, add_matrix-tests, mult_matrix-tests, matrix_first-there, matrix_second-there, matrix_mask-there, matrix_are, matrix_first-same, matrix_second-same, lent_matrix_mask-same, lent_matrix_entries, add_matrix-left, mult_matrix-left}
+use Rattle.grb_state.proofs.Lent.{if_ok, held_output_matrix, add_matrix-is, mult_matrix-is, add_matrix-tests, mult_matrix-tests, matrix_first-there, matrix_second-there, matrix_mask-there, matrix_are, lent_matrix_entries, add_matrix-left, mult_matrix-left}
+use Rattle.grb_state.proofs.Premises.{ewise_matrix_output, ewise_matrix_first, ewise_matrix_second}
 use Rattle.grb_state.proofs.matrix_operations.elementwise_matrix.Goals as goal
 
 pub lent-output-requires : goal.lent-output-requires
@@ -20,55 +23,10 @@ lent-second-requires c =
     let f = c.in-EwiseAddMatrix in let tests = add_matrix-tests (stored c.args.matrices.now c.args.vectors.now) c.args.call.now c.args.c f.c f.mask f.accum f.op f.a f.b f.d c.requires.output c.requires.accepted f.is in
     matrix_second-there c.args.matrices.now c.args.vectors.now c.args.c f.mask f.accum f.op f.a f.b tests
 
-pub ewise_add_matrix-requires-clause-accum_domain : goal.ewise_add_matrix-requires-clause-accum_domain
-ewise_add_matrix-requires-clause-accum_domain c =
-    let f = c.in-EwiseAddMatrix in let tests = add_matrix-tests (stored c.args.matrices.now c.args.vectors.now) c.args.call.now c.args.c f.c f.mask f.accum f.op f.a f.b f.d c.requires.output c.requires.accepted f.is in
-    (matrix_are c.args.matrices.now c.args.vectors.now c.args.c f.mask f.accum f.op f.a f.b tests c.lent-output.result.now c.lent-output.ensures).accumulates
-
 pub ewise_add_matrix-requires-clause-op_domain : goal.ewise_add_matrix-requires-clause-op_domain
 ewise_add_matrix-requires-clause-op_domain c =
     let f = c.in-EwiseAddMatrix in let tests = add_matrix-tests (stored c.args.matrices.now c.args.vectors.now) c.args.call.now c.args.c f.c f.mask f.accum f.op f.a f.b f.d c.requires.output c.requires.accepted f.is in
     (matrix_are c.args.matrices.now c.args.vectors.now c.args.c f.mask f.accum f.op f.a f.b tests c.lent-output.result.now c.lent-output.ensures).computes
-
-pub ewise_add_matrix-requires-clause-a_domain : goal.ewise_add_matrix-requires-clause-a_domain
-ewise_add_matrix-requires-clause-a_domain c =
-    let f = c.in-EwiseAddMatrix in let tests = add_matrix-tests (stored c.args.matrices.now c.args.vectors.now) c.args.call.now c.args.c f.c f.mask f.accum f.op f.a f.b f.d c.requires.output c.requires.accepted f.is in
-    (matrix_first-same c.args.matrices.now c.args.vectors.now c.args.c f.mask f.accum f.op f.a f.b tests c.lent-output.result.now c.lent-output.ensures c.lent-first.result.now c.lent-first.ensures).0
-
-pub ewise_add_matrix-requires-clause-a_rows : goal.ewise_add_matrix-requires-clause-a_rows
-ewise_add_matrix-requires-clause-a_rows c =
-    let f = c.in-EwiseAddMatrix in let tests = add_matrix-tests (stored c.args.matrices.now c.args.vectors.now) c.args.call.now c.args.c f.c f.mask f.accum f.op f.a f.b f.d c.requires.output c.requires.accepted f.is in
-    (matrix_first-same c.args.matrices.now c.args.vectors.now c.args.c f.mask f.accum f.op f.a f.b tests c.lent-output.result.now c.lent-output.ensures c.lent-first.result.now c.lent-first.ensures).1
-
-pub ewise_add_matrix-requires-clause-a_columns : goal.ewise_add_matrix-requires-clause-a_columns
-ewise_add_matrix-requires-clause-a_columns c =
-    let f = c.in-EwiseAddMatrix in let tests = add_matrix-tests (stored c.args.matrices.now c.args.vectors.now) c.args.call.now c.args.c f.c f.mask f.accum f.op f.a f.b f.d c.requires.output c.requires.accepted f.is in
-    (matrix_first-same c.args.matrices.now c.args.vectors.now c.args.c f.mask f.accum f.op f.a f.b tests c.lent-output.result.now c.lent-output.ensures c.lent-first.result.now c.lent-first.ensures).2
-
-pub ewise_add_matrix-requires-clause-b_domain : goal.ewise_add_matrix-requires-clause-b_domain
-ewise_add_matrix-requires-clause-b_domain c =
-    let f = c.in-EwiseAddMatrix in let tests = add_matrix-tests (stored c.args.matrices.now c.args.vectors.now) c.args.call.now c.args.c f.c f.mask f.accum f.op f.a f.b f.d c.requires.output c.requires.accepted f.is in
-    (matrix_second-same c.args.matrices.now c.args.vectors.now c.args.c f.mask f.accum f.op f.a f.b tests c.lent-output.result.now c.lent-output.ensures c.lent-second.result.now c.lent-second.ensures).0
-
-pub ewise_add_matrix-requires-clause-b_rows : goal.ewise_add_matrix-requires-clause-b_rows
-ewise_add_matrix-requires-clause-b_rows c =
-    let f = c.in-EwiseAddMatrix in let tests = add_matrix-tests (stored c.args.matrices.now c.args.vectors.now) c.args.call.now c.args.c f.c f.mask f.accum f.op f.a f.b f.d c.requires.output c.requires.accepted f.is in
-    (matrix_second-same c.args.matrices.now c.args.vectors.now c.args.c f.mask f.accum f.op f.a f.b tests c.lent-output.result.now c.lent-output.ensures c.lent-second.result.now c.lent-second.ensures).1
-
-pub ewise_add_matrix-requires-clause-b_columns : goal.ewise_add_matrix-requires-clause-b_columns
-ewise_add_matrix-requires-clause-b_columns c =
-    let f = c.in-EwiseAddMatrix in let tests = add_matrix-tests (stored c.args.matrices.now c.args.vectors.now) c.args.call.now c.args.c f.c f.mask f.accum f.op f.a f.b f.d c.requires.output c.requires.accepted f.is in
-    (matrix_second-same c.args.matrices.now c.args.vectors.now c.args.c f.mask f.accum f.op f.a f.b tests c.lent-output.result.now c.lent-output.ensures c.lent-second.result.now c.lent-second.ensures).2
-
-pub ewise_add_matrix-requires-clause-mask_rows : goal.ewise_add_matrix-requires-clause-mask_rows
-ewise_add_matrix-requires-clause-mask_rows c =
-    let f = c.in-EwiseAddMatrix in let tests = add_matrix-tests (stored c.args.matrices.now c.args.vectors.now) c.args.call.now c.args.c f.c f.mask f.accum f.op f.a f.b f.d c.requires.output c.requires.accepted f.is in
-    if_both-0 _ _ c.lent_mask-mask.result (lent_matrix_mask-same c.args.matrices.now c.args.vectors.now c.args.c f.mask f.accum f.op f.a f.b tests c.lent-output.result.now c.lent-output.ensures (λ m. m.now) c.lent_mask-mask.result c.lent_mask-mask.ensures)
-
-pub ewise_add_matrix-requires-clause-mask_columns : goal.ewise_add_matrix-requires-clause-mask_columns
-ewise_add_matrix-requires-clause-mask_columns c =
-    let f = c.in-EwiseAddMatrix in let tests = add_matrix-tests (stored c.args.matrices.now c.args.vectors.now) c.args.call.now c.args.c f.c f.mask f.accum f.op f.a f.b f.d c.requires.output c.requires.accepted f.is in
-    if_both-1 _ _ c.lent_mask-mask.result (lent_matrix_mask-same c.args.matrices.now c.args.vectors.now c.args.c f.mask f.accum f.op f.a f.b tests c.lent-output.result.now c.lent-output.ensures (λ m. m.now) c.lent_mask-mask.result c.lent_mask-mask.ensures)
 
 pub returns-in-EwiseAddMatrix : goal.returns-in-EwiseAddMatrix
 returns-in-EwiseAddMatrix c =
@@ -93,55 +51,10 @@ lent-second-requires-in-EwiseMultMatrix c =
     let f = c.in-EwiseMultMatrix in let tests = mult_matrix-tests (stored c.args.matrices.now c.args.vectors.now) c.args.call.now c.args.c f.c f.mask f.accum f.op f.a f.b f.d c.requires.output c.requires.accepted f.is in
     matrix_second-there c.args.matrices.now c.args.vectors.now c.args.c f.mask f.accum f.op f.a f.b tests
 
-pub ewise_mult_matrix-requires-clause-accum_domain : goal.ewise_mult_matrix-requires-clause-accum_domain
-ewise_mult_matrix-requires-clause-accum_domain c =
-    let f = c.in-EwiseMultMatrix in let tests = mult_matrix-tests (stored c.args.matrices.now c.args.vectors.now) c.args.call.now c.args.c f.c f.mask f.accum f.op f.a f.b f.d c.requires.output c.requires.accepted f.is in
-    (matrix_are c.args.matrices.now c.args.vectors.now c.args.c f.mask f.accum f.op f.a f.b tests c.lent-output.result.now c.lent-output.ensures).accumulates
-
 pub ewise_mult_matrix-requires-clause-op_domain : goal.ewise_mult_matrix-requires-clause-op_domain
 ewise_mult_matrix-requires-clause-op_domain c =
     let f = c.in-EwiseMultMatrix in let tests = mult_matrix-tests (stored c.args.matrices.now c.args.vectors.now) c.args.call.now c.args.c f.c f.mask f.accum f.op f.a f.b f.d c.requires.output c.requires.accepted f.is in
     (matrix_are c.args.matrices.now c.args.vectors.now c.args.c f.mask f.accum f.op f.a f.b tests c.lent-output.result.now c.lent-output.ensures).computes
-
-pub ewise_mult_matrix-requires-clause-a_domain : goal.ewise_mult_matrix-requires-clause-a_domain
-ewise_mult_matrix-requires-clause-a_domain c =
-    let f = c.in-EwiseMultMatrix in let tests = mult_matrix-tests (stored c.args.matrices.now c.args.vectors.now) c.args.call.now c.args.c f.c f.mask f.accum f.op f.a f.b f.d c.requires.output c.requires.accepted f.is in
-    (matrix_first-same c.args.matrices.now c.args.vectors.now c.args.c f.mask f.accum f.op f.a f.b tests c.lent-output.result.now c.lent-output.ensures c.lent-first-in-EwiseMultMatrix.result.now c.lent-first-in-EwiseMultMatrix.ensures).0
-
-pub ewise_mult_matrix-requires-clause-a_rows : goal.ewise_mult_matrix-requires-clause-a_rows
-ewise_mult_matrix-requires-clause-a_rows c =
-    let f = c.in-EwiseMultMatrix in let tests = mult_matrix-tests (stored c.args.matrices.now c.args.vectors.now) c.args.call.now c.args.c f.c f.mask f.accum f.op f.a f.b f.d c.requires.output c.requires.accepted f.is in
-    (matrix_first-same c.args.matrices.now c.args.vectors.now c.args.c f.mask f.accum f.op f.a f.b tests c.lent-output.result.now c.lent-output.ensures c.lent-first-in-EwiseMultMatrix.result.now c.lent-first-in-EwiseMultMatrix.ensures).1
-
-pub ewise_mult_matrix-requires-clause-a_columns : goal.ewise_mult_matrix-requires-clause-a_columns
-ewise_mult_matrix-requires-clause-a_columns c =
-    let f = c.in-EwiseMultMatrix in let tests = mult_matrix-tests (stored c.args.matrices.now c.args.vectors.now) c.args.call.now c.args.c f.c f.mask f.accum f.op f.a f.b f.d c.requires.output c.requires.accepted f.is in
-    (matrix_first-same c.args.matrices.now c.args.vectors.now c.args.c f.mask f.accum f.op f.a f.b tests c.lent-output.result.now c.lent-output.ensures c.lent-first-in-EwiseMultMatrix.result.now c.lent-first-in-EwiseMultMatrix.ensures).2
-
-pub ewise_mult_matrix-requires-clause-b_domain : goal.ewise_mult_matrix-requires-clause-b_domain
-ewise_mult_matrix-requires-clause-b_domain c =
-    let f = c.in-EwiseMultMatrix in let tests = mult_matrix-tests (stored c.args.matrices.now c.args.vectors.now) c.args.call.now c.args.c f.c f.mask f.accum f.op f.a f.b f.d c.requires.output c.requires.accepted f.is in
-    (matrix_second-same c.args.matrices.now c.args.vectors.now c.args.c f.mask f.accum f.op f.a f.b tests c.lent-output.result.now c.lent-output.ensures c.lent-second-in-EwiseMultMatrix.result.now c.lent-second-in-EwiseMultMatrix.ensures).0
-
-pub ewise_mult_matrix-requires-clause-b_rows : goal.ewise_mult_matrix-requires-clause-b_rows
-ewise_mult_matrix-requires-clause-b_rows c =
-    let f = c.in-EwiseMultMatrix in let tests = mult_matrix-tests (stored c.args.matrices.now c.args.vectors.now) c.args.call.now c.args.c f.c f.mask f.accum f.op f.a f.b f.d c.requires.output c.requires.accepted f.is in
-    (matrix_second-same c.args.matrices.now c.args.vectors.now c.args.c f.mask f.accum f.op f.a f.b tests c.lent-output.result.now c.lent-output.ensures c.lent-second-in-EwiseMultMatrix.result.now c.lent-second-in-EwiseMultMatrix.ensures).1
-
-pub ewise_mult_matrix-requires-clause-b_columns : goal.ewise_mult_matrix-requires-clause-b_columns
-ewise_mult_matrix-requires-clause-b_columns c =
-    let f = c.in-EwiseMultMatrix in let tests = mult_matrix-tests (stored c.args.matrices.now c.args.vectors.now) c.args.call.now c.args.c f.c f.mask f.accum f.op f.a f.b f.d c.requires.output c.requires.accepted f.is in
-    (matrix_second-same c.args.matrices.now c.args.vectors.now c.args.c f.mask f.accum f.op f.a f.b tests c.lent-output.result.now c.lent-output.ensures c.lent-second-in-EwiseMultMatrix.result.now c.lent-second-in-EwiseMultMatrix.ensures).2
-
-pub ewise_mult_matrix-requires-clause-mask_rows : goal.ewise_mult_matrix-requires-clause-mask_rows
-ewise_mult_matrix-requires-clause-mask_rows c =
-    let f = c.in-EwiseMultMatrix in let tests = mult_matrix-tests (stored c.args.matrices.now c.args.vectors.now) c.args.call.now c.args.c f.c f.mask f.accum f.op f.a f.b f.d c.requires.output c.requires.accepted f.is in
-    if_both-0 _ _ c.lent_mask-mask-in-EwiseMultMatrix.result (lent_matrix_mask-same c.args.matrices.now c.args.vectors.now c.args.c f.mask f.accum f.op f.a f.b tests c.lent-output.result.now c.lent-output.ensures (λ m. m.now) c.lent_mask-mask-in-EwiseMultMatrix.result c.lent_mask-mask-in-EwiseMultMatrix.ensures)
-
-pub ewise_mult_matrix-requires-clause-mask_columns : goal.ewise_mult_matrix-requires-clause-mask_columns
-ewise_mult_matrix-requires-clause-mask_columns c =
-    let f = c.in-EwiseMultMatrix in let tests = mult_matrix-tests (stored c.args.matrices.now c.args.vectors.now) c.args.call.now c.args.c f.c f.mask f.accum f.op f.a f.b f.d c.requires.output c.requires.accepted f.is in
-    if_both-1 _ _ c.lent_mask-mask-in-EwiseMultMatrix.result (lent_matrix_mask-same c.args.matrices.now c.args.vectors.now c.args.c f.mask f.accum f.op f.a f.b tests c.lent-output.result.now c.lent-output.ensures (λ m. m.now) c.lent_mask-mask-in-EwiseMultMatrix.result c.lent_mask-mask-in-EwiseMultMatrix.ensures)
 
 pub returns-in-EwiseMultMatrix : goal.returns-in-EwiseMultMatrix
 returns-in-EwiseMultMatrix c =
@@ -150,3 +63,45 @@ returns-in-EwiseMultMatrix c =
     let same_mask = lent_matrix_entries c.args.matrices.now c.args.vectors.now (λ m. m.now) f.mask c.lent_mask-mask-in-EwiseMultMatrix.result c.lent_mask-mask-in-EwiseMultMatrix.ensures in
     if_ok _ _ c.ewise_mult_matrix.result (λ made. mult_matrix-left c.args.matrices.now c.args.vectors.now c.args.call.now c.args.c f.mask f.accum f.op f.a f.b f.d
     c.lent-output.result.now c.lent-first-in-EwiseMultMatrix.result.now c.lent-second-in-EwiseMultMatrix.result.now c.lent-output.ensures c.lent-first-in-EwiseMultMatrix.ensures c.lent-second-in-EwiseMultMatrix.ensures _ same_mask made.matrix is) c.ewise_mult_matrix.ensures.matrix
+
+pub ewise_add_matrix-requires-clause-output : goal.ewise_add_matrix-requires-clause-output
+ewise_add_matrix-requires-clause-output c =
+    let f = c.in-EwiseAddMatrix in
+    let tests = add_matrix-tests (stored c.args.matrices.now c.args.vectors.now) c.args.call.now c.args.c f.c f.mask f.accum f.op f.a f.b f.d c.requires.output c.requires.accepted f.is in
+    let done = subst (AreAssembled c.args.matrices.now c.args.vectors.now) (add_matrix-is (stored c.args.matrices.now c.args.vectors.now) c.args.call.now c.args.c f.c f.mask f.accum f.op f.a f.b f.d c.requires.output c.requires.accepted f.is) c.requires.assembled in
+    ewise_matrix_output c.args.matrices.now c.args.vectors.now c.args.c f.mask f.accum f.op f.a f.b tests done c.lent-output.result.now c.lent-output.ensures c.lent_mask-mask.result c.lent_mask-mask.ensures
+
+pub ewise_add_matrix-requires-clause-a : goal.ewise_add_matrix-requires-clause-a
+ewise_add_matrix-requires-clause-a c =
+    let f = c.in-EwiseAddMatrix in
+    let tests = add_matrix-tests (stored c.args.matrices.now c.args.vectors.now) c.args.call.now c.args.c f.c f.mask f.accum f.op f.a f.b f.d c.requires.output c.requires.accepted f.is in
+    let done = subst (AreAssembled c.args.matrices.now c.args.vectors.now) (add_matrix-is (stored c.args.matrices.now c.args.vectors.now) c.args.call.now c.args.c f.c f.mask f.accum f.op f.a f.b f.d c.requires.output c.requires.accepted f.is) c.requires.assembled in
+    ewise_matrix_first c.args.matrices.now c.args.vectors.now c.args.c f.mask f.accum f.op f.a f.b tests done c.lent-output.result.now c.lent-output.ensures c.lent-first.result.now c.lent-first.ensures
+
+pub ewise_add_matrix-requires-clause-b : goal.ewise_add_matrix-requires-clause-b
+ewise_add_matrix-requires-clause-b c =
+    let f = c.in-EwiseAddMatrix in
+    let tests = add_matrix-tests (stored c.args.matrices.now c.args.vectors.now) c.args.call.now c.args.c f.c f.mask f.accum f.op f.a f.b f.d c.requires.output c.requires.accepted f.is in
+    let done = subst (AreAssembled c.args.matrices.now c.args.vectors.now) (add_matrix-is (stored c.args.matrices.now c.args.vectors.now) c.args.call.now c.args.c f.c f.mask f.accum f.op f.a f.b f.d c.requires.output c.requires.accepted f.is) c.requires.assembled in
+    ewise_matrix_second c.args.matrices.now c.args.vectors.now c.args.c f.mask f.accum f.op f.a f.b tests done c.lent-output.result.now c.lent-output.ensures c.lent-second.result.now c.lent-second.ensures
+
+pub ewise_mult_matrix-requires-clause-output : goal.ewise_mult_matrix-requires-clause-output
+ewise_mult_matrix-requires-clause-output c =
+    let f = c.in-EwiseMultMatrix in
+    let tests = mult_matrix-tests (stored c.args.matrices.now c.args.vectors.now) c.args.call.now c.args.c f.c f.mask f.accum f.op f.a f.b f.d c.requires.output c.requires.accepted f.is in
+    let done = subst (AreAssembled c.args.matrices.now c.args.vectors.now) (mult_matrix-is (stored c.args.matrices.now c.args.vectors.now) c.args.call.now c.args.c f.c f.mask f.accum f.op f.a f.b f.d c.requires.output c.requires.accepted f.is) c.requires.assembled in
+    ewise_matrix_output c.args.matrices.now c.args.vectors.now c.args.c f.mask f.accum f.op f.a f.b tests done c.lent-output.result.now c.lent-output.ensures c.lent_mask-mask-in-EwiseMultMatrix.result c.lent_mask-mask-in-EwiseMultMatrix.ensures
+
+pub ewise_mult_matrix-requires-clause-a : goal.ewise_mult_matrix-requires-clause-a
+ewise_mult_matrix-requires-clause-a c =
+    let f = c.in-EwiseMultMatrix in
+    let tests = mult_matrix-tests (stored c.args.matrices.now c.args.vectors.now) c.args.call.now c.args.c f.c f.mask f.accum f.op f.a f.b f.d c.requires.output c.requires.accepted f.is in
+    let done = subst (AreAssembled c.args.matrices.now c.args.vectors.now) (mult_matrix-is (stored c.args.matrices.now c.args.vectors.now) c.args.call.now c.args.c f.c f.mask f.accum f.op f.a f.b f.d c.requires.output c.requires.accepted f.is) c.requires.assembled in
+    ewise_matrix_first c.args.matrices.now c.args.vectors.now c.args.c f.mask f.accum f.op f.a f.b tests done c.lent-output.result.now c.lent-output.ensures c.lent-first-in-EwiseMultMatrix.result.now c.lent-first-in-EwiseMultMatrix.ensures
+
+pub ewise_mult_matrix-requires-clause-b : goal.ewise_mult_matrix-requires-clause-b
+ewise_mult_matrix-requires-clause-b c =
+    let f = c.in-EwiseMultMatrix in
+    let tests = mult_matrix-tests (stored c.args.matrices.now c.args.vectors.now) c.args.call.now c.args.c f.c f.mask f.accum f.op f.a f.b f.d c.requires.output c.requires.accepted f.is in
+    let done = subst (AreAssembled c.args.matrices.now c.args.vectors.now) (mult_matrix-is (stored c.args.matrices.now c.args.vectors.now) c.args.call.now c.args.c f.c f.mask f.accum f.op f.a f.b f.d c.requires.output c.requires.accepted f.is) c.requires.assembled in
+    ewise_matrix_second c.args.matrices.now c.args.vectors.now c.args.c f.mask f.accum f.op f.a f.b tests done c.lent-output.result.now c.lent-output.ensures c.lent-second-in-EwiseMultMatrix.result.now c.lent-second-in-EwiseMultMatrix.ensures

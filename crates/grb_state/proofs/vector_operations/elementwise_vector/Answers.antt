@@ -1,5 +1,8 @@
+use Rattle.std.proofs.Common.{subst}
+use Rattle.grb_state.specs.Operation.{AreAssembled}
 use Rattle.grb_state.specs.State.{stored}
-use Rattle.grb_state.proofs.Lent.{if_ok, held_output_vector, add_vector-is, mult_vector-is, add_vector-tests, mult_vector-tests, vector_first-there, vector_second-there, vector_mask-there, vector_are, vector_first-same, vector_second-same, lent_vector_mask-same, lent_vector_entries, add_vector-left, mult_vector-left}
+use Rattle.grb_state.proofs.Lent.{if_ok, held_output_vector, add_vector-is, mult_vector-is, add_vector-tests, mult_vector-tests, vector_first-there, vector_second-there, vector_mask-there, vector_are, lent_vector_entries, add_vector-left, mult_vector-left}
+use Rattle.grb_state.proofs.Premises.{ewise_vector_output, ewise_vector_first, ewise_vector_second}
 use Rattle.grb_state.proofs.vector_operations.elementwise_vector.Goals as goal
 
 pub lent-output-requires : goal.lent-output-requires
@@ -20,40 +23,10 @@ lent-second-requires c =
     let f = c.in-EwiseAddVector in let tests = add_vector-tests (stored c.args.matrices.now c.args.vectors.now) c.args.call.now c.args.w f.w f.mask f.accum f.op f.u f.v f.d c.requires.output c.requires.accepted f.is in
     vector_second-there c.args.matrices.now c.args.vectors.now c.args.w f.mask f.accum f.op f.u f.v tests
 
-pub ewise_add_vector-requires-clause-accum_domain : goal.ewise_add_vector-requires-clause-accum_domain
-ewise_add_vector-requires-clause-accum_domain c =
-    let f = c.in-EwiseAddVector in let tests = add_vector-tests (stored c.args.matrices.now c.args.vectors.now) c.args.call.now c.args.w f.w f.mask f.accum f.op f.u f.v f.d c.requires.output c.requires.accepted f.is in
-    (vector_are c.args.matrices.now c.args.vectors.now c.args.w f.mask f.accum f.op f.u f.v tests c.lent-output.result.now c.lent-output.ensures).accumulates
-
 pub ewise_add_vector-requires-clause-op_domain : goal.ewise_add_vector-requires-clause-op_domain
 ewise_add_vector-requires-clause-op_domain c =
     let f = c.in-EwiseAddVector in let tests = add_vector-tests (stored c.args.matrices.now c.args.vectors.now) c.args.call.now c.args.w f.w f.mask f.accum f.op f.u f.v f.d c.requires.output c.requires.accepted f.is in
     (vector_are c.args.matrices.now c.args.vectors.now c.args.w f.mask f.accum f.op f.u f.v tests c.lent-output.result.now c.lent-output.ensures).computes
-
-pub ewise_add_vector-requires-clause-u_domain : goal.ewise_add_vector-requires-clause-u_domain
-ewise_add_vector-requires-clause-u_domain c =
-    let f = c.in-EwiseAddVector in let tests = add_vector-tests (stored c.args.matrices.now c.args.vectors.now) c.args.call.now c.args.w f.w f.mask f.accum f.op f.u f.v f.d c.requires.output c.requires.accepted f.is in
-    (vector_first-same c.args.matrices.now c.args.vectors.now c.args.w f.mask f.accum f.op f.u f.v tests c.lent-output.result.now c.lent-output.ensures c.lent-first.result.now c.lent-first.ensures).0
-
-pub ewise_add_vector-requires-clause-u_size : goal.ewise_add_vector-requires-clause-u_size
-ewise_add_vector-requires-clause-u_size c =
-    let f = c.in-EwiseAddVector in let tests = add_vector-tests (stored c.args.matrices.now c.args.vectors.now) c.args.call.now c.args.w f.w f.mask f.accum f.op f.u f.v f.d c.requires.output c.requires.accepted f.is in
-    (vector_first-same c.args.matrices.now c.args.vectors.now c.args.w f.mask f.accum f.op f.u f.v tests c.lent-output.result.now c.lent-output.ensures c.lent-first.result.now c.lent-first.ensures).1
-
-pub ewise_add_vector-requires-clause-v_domain : goal.ewise_add_vector-requires-clause-v_domain
-ewise_add_vector-requires-clause-v_domain c =
-    let f = c.in-EwiseAddVector in let tests = add_vector-tests (stored c.args.matrices.now c.args.vectors.now) c.args.call.now c.args.w f.w f.mask f.accum f.op f.u f.v f.d c.requires.output c.requires.accepted f.is in
-    (vector_second-same c.args.matrices.now c.args.vectors.now c.args.w f.mask f.accum f.op f.u f.v tests c.lent-output.result.now c.lent-output.ensures c.lent-second.result.now c.lent-second.ensures).0
-
-pub ewise_add_vector-requires-clause-v_size : goal.ewise_add_vector-requires-clause-v_size
-ewise_add_vector-requires-clause-v_size c =
-    let f = c.in-EwiseAddVector in let tests = add_vector-tests (stored c.args.matrices.now c.args.vectors.now) c.args.call.now c.args.w f.w f.mask f.accum f.op f.u f.v f.d c.requires.output c.requires.accepted f.is in
-    (vector_second-same c.args.matrices.now c.args.vectors.now c.args.w f.mask f.accum f.op f.u f.v tests c.lent-output.result.now c.lent-output.ensures c.lent-second.result.now c.lent-second.ensures).1
-
-pub ewise_add_vector-requires-clause-mask_size : goal.ewise_add_vector-requires-clause-mask_size
-ewise_add_vector-requires-clause-mask_size c =
-    let f = c.in-EwiseAddVector in let tests = add_vector-tests (stored c.args.matrices.now c.args.vectors.now) c.args.call.now c.args.w f.w f.mask f.accum f.op f.u f.v f.d c.requires.output c.requires.accepted f.is in
-    lent_vector_mask-same c.args.matrices.now c.args.vectors.now c.args.w f.mask f.accum f.op f.u f.v tests c.lent-output.result.now c.lent-output.ensures (λ m. m.now) c.lent_mask-mask.result c.lent_mask-mask.ensures
 
 pub returns-in-EwiseAddVector : goal.returns-in-EwiseAddVector
 returns-in-EwiseAddVector c =
@@ -78,40 +51,10 @@ lent-second-requires-in-EwiseMultVector c =
     let f = c.in-EwiseMultVector in let tests = mult_vector-tests (stored c.args.matrices.now c.args.vectors.now) c.args.call.now c.args.w f.w f.mask f.accum f.op f.u f.v f.d c.requires.output c.requires.accepted f.is in
     vector_second-there c.args.matrices.now c.args.vectors.now c.args.w f.mask f.accum f.op f.u f.v tests
 
-pub ewise_mult_vector-requires-clause-accum_domain : goal.ewise_mult_vector-requires-clause-accum_domain
-ewise_mult_vector-requires-clause-accum_domain c =
-    let f = c.in-EwiseMultVector in let tests = mult_vector-tests (stored c.args.matrices.now c.args.vectors.now) c.args.call.now c.args.w f.w f.mask f.accum f.op f.u f.v f.d c.requires.output c.requires.accepted f.is in
-    (vector_are c.args.matrices.now c.args.vectors.now c.args.w f.mask f.accum f.op f.u f.v tests c.lent-output.result.now c.lent-output.ensures).accumulates
-
 pub ewise_mult_vector-requires-clause-op_domain : goal.ewise_mult_vector-requires-clause-op_domain
 ewise_mult_vector-requires-clause-op_domain c =
     let f = c.in-EwiseMultVector in let tests = mult_vector-tests (stored c.args.matrices.now c.args.vectors.now) c.args.call.now c.args.w f.w f.mask f.accum f.op f.u f.v f.d c.requires.output c.requires.accepted f.is in
     (vector_are c.args.matrices.now c.args.vectors.now c.args.w f.mask f.accum f.op f.u f.v tests c.lent-output.result.now c.lent-output.ensures).computes
-
-pub ewise_mult_vector-requires-clause-u_domain : goal.ewise_mult_vector-requires-clause-u_domain
-ewise_mult_vector-requires-clause-u_domain c =
-    let f = c.in-EwiseMultVector in let tests = mult_vector-tests (stored c.args.matrices.now c.args.vectors.now) c.args.call.now c.args.w f.w f.mask f.accum f.op f.u f.v f.d c.requires.output c.requires.accepted f.is in
-    (vector_first-same c.args.matrices.now c.args.vectors.now c.args.w f.mask f.accum f.op f.u f.v tests c.lent-output.result.now c.lent-output.ensures c.lent-first-in-EwiseMultVector.result.now c.lent-first-in-EwiseMultVector.ensures).0
-
-pub ewise_mult_vector-requires-clause-u_size : goal.ewise_mult_vector-requires-clause-u_size
-ewise_mult_vector-requires-clause-u_size c =
-    let f = c.in-EwiseMultVector in let tests = mult_vector-tests (stored c.args.matrices.now c.args.vectors.now) c.args.call.now c.args.w f.w f.mask f.accum f.op f.u f.v f.d c.requires.output c.requires.accepted f.is in
-    (vector_first-same c.args.matrices.now c.args.vectors.now c.args.w f.mask f.accum f.op f.u f.v tests c.lent-output.result.now c.lent-output.ensures c.lent-first-in-EwiseMultVector.result.now c.lent-first-in-EwiseMultVector.ensures).1
-
-pub ewise_mult_vector-requires-clause-v_domain : goal.ewise_mult_vector-requires-clause-v_domain
-ewise_mult_vector-requires-clause-v_domain c =
-    let f = c.in-EwiseMultVector in let tests = mult_vector-tests (stored c.args.matrices.now c.args.vectors.now) c.args.call.now c.args.w f.w f.mask f.accum f.op f.u f.v f.d c.requires.output c.requires.accepted f.is in
-    (vector_second-same c.args.matrices.now c.args.vectors.now c.args.w f.mask f.accum f.op f.u f.v tests c.lent-output.result.now c.lent-output.ensures c.lent-second-in-EwiseMultVector.result.now c.lent-second-in-EwiseMultVector.ensures).0
-
-pub ewise_mult_vector-requires-clause-v_size : goal.ewise_mult_vector-requires-clause-v_size
-ewise_mult_vector-requires-clause-v_size c =
-    let f = c.in-EwiseMultVector in let tests = mult_vector-tests (stored c.args.matrices.now c.args.vectors.now) c.args.call.now c.args.w f.w f.mask f.accum f.op f.u f.v f.d c.requires.output c.requires.accepted f.is in
-    (vector_second-same c.args.matrices.now c.args.vectors.now c.args.w f.mask f.accum f.op f.u f.v tests c.lent-output.result.now c.lent-output.ensures c.lent-second-in-EwiseMultVector.result.now c.lent-second-in-EwiseMultVector.ensures).1
-
-pub ewise_mult_vector-requires-clause-mask_size : goal.ewise_mult_vector-requires-clause-mask_size
-ewise_mult_vector-requires-clause-mask_size c =
-    let f = c.in-EwiseMultVector in let tests = mult_vector-tests (stored c.args.matrices.now c.args.vectors.now) c.args.call.now c.args.w f.w f.mask f.accum f.op f.u f.v f.d c.requires.output c.requires.accepted f.is in
-    lent_vector_mask-same c.args.matrices.now c.args.vectors.now c.args.w f.mask f.accum f.op f.u f.v tests c.lent-output.result.now c.lent-output.ensures (λ m. m.now) c.lent_mask-mask-in-EwiseMultVector.result c.lent_mask-mask-in-EwiseMultVector.ensures
 
 pub returns-in-EwiseMultVector : goal.returns-in-EwiseMultVector
 returns-in-EwiseMultVector c =
@@ -120,3 +63,45 @@ returns-in-EwiseMultVector c =
     let same_mask = lent_vector_entries c.args.matrices.now c.args.vectors.now (λ m. m.now) f.mask c.lent_mask-mask-in-EwiseMultVector.result c.lent_mask-mask-in-EwiseMultVector.ensures in
     if_ok _ _ c.ewise_mult_vector.result (λ made. mult_vector-left c.args.matrices.now c.args.vectors.now c.args.call.now c.args.w f.mask f.accum f.op f.u f.v f.d
     c.lent-output.result.now c.lent-first-in-EwiseMultVector.result.now c.lent-second-in-EwiseMultVector.result.now c.lent-output.ensures c.lent-first-in-EwiseMultVector.ensures c.lent-second-in-EwiseMultVector.ensures _ same_mask made.vector is) c.ewise_mult_vector.ensures.vector
+
+pub ewise_add_vector-requires-clause-output : goal.ewise_add_vector-requires-clause-output
+ewise_add_vector-requires-clause-output c =
+    let f = c.in-EwiseAddVector in
+    let tests = add_vector-tests (stored c.args.matrices.now c.args.vectors.now) c.args.call.now c.args.w f.w f.mask f.accum f.op f.u f.v f.d c.requires.output c.requires.accepted f.is in
+    let done = subst (AreAssembled c.args.matrices.now c.args.vectors.now) (add_vector-is (stored c.args.matrices.now c.args.vectors.now) c.args.call.now c.args.w f.w f.mask f.accum f.op f.u f.v f.d c.requires.output c.requires.accepted f.is) c.requires.assembled in
+    ewise_vector_output c.args.matrices.now c.args.vectors.now c.args.w f.mask f.accum f.op f.u f.v tests done c.lent-output.result.now c.lent-output.ensures c.lent_mask-mask.result c.lent_mask-mask.ensures
+
+pub ewise_add_vector-requires-clause-u : goal.ewise_add_vector-requires-clause-u
+ewise_add_vector-requires-clause-u c =
+    let f = c.in-EwiseAddVector in
+    let tests = add_vector-tests (stored c.args.matrices.now c.args.vectors.now) c.args.call.now c.args.w f.w f.mask f.accum f.op f.u f.v f.d c.requires.output c.requires.accepted f.is in
+    let done = subst (AreAssembled c.args.matrices.now c.args.vectors.now) (add_vector-is (stored c.args.matrices.now c.args.vectors.now) c.args.call.now c.args.w f.w f.mask f.accum f.op f.u f.v f.d c.requires.output c.requires.accepted f.is) c.requires.assembled in
+    ewise_vector_first c.args.matrices.now c.args.vectors.now c.args.w f.mask f.accum f.op f.u f.v tests done c.lent-output.result.now c.lent-output.ensures c.lent-first.result.now c.lent-first.ensures
+
+pub ewise_add_vector-requires-clause-v : goal.ewise_add_vector-requires-clause-v
+ewise_add_vector-requires-clause-v c =
+    let f = c.in-EwiseAddVector in
+    let tests = add_vector-tests (stored c.args.matrices.now c.args.vectors.now) c.args.call.now c.args.w f.w f.mask f.accum f.op f.u f.v f.d c.requires.output c.requires.accepted f.is in
+    let done = subst (AreAssembled c.args.matrices.now c.args.vectors.now) (add_vector-is (stored c.args.matrices.now c.args.vectors.now) c.args.call.now c.args.w f.w f.mask f.accum f.op f.u f.v f.d c.requires.output c.requires.accepted f.is) c.requires.assembled in
+    ewise_vector_second c.args.matrices.now c.args.vectors.now c.args.w f.mask f.accum f.op f.u f.v tests done c.lent-output.result.now c.lent-output.ensures c.lent-second.result.now c.lent-second.ensures
+
+pub ewise_mult_vector-requires-clause-output : goal.ewise_mult_vector-requires-clause-output
+ewise_mult_vector-requires-clause-output c =
+    let f = c.in-EwiseMultVector in
+    let tests = mult_vector-tests (stored c.args.matrices.now c.args.vectors.now) c.args.call.now c.args.w f.w f.mask f.accum f.op f.u f.v f.d c.requires.output c.requires.accepted f.is in
+    let done = subst (AreAssembled c.args.matrices.now c.args.vectors.now) (mult_vector-is (stored c.args.matrices.now c.args.vectors.now) c.args.call.now c.args.w f.w f.mask f.accum f.op f.u f.v f.d c.requires.output c.requires.accepted f.is) c.requires.assembled in
+    ewise_vector_output c.args.matrices.now c.args.vectors.now c.args.w f.mask f.accum f.op f.u f.v tests done c.lent-output.result.now c.lent-output.ensures c.lent_mask-mask-in-EwiseMultVector.result c.lent_mask-mask-in-EwiseMultVector.ensures
+
+pub ewise_mult_vector-requires-clause-u : goal.ewise_mult_vector-requires-clause-u
+ewise_mult_vector-requires-clause-u c =
+    let f = c.in-EwiseMultVector in
+    let tests = mult_vector-tests (stored c.args.matrices.now c.args.vectors.now) c.args.call.now c.args.w f.w f.mask f.accum f.op f.u f.v f.d c.requires.output c.requires.accepted f.is in
+    let done = subst (AreAssembled c.args.matrices.now c.args.vectors.now) (mult_vector-is (stored c.args.matrices.now c.args.vectors.now) c.args.call.now c.args.w f.w f.mask f.accum f.op f.u f.v f.d c.requires.output c.requires.accepted f.is) c.requires.assembled in
+    ewise_vector_first c.args.matrices.now c.args.vectors.now c.args.w f.mask f.accum f.op f.u f.v tests done c.lent-output.result.now c.lent-output.ensures c.lent-first-in-EwiseMultVector.result.now c.lent-first-in-EwiseMultVector.ensures
+
+pub ewise_mult_vector-requires-clause-v : goal.ewise_mult_vector-requires-clause-v
+ewise_mult_vector-requires-clause-v c =
+    let f = c.in-EwiseMultVector in
+    let tests = mult_vector-tests (stored c.args.matrices.now c.args.vectors.now) c.args.call.now c.args.w f.w f.mask f.accum f.op f.u f.v f.d c.requires.output c.requires.accepted f.is in
+    let done = subst (AreAssembled c.args.matrices.now c.args.vectors.now) (mult_vector-is (stored c.args.matrices.now c.args.vectors.now) c.args.call.now c.args.w f.w f.mask f.accum f.op f.u f.v f.d c.requires.output c.requires.accepted f.is) c.requires.assembled in
+    ewise_vector_second c.args.matrices.now c.args.vectors.now c.args.w f.mask f.accum f.op f.u f.v tests done c.lent-output.result.now c.lent-output.ensures c.lent-second-in-EwiseMultVector.result.now c.lent-second-in-EwiseMultVector.ensures

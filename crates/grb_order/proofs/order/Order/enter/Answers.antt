@@ -42,9 +42,9 @@ invariant_of-place c =
     let p = c.place.invariant in let v : Standing = c.place.inside.seat.me.0 in let t = c.compare_exchange-found.ensures in
     let near : length v.view.words < c.place.inside.seat.table_id.words = within _ v.view p.sound.looks (subst (λ h. LookedLast h.view) (sym c.place.view_is) c.requires.looked) in
     let own : c.order_word-own.result ≡ order_word v.view.number c.args.index = c.order_word-own.ensures ∙ ap (λ n. order_word n c.args.index) p.number_is in
-    moved _ _ _ _ _ _ _ _ _ (ap (λ z. z.words) t.0)
+    moved _ _ _ _ _ _ _ _ _ _ (ap (λ z. z.words) t.0)
     (c.push_reserved.ensures.items ∙ ap (λ o. c.place.inside.words.items ++ o ∷ []) own) c.push_reserved.ensures.capacity
-    (ap (λ m. m.0) (t.2.0 c.if-found-eq0.true ∙ ap (λ o. seen c.place.inside.seat.me (enters_word v.view o)) own)) (seated_enters _ _ _ _ v p near c.args.index c.requires.index)
+    (ap (λ m. m.0) (t.2.0 c.if-found-eq0.true ∙ ap (λ o. seen c.place.inside.seat.me (enters_word v.view o)) own)) (seated_enters _ _ _ _ _ v p near c.args.index c.requires.index)
 
 pub push_reserved-requires-2 : goal.push_reserved-requires-2
 push_reserved-requires-2 c =
@@ -59,7 +59,7 @@ invariant_of-place-2 c =
     let p = c.place.invariant in let v : Standing = c.place.inside.seat.me.0 in let t = c.compare_exchange-found.ensures in
     let near : length v.view.words < c.place.inside.seat.table_id.words = within _ v.view p.sound.looks (subst (λ h. LookedLast h.view) (sym c.place.view_is) c.requires.looked) in
     let found = t.2.1 c.if-found-eq0.false in
-    moved _ _ _ _ _ _ _ _ _ (ap (λ z. z.words) t.0) c.push_reserved-2.ensures.items c.push_reserved-2.ensures.capacity (ap (λ m. m.0) found.0) (seated_learns _ _ _ _ v p near c.compare_exchange-found.result found.1)
+    moved _ _ _ _ _ _ _ _ _ _ (ap (λ z. z.words) t.0) c.push_reserved-2.ensures.items c.push_reserved-2.ensures.capacity (ap (λ m. m.0) found.0) (seated_learns _ _ _ _ _ v p near c.compare_exchange-found.result found.1)
 
 pub returns-then-found-eq0-clause-sound : goal.returns-then-found-eq0-clause-sound
 returns-then-found-eq0-clause-sound c = (invariant_of-place c).sound

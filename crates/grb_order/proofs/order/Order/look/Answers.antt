@@ -22,7 +22,7 @@ invariant_of-place c =
     let same : c.place.inside.seat.table_id ≡ c.self.inside.table.shared.table_id = ap (λ h. h.table_id) c.place.view_is ∙ c.requires ∙ sym c.self.view_is in
     let wide : c.place.inside.seat.table_id.words ≡ c.self.inside.table.shared.table_id.words = ap (λ z. z.words) same in
     let near : length v.view.words < c.place.inside.seat.table_id.words = omega arith in
-    moved _ _ _ _ _ _ _ _ _ (ap (λ z. z.words) t.0) refl refl (ap (λ m. m.0) (t.2.0 c.if-found-eq0.true)) (seated_vacant _ _ _ _ v p near)
+    moved _ _ _ _ _ _ _ _ _ _ (ap (λ z. z.words) t.0) refl refl (ap (λ m. m.0) (t.2.0 c.if-found-eq0.true)) (seated_vacant _ _ _ _ _ v p near)
 
 pub invariant_of-place-2 : goal.invariant_of-place-2
 invariant_of-place-2 c =
@@ -33,7 +33,7 @@ invariant_of-place-2 c =
     let wide : c.place.inside.seat.table_id.words ≡ c.self.inside.table.shared.table_id.words = ap (λ z. z.words) same in
     let near : length v.view.words < c.place.inside.seat.table_id.words = omega arith in
     let found = t.2.1 c.if-found-eq0.false in
-    moved _ _ _ _ _ _ _ _ _ (ap (λ z. z.words) t.0) c.push_reserved.ensures.items c.push_reserved.ensures.capacity (ap (λ m. m.0) found.0) (seated_learns _ _ _ _ v p near c.load-found.result found.1)
+    moved _ _ _ _ _ _ _ _ _ _ (ap (λ z. z.words) t.0) c.push_reserved.ensures.items c.push_reserved.ensures.capacity (ap (λ m. m.0) found.0) (seated_learns _ _ _ _ _ v p near c.load-found.result found.1)
 
 pub returns-then-found-eq0-clause-sound : goal.returns-then-found-eq0-clause-sound
 returns-then-found-eq0-clause-sound c = (invariant_of-place c).sound

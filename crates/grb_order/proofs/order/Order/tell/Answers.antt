@@ -66,7 +66,7 @@ loop-row-preserved c =
     let is : x ≡ get_or other.words.items (length v.view.words) 0 = heard.1 ∙ (λ k. get_or (i.told k) (sym here k) 0) in
     record {
       table = t.0 ∙ i.table;
-      seated = moved _ _ _ _ _ _ _ _ _ (ap (λ z. z.words) t.0) c.push_reserved.ensures.items c.push_reserved.ensures.capacity (ap (λ m. m.0) heard.0.0) (seated_learns _ _ _ _ v p near x heard.0.1);
+      seated = moved _ _ _ _ _ _ _ _ _ _ (ap (λ z. z.words) t.0) c.push_reserved.ensures.items c.push_reserved.ensures.capacity (ap (λ m. m.0) heard.0.0) (seated_learns _ _ _ _ _ v p near x heard.0.1);
       told = ap (λ m. m.0.told) heard.0.0 ∙ i.told;
       whole = ap (λ m. is_told m.0.view other.words.items) heard.0.0 ∙ is_told-learns v.view other.words.items x lt is ∙ i.whole;
     }

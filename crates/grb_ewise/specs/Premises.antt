@@ -1,0 +1,36 @@
+-- believed: What an operation asks of the objects that it is lent (own): no change waits in any of them, all are of the domain of the
+-- output, the mask aside, and their dimensions fit.
+use Rattle.std.specs.Prelude.{◌≡◌, ℕ, Bool, true, if◌then◌else◌, Option, IfSome}
+use Rattle.std.specs.Borrow.{Bor}
+use Rattle.grb_core.specs.declared.domain.Domain.{Domain}
+use Rattle.grb_core.specs.declared.operator.BinaryOp.{BinaryOp}
+use Rattle.grb_core.specs.Written.{AccumulatesIn}
+use Rattle.grb_sparse.specs.Matrix.{SparseMatrixView}
+use Rattle.grb_sparse.specs.Vector.{SparseVectorView}
+
+-- an output, a mask of its dimensions, and an accumulator of its domain
+pub record IsMatrixOutput (output : SparseMatrixView) (mask : Option (Bor SparseMatrixView)) (accum : Option BinaryOp) : Type 0 where
+  pub assembled : output.assembled ≡ true
+  pub mask_assembled : IfSome mask (λ m. m.now.assembled ≡ true)
+  pub mask_rows : IfSome mask (λ m. m.now.matrix.nrows ≡ output.matrix.nrows)
+  pub mask_columns : IfSome mask (λ m. m.now.matrix.ncols ≡ output.matrix.ncols)
+  pub accumulates : AccumulatesIn output.matrix.domain accum
+
+pub record IsVectorOutput (output : SparseVectorView) (mask : Option (Bor SparseVectorView)) (accum : Option BinaryOp) : Type 0 where
+  pub assembled : output.assembled ≡ true
+  pub mask_assembled : IfSome mask (λ m. m.now.assembled ≡ true)
+  pub mask_size : IfSome mask (λ m. m.now.vector.size ≡ output.vector.size)
+  pub accumulates : AccumulatesIn output.vector.domain accum
+
+-- an input of this domain, with so many rows and columns where it is read transposed, or not
+pub record IsMatrixInput (tran : Bool) (of : Domain) (nrows ncols : ℕ) (m : SparseMatrixView) : Type 0 where
+  pub assembled : m.assembled ≡ true
+  pub domain : m.matrix.domain ≡ of
+  pub rows : (if tran then m.matrix.ncols else m.matrix.nrows) ≡ nrows
+  pub columns : (if tran then m.matrix.nrows else m.matrix.ncols) ≡ ncols
+
+-- an input of this domain and of this size
+pub record IsVectorInput (of : Domain) (size : ℕ) (v : SparseVectorView) : Type 0 where
+  pub assembled : v.assembled ≡ true
+  pub domain : v.vector.domain ≡ of
+  pub same_size : v.vector.size ≡ size

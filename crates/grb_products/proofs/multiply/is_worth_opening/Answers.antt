@@ -1,6 +1,0 @@
-use Prim.{search}
-use Rattle.std.proofs.Common.{rules}
-use Rattle.grb_products.proofs.multiply.is_worth_opening.Goals as goal
-
-pub returns-clause-short : goal.returns-clause-short
-returns-clause-short c = search rules
