@@ -31,7 +31,7 @@ pub fn place_of(indices: &[u32], index: u32) -> Option<usize>
     }
 }
 
-/// The numbers of two lists, each once and in rising order. `AllocError` where memory is refused.
+/// Numbers in rising order, among which all those of two lists stand. `AllocError` where memory is refused.
 ///
 /// Source: own.
 pub fn distinct(alloc: Global, columns: &[u32], others: &[u32]) -> Result<Vec<u32>, AllocError>
