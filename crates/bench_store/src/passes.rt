@@ -190,7 +190,7 @@ fn even_entries(alloc: Global, entries: u32) -> Result<VectorTuples, AllocError>
     for k in 0..u64::from(entries) {
         tuples.push((2 * k, Value::Uint64(2 * k)))?;
     }
-    Ok(VectorTuples::from_vec(tuples))
+    VectorTuples::from_vec(tuples)
 }
 
 /// Turns on a vector that has so many entries.
@@ -281,7 +281,7 @@ fn opening<R: Clock + AllocGlobal>(rt: &R, passes: u32) -> Result<Option<u64>, F
 
 /// The time of a dup of a matrix with these entries in a store.
 fn dup<R: Clock + AllocGlobal>(rt: &R, all: &[Entry], entry: Entry) -> Result<Option<u64>, Fail> {
-    let entries = MatrixTuples::from_vec(Vec::from_slice(rt.alloc(), all)?);
+    let entries = MatrixTuples::from_vec(Vec::from_slice(rt.alloc(), all)?)?;
     let (context, mut passes) = Context::open(rt.alloc(), ROOM, 1)?;
     let mut store = Store::last(&context, &mut passes);
     let a = store.build(entries)?;

@@ -67,7 +67,7 @@ fn tuples_of(alloc: Global, edges: &[Edge], way: Way) -> Result<MatrixTuples, Al
         };
         tuples.push((row, column, Value::Bool(true)))?;
     }
-    Ok(MatrixTuples::from_vec(tuples))
+    MatrixTuples::from_vec(tuples)
 }
 
 /// Marks the vertices to which edges lead from marked ones; whether there was one.

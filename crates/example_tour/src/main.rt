@@ -71,7 +71,7 @@ fn multiply(
     let entries = vec![in alloc; (0, 0, one), (0, 3, one), (1, 6, one)]?;
     let made = context.new_matrix(pass, Domain::Uint64, 2, 10)?;
     let a = made.matrix().unwrap();
-    context.build_matrix(pass, a, MatrixTuples::from_vec(entries), Monoid::Plus)?;
+    context.build_matrix(pass, a, MatrixTuples::from_vec(entries)?, Monoid::Plus)?;
     let made = context.new_vector(pass, Domain::Uint64, 2)?;
     let w = made.vector().unwrap();
     let semiring = Semiring::new(Monoid::Plus, BinaryOp::Times)?;
@@ -113,7 +113,7 @@ fn tour<R: Threads + Sync + Print + AllocGlobal>(rt: &R) -> Result<(), Fail> {
     show(rt, "get 9", context.get_vector(&mut own, v, 9))?;
     show(rt, "get 10", context.get_vector(&mut own, v, 10))?;
 
-    // Two threads, each with a pass of its own. What they store is seen by every call that begins later.
+    // Two threads, each with a pass of its own. The meetings below tell `own` what they stored.
     let (first, second) = join(
         rt,
         || fill(&context, first, v),

@@ -1,9 +1,9 @@
 //! A context: the shared store, its passes, and any call by a pass.
-ghost use Rattle.std.specs.Prelude.{◌≡◌, ◌<◌, ◌≤◌, ◌*◌, All, IfOk};
+ghost use Rattle.std.specs.Prelude.{◌≡◌, ◌<◌, ◌≤◌, ◌*◌, length, All, IfOk};
 ghost use Rattle.grb_order.specs.declared.limits.TheConstants.{MOST_PASSES, MOST_ROOM, MOST_SEATS};
 ghost use Rattle.grb_order.specs.Order.{room_of};
 ghost use Rattle.grb_records.specs.Token.{HasRows};
-ghost use Rattle.grb_context.specs.Known.{AreNew, HasNoStatus, IsPassOf};
+ghost use Rattle.grb_context.specs.Known.{AreNew, HasNoStatus, IsPassOf, known};
 ghost use Rattle.grb_context.specs.Answered.{Answered};
 ghost use Rattle.grb_context.specs.Meeting.{Met};
 
@@ -31,9 +31,9 @@ impl Model for Context {
 
 impl Context {
     /// A context whose history takes `room` calls, from 1 to `MOST_ROOM`, and its passes, from 1 to `MOST_PASSES`, which know no call and
-    /// have no status: the one at index k has the number k. `room` times `passes` is at most `MOST_SEATS`. After this memory is taken for the records of entered calls, for the evaluation of reads and builds, by
-    /// a wait for all objects for what it keeps for other passes, and by `run` for its answers and for its copies of builds' lists.
-    /// `AllocError` where memory is refused.
+    /// have no status: the one at index k has the number k. `room` times `passes` is at most `MOST_SEATS`. After this memory is taken for the
+    /// records of entered calls, for the evaluation of reads and builds, by reads and waits for what they leave to other passes, by `adopt`
+    /// and `prepare`, and by `run` for its answers. `AllocError` where memory is refused.
     pub fn open(alloc: Global, room: u32, passes: u32) -> Result<(Context, Vec<Pass>), AllocError>
         requires room { (0 < room) × (room ≤ MOST_ROOM) }
         requires passes { (0 < passes) × (passes ≤ MOST_PASSES) }
@@ -92,13 +92,15 @@ impl Context {
         self.shared.adopt(pass, other)
     }
 
-    /// Evaluates the calls that the pass knows, where that is dear, so that passes that adopt it have no work of their own with that. It
-    /// learns nothing, changes no answer and no status, and does not wait. Takes memory for the evaluation; where it is refused, less is
-    /// evaluated, and nothing is lost (own).
-    pub fn prepare(&self, pass: &mut Pass)
+    /// Evaluates the calls that the pass knows, where that is dear, so that passes that adopt it have no work of their own with that, and
+    /// answers how many of the calls that it knows are evaluated then. It learns nothing, changes no answer and no status, and does not
+    /// wait. Takes memory for the evaluation; where it is refused, fewer are evaluated, and nothing is lost (own).
+    pub fn prepare(&self, pass: &mut Pass) -> u32
         requires { IsPassOf self.now pass.old }
-        ensures { pass.new ≡ pass.old }
+        ensures pass { IsPassOf self.now pass.new }
+        ensures same { pass.new ≡ record pass.old { made = pass.new.made } }
+        ensures count { result ≤ length (known pass.new) }
     {
-        self.shared.prepare(pass);
+        self.shared.prepare(pass)
     }
 }

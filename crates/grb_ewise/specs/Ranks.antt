@@ -1,4 +1,4 @@
--- inside: no public contract names it. Numbers in rising order (own).
+-- believed: Numbers in rising order (own).
 use Rattle.std.specs.Prelude.{ℕ, ◌<◌, List, length, slice_index}
 
 -- numbers of which each is above those before it

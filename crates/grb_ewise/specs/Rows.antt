@@ -1,4 +1,4 @@
--- inside: no public contract names it. Flat lists of a matrix whose values are of one Rust type (own).
+-- believed: Flat lists of a matrix whose values are of one Rust type (own).
 use Rattle.std.specs.Prelude.{◌≡◌, ℕ, List, IsTrue}
 use Rattle.std.specs.FinMap.{is_sorted}
 use Rattle.grb_core.specs.declared.domain.Domain.{Domain}

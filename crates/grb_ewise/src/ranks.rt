@@ -1,6 +1,6 @@
 //! Columns of a matrix: whether they are few beside its entries, where one stands among others, and numbers from 0 on for those that
 //! store something.
-ghost use Rattle.std.specs.Prelude.{◌≡◌, ◌≢◌, ◌*◌, ◌<◌, ◌≤◌, ◌^◌, ℕ, true, false, length, map, slice_index, All, IfOk, IfSome, IfNone};
+ghost use Rattle.std.specs.Prelude.{◌≡◌, ◌≢◌, ◌⊎◌, ◌*◌, ◌<◌, ◌≤◌, ◌^◌, ℕ, true, false, length, map, slice_index, All, IfOk, IfSome, IfNone};
 ghost use Rattle.std.specs.List.{Contains};
 ghost use Rattle.grb_ewise.specs.Ranks.{Rise};
 
@@ -31,13 +31,14 @@ pub fn place_of(indices: &[u32], index: u32) -> Option<usize>
     }
 }
 
-/// Numbers in rising order, among which all those of two lists stand. `AllocError` where memory is refused.
+/// The numbers of two lists, each once and in rising order. `AllocError` where memory is refused.
 ///
 /// Source: own.
 pub fn distinct(alloc: Global, columns: &[u32], others: &[u32]) -> Result<Vec<u32>, AllocError>
     ensures rising { IfOk result (λ names. Rise names.items) }
     ensures all { IfOk result (λ names. (j : ℕ) → Contains columns.now j → Contains names.items j) }
     ensures others { IfOk result (λ names. (j : ℕ) → Contains others.now j → Contains names.items j) }
+    ensures no_other { IfOk result (λ names. (j : ℕ) → Contains names.items j → Contains columns.now j ⊎ Contains others.now j) }
 {
     let mut names = Vec::new(alloc);
     names.extend_from_slice(columns)?;

@@ -1,4 +1,4 @@
--- inside: no public contract names it. Entries by a mask: own; it says what `is_inside` says, value by value.
+-- believed: Entries by a mask: own; it says what `is_inside` says, value by value.
 use Rattle.std.specs.Prelude.{◌≡◌, refl, Bool, true, false, cond, if◌then◌else◌, Option, None}
 use Rattle.std.specs.Bool.{beq}
 use Rattle.grb_core.specs.declared.value.Value.{Value}

@@ -13,6 +13,10 @@ use grb_kernels::Operator;
 use grb_products::{MatrixRows, MonoidOver};
 use std::alloc::{AllocError, Global};
 
+/// Memory is reserved for at most so many entries of the product for each entry of both matrices. Where the product has more, its lists grow
+/// as they are written.
+const RESERVED_FOR_ONE_ENTRY: usize = 8;
+
 /// The rows that have entries, where each of them begins, and the column and the value of each entry.
 #[derive(Drop)]
 pub(crate) struct MadeRows<T> {
@@ -49,6 +53,31 @@ pub(crate) fn push_row<T: Stored>(
     Ok(())
 }
 
+/// How many products there are, if they are fewer than `most`; else `most`. A product makes one entry of the result, or is added to one.
+fn products_up_to<T: Stored>(a: &MatrixRows<T>, b: &RankedRows<T>, most: usize) -> usize
+    ensures { result ≤ most }
+{
+    let columns = a.lists.columns();
+    let mut count = 0;
+    for i in 0..columns.len() {
+        let row = (&*b).row(columns[i]);
+        count += row.indices.len().min(most - count);
+        if count == most {
+            return most;
+        }
+    }
+    count
+}
+
+/// An empty list, with room for so many elements if that memory is there; else it grows as it is written.
+fn list_with_room<U>(alloc: Global, room: usize) -> Vec<U>
+    ensures { result.items ≡ [] }
+{
+    let mut list = Vec::new(alloc);
+    let _else_it_grows = list.reserve(room);
+    list
+}
+
 /// The product of two matrices, with memory to work in. Takes memory for the result.
 pub(crate) fn multiply_rows<T: Stored + Drop, M: MonoidOver<T>, O: Operator<T>>(
     alloc: Global,
@@ -72,8 +101,10 @@ pub(crate) fn multiply_rows<T: Stored + Drop, M: MonoidOver<T>, O: Operator<T>>(
     let numbers = a.lists.rows();
     let mut rows = Vec::new(alloc);
     let mut starts = Vec::new(alloc);
-    let mut columns = Vec::new(alloc);
-    let mut values = Vec::new(alloc);
+    let most = (a.lists.len() + b.lists.len()).saturating_mul(RESERVED_FOR_ONE_ENTRY);
+    let room = products_up_to(&*a, &*b, most);
+    let mut columns = list_with_room(alloc, room);
+    let mut values = list_with_room(alloc, room);
     'rows: for place in 0..numbers.len() {
         let count = multiply_row::<T, M, O>(
             a.lists.row_columns(place),

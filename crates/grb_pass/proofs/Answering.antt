@@ -269,15 +269,15 @@ refused_by_memory room old new end c kind f reads e no_size unsettled =
     }
 
 -- what a call that only reads answers, where its evaluation may be refused memory
-module _ (room : ℕ) (old now new : Knowing) (end : End) (c : Call) (kind : Kind) (found : Finds room old (Ok end) now) (same : new ≡ record now { settled = new.settled }) where
+module _ (room : ℕ) (old now new : Knowing) (end : End) (c : Call) (kind : Kind) (found : Finds room old (Ok end) now) (same : new ≡ record now { settled = new.settled; made = new.made }) where
   pub explains_evaluated : (r : Result Reply AllocError) → Learns old now → enters c ≡ false → check_of (shapes_of (store_of (known now))) c ≡ Ok kind
       → IfOk r (λ reply. reply ≡ reply_of (store_of (known now)) c) → OnErr r (is_size c ≡ false) → OnErr r (now.settled < length (known now)) → ExplainsAnswer room old new c (result_or r (Err OutOfMemory))
   explains_evaluated (Ok reply) l reads e is no_size unsettled =
-      subst (λ (p : Knowing). ExplainsAnswer room old p c (Ok reply)) (sym same) (explains_alike room old now now.statuses new.settled c (Ok reply) (explains_read room old now end c kind reply l found reads e is))
+      subst (λ (p : Knowing). ExplainsAnswer room old p c (Ok reply)) (sym same) (explains_alike room old now now.statuses new.settled new.made c (Ok reply) (explains_read room old now end c kind reply l found reads e is))
   explains_evaluated (Err error) l reads e is no_size unsettled =
       let few : old.settled < length (known now) = omega (arith, l.settled, unsettled) in
       subst (λ (p : Knowing). ExplainsAnswer room old p c (Err OutOfMemory)) (sym same)
-      (explains_alike room old now now.statuses new.settled c (Err OutOfMemory) (explains_refused room old now c OutOfMemory l (refused_by_memory room old now end c kind found reads e no_size few)))
+      (explains_alike room old now now.statuses new.settled new.made c (Err OutOfMemory) (explains_refused room old now c OutOfMemory l (refused_by_memory room old now end c kind found reads e no_size few)))
 
   pub known_evaluated : (r : Result Reply AllocError) → IsCaughtUp (ground_of (result_or r (Err OutOfMemory))) new
   known_evaluated (Ok reply) = subst (λ (p : Knowing). length (known p) ≡ length p.view.words) (sym same) (known_found room old now end found)

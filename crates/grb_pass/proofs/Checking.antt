@@ -1,23 +1,27 @@
 -- What a check after all known calls found.
-use Rattle.std.proofs.Common.{◌≡◌, Bool, true, false, cond, refl, ap, subst, ◌∙◌, inl, inr}
+use Rattle.std.proofs.Common.{◌≡◌, ◌==◌, Bool, true, false, cond, ◌&&◌, if◌then◌else◌, [], ◌∷◌, refl, ap, subst, ◌∙◌, inl, inr}
 use Rattle.std.specs.Prelude.{◌⊎◌, not, Option, Some, None, Result, Ok, Err}
 use Rattle.std.specs.Option.{option_or}
 use Rattle.grb_core.specs.declared.refusal.Refusal.{Refusal}
-use Rattle.grb_core.specs.declared.refusal.Refusal.TheVariants.{OutputNotEmpty, IndexOutOfBounds, OutOfMemory}
+use Rattle.grb_core.specs.declared.refusal.Refusal.TheVariants.{DomainMismatch, IndexOutOfBounds, OutOfMemory, OutputNotEmpty, UninitializedObject}
 use Rattle.grb_call.specs.declared.call.Call.{Call}
 use Rattle.grb_call.specs.declared.call.Call.TheVariants as call
 use Rattle.grb_call.specs.declared.checking.Kind.{Kind}
 use Rattle.grb_call.specs.declared.checking.Kind.TheVariants.{Build, Enters, Reads}
 use Rattle.grb_call.specs.Kinds.{enters, is_build, is_entry_read, is_size}
-use Rattle.grb_call.specs.Shapes.{ObjectShapes}
-use Rattle.grb_call.specs.Refused.{check_of, is_in_bounds, refused_by_shapes}
+use Rattle.grb_call.specs.declared.ids.Object.TheVariants as object
+use Rattle.grb_call.specs.declared.reply.Reply.TheVariants as reply
+use Rattle.grb_call.specs.Shapes.{ObjectShapes, is_live}
+use Rattle.grb_call.specs.Refused.{check_of, is_in_bounds, is_one_domain, refused_by_shapes}
 use Rattle.grb_call.specs.Store.{Store, shapes_of}
-use Rattle.grb_call.specs.After.{has_old_entries, refused_build, refused}
+use Rattle.grb_call.specs.After.{has_old_entries, refused_build, refused, reply_of}
 use Rattle.grb_call.proofs.ByShapes.{by_check}
 use Rattle.grb_call.proofs.Checked.{refused-err, refused-ok, refused-none, by_shapes-ok}
 use Rattle.grb_call.proofs.KindsChecked.{kind-checked}
 use Rattle.grb_pass.specs.Explains.{ByStore, ground_of}
-use Rattle.grb_pass.specs.Reading.{IsBuildChecked, IsChecked}
+use Rattle.grb_slices.proofs.Freed.{alone}
+use Rattle.grb_slices.proofs.Live.{initialized}
+use Rattle.grb_pass.specs.Reading.{IsBuildChecked, IsChecked, count_call, count_of_output}
 
 -- a call that only reads is no build, and a build asks for no dimensions and reads no entry
 pub reads_no_build : (c : Call) → enters c ≡ false → is_build c ≡ false
@@ -105,3 +109,35 @@ pub checked_build : (s : Store) (c : Call) (in_bounds : Bool) (r : Result (Unit 
 checked_build s c in_bounds (Ok u) e is = refused-ok s c (Build in_bounds) e ∙ is
 checked_build s c in_bounds (Err OutOfMemory) e is = (by_shapes-ok s c (Build in_bounds) e, (kind-checked (shapes_of s) c (Build in_bounds) e).1)
 checked_build s c in_bounds (Err r) e is = (refused-ok s c (Build in_bounds) e ∙ is, by_build (λ (q : Refusal). ground_of (Err q) ≡ ByStore) r refl refl s c is)
+
+-- the call that asks for the count of a build's object is not refused where shapes do not refuse the build
+count_unrefused : (b : Bool) (rest : Option Refusal) → (b && true) ≡ true → rest ≡ None → option_or (if not (b && true) then Some UninitializedObject else rest) None ≡ None
+count_unrefused true rest live none = ap (λ (p : Option Refusal). option_or p None) none
+count_unrefused false rest live none = cc
+
+pub count_accepted : (s : Store) (c : Call) → is_build c ≡ true → refused_by_shapes (shapes_of s) c ≡ None → refused s (count_call c) ≡ None
+count_accepted s (call.BuildMatrix a tuples dup) build none =
+    count_unrefused (is_live (shapes_of s) (object.Matrix a)) (if not (is_one_domain (shapes_of s) (object.Matrix a ∷ []) []) then Some DomainMismatch else None)
+    (initialized (shapes_of s) (call.BuildMatrix a tuples dup) none) (ap (λ (b : Bool). if not b then Some DomainMismatch else None) (alone (shapes_of s) (object.Matrix a)))
+count_accepted s (call.BuildVector v tuples dup) build none =
+    count_unrefused (is_live (shapes_of s) (object.Vector v)) (if not (is_one_domain (shapes_of s) (object.Vector v ∷ []) []) then Some DomainMismatch else None)
+    (initialized (shapes_of s) (call.BuildVector v tuples dup) none) (ap (λ (b : Bool). if not b then Some DomainMismatch else None) (alone (shapes_of s) (object.Vector v)))
+count_accepted s _ build none = cc
+
+-- and its reply is the count
+pub count_replied : (s : Store) (c : Call) → is_build c ≡ true → reply_of s (count_call c) ≡ reply.Count (count_of_output s c)
+count_replied s (call.BuildMatrix a tuples dup) build = refl
+count_replied s (call.BuildVector v tuples dup) build = refl
+count_replied s _ build = cc
+
+-- whether there are entries, by the count
+pub old_entries : (s : Store) (c : Call) → is_build c ≡ true → has_old_entries s c ≡ not (count_of_output s c == 0)
+old_entries s (call.BuildMatrix a tuples dup) build = refl
+old_entries s (call.BuildVector v tuples dup) build = refl
+old_entries s _ build = cc
+
+-- it is a call that only reads, of no size
+pub count_reads : (c : Call) → is_build c ≡ true → (enters (count_call c) ≡ false) × (is_size (count_call c) ≡ false)
+count_reads (call.BuildMatrix a tuples dup) build = (refl, refl)
+count_reads (call.BuildVector v tuples dup) build = (refl, refl)
+count_reads _ build = cc

@@ -15,7 +15,7 @@ use Rattle.grb_pass.specs.Explains.{Answer, ExplainsAnswer, ground_of}
 use Rattle.grb_pass.specs.Learning.{IsReady, Learns, LooksAtEnd}
 use Rattle.grb_pass.proofs.Learnt.{grows_refl}
 use Rattle.grb_pass.proofs.Answering.{grounded_before}
-use Rattle.grb_pass.proofs.Rising.{LooksTried, rising_few, rise_looked, rise_won, rise_lost, rise_before, tried_few, tried_again, looks_number, looks_exact, looks_full, looks_ready}
+use Rattle.grb_pass.proofs.Rising.{LooksTried, rising_few, rise_looked, rise_won, rise_lost, rise_before, tried_few, tried_again, looks_number, looks_exact, looks_full, looks_unshown, looks_ready}
 
 pub counts_look : (room : ℕ) (v : View) (found : Look) (w : View) → Looks room v found w → look_steps found + steps_of v ≡ steps_of w
 counts_look room v (Next word) w l =
@@ -60,6 +60,7 @@ counts_call room old new counts begun own learnt rise =
       rise = rise;
       exact = λ shown left. let n : length new.view.looks ≡ length earlier + 1 = looks_exact room earlier end new shown left rise.looks in omega (arith, counts);
       full = λ full. let n : length new.view.looks ≡ length earlier = looks_full room earlier end new full rise.looks in omega (arith, counts);
+      unshown = λ unshown. let n : length new.view.looks ≡ length earlier = looks_unshown room earlier end new unshown rise.looks in omega (arith, counts);
       few = omega (arith, counts);
       alone = λ just. omega (arith, counts, just);
     }
@@ -91,13 +92,13 @@ abbrev pub AreLost : Knowing → Knowing → Type 0
 AreLost old mid = (earlier : List ℕ) → old.view.looks ≡ earlier ++ length old.view.words ∷ [] → LooksTried earlier old.view mid.view
 
 -- tries of which the last was won
-pub counts_won : (room : ℕ) (old mid new : Knowing) (word : ℕ) → Learns old mid → Counts old mid → Counts mid new → new.view ≡ enters_word mid.view word → length mid.view.words < room → AreLost old mid → CountsTries room old new
-counts_won room old mid new word l first next is left tried =
+pub counts_won : (room : ℕ) (old mid new : Knowing) (word : ℕ) → Learns old mid → Counts old mid → Counts mid new → new.view ≡ enters_word mid.view word → length mid.view.words < room → length (known new) ≡ length new.view.words → AreLost old mid → CountsTries room old new
+counts_won room old mid new word l first next is left shown tried =
     let own : length mid.view.own ≡ length old.view.own = ap length l.own in
     let learnt : length old.view.words ≤ length mid.view.words = learnt_more old mid l in
     let more : length new.view.own ≡ length mid.view.own + 1 = ap (λ (x : View). length x.own) is ∙ length_push mid.view.own (length mid.view.words) in
     let n : length new.view.words ≡ length mid.view.words + 1 = ap (λ (x : View). length x.words) is ∙ length_push mid.view.words word in
-    record { count = counts_then old mid new first next; own = omega arith; learnt = omega arith; rise = λ earlier looks. rise_won room earlier old mid new word l.own (tried earlier looks) left is }
+    record { count = counts_then old mid new first next; own = omega arith; learnt = omega arith; rise = λ earlier looks. rise_won room earlier old mid new word l.own (tried earlier looks) left is shown }
 
 -- a lost try taught a word
 words_lost : (mid lost new : Knowing) (word : ℕ) → lost.view ≡ learns mid.view word → Learns lost new → length mid.view.words < length new.view.words
@@ -125,7 +126,7 @@ lost_again room old mid lost new word c before tried is after looks ready = λ e
     (looks_ready room lost new c looks ready ∙ ap (λ (x : View). x.looks ++ length new.view.words ∷ []) is)
 
 abbrev pub begun : Knowing → Knowing
-begun p = record p { steps = 0 }
+begun p = record p { steps = 0; made = 0 }
 
 learns_begun : (p : Knowing) → Learns p (begun p)
 learns_begun p = record {
@@ -158,6 +159,7 @@ counts_begun room old now new is e =
       rise = record { lost = rise.lost; rising = rise.rising; looks = rise.looks };
       exact = f.exact;
       full = f.full;
+      unshown = f.unshown;
       few = f.few;
       alone = f.alone;
     }

@@ -1,60 +1,88 @@
 -- What a pass has evaluated, as calls are learnt and evaluated.
-use Rattle.std.proofs.Common.{◌≡◌, ℕ, suc, ◌+◌, ◌<◌, ◌≤◌, List, [], ◌∷◌, ◌++◌, length, get_or, take, refl, sym, ap, ◌∙◌, subst, arith, length-append}
-use Rattle.std.specs.Prelude.{Option, Some, None, slice_get}
+use Rattle.std.proofs.Common.{◌≡◌, ℕ, zero, suc, ◌+◌, ◌<◌, ◌≤◌, ◌⊎◌, inl, inr, List, [], ◌∷◌, ◌++◌, length, get_or, take, refl, sym, ap, ◌∙◌, subst, arith, length-append}
+use Rattle.std.specs.Prelude.{IfSome, Option, Some, None, slice_get}
 use Rattle.std.specs.Option.{option_map}
 use Rattle.std.proofs.lemmas.Option.{slice_get-map, slice_get_read, slice_get_within, get_or_from_slice_get}
-use Rattle.std.proofs.lemmas.List.{take-append-le, take_more, take_all, append-nil, length_push}
+use Rattle.std.proofs.lemmas.List.{take_more, append-nil, length_push}
 use Rattle.grb_order.specs.Word.{order_word, number_of}
 use Rattle.grb_order.specs.Order.{room_of}
 use Rattle.grb_records.specs.Token.{Shown}
 use Rattle.grb_call.specs.declared.call.Call.{Call}
 use Rattle.grb_call.specs.Store.{Store, empty_store}
-use Rattle.grb_call.specs.After.{after}
-use Rattle.grb_call.specs.History.{Entry, History, calls_of, after_all, store_of}
+use Rattle.grb_call.specs.History.{Entry, History, calls_of, store_of}
 use Rattle.grb_call.proofs.Counted.{matrices_after_all, vectors_after_all}
-use Rattle.grb_call.proofs.Runs.{after_all-append}
 use Rattle.grb_replay.specs.Partial.{ArePartial, PartialStoresView}
+use Rattle.grb_replay.specs.Reached.{IsReached, IsReachedIn, IsWhole, IsWholeIn, ReachedView}
 use Rattle.grb_replay.proofs.Partial.{partial_more}
+use Rattle.grb_replay.proofs.GoneOver.{reached_more, reached_same, whole_all}
 use Rattle.grb_pass.specs.Known.{Knowing, known, spelled}
 use Rattle.grb_pass.specs.Laws.{Begins}
 use Rattle.grb_pass.specs.Learning.{Enters, Learns}
-use Rattle.grb_pass.specs.Evaluated.{EvaluatedView, IsEvaluatedFor, IsStoreFor}
-use Rattle.grb_state.specs.Evaluated.{IsEvaluated}
-use Rattle.grb_state.specs.State.{RoomyStore}
+use Rattle.grb_pass.specs.Evaluated.{EvaluatedView, IsEvaluatedFor, IsInStep, IsSettledStore, IsStoreFor}
 use Rattle.grb_pass.proofs.Spelling.{length_spelled, calls_of-append, calls_of-spelled, spelled_push, spelled_more}
-
--- more calls, which are not evaluated
-calls_more : (calls more : List Call) (evaluated : ℕ) (s : Store) → IsEvaluated calls evaluated s → IsEvaluated (calls ++ more) evaluated s
-calls_more calls more evaluated s is = record {
-  within = omega (arith, length-append calls more, is.within);
-  store_is = is.store_is ∙ ap (after_all empty_store) (sym (take-append-le evaluated calls more is.within));
-}
 
 pub length-calls_of : (h : History) → length (calls_of h) ≡ length h
 length-calls_of [] = refl
 length-calls_of (e ∷ h) = ap suc (length-calls_of h)
 
-store_more : (old new : Knowing) (state : RoomyStore) (evaluated : ℕ) (more : History) → new.order ≡ old.order → new.settled ≡ old.settled → known new ≡ known old ++ more → IsStoreFor old state evaluated → IsStoreFor new state evaluated
-store_more old new state evaluated more order same is kept =
+-- a store that has gone over calls, where more calls are known that are not gone over
+reached_further : (old new : Knowing) (r : ReachedView) (more : History) → new.order ≡ old.order → known new ≡ known old ++ more → IsReachedIn (room_of old.order) (calls_of (known old)) r → IsReachedIn (room_of new.order) (calls_of (known new)) r
+reached_further old new r more order is at = record {
+  reached = subst (λ (cs : List Call). IsReached cs r) (sym (ap calls_of is ∙ calls_of-append (known old) more)) (reached_more (calls_of (known old)) (calls_of more) r at.reached);
+  roomy = omega (arith, at.roomy, ap room_of order);
+}
+
+store_more : (old new : Knowing) (r : ReachedView) (more : History) → new.order ≡ old.order → new.settled ≡ old.settled → known new ≡ known old ++ more → old.settled ≤ length (known old) → IsStoreFor old r → IsStoreFor new r
+store_more old new r more order same is within at =
     let n : length (known new) ≡ length (known old) + length more = ap length is ∙ length-append (known old) more in
     record {
-      state_is = subst (λ (cs : List Call). IsEvaluated cs evaluated state.store) (sym (ap calls_of is ∙ calls_of-append (known old) more)) (calls_more (calls_of (known old)) (calls_of more) evaluated state.store kept.state_is);
-      room = omega (arith, kept.room, ap room_of order);
-      settled = omega (arith, same, kept.settled);
-      assembled = λ all. kept.assembled (omega (arith, same, n, all));
+      at = reached_further old new r more order is at.at;
+      settled = λ all.
+          let before : IsSettledStore old r = at.settled (omega (arith, all, same, n)) in
+          record { whole = before.whole; all = omega (arith, all, same, within, before.all); assembled = before.assembled };
     }
 
+base_more : (old new : Knowing) (b : Option ReachedView) (more : History) → new.order ≡ old.order → known new ≡ known old ++ more → IfSome b (IsWholeIn (room_of old.order) (calls_of (known old))) → IfSome b (IsWholeIn (room_of new.order) (calls_of (known new)))
+base_more old new (Some r) more order is at = record { at = reached_further old new r more order is at.at; whole = at.whole }
+base_more old new None more order is at = at
+
 evaluated_more : (old new : Knowing) (e : EvaluatedView) (more : History) → new.order ≡ old.order → new.settled ≡ old.settled → known new ≡ known old ++ more → IsEvaluatedFor old e → IsEvaluatedFor new e
-evaluated_more old new e more order settled is kept =
+evaluated_more old new e more order settled is at =
     let same : calls_of (known old) ++ calls_of more ≡ calls_of (known new) = sym (ap calls_of is ∙ calls_of-append (known old) more) in
+    let n : length (known new) ≡ length (known old) + length more = ap length is ∙ length-append (known old) more in
     record {
-      store = store_more old new e.state e.count more order settled is kept.store;
-      objects = subst (λ (cs : List Call). ArePartial cs e.objects) same (partial_more (calls_of (known old)) (calls_of more) e.objects kept.objects);
-      room_is = kept.room_is ∙ sym (ap room_of order);
+      store = store_more old new e.reached more order settled is at.within at.store;
+      base = base_more old new e.base more order is at.base;
+      objects = subst (λ (cs : List Call). ArePartial cs e.objects) same (partial_more (calls_of (known old)) (calls_of more) e.objects at.objects);
+      room_is = at.room_is ∙ sym (ap room_of order);
+      within = omega (arith, settled, at.within, n);
     }
 
 pub evaluated_learns : (old new : Knowing) (e : EvaluatedView) → new.order ≡ old.order → Learns old new → IsEvaluatedFor old e → IsEvaluatedFor new e
 evaluated_learns old new e order l kept = evaluated_more old new e l.learnt order l.settled l.known_is kept
+
+pub in_step_learns : (old new : Knowing) (e : EvaluatedView) → new.order ≡ old.order → Learns old new → new.made ≡ old.made → IsInStep old e → IsInStep new e
+in_step_learns old new e order l made kept = record { evaluated = evaluated_learns old new e order l kept.evaluated; made = made ∙ kept.made }
+
+-- where as many calls are noted as were made
+pub evaluated_noted : (p : Knowing) (e : EvaluatedView) (made : ℕ) → IsEvaluatedFor p e → IsEvaluatedFor (record p { made = made }) e
+evaluated_noted p e made is = record {
+  store = record {
+    at = is.store.at;
+    settled = λ all. let before : IsSettledStore p e.reached = is.store.settled all in record { whole = before.whole; all = before.all; assembled = before.assembled };
+  };
+  base = is.base;
+  objects = is.objects;
+  room_is = is.room_is;
+  within = is.within;
+}
+
+pub in_step_noted : (p q : Knowing) (e : EvaluatedView) → q ≡ record p { made = e.made } → IsEvaluatedFor p e → IsInStep q e
+in_step_noted p q e is evaluated = subst (λ (k : Knowing). IsInStep k e) (sym is) (record { evaluated = evaluated_noted p e e.made evaluated; made = refl })
+
+-- where all known calls are settled, they were all made
+pub all_made : (p : Knowing) (e : EvaluatedView) → IsEvaluatedFor p e → length (known p) ≤ p.settled → IsWhole e.reached × (length (known p) ≤ e.reached.count)
+all_made p e is all = let at : IsSettledStore p e.reached = is.store.settled all in (at.whole, at.all)
 
 -- a try to enter a record: it was entered behind all known ones, or another pass's word was learnt
 pub tried : (room : ℕ) (old new : Knowing) (token : Shown) (back : Option Shown) → Enters room token old back new → length old.shown ≡ length old.view.words → (more : History) × (known new ≡ known old ++ more)
@@ -74,8 +102,9 @@ evaluated_tried room old new token e back order same is all kept =
     let more : (h : History) × (known new ≡ known old ++ h) = tried room old new token back is all in
     evaluated_more old new e more.0 order same more.1 kept
 
-after_all-push : (s : Store) (calls : List Call) (c : Call) → after_all s (calls ++ c ∷ []) ≡ after (after_all s calls) c
-after_all-push s calls c = after_all-append s calls (c ∷ [])
+pub in_step_tried : (room : ℕ) (old new : Knowing) (token : Shown) (e : EvaluatedView) (back : Option Shown) → new.order ≡ old.order → new.settled ≡ old.settled → new.made ≡ old.made → Enters room token old back new
+    → length old.shown ≡ length old.view.words → IsInStep old e → IsInStep new e
+in_step_tried room old new token e back order same made is all kept = record { evaluated = evaluated_tried room old new token e back order same is all kept.evaluated; made = made ∙ kept.made }
 
 pub known_within : (p : Knowing) (k : ℕ) → length p.shown ≤ length p.view.words → k < length (known p) → k < length p.shown
 known_within p k few lt = let n : length (known p) ≡ length p.shown = length_spelled p.view.words p.shown few in omega (arith, lt, n)
@@ -86,33 +115,29 @@ call_known p k t few lt is =
     ap (λ (cs : List Call). slice_get cs k) (calls_of-spelled p.view.words p.shown few) ∙ slice_get-map (λ (x : Shown). x.call) p.shown k
     ∙ ap (option_map (λ (x : Shown). x.call)) (slice_get_read p.shown (length p.shown) k t refl lt is)
 
--- one more call evaluated
-pub evaluated_next : (calls : List Call) (evaluated : ℕ) (s : Store) (c : Call) → IsEvaluated calls evaluated s → slice_get calls evaluated ≡ Some c → IsEvaluated calls (evaluated + 1) (after s c)
-evaluated_next calls evaluated s c is at =
-    let near : evaluated < length calls = slice_get_within calls evaluated c at in
-    let here : Call = get_or calls evaluated c in
-    record {
-      within = omega (arith, near);
-      store_is =
-          ap (after s) (sym (get_or_from_slice_get calls evaluated c c at)) ∙ ap (λ (t : Store). after t here) is.store_is ∙ sym (after_all-push empty_store (take evaluated calls) here)
-          ∙ ap (after_all empty_store) (sym (take_more calls evaluated c near));
-    }
+-- all calls made, in a store that lacks no object
+pub store_known : (p : Knowing) (r : ReachedView) → IsStoreFor p r → IsWhole r → length (known p) ≤ r.count → r.state.store ≡ store_of (known p)
+store_known p r is whole all = whole_all (calls_of (known p)) r is.at.reached whole (omega (arith, all, length-calls_of (known p)))
 
--- one more call evaluated by a pass
-pub store_next : (p : Knowing) (before state : RoomyStore) (evaluated : ℕ) (c : Call) → IsStoreFor p before evaluated → slice_get (calls_of (known p)) evaluated ≡ Some c → state.store ≡ after before.store c → state.room + 1 ≡ before.room → IsStoreFor p state (evaluated + 1)
-store_next p before state evaluated c kept at is room = record {
-  state_is = subst (λ (s : Store). IsEvaluated (calls_of (known p)) (evaluated + 1) s) (sym is) (evaluated_next (calls_of (known p)) evaluated before.store c kept.state_is at);
-  room = omega (arith, kept.room, room);
-  settled = omega (arith, kept.settled);
-  assembled = λ all. let n : length (calls_of (known p)) ≡ length (known p) = length-calls_of (known p) in
-      let near : evaluated < length (calls_of (known p)) = slice_get_within (calls_of (known p)) evaluated c at in absurd (omega (arith, all, kept.settled));
-}
+-- no more calls are gone over than known
+pub count_within : (p : Knowing) (r : ReachedView) → IsStoreFor p r → r.count ≤ length (known p)
+count_within p r is = omega (arith, is.at.reached.within, length-calls_of (known p))
 
--- all calls evaluated
-pub store_evaluated : (p : Knowing) (state : RoomyStore) (evaluated : ℕ) → IsStoreFor p state evaluated → length (known p) ≤ evaluated → state.store ≡ store_of (known p)
-store_evaluated p state evaluated kept all =
-    let calls : List Call = calls_of (known p) in let n : length calls ≡ length (known p) = length-calls_of (known p) in
-    kept.state_is.store_is ∙ ap (after_all empty_store) (take_all evaluated calls (omega arith))
+le_or_lt : (m n : ℕ) → (m ≤ n) ⊎ (n < m)
+le_or_lt zero n = inl (omega arith)
+le_or_lt (suc m) zero = inr (omega arith)
+le_or_lt (suc m) (suc n) = elim (le_or_lt m n) [
+  | inl h ↦ inl (omega (arith, h))
+  | inr h ↦ inr (omega (arith, h))
+]
+
+-- where not all known calls are made in it, not all are settled
+pub unsettled : (p : Knowing) (r : ReachedView) → IsStoreFor p r → (IsWhole r → length (known p) ≤ r.count → ⊥) → p.settled < length (known p)
+unsettled p r is left = by (le_or_lt (length (known p)) p.settled)
+  where
+    by : (length (known p) ≤ p.settled) ⊎ (p.settled < length (known p)) → p.settled < length (known p)
+    by (inl all) = let at : IsSettledStore p r = is.settled all in absurd (left at.whole at.all)
+    by (inr less) = less
 
 -- one more call lent
 pub lent_next : (calls : List Call) (at : ℕ) (c : Call) (lent : List Call) → slice_get calls at ≡ Some c → lent ≡ take at calls → lent ++ c ∷ [] ≡ take (at + 1) calls
@@ -132,22 +157,24 @@ module _ (p : Knowing) (s : Store) (is : s ≡ store_of (known p)) where
       let most : length (store_of (known p)).vectors ≤ 0 + length (calls_of (known p)) = vectors_after_all empty_store (calls_of (known p)) in
       subst (λ (t : Store). length t.vectors ≤ length (known p)) (sym is) (omega (arith, most, length-calls_of (known p)))
 
+-- another store in place of the one that it goes on with
+pub store_in : (p : Knowing) (e : EvaluatedView) (now : EvaluatedView) → IsEvaluatedFor p e → IsStoreFor p now.reached → IfSome now.base (IsWholeIn (room_of p.order) (calls_of (known p))) → now.objects ≡ e.objects → IsEvaluatedFor p now
+store_in p e now is store base objects = record {
+  store = store;
+  base = base;
+  objects = subst (λ (o : PartialStoresView). ArePartial (calls_of (known p)) o) (sym objects) is.objects;
+  room_is = ap (λ (o : PartialStoresView). o.room) objects ∙ is.room_is;
+  within = is.within;
+}
+
 -- what another pass has evaluated, where what it knows begins what this one knows
-pub taken_over : (p q : Knowing) (e f now : EvaluatedView) → Begins (known q) (known p) → IsEvaluatedFor p e → IsEvaluatedFor q f → e.count < f.count → now.count ≡ f.count → now.state.store ≡ f.state.store
-    → room_of p.order ≤ now.state.room + f.count → now.objects ≡ e.objects → IsEvaluatedFor p now
-taken_over p q e f now begins mine theirs less count same room objects =
-    let n : length (known p) ≡ length (known q) + length begins.0 = ap length begins.1 ∙ length-append (known q) begins.0 in
-    let at : IsEvaluated (calls_of (known p)) f.count f.state.store =
-    subst (λ (cs : List Call). IsEvaluated cs f.count f.state.store) (sym (ap calls_of begins.1 ∙ calls_of-append (known q) begins.0)) (calls_more (calls_of (known q)) (calls_of begins.0) f.count f.state.store theirs.store.state_is) in
-    let within : f.count ≤ length (calls_of (known q)) = theirs.store.state_is.within in
-    let size : length (calls_of (known q)) ≡ length (known q) = length-calls_of (known q) in
+pub taken_over : (p q : Knowing) (mine theirs now : ReachedView) → Begins (known q) (known p) → IsStoreFor p mine → p.settled ≤ length (known p) → IsReached (calls_of (known q)) theirs → IsWhole theirs → mine.count < theirs.count →
+    now.count ≡ theirs.count → now.state.store ≡ theirs.state.store → now.lacking ≡ theirs.lacking → room_of p.order ≤ now.state.room + theirs.count → IsStoreFor p now
+taken_over p q mine theirs now begins is within at whole less count same lacking room =
+    let more : IsReached (calls_of (known p)) theirs =
+    subst (λ (cs : List Call). IsReached cs theirs) (sym (ap calls_of begins.1 ∙ calls_of-append (known q) begins.0)) (reached_more (calls_of (known q)) (calls_of begins.0) theirs at) in
+    let most : theirs.count ≤ length (known p) = omega (arith, more.within, length-calls_of (known p)) in
     record {
-      store = record {
-        state_is = subst (λ (k : ℕ). IsEvaluated (calls_of (known p)) k now.state.store) (sym count) (subst (λ (s : Store). IsEvaluated (calls_of (known p)) f.count s) (sym same) at);
-        room = omega (arith, room, count);
-        settled = omega (arith, mine.store.settled, less, count);
-        assembled = λ all. absurd (omega (arith, all, mine.store.settled, less, within, size, n));
-      };
-      objects = subst (λ (o : PartialStoresView). ArePartial (calls_of (known p)) o) (sym objects) mine.objects;
-      room_is = ap (λ (o : PartialStoresView). o.room) objects ∙ mine.room_is;
+      at = record { reached = reached_same (calls_of (known p)) theirs now more count lacking same; roomy = omega (arith, room, count) };
+      settled = λ all. let before : IsSettledStore p mine = is.settled all in absurd (omega (arith, before.all, less, most));
     }

@@ -2,10 +2,12 @@ pub mod Agreeing
 mod Alike
 pub mod Alone
 mod Answering
+mod Cells
 mod Checking
 mod Counted
 mod Evaluating
 mod Learnt
+mod Making
 mod Meeting
 mod Opening
 mod Owning

@@ -40,8 +40,8 @@ module _ (p q : Knowing) (of_p : IsSteady p) (of_q : IsSteady q) (starts : Start
 
 -- the words were told, and then records were shown
 pub met : (context : Shared) (old told new other : Knowing) (r : Result (Unit {0}) Refusal) → length old.shown ≤ length old.view.words → told.shown ≡ old.shown → told.statuses ≡ old.statuses → told.settled ≡ old.settled → told.view ≡ is_told old.view other.view.words
-    → told.steps + length old.view.words ≡ length told.view.words → Learns told new → new.view ≡ told.view → new.steps ≡ told.steps → IsPassOf context new → IsSteady new → IsMet new other r → Met context old new other r
-met context old told new other r few shown statuses settled is steps next view same of steady answer =
+    → told.steps + length old.view.words ≡ length told.view.words → Learns told new → new.view ≡ told.view → new.steps ≡ told.steps → IsPassOf context new → IsSteady new → new.made ≡ 0 → IsMet new other r → Met context old new other r
+met context old told new other r few shown statuses settled is steps next view same of steady made answer =
     let l : Learns old new = learns_then old told new (learns_told old told few shown statuses settled other.view.words is) next in
     let n : length new.view.words ≡ length told.view.words = ap (λ (v : View). length v.words) view in record {
       pass = of;
@@ -51,6 +51,7 @@ met context old told new other r few shown statuses settled is steps next view s
       own = own_learns old new l;
       steps = omega (arith, steps, n, same);
       looks = ap (λ (v : View). v.looks) view ∙ ap (λ (v : View). v.looks) is;
+      made = made;
     }
 
 -- the count of steps before plays no part
@@ -64,4 +65,5 @@ met_begun context old now new other r is m =
       own = k.own;
       steps = k.steps;
       looks = k.looks;
+      made = k.made;
     }

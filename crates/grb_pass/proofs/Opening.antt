@@ -34,7 +34,7 @@ abbrev pub fresh_at : TableId → ℕ → ℕ → Holding
 fresh_at order passes number = record { table_id = order; view = fresh number passes }
 
 abbrev pub new_at : TableId → ℕ → ℕ → Knowing
-new_at order passes number = record { order = order; view = fresh number passes; shown = []; steps = 0; statuses = no_rows (room_of order); settled = 0 }
+new_at order passes number = record { order = order; view = fresh number passes; shown = []; steps = 0; statuses = no_rows (room_of order); settled = 0; made = 0 }
 
 same_some : {A : Type 0} (o : Option A) (x y : A) → o ≡ Some x → o ≡ Some y → x ≡ y
 same_some o x y e f = cc

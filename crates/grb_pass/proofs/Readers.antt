@@ -190,9 +190,9 @@ pub sound_order : (t t' : TableId) (v : View) → t' ≡ t → IsSound t'.words 
 sound_order t t' v e s = subst (λ (y : TableId). IsSound y.words v) e s
 
 -- what a caller learns of it
-module _ (number size : ℕ) (place : Holding) (shown : List Shown) (capacity : ℕ) (walk : WalkedCalls) (k : IsReaderWith number size place shown capacity walk) (steps : ℕ) (statuses : StatusRows) (settled : ℕ) where
+module _ (number size : ℕ) (place : Holding) (shown : List Shown) (capacity : ℕ) (walk : WalkedCalls) (k : IsReaderWith number size place shown capacity walk) (steps : ℕ) (statuses : StatusRows) (settled made : ℕ) where
   abbrev seen : Knowing
-  seen = record { order = place.table_id; view = place.view; shown = shown; steps = steps; statuses = statuses; settled = settled }
+  seen = record { order = place.table_id; view = place.view; shown = shown; steps = steps; statuses = statuses; settled = settled; made = made }
 
   pub steady : IsSteady seen
   steady = record { records = k.records; few = k.few; sound = k.sound; others = k.others; small = k.small }

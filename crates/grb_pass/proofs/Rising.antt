@@ -87,15 +87,15 @@ rise_lost room earlier old mid new learnt lt own tried is =
     }
 
 -- the try was won
-pub rise_won : (room : ℕ) (earlier : List ℕ) (old mid new : Knowing) (word : ℕ) → mid.view.own ≡ old.view.own → LooksTried earlier old.view mid.view → length mid.view.words < room → new.view ≡ enters_word mid.view word → LooksRise room earlier old new
-rise_won room earlier old mid new word own tried left is =
+pub rise_won : (room : ℕ) (earlier : List ℕ) (old mid new : Knowing) (word : ℕ) → mid.view.own ≡ old.view.own → LooksTried earlier old.view mid.view → length mid.view.words < room → new.view ≡ enters_word mid.view word → length (known new) ≡ length new.view.words → LooksRise room earlier old new
+rise_won room earlier old mid new word own tried left is shown =
     let o : length mid.view.own ≡ length old.view.own = ap length own in
     let more : length new.view.own ≡ length mid.view.own + 1 = ap (λ (x : View). length x.own) is ∙ length_push mid.view.own (length mid.view.words) in
     let n : length new.view.words ≡ length mid.view.words + 1 = ap (λ (x : View). length x.words) is ∙ length_push mid.view.words word in
     let e : length mid.view.words ≡ others_end old.view new.view = omega arith in record {
       lost = tried.lost;
       rising = rising_wider (length old.view.words) (length mid.view.words) (others_end old.view new.view) tried.lost (omega arith) tried.rising;
-      looks = inl (ap (λ (x : View). x.looks) is ∙ tried.looks ∙ ap (λ (k : ℕ). (earlier ++ tried.lost) ++ k ∷ []) e, omega arith);
+      looks = inl (ap (λ (x : View). x.looks) is ∙ tried.looks ∙ ap (λ (k : ℕ). (earlier ++ tried.lost) ++ k ∷ []) e, omega arith, shown);
     }
 
 -- the pass learnt to the end first
@@ -110,20 +110,24 @@ rise_before room earlier old mid new learnt own is =
 
 -- how many looks those are
 pub looks_number : (room : ℕ) (earlier : List ℕ) (end : ℕ) (new : Knowing) → LooksLast room earlier end new → length new.view.looks ≤ length earlier + 1
-looks_number room earlier end new (inl (e, left)) = let n : length new.view.looks ≡ length earlier + 1 = ap length e ∙ length_push earlier end in omega arith
+looks_number room earlier end new (inl is) = let n : length new.view.looks ≡ length earlier + 1 = ap length is.0 ∙ length_push earlier end in omega arith
 looks_number room earlier end new (inr e) = let n : length new.view.looks ≡ length earlier = ap length e.0 in omega arith
 
 pub looks_exact : (room : ℕ) (earlier : List ℕ) (end : ℕ) (new : Knowing) → length (known new) ≡ length new.view.words → end < room → LooksLast room earlier end new → length new.view.looks ≡ length earlier + 1
-looks_exact room earlier end new shown left (inl (e, lt)) = ap length e ∙ length_push earlier end
+looks_exact room earlier end new shown left (inl is) = ap length is.0 ∙ length_push earlier end
 looks_exact room earlier end new shown left (inr (e, inl unshown)) = absurd (omega arith)
 looks_exact room earlier end new shown left (inr (e, inr full)) = absurd (omega arith)
 
 pub looks_full : (room : ℕ) (earlier : List ℕ) (end : ℕ) (new : Knowing) → end ≡ room → LooksLast room earlier end new → length new.view.looks ≡ length earlier
-looks_full room earlier end new full (inl (e, left)) = absurd (omega arith)
+looks_full room earlier end new full (inl (e, left, shown)) = absurd (omega arith)
 looks_full room earlier end new full (inr (e, why)) = ap length e
+
+pub looks_unshown : (room : ℕ) (earlier : List ℕ) (end : ℕ) (new : Knowing) → length (known new) < length new.view.words → LooksLast room earlier end new → length new.view.looks ≡ length earlier
+looks_unshown room earlier end new unshown (inl (e, left, shown)) = absurd (omega arith)
+looks_unshown room earlier end new unshown (inr (e, why)) = ap length e
 
 -- a pass that has a call ready looked at the end
 pub looks_ready : (room : ℕ) (old new : Knowing) (c : Call) → LooksAtEnd room old new → IsReady room new c → new.view.looks ≡ old.view.looks ++ length new.view.words ∷ []
-looks_ready room old new c (inl (e, left)) ready = e
+looks_ready room old new c (inl is) ready = is.0
 looks_ready room old new c (inr (e, inl unshown)) ready = let n : length (known new) ≡ length new.view.words = length_known new ready.all in absurd (omega arith)
 looks_ready room old new c (inr (e, inr full)) ready = let left = ready.room_left in absurd (omega (arith, left))

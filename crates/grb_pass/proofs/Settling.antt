@@ -12,15 +12,12 @@ use Rattle.grb_call.specs.declared.descriptor.WaitMode.TheVariants.{Complete, Ma
 use Rattle.grb_call.specs.declared.ids.Object.{Object}
 use Rattle.grb_call.specs.declared.ids.Object.TheVariants as object
 use Rattle.grb_call.specs.declared.reply.Reply.{Reply}
-use Rattle.grb_call.specs.History.{Entry, History, calls_of}
+use Rattle.grb_call.specs.History.{Entry, History}
 use Rattle.grb_call.specs.Kinds.{enters}
 use Rattle.grb_pass.specs.Known.{Knowing, known}
 use Rattle.grb_pass.specs.Explains.{Answer, ExplainsAnswer, ExplainsCall, is_entered}
-use Rattle.grb_pass.specs.Evaluated.{IsStoreFor}
 use Rattle.grb_pass.specs.Settled.{is_materialize, settled_after}
-use Rattle.grb_pass.proofs.Evaluating.{length-calls_of}
 use Rattle.grb_state.specs.Settled.{AreAllAssembled, HasWaited, IsSettled}
-use Rattle.grb_state.specs.State.{RoomyStore}
 
 enters_no_materialize : (c : Call) → enters c ≡ true → is_materialize c ≡ false
 enters_no_materialize (call.WaitMatrix a mode) e = cc
@@ -33,16 +30,10 @@ settled_entered c (Ok reply) known settled e = ap (λ (b : Bool). cond b known s
 settled_entered c (Err refusal) known settled e = refl
 
 -- what is settled after a call that only reads, where its evaluation may be refused memory
-pub settled_read : (now new : Knowing) (c : Call) (r : Result Reply AllocError) (settled : ℕ) → new ≡ record now { settled = new.settled } → now.settled ≡ settled → OnOk r (new.settled ≡ cond (is_materialize c) (length (known now)) now.settled) → OnErr r (new.settled ≡ now.settled)
+pub settled_read : (now new : Knowing) (c : Call) (r : Result Reply AllocError) (settled : ℕ) → new ≡ record now { settled = new.settled; made = new.made } → now.settled ≡ settled → OnOk r (new.settled ≡ cond (is_materialize c) (length (known now)) now.settled) → OnErr r (new.settled ≡ now.settled)
     → new.settled ≡ settled_after c (result_or r (Err OutOfMemory)) (length (known new)) settled
 settled_read now new c (Ok reply) settled same is ok err = ok ∙ (λ i. cond (is_materialize c) (length (known (sym same i))) (is i))
 settled_read now new c (Err error) settled same is ok err = err ∙ is
-
--- a pass has settled no more calls than it knows
-pub settled_known : (p : Knowing) (state : RoomyStore) (evaluated : ℕ) → IsStoreFor p state evaluated → p.settled ≤ length (known p)
-settled_known p state evaluated is =
-    let n : length (calls_of (known p)) ≡ length (known p) = length-calls_of (known p) in
-    omega (arith, is.settled, is.state_is.within)
 
 settled_or : (b : Bool) (known settled : ℕ) → settled ≤ known → (settled ≤ cond b known settled) × (cond b known settled ≤ known)
 settled_or true known settled within = (within, omega arith)

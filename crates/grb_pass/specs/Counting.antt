@@ -29,9 +29,10 @@ AreRising first end (at ∷ rest) = (first ≤ at) × (at < end) × AreRising (a
 abbrev pub others_end : View → View → ℕ
 others_end old new = (length new.words + length old.own) - length new.own
 
--- the looks are `earlier` and a last one at `end`; that one is missing only where a record was not shown, or the order ends there
+-- the looks are `earlier` and a last one at `end`, where all records are shown; that one is missing just where a record was not shown, or
+-- the order ends there
 abbrev pub LooksLast : ℕ → List ℕ → ℕ → Knowing → Type 0
-LooksLast room earlier end new = ((new.view.looks ≡ earlier ++ end ∷ []) × (end < room)) ⊎ ((new.view.looks ≡ earlier) × (IsUnshown new ⊎ (end ≡ room)))
+LooksLast room earlier end new = ((new.view.looks ≡ earlier ++ end ∷ []) × (end < room) × (length (known new) ≡ length new.view.words)) ⊎ ((new.view.looks ≡ earlier) × (IsUnshown new ⊎ (end ≡ room)))
 
 -- The looks after `earlier` rise strictly, so no place was looked at twice. At each of `lost` the word of another was learnt since, as a
 -- try was lost there. The last look is at the end of all words but the call's own
@@ -52,12 +53,13 @@ abbrev pub LooksOnce : Knowing → Knowing → Type 0
 LooksOnce old new = new.steps + length old.view.words ≤ length new.view.words + 1
 
 -- The steps of one call: those by which the view grew, and its looks rise. Where it learnt d words, they are d + 1 and one for each try
--- that was lost, unless a record was not shown; where it found the order full, one less. So they are at most 2d + 1, and at most d + 1
+-- that was lost; where it found the order full, or a record was not shown, one less. So they are at most 2d + 1, and at most d + 1
 -- where it learnt just what it entered itself
 pub record CountsCall (room : ℕ) (old new : Knowing) : Type 0 where
   pub count : new.steps + steps_of old.view ≡ steps_of new.view
   pub rise : LooksRise room old.view.looks old new
   pub exact : length (known new) ≡ length new.view.words → others_end old.view new.view < room → new.steps + length old.view.words ≡ length new.view.words + 1 + length rise.lost
   pub full : others_end old.view new.view ≡ room → new.steps + length old.view.words ≡ length new.view.words + length rise.lost
+  pub unshown : IsUnshown new → new.steps + length old.view.words ≡ length new.view.words + length rise.lost
   pub few : new.steps + 2 * length old.view.words ≤ 2 * length new.view.words + 1
   pub alone : length new.view.words + length old.view.own ≡ length old.view.words + length new.view.own → new.steps + length old.view.words ≤ length new.view.words + 1

@@ -1,11 +1,13 @@
 pub mod Answered
 pub mod BackOff
+pub mod Cells
 pub mod Counting
 pub mod Evaluated
 pub mod Explains
 pub mod Known
 pub mod Laws
 pub mod Learning
+pub mod Made
 pub mod Meeting
 pub mod Point
 pub mod Putting

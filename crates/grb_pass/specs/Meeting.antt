@@ -20,7 +20,7 @@ IsMet new other (Err r) = (r ≡ Panic) × IsUnshown new
 
 -- A meeting of a pass with another, with what it knows before and after. It is still a pass of the context. It learnt entries of
 -- others alone, behind what it knew, and its own calls and its statuses are those of before. Its steps on the order are the words that it
--- learnt, and it looked for no further one
+-- learnt, and it looked for no further one. It made no call
 pub record Met (context : Shared) (old new other : Knowing) (r : Result (Unit {0}) Refusal) : Type 0 where
   pub pass : IsPassOf context new
   pub met : IsMet new other r
@@ -29,3 +29,4 @@ pub record Met (context : Shared) (old new other : Knowing) (r : Result (Unit {0
   pub own : calls_by old.view.number (known new) ≡ calls_by old.view.number (known old)
   pub steps : new.steps + length old.view.words ≡ length new.view.words
   pub looks : new.view.looks ≡ old.view.looks
+  pub made : new.made ≡ 0

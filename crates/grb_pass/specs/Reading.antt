@@ -6,8 +6,10 @@ use Rattle.grb_core.specs.declared.refusal.Refusal.TheVariants.{OutOfMemory}
 use Rattle.grb_order.specs.View.{IsOthers, IsSound}
 use Rattle.grb_order.specs.Holding.{Holding}
 use Rattle.grb_records.specs.Token.{Shown}
+use Rattle.grb_core.specs.Entries.{nvals_of}
 use Rattle.grb_call.specs.declared.call.Call.{Call}
-use Rattle.grb_call.specs.Store.{Store, empty_store, shapes_of}
+use Rattle.grb_call.specs.declared.call.Call.TheVariants as call
+use Rattle.grb_call.specs.Store.{Store, empty_store, matrix_entries, shapes_of, vector_entries}
 use Rattle.grb_call.specs.Kinds.{is_build}
 use Rattle.grb_call.specs.Refused.{refused_by_shapes}
 use Rattle.grb_call.specs.After.{refused, refused_build}
@@ -19,7 +21,7 @@ use Rattle.grb_pass.specs.Known.{Knowing, spelled, AreRecords}
 use Rattle.grb_pass.specs.declared.reader.Reader.TheInside.{Inside}
 
 abbrev pub knowing : Inside → Knowing
-knowing r = record { order = r.place.table_id; view = r.place.view; shown = r.tokens.items; steps = r.steps; statuses = r.statuses.rows; settled = r.settled }
+knowing r = record { order = r.place.table_id; view = r.place.view; shown = r.tokens.items; steps = r.steps; statuses = r.statuses.rows; settled = r.settled; made = r.made }
 
 -- a reader with these tokens, targets and shapes; the words whose records were not shown yet are of others
 pub record IsReaderWith (number size : ℕ) (place : Holding) (shown : List Shown) (capacity : ℕ) (walk : WalkedCalls) : Type 0 where
@@ -43,6 +45,17 @@ abbrev pub IsBuildChecked : Store → Call → Result (Unit {0}) Refusal → Typ
 IsBuildChecked s c (Ok _) = refused_build s c ≡ None
 IsBuildChecked s c (Err OutOfMemory) = Unit {0}
 IsBuildChecked s c (Err r) = refused_build s c ≡ Some r
+
+-- the call that asks how many entries the object of a build stores, and that count
+abbrev pub count_call : Call → Call
+count_call (call.BuildMatrix a tuples dup) = call.NvalsMatrix a
+count_call (call.BuildVector v tuples dup) = call.NvalsVector v
+count_call c = c
+
+abbrev pub count_of_output : Store → Call → ℕ
+count_of_output s (call.BuildMatrix a tuples dup) = nvals_of (matrix_entries s a)
+count_of_output s (call.BuildVector v tuples dup) = nvals_of (vector_entries s v)
+count_of_output s c = 0
 
 -- what a check after all known calls found: the call is not refused, or memory was refused to a build's evaluation, or this refusal
 abbrev pub IsChecked : Store → Call → Result (Unit {0}) Refusal → Type 0

@@ -1,13 +1,14 @@
 //! Calls that change an object: checked, kept in a record, and entered into the order.
-ghost use Rattle.std.specs.Prelude.{◌≡◌, ◌+◌, ◌<◌, ◌≤◌, ◌^◌, length, true, OnOk, IfErr};
+ghost use Rattle.std.specs.Prelude.{◌≡◌, ◌+◌, ◌<◌, ◌≤◌, ◌^◌, length, true, false, OnOk, IfErr};
 ghost use Rattle.grb_order.specs.Order.{room_of};
 ghost use Rattle.grb_records.specs.Token.{IsOf};
-ghost use Rattle.grb_call.specs.Kinds.{enters};
+ghost use Rattle.grb_call.specs.Kinds.{enters, is_build};
 ghost use Rattle.grb_pass.specs.Known.{IsPassOf};
 ghost use Rattle.grb_pass.specs.Point.{GrewTo};
 ghost use Rattle.grb_pass.specs.Explains.{ExplainsAnswer, IsCaughtUp, ground_of};
 ghost use Rattle.grb_pass.specs.Answered.{Answered};
 ghost use Rattle.grb_pass.specs.Counting.{Counts, CountsTries, CountsCall};
+ghost use Rattle.grb_pass.specs.Cells.{OwnBelow};
 ghost use Rattle.grb_pass.specs.Learning.{IsReady, IsRefused, IsSteady, Learns, LooksAtEnd};
 
 use crate::learn::End;
@@ -30,6 +31,7 @@ impl Shared {
         ensures looks { LooksAtEnd (room_of self.now.order) pass.old pass.new }
         ensures learns { Learns pass.old pass.new }
         ensures steady { IsSteady pass.new }
+        ensures made { is_build call.now ≡ false → pass.new.made ≡ pass.old.made }
         ensures ready { OnOk result (IsReady (room_of self.now.order) pass.new call.now) }
         ensures looked { OnOk result (GrewTo pass.old.view.looks pass.new.view.looks (length pass.new.view.words)) }
         ensures refused { IfErr result (λ refusal. IsRefused (room_of self.now.order) pass.old pass.new call.now refusal) }
@@ -51,6 +53,7 @@ impl Shared {
         requires of { IsOf self.now.records token }
         requires own { token.pass ≡ pass.old.view.number }
         requires index { token.index < 2 ^ 48 }
+        requires fresh { OwnBelow token.index pass.old.view }
         requires enters { enters token.call ≡ true }
         requires ready { IsReady (room_of self.now.order) pass.old token.call }
         requires few { pass.old.steps < 2 ^ 28 }
@@ -58,6 +61,7 @@ impl Shared {
         ensures statuses { pass.new.statuses ≡ pass.old.statuses }
         ensures settled { pass.new.settled ≡ pass.old.settled }
         ensures counts { CountsTries (room_of self.now.order) pass.old pass.new }
+        ensures made { is_build token.call ≡ false → pass.new.made ≡ pass.old.made }
         ensures explains { ExplainsAnswer (room_of self.now.order) pass.old pass.new token.call result }
         ensures steady { IsSteady pass.new }
         ensures caught_up { IsCaughtUp (ground_of result) pass.new }
@@ -84,6 +88,7 @@ impl Shared {
         ensures statuses { pass.new.statuses ≡ pass.old.statuses }
         ensures settled { pass.new.settled ≡ pass.old.settled }
         ensures counts { CountsCall (room_of self.now.order) pass.old pass.new }
+        ensures made { is_build call ≡ false → pass.new.made ≡ pass.old.made }
         ensures explains { ExplainsAnswer (room_of self.now.order) pass.old pass.new call result }
         ensures steady { IsSteady pass.new }
         ensures caught_up { IsCaughtUp (ground_of result) pass.new }
@@ -102,6 +107,7 @@ impl Shared {
         ensures statuses { pass.new.statuses ≡ pass.old.statuses }
         ensures settled { pass.new.settled ≡ pass.old.settled }
         ensures counts { CountsCall (room_of self.now.order) pass.old pass.new }
+        ensures made { is_build call.now ≡ false → pass.new.made ≡ pass.old.made }
         ensures explains { ExplainsAnswer (room_of self.now.order) pass.old pass.new call.now result }
         ensures steady { IsSteady pass.new }
         ensures caught_up { IsCaughtUp (ground_of result) pass.new }
@@ -130,8 +136,8 @@ impl Shared {
         answer
     }
 
-    /// Enters a copy of a call that changes the store, as `enter` does. Takes memory for the list of a build too, once the build is found
-    /// not to be refused, and does not wait.
+    /// Enters a copy of a call that changes the store, as `enter` does, and does not wait. The copy takes no memory: it shares the list of
+    /// a build.
     pub fn enter_copy(&self, pass: &mut Pass, call: &Call) -> Result<Reply, Refusal>
         requires pass { IsPassOf self.now pass.old }
         requires enters { enters call.now ≡ true }

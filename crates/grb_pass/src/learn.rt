@@ -28,6 +28,7 @@ impl Shared {
         ensures steps { reader.new.steps ≡ reader.old.steps }
         ensures learns { Learns reader.old reader.new }
         ensures steady { IsSteady reader.new }
+        ensures made { reader.new.made ≡ reader.old.made }
         ensures all { OnOk result (length reader.new.shown ≡ length reader.new.view.words) }
         ensures refused { IfErr result (λ refusal. (refusal ≡ Refusal.Panic) × (length (known reader.new) < length reader.new.view.words)) }
     {
@@ -48,6 +49,7 @@ impl Shared {
         ensures learns { Learns reader.old reader.new }
         ensures steady { IsSteady reader.new }
         ensures counts { Counts reader.old reader.new }
+        ensures made { reader.new.made ≡ reader.old.made }
         ensures looks { LooksAtEnd (room_of self.now.order) reader.old reader.new }
         ensures finds { Finds (room_of self.now.order) reader.old result reader.new }
     {

@@ -17,6 +17,7 @@ mod read;
 mod reader;
 mod row;
 mod shared;
+mod sharing;
 
 pub use pass::Pass;
 pub use shared::Shared;

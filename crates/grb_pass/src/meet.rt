@@ -1,5 +1,5 @@
 //! What one pass tells another: its calls, and what it has evaluated.
-ghost use Rattle.std.specs.Prelude.{◌≡◌, length};
+ghost use Rattle.std.specs.Prelude.{◌≡◌, ◌≤◌, length};
 ghost use Rattle.grb_order.specs.Word.{StartsWith};
 ghost use Rattle.grb_pass.specs.Known.{known, IsPassOf};
 ghost use Rattle.grb_pass.specs.Laws.{Begins};
@@ -34,6 +34,7 @@ impl Shared {
         requires reader { IsPassOf self.now reader.old }
         requires other { IsPassOf self.now other.old }
         requires begun { reader.old.steps ≡ 0 }
+        requires made { reader.old.made ≡ 0 }
         ensures met { Met self.now reader.old reader.new other.old result }
         ensures other { other.new ≡ other.old }
     {
@@ -72,12 +73,15 @@ impl Shared {
         met
     }
 
-    /// Evaluates what the pass knows where that is dear, so that passes that adopt it have no work of their own with that. It learns nothing
-    /// and changes no answer. Takes memory for the evaluation; where it is refused, less is evaluated.
-    pub fn prepare(&self, pass: &mut Pass)
+    /// Evaluates what the pass knows where that is dear, so that passes that adopt it have no work of their own with that, and answers how
+    /// many of the calls that it knows are evaluated then. It learns nothing and changes no answer. Takes memory for the evaluation; where it
+    /// is refused, fewer are evaluated.
+    pub fn prepare(&self, pass: &mut Pass) -> u32
         requires { IsPassOf self.now pass.old }
-        ensures { pass.new ≡ pass.old }
+        ensures pass { IsPassOf self.now pass.new }
+        ensures same { pass.new ≡ record pass.old { made = pass.new.made } }
+        ensures count { result ≤ length (known pass.new) }
     {
-        pass.prepare(&self.records);
+        pass.prepare(&self.records)
     }
 }

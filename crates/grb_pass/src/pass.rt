@@ -1,11 +1,11 @@
 //! A pass: one thread's way into the history, with what it knows, has evaluated and was answered.
-ghost use Rattle.std.specs.Prelude.{◌≡◌, ◌<◌, ◌≤◌, ◌+◌, ◌^◌, ◌⊎◌, false, None, Some, [], if◌then◌else◌, length, All, IfOk, IfErr, IfSome, OnOk, OnErr};
+ghost use Rattle.std.specs.Prelude.{◌≡◌, ℕ, ◌<◌, ◌≤◌, ◌+◌, ◌^◌, ◌⊎◌, false, true, None, Some, [], if◌then◌else◌, length, All, IfOk, IfErr, IfSome, OnOk, OnErr};
 ghost use Rattle.std.specs.Option.{option_or};
 ghost use Rattle.grb_order.specs.declared.limits.TheConstants.{MOST_ROOM};
 ghost use Rattle.grb_order.specs.View.{fresh, LookedLast};
 ghost use Rattle.grb_order.specs.Order.{room_of};
 ghost use Rattle.grb_records.specs.Token.{IsOf};
-ghost use Rattle.grb_call.specs.Kinds.{enters, is_size};
+ghost use Rattle.grb_call.specs.Kinds.{enters, is_build, is_size};
 ghost use Rattle.grb_call.specs.Refused.{is_in_bounds, refused_by_shapes};
 ghost use Rattle.grb_call.specs.Store.{empty_store, shapes_of};
 ghost use Rattle.grb_call.specs.After.{refused, reply_of};
@@ -16,8 +16,8 @@ ghost use Rattle.grb_pass.specs.Known.{known};
 ghost use Rattle.grb_pass.specs.Counting.{Counts};
 ghost use Rattle.grb_pass.specs.Laws.{Begins};
 ghost use Rattle.grb_pass.specs.Learning.{Enters, IsSteady};
-ghost use Rattle.grb_pass.specs.Evaluated.{IsEvaluatedFor};
-ghost use Rattle.grb_pass.specs.Reading.{IsBuildChecked, IsChecked};
+ghost use Rattle.grb_pass.specs.Cells.{OwnBelow};
+ghost use Rattle.grb_pass.specs.Reading.{IsBuildChecked, IsChecked, count_call, count_of_output};
 ghost use Rattle.grb_pass.specs.Settled.{is_materialize};
 
 use crate::back_off::BackOff;
@@ -46,14 +46,26 @@ pub struct Pass {
 }
 
 impl Model for Pass {
-    ghost use Rattle.grb_pass.specs.Evaluated.{IsEvaluatedFor};
+    ghost use Rattle.grb_pass.specs.Cells.{IsPassState};
     ghost use Rattle.grb_pass.specs.Known.{Knowing};
 
     ghost Value = { Knowing };
 
     ghost view = { λ p. p.reader };
 
-    ghost invariant = { λ p. IsEvaluatedFor p.reader p.evaluated };
+    ghost invariant = { λ p. IsPassState p.reader p.evaluated p.row.next };
+}
+
+/// The call that asks how many entries the object of a build stores.
+fn count_call(call: &Call) -> Call
+    requires { is_build call.now ≡ true }
+    ensures { result ≡ count_call call.now }
+{
+    match call {
+        Call::BuildMatrix { a, .. } => Call::NvalsMatrix { a: *a },
+        Call::BuildVector { v, .. } => Call::NvalsVector { v: *v },
+        _ => unreachable!(),
+    }
 }
 
 /// The object that a call reads entries of, or has the changes done of, where it is one object.
@@ -93,7 +105,7 @@ impl Pass {
         requires number { (number ≡ place.view.number) × (number < place.view.passes) }
         requires room { (room ≡ room_of place.table_id) × (room ≤ MOST_ROOM) }
         requires fresh { place.view ≡ fresh number place.view.passes }
-        ensures { IfOk result (λ pass. pass ≡ record { order = place.table_id; view = place.view; shown = []; steps = 0; statuses = no_rows (room_of place.table_id); settled = 0 }) }
+        ensures { IfOk result (λ pass. pass ≡ record { order = place.table_id; view = place.view; shown = []; steps = 0; statuses = no_rows (room_of place.table_id); settled = 0; made = 0 }) }
     {
         let reader = Reader::open(alloc, number, place, room)?;
         let evaluated = Evaluated::open(alloc, room, versions, alone)?;
@@ -119,16 +131,17 @@ impl Pass {
         self.reader.known()
     }
 
-    /// How many words of the order the pass has learnt. Takes no memory.
+    /// How many words of the order the pass has learnt. Those that it entered itself each name a further record of its row. Takes no memory.
     pub fn words(&self) -> u32
-        ensures { result ≡ length self.now.view.words }
+        ensures words { result ≡ length self.now.view.words }
+        ensures own { (end : ℕ) × OwnBelow end self.now.view }
     {
         self.reader.words()
     }
 
     /// How many atomic steps the pass's last call made on the order, or its last meeting with it as the first pass, if that came later; 0
-    /// before either. A call that learns d words, its own included, makes d + 1 at most, and one more for each try that it loses; where it
-    /// finds the order full or a record not shown, one less. A meeting that learns d words makes d. Takes no memory.
+    /// before either. A call that learns d words, its own included, makes d + 1, and one more for each try that it loses, where each record is
+    /// shown; one less where it finds the order full or a record is not shown. A meeting that learns d words makes d. Takes no memory.
     pub fn steps(&self) -> u32
         ensures { result ≡ self.now.steps }
     {
@@ -137,10 +150,14 @@ impl Pass {
 
     /// How many calls of the history the pass's last call made to answer: each that it applied to its store, or to the partial stores of the
     /// objects that it reads. A call that is made twice counts twice, and one that was refused memory counts; those that the pass has of
-    /// another's, as a version or by [`Shared::adopt`](crate::Shared::adopt), do not. 0 before the first call and after a meeting. It is for tests and for services that watch what
-    /// reads cost; no contract says the number (own). Takes no memory.
-    pub fn made(&self) -> u32 {
-        self.evaluated.made()
+    /// another's, as a version or by [`Shared::adopt`](crate::Shared::adopt), do not. 0 before the first call and after a meeting; after
+    /// [`Shared::prepare`](crate::Shared::prepare) what that made, and after a list of calls what its last call made. It is for tests and for
+    /// services that watch what reads cost. It is 0 after a call that enters and is no build, one for dimensions, a read that shapes refuse,
+    /// and a read where all known calls are settled; no contract says more of the number (own). Takes no memory.
+    pub fn made(&self) -> u32
+        ensures { result ≡ self.now.made }
+    {
+        self.reader.made()
     }
 
     /// How many calls of the history the pass knew at its last wait with `Materialize` that was answered `Done`; 0 before the first. As long
@@ -175,7 +192,7 @@ impl Pass {
 
     /// Begins to count the steps of a call or a meeting, and the calls that it makes.
     pub(crate) fn begin(&mut self)
-        ensures same { self.new ≡ record self.old { steps = 0 } }
+        ensures same { self.new ≡ record self.old { steps = 0; made = 0 } }
         ensures settled { self.old.settled ≤ length (known self.old) }
     {
         self.reader.begin();
@@ -189,12 +206,13 @@ impl Pass {
         self.reader.room_left()
     }
 
-    /// Puts the call as the next record of the pass, as [`RecordRow::put`] does.
+    /// Puts the call as the next record of the pass, as [`RecordRow::put`] does. It is none that a word of the pass names.
     #[inline(always)]
     pub(crate) fn put(&mut self, records: &Records, call: Call) -> Result<Token, Refusal>
         ensures same { self.new ≡ self.old }
         ensures put { IfOk result (λ token. (token.pass ≡ self.old.view.number) × (token.call ≡ call)) }
         ensures index { IfOk result (λ token. token.index < 2 ^ 48) }
+        ensures fresh { IfOk result (λ token. OwnBelow token.index self.old.view) }
         ensures of { IfOk result (IsOf records.now) }
         ensures refused { IfErr result (λ refusal. (refusal ≡ Refusal.Panic) ⊎ (refusal ≡ Refusal.OutOfMemory)) }
     {
@@ -212,14 +230,17 @@ impl Pass {
             .take_over(&self.reader, &other.reader, &other.evaluated);
     }
 
-    /// Evaluates what the pass knows where that is dear, so that others can go on from there.
-    pub(crate) fn prepare(&mut self, records: &Records)
+    /// Evaluates what the pass knows where that is dear, so that others can go on from there; how many of the known calls are evaluated then.
+    pub(crate) fn prepare(&mut self, records: &Records) -> u32
         requires records { All (IsOf records.now) self.old.shown }
-        ensures same { self.new ≡ self.old }
+        ensures same { self.new ≡ record self.old { made = self.new.made } }
+        ensures count { result ≤ length (known self.new) }
     {
         self.evaluated.begin();
-        self.go_on(records);
+        self.evaluated.go_on(records, &mut self.reader);
         self.evaluated.prepare(records, &mut self.reader);
+        self.reader.note_made(self.evaluated.made());
+        self.evaluated.count(&self.reader)
     }
 
     /// Goes on from what another pass evaluated and offered, where it is time to ask for that. No memory is missed by that.
@@ -228,43 +249,6 @@ impl Pass {
         ensures same { self.new ≡ self.old }
     {
         self.evaluated.go_on(records, &mut self.reader);
-    }
-
-    /// Why what is stored after all known calls refuses the build, if it does; it evaluates them. `OutOfMemory` where memory is refused.
-    fn check_build(
-        &mut self,
-        records: &Records,
-        call: &Call,
-        in_bounds: bool,
-    ) -> Result<(), Refusal>
-        requires records { All (IsOf records.now) self.old.shown }
-        requires in_bounds { in_bounds ≡ is_in_bounds (shapes_of (store_of (known self.old))) call.now }
-        ensures checked { IsBuildChecked (store_of (known self.old)) call.now result }
-        ensures same { self.new ≡ self.old }
-    {
-        match self.evaluated.make_all(records, &mut self.reader) {
-            Err(_refused) => Err(Refusal::OutOfMemory),
-            Ok(()) => match self.evaluated.refused_build(call, in_bounds) {
-                Some(refusal) => Err(refusal),
-                None => Ok(()),
-            },
-        }
-    }
-
-    /// Whether the call is refused after all known ones, and why; a build evaluates them. `OutOfMemory` where memory is refused to that.
-    #[inline(always)]
-    pub(crate) fn check(&mut self, records: &Records, call: &Call) -> Result<(), Refusal>
-        requires records { All (IsOf records.now) self.old.shown }
-        ensures checked { IsChecked (store_of (known self.old)) call.now result }
-        ensures same { self.new ≡ self.old }
-    {
-        match self.reader.check(call)? {
-            Kind::Build { in_bounds } => {
-                self.go_on(records);
-                self.check_build(records, call, in_bounds)
-            }
-            Kind::Enters | Kind::Reads => Ok(()),
-        }
     }
 
     /// The reply to a call that reads entries or has changes done, after all known ones, which it evaluates. One that waits for all objects
@@ -276,11 +260,14 @@ impl Pass {
         requires records { All (IsOf records.now) self.old.shown }
         ensures reply { IfOk result (λ reply. reply ≡ reply_of (store_of (known self.old)) call.now) }
         ensures unsettled { OnErr result (self.old.settled < length (known self.old)) }
-        ensures same { self.new ≡ record self.old { settled = self.new.settled } }
+        ensures same { self.new ≡ record self.old { settled = self.new.settled; made = self.new.made } }
         ensures settled { OnOk result (self.new.settled ≡ (if is_materialize call.now then length (known self.old) else self.old.settled)) }
         ensures err { OnErr result (self.new.settled ≡ self.old.settled) }
+        ensures made { length (known self.old) ≤ self.old.settled → self.new.made ≡ self.old.made }
     {
-        self.evaluated.make_all(records, &mut self.reader)?;
+        let all = self.evaluated.make_all(records, &mut self.reader);
+        self.reader.note_made(self.evaluated.made());
+        all?;
         self.evaluated.settle(records, &mut self.reader, call)?;
         Ok(self.evaluated.reply(call))
     }
@@ -295,20 +282,78 @@ impl Pass {
         requires records { All (IsOf records.now) self.old.shown }
         ensures reply { IfOk result (λ reply. reply ≡ reply_of (store_of (known self.old)) call.now) }
         ensures unsettled { OnErr result (self.old.settled < length (known self.old)) }
-        ensures same { self.new ≡ record self.old { settled = self.new.settled } }
+        ensures same { self.new ≡ record self.old { settled = self.new.settled; made = self.new.made } }
         ensures settled { OnOk result (self.new.settled ≡ (if is_materialize call.now then length (known self.old) else self.old.settled)) }
         ensures err { OnErr result (self.new.settled ≡ self.old.settled) }
+        ensures made { length (known self.old) ≤ self.old.settled → self.new.made ≡ self.old.made }
     {
         self.go_on(records);
         if let Some(object) = object_read(call) {
             let reply = self
                 .evaluated
-                .reply_of_object(records, &mut self.reader, object, call)?;
-            if let Some(reply) = reply {
+                .reply_of_object(records, &mut self.reader, object, call);
+            self.reader.note_made(self.evaluated.made());
+            if let Some(reply) = reply? {
                 return Ok(reply);
             }
         }
         self.reply_of_all(records, call)
+    }
+
+    /// How many entries the object of a build stores after all known calls, as far as these are needed to tell. `AllocError` where memory is
+    /// refused.
+    fn count_of_output(&mut self, records: &Records, call: &Call) -> Result<u64, AllocError>
+        requires build { is_build call.now ≡ true }
+        requires accepted { refused_by_shapes (shapes_of (store_of (known self.old))) call.now ≡ None }
+        requires records { All (IsOf records.now) self.old.shown }
+        ensures count { IfOk result (λ count. count ≡ count_of_output (store_of (known self.old)) call.now) }
+        ensures same { self.new ≡ record self.old { made = self.new.made } }
+    {
+        match self.reply_of_entries(records, &count_call(call))? {
+            Reply::Count(count) => Ok(count),
+            _ => unreachable!(),
+        }
+    }
+
+    /// Why what is stored after all known calls refuses the build, if it does; it evaluates what its object needs. `OutOfMemory` where memory
+    /// is refused to that.
+    fn check_build(
+        &mut self,
+        records: &Records,
+        call: &Call,
+        in_bounds: bool,
+    ) -> Result<(), Refusal>
+        requires build { is_build call.now ≡ true }
+        requires accepted { refused_by_shapes (shapes_of (store_of (known self.old))) call.now ≡ None }
+        requires records { All (IsOf records.now) self.old.shown }
+        requires in_bounds { in_bounds ≡ is_in_bounds (shapes_of (store_of (known self.old))) call.now }
+        ensures checked { IsBuildChecked (store_of (known self.old)) call.now result }
+        ensures same { self.new ≡ record self.old { made = self.new.made } }
+    {
+        let Ok(count) = self.count_of_output(records, call) else {
+            return Err(Refusal::OutOfMemory);
+        };
+        if count != 0 {
+            return Err(Refusal::OutputNotEmpty);
+        }
+        if !in_bounds {
+            return Err(Refusal::IndexOutOfBounds);
+        }
+        Ok(())
+    }
+
+    /// Whether the call is refused after all known ones, and why; a build evaluates what its object needs. `OutOfMemory` where memory is refused to that.
+    #[inline(always)]
+    pub(crate) fn check(&mut self, records: &Records, call: &Call) -> Result<(), Refusal>
+        requires records { All (IsOf records.now) self.old.shown }
+        ensures checked { IsChecked (store_of (known self.old)) call.now result }
+        ensures same { self.new ≡ record self.old { made = self.new.made } }
+        ensures made { is_build call.now ≡ false → self.new.made ≡ self.old.made }
+    {
+        match self.reader.check(call)? {
+            Kind::Build { in_bounds } => self.check_build(records, call, in_bounds),
+            Kind::Enters | Kind::Reads => Ok(()),
+        }
     }
 
     /// The reply to a call that only reads and is not refused, after all known ones. One for dimensions takes no memory; any other
@@ -320,10 +365,12 @@ impl Pass {
         requires records { All (IsOf records.now) self.old.shown }
         ensures reply { IfOk result (λ reply. reply ≡ reply_of (store_of (known self.old)) call.now) }
         ensures memory { OnErr result (is_size call.now ≡ false) }
+        ensures size { is_size call.now ≡ true → self.new.made ≡ self.old.made }
         ensures unsettled { OnErr result (self.old.settled < length (known self.old)) }
-        ensures same { self.new ≡ record self.old { settled = self.new.settled } }
+        ensures same { self.new ≡ record self.old { settled = self.new.settled; made = self.new.made } }
         ensures settled { OnOk result (self.new.settled ≡ (if is_materialize call.now then length (known self.old) else self.old.settled)) }
         ensures err { OnErr result (self.new.settled ≡ self.old.settled) }
+        ensures made { length (known self.old) ≤ self.old.settled → self.new.made ≡ self.old.made }
     {
         match call {
             Call::SizeMatrix { .. } | Call::SizeVector { .. } => Ok(self.reader.size(call)),
@@ -339,16 +386,21 @@ impl Pass {
         requires shown { length self.old.shown ≡ length self.old.view.words }
         requires pass { token.pass ≡ self.old.view.number }
         requires index { token.index < 2 ^ 48 }
+        requires fresh { OwnBelow token.index self.old.view }
         requires call { call.now ≡ token.call }
         requires accepted { refused_by_shapes (shapes_of (store_of (known self.old))) call.now ≡ None }
         requires few { self.old.steps < 2 ^ 31 }
         ensures order { self.new.order ≡ self.old.order }
         ensures statuses { self.new.statuses ≡ self.old.statuses }
         ensures settled { self.new.settled ≡ self.old.settled }
+        ensures made { self.new.made ≡ self.old.made }
         ensures enters { Enters (room_of order.now) token self.old result self.new }
         ensures steady { IsSteady self.new }
         ensures counts { Counts self.old self.new }
     {
+        // The row goes on behind the record before a word names it.
+        let index = token.index();
+        self.row.spend(index);
         let back = self.reader.enter(order, token, call);
         self.back_off.tried(back.is_some());
         back

@@ -7,6 +7,7 @@ ghost use Rattle.grb_pass.specs.Explains.{ExplainsAnswer, IsCaughtUp, ground_of}
 ghost use Rattle.grb_pass.specs.Answered.{Answered};
 ghost use Rattle.grb_pass.specs.Counting.{CountsCall, LooksOnce};
 ghost use Rattle.grb_pass.specs.Learning.{IsSteady};
+ghost use Rattle.grb_pass.specs.Made.{ReadsNone};
 ghost use Rattle.grb_pass.specs.Settled.{settled_after};
 
 use crate::pass::Pass;
@@ -25,6 +26,7 @@ impl Shared {
         ensures settled { pass.new.settled ≡ settled_after call.now result (length (known pass.new)) pass.old.settled }
         ensures counts { CountsCall (room_of self.now.order) pass.old pass.new }
         ensures looks { LooksOnce pass.old pass.new }
+        ensures made { ReadsNone pass.old.settled (known pass.new) call.now → pass.new.made ≡ pass.old.made }
         ensures explains { ExplainsAnswer (room_of self.now.order) pass.old pass.new call.now result }
         ensures steady { IsSteady pass.new }
         ensures caught_up { IsCaughtUp (ground_of result) pass.new }

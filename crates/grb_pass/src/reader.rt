@@ -26,13 +26,13 @@ use grb_call::{
 use grb_core::{Info, Refusal};
 use grb_order::{Entered, Look, Order, Place};
 use grb_records::{Records, Token};
-use grb_replay::{Amount, Targets};
-use grb_slices::CallList;
+use grb_replay::{Amount, Targets, live_objects};
+use grb_slices::{CallList, Wanted};
 use std::alloc::{AllocError, Global};
 use std::marker::Model;
 
 /// What a pass has read of the order: its words, the records behind the first of them, the targets of their calls and the shapes that they
-/// leave, the status that each object has of the calls of the pass, and how many calls it settled.
+/// leave, the status that each object has of the calls of the pass, how many calls it settled, and how many it made to answer.
 #[derive(Drop)]
 pub(crate) struct Reader {
     number: u32,
@@ -46,6 +46,8 @@ pub(crate) struct Reader {
     statuses: Statuses,
     // How many calls were known when all objects were last materialized.
     settled: u32,
+    // How many calls the last call made to answer.
+    made: u32,
     // How much work the known calls are.
     amount: Amount,
 }
@@ -84,7 +86,7 @@ impl Reader {
         requires number { (number ≡ place.view.number) × (number < place.view.passes) }
         requires room { (room ≡ room_of place.table_id) × (room ≤ MOST_ROOM) }
         requires fresh { place.view ≡ fresh number place.view.passes }
-        ensures { IfOk result (λ reader. reader ≡ record { order = place.table_id; view = place.view; shown = []; steps = 0; statuses = no_rows (room_of place.table_id); settled = 0 }) }
+        ensures { IfOk result (λ reader. reader ≡ record { order = place.table_id; view = place.view; shown = []; steps = 0; statuses = no_rows (room_of place.table_id); settled = 0; made = 0 }) }
     {
         let tokens = Vec::with_capacity(alloc, room as usize)?;
         let targets = Targets::open(alloc, room)?;
@@ -97,6 +99,7 @@ impl Reader {
             steps: 0,
             statuses,
             settled: 0,
+            made: 0,
             amount: Amount::none(),
         })
     }
@@ -111,11 +114,26 @@ impl Reader {
         self.number
     }
 
-    /// Begins to count the steps of a call or a meeting.
+    /// Begins to count the steps of a call or a meeting, and the calls that it makes.
     pub(crate) fn begin(&mut self)
-        ensures { self.new ≡ record self.old { steps = 0 } }
+        ensures { self.new ≡ record self.old { steps = 0; made = 0 } }
     {
         self.steps = 0;
+        self.made = 0;
+    }
+
+    /// Notes how many calls were made.
+    pub(crate) fn note_made(&mut self, made: u32)
+        ensures { self.new ≡ record self.old { made = made } }
+    {
+        self.made = made;
+    }
+
+    /// How many calls the last call made to answer.
+    pub(crate) fn made(&self) -> u32
+        ensures { result ≡ self.now.made }
+    {
+        self.made
     }
 
     /// The steps of the last call or meeting.
@@ -185,6 +203,11 @@ impl Reader {
         self.tokens.len() as u32
     }
 
+    /// The objects that are there after all known calls. `AllocError` where memory is refused.
+    pub(crate) fn live_objects(&self) -> Result<Wanted, AllocError> {
+        live_objects(self.allocator(), self.targets.shapes())
+    }
+
     /// How much work the known calls are, beyond those of this part.
     pub(crate) fn amount_beyond(&self, part: &Amount) -> Amount {
         self.amount.beyond(part)
@@ -225,6 +248,7 @@ impl Reader {
         ensures shown { self.new.shown ≡ self.old.shown }
         ensures statuses { self.new.statuses ≡ self.old.statuses }
         ensures settled { self.new.settled ≡ self.old.settled }
+        ensures made { self.new.made ≡ self.old.made }
         ensures look { Looks (room_of order.now) self.old.view result self.new.view }
         ensures steady { IsSteady self.new }
         ensures counts { Counts self.old self.new }
@@ -243,6 +267,7 @@ impl Reader {
         ensures shown { self.new.shown ≡ self.old.shown }
         ensures statuses { self.new.statuses ≡ self.old.statuses }
         ensures settled { self.new.settled ≡ self.old.settled }
+        ensures made { self.new.made ≡ self.old.made }
         ensures told { self.new.view ≡ is_told self.old.view other.old.view.words }
         ensures words { StartsWith self.new.view.words other.old.view.words }
         ensures other { other.new ≡ other.old }
@@ -325,6 +350,7 @@ impl Reader {
         ensures order { self.new.order ≡ self.old.order }
         ensures statuses { self.new.statuses ≡ self.old.statuses }
         ensures settled { self.new.settled ≡ self.old.settled }
+        ensures made { self.new.made ≡ self.old.made }
         ensures enters { Enters (room_of order.now) token self.old result self.new }
         ensures steady { IsSteady self.new }
         ensures counts { Counts self.old self.new }

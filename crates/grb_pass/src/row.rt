@@ -1,5 +1,5 @@
 //! The cells for a pass's own records.
-ghost use Rattle.std.specs.Prelude.{◌≡◌, ◌⊎◌, IfOk, IfErr};
+ghost use Rattle.std.specs.Prelude.{◌≡◌, ◌+◌, ◌<◌, ◌≤◌, ◌^◌, ◌⊎◌, max, IfOk, IfErr, OnOk};
 ghost use Rattle.grb_records.specs.Token.{IsOf};
 ghost use Rattle.grb_pass.specs.Putting.{next_after};
 
@@ -10,7 +10,7 @@ use grb_records::{Records, Token};
 /// Where a pass puts its records: which of the cells of its row is next.
 #[derive(Drop)]
 pub(crate) struct RecordRow {
-    next: u32,
+    next: u64,
 }
 
 impl RecordRow {
@@ -22,7 +22,8 @@ impl RecordRow {
     }
 
     /// Puts the call into the next of the `room` cells of the row, which is the one of this pass. `OutOfMemory` where memory for the record is refused:
-    /// the cell is as before, and is next again. `Panic` where the cell did not take it: that cell is spent, as a cell with a record is.
+    /// the cell is as before, and is next again. `Panic` where the cell did not take it: that cell is spent, as a cell with a record is; or where
+    /// all are spent.
     /// Takes memory for the record alone, and does not wait.
     #[inline(always)]
     pub(crate) fn put(
@@ -36,11 +37,25 @@ impl RecordRow {
         ensures of { IfOk result (IsOf records.now) }
         ensures refused { IfErr result (λ refusal. (refusal ≡ Refusal.Panic) ⊎ (refusal ≡ Refusal.OutOfMemory)) }
         ensures next { self.new.next ≡ next_after room self.old.next result }
+        ensures behind { self.old.next ≤ self.new.next }
+        ensures within { OnOk result (self.old.next < room) }
     {
-        let put = records.put(pass, u64::from(self.next), call);
-        if !matches!(&put, Err(Refusal::OutOfMemory)) && self.next < room {
+        if self.next >= u64::from(room) {
+            return Err(Refusal::Panic);
+        }
+        let put = records.put(pass, self.next, call);
+        if !matches!(&put, Err(Refusal::OutOfMemory)) {
             self.next += 1;
         }
         put
+    }
+
+    /// Goes on behind the cell at this index, unless it is behind it already, as it is after [`RecordRow::put`].
+    pub(crate) fn spend(&mut self, index: u64)
+        requires { index < 2 ^ 48 }
+        ensures next { self.new.next ≡ max self.old.next (index + 1) }
+        ensures behind { index < self.new.next }
+    {
+        self.next = self.next.max(index + 1);
     }
 }

@@ -1,4 +1,4 @@
--- believed: The products of a row with a vector, one after another (own): what the fold of a row is made of.
+-- inside: no public contract names it. The products of a row with a vector, one after another (own): what the fold of a row is made of.
 use Rattle.std.specs.Prelude.{ℕ, List, [], ◌∷◌, ◌++◌, Option, Some, None}
 use Rattle.grb_core.specs.declared.value.Value.{Value}
 use Rattle.grb_core.specs.declared.operator.BinaryOp.{BinaryOp}

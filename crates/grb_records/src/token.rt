@@ -1,4 +1,4 @@
-//! A pass's right to record calls, in places that no other pass writes.
+//! What stands for one record: of which pass it is, and its index.
 ghost use Rattle.std.specs.Prelude.{◌≡◌};
 
 use grb_call::Call;

@@ -4,4 +4,5 @@ mod Served
 pub mod NextTarget
 pub mod Onward
 pub mod Partial
+pub mod GoneOver
 pub mod Valued

@@ -1,5 +1,7 @@
+pub mod Advanced
 pub mod Held
 pub mod Partial
+pub mod Reached
 pub mod Targets
 pub mod Versions
 pub use Rattle.grb_state.specs.Evaluated

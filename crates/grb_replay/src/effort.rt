@@ -1,10 +1,11 @@
 //! How much work calls are, as a number of sets. It steers what is evaluated, and no answer depends on it.
-ghost use Rattle.std.specs.Prelude.{◌≡◌, ◌+◌, ◌<◌, OnOk, OnErr};
+ghost use Rattle.std.specs.Prelude.{◌≡◌, ◌+◌, ◌-◌, ◌^◌, ◌<◌, min, OnOk, OnErr};
 ghost use Rattle.grb_call.specs.After.{after};
 
 use grb_call::{Call, objects_read};
 use grb_state::State;
 use std::alloc::{AllocError, Global};
+use std::marker::Model;
 
 /// What an operation is taken to be at least before one was made, as a number of sets (own).
 const UNKNOWN: u64 = 16;
@@ -16,6 +17,9 @@ const ENTRIES: u64 = 8;
 const COMPARED: u64 = 8;
 
 const COPIED: u64 = 4;
+
+/// From how many sets on there may be a long list among calls that are no operations (own).
+const LONG: u64 = 4096;
 
 /// What the call changes its object by.
 enum Work {
@@ -48,6 +52,7 @@ fn work_of(call: &Call) -> Work {
 /// lists they are (own). No contract says any of it.
 #[derive(Clone, Copy)]
 pub struct Amount {
+    calls: u64,
     operations: u64,
     sets: u64,
     parts: u64,
@@ -57,6 +62,7 @@ impl Amount {
     /// Of no call.
     pub fn none() -> Amount {
         Amount {
+            calls: 0,
             operations: 0,
             sets: 0,
             parts: 0,
@@ -65,6 +71,7 @@ impl Amount {
 
     /// Of one call more. Takes no memory.
     pub fn add(&mut self, call: &Call) {
+        self.calls = self.calls.saturating_add(1);
         self.parts = self.parts.saturating_add(1);
         match work_of(call) {
             Work::Operation => self.operations = self.operations.saturating_add(1),
@@ -82,9 +89,9 @@ impl Amount {
         self.parts / COMPARED
     }
 
-    /// What copies of the calls take, as a number of sets. Takes no memory.
+    /// What copies of the calls take, as a number of sets: the lists of builds are shared. Takes no memory.
     pub fn copied(&self) -> u64 {
-        self.parts / COPIED
+        self.calls / COPIED
     }
 
     /// Whether there are operations among them. Takes no memory.
@@ -92,9 +99,15 @@ impl Amount {
         self.operations > 0
     }
 
+    /// Whether one of them may be dear: there are operations among them, or long lists. Takes no memory.
+    pub fn may_be_dear(&self) -> bool {
+        self.operations > 0 || self.sets >= LONG
+    }
+
     /// Of the calls that are not among those of this part. Takes no memory.
     pub fn beyond(&self, part: &Amount) -> Amount {
         Amount {
+            calls: self.calls.saturating_sub(part.calls),
             operations: self.operations.saturating_sub(part.operations),
             sets: self.sets.saturating_sub(part.sets),
             parts: self.parts.saturating_sub(part.parts),
@@ -115,7 +128,7 @@ fn entries_at(alloc: Global, state: &State, call: &Call) -> u64 {
 }
 
 /// What calls take that are made, as a number of sets: an operation by the entries that it read and left. What one takes that is not yet
-/// made is estimated by those that were (own). No contract says any of these numbers.
+/// made is estimated by those that were (own). Of these numbers contracts say alone how many calls were made.
 #[derive(Drop)]
 pub struct Effort {
     alloc: Global,
@@ -127,9 +140,19 @@ pub struct Effort {
     sets: u64,
 }
 
+impl Model for Effort {
+    ghost use Rattle.std.specs.Prelude.{ℕ};
+
+    ghost Value = { ℕ };
+
+    ghost view = { λ e. e.made };
+}
+
 impl Effort {
     /// No call was made.
-    pub fn new(alloc: Global) -> Effort {
+    pub fn new(alloc: Global) -> Effort
+        ensures { result ≡ 0 }
+    {
         Effort {
             alloc,
             made: 0,
@@ -140,13 +163,17 @@ impl Effort {
     }
 
     /// Begins to count. Takes no memory.
-    pub fn begin(&mut self) {
+    pub fn begin(&mut self)
+        ensures { self.new ≡ 0 }
+    {
         self.made = 0;
         self.spent = 0;
     }
 
     /// How many calls were made since it began to count, each as often as it was made; one that was refused memory counts. Takes no memory.
-    pub fn made(&self) -> u32 {
+    pub fn made(&self) -> u32
+        ensures { result ≡ self.now }
+    {
         self.made
     }
 
@@ -172,7 +199,9 @@ impl Effort {
     }
 
     /// Counts an operation that was made.
-    fn learn(&mut self, state: &State, call: &Call) {
+    fn learn(&mut self, state: &State, call: &Call)
+        ensures { self.new ≡ self.old }
+    {
         let sets = 1 + entries_at(self.alloc, state, call) / ENTRIES;
         self.operations = self.operations.saturating_add(1);
         self.sets = self.sets.saturating_add(sets);
@@ -180,7 +209,9 @@ impl Effort {
     }
 
     /// Counts the work of a call that was made.
-    fn count(&mut self, state: &State, call: &Call) {
+    fn count(&mut self, state: &State, call: &Call)
+        ensures { self.new ≡ self.old }
+    {
         match work_of(call) {
             Work::Operation => self.learn(state, call),
             Work::List(entries) => {
@@ -198,6 +229,7 @@ impl Effort {
         ensures room { OnOk result (state.new.room + 1 ≡ state.old.room) }
         ensures err_store { OnErr result (state.new.store ≡ state.old.store) }
         ensures err_room { OnErr result (state.new.room ≡ state.old.room) }
+        ensures counted { self.new ≡ min (self.old + 1) (2 ^ 32 - 1) }
     {
         self.made = self.made.saturating_add(1);
         state.apply(call)?;

@@ -7,21 +7,27 @@
 //! Nothing here knows of passes or of an order: the caller brings the calls.
 #![tactic(auto)]
 
+mod choice;
 mod effort;
+mod going;
 mod making;
 mod partial_store;
 mod partial_stores;
 mod places;
 mod plan;
+mod reached;
 mod targets;
 mod value;
 mod version;
 mod versions;
 
+pub use choice::{Choice, live_objects};
 pub use effort::{Amount, Effort};
+pub use going::{go_on, make_everything};
 pub use grb_state::{State, replay};
 pub use partial_store::PartialStore;
 pub use partial_stores::PartialStores;
+pub use reached::Reached;
 pub use targets::{LentCalls, Targets};
 pub use value::{Held, value_of};
 pub use versions::Versions;

@@ -23,6 +23,18 @@ fn has_place(state: &State, object: Object) -> bool
     }
 }
 
+/// Passes over a call with this target on a state: the object that it would make gets a place, and is not there.
+pub(crate) fn pass_over(state: &mut State, object: Object)
+    requires { 0 < state.old.room }
+    ensures store { (call : Call) (whole : Store) → Some object ≡ effective_target (shapes_of whole) call → length state.old.store.matrices ≡ length whole.matrices → length state.old.store.vectors ≡ length whole.vectors → state.new.store ≡ part_after false (Some object) call state.old.store }
+    ensures room { state.old.room ≤ state.new.room + 1 }
+{
+    if has_place(state, object) {
+        return;
+    }
+    state.add_place(object);
+}
+
 /// Makes the call at this place on a state where it is chosen, and counts its effort; of one that is not, which is not read, the
 /// object that it would make gets a place, and is not there. `AllocError` where memory is refused.
 fn make_one<S, C: CallList<S>>(
@@ -47,10 +59,7 @@ fn make_one<S, C: CallList<S>>(
     let Some(object) = target else {
         return Ok(());
     };
-    if has_place(state, object) {
-        return Ok(());
-    }
-    state.add_place(object);
+    pass_over(state, object);
     Ok(())
 }
 

@@ -183,12 +183,28 @@ impl PartialStore {
         ensures store { self.new.state.store ≡ self.old.state.store }
         ensures room { self.new.state.room ≡ self.old.state.room }
     {
-        match self.state.refused(call) {
-            Some(refusal) => Ok(Err(refusal)),
-            None => {
-                self.state.settle(call)?;
-                Ok(Ok(self.state.reply(call)))
-            }
+        answer_of(&mut self.state, object, call)
+    }
+}
+
+/// The answer of the state to a call that only reads the object. A total and a wait have the changes done that wait in it.
+pub(crate) fn answer_of(
+    state: &mut State,
+    object: Object,
+    call: &Call,
+) -> Result<Result<Reply, Refusal>, AllocError>
+    requires reads { enters call.now ≡ false }
+    requires no_size { is_size call.now ≡ false }
+    requires about { object_of call.now ≡ Some object }
+    ensures answer { IfOk result (λ given. (whole : Store) → content_at whole object ≡ content_at state.old.store object → given ≡ answer whole call.now) }
+    ensures store { state.new.store ≡ state.old.store }
+    ensures room { state.new.room ≡ state.old.room }
+{
+    match state.refused(call) {
+        Some(refusal) => Ok(Err(refusal)),
+        None => {
+            state.settle(call)?;
+            Ok(Ok(state.reply(call)))
         }
     }
 }

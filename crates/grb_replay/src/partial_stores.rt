@@ -266,7 +266,13 @@ impl PartialStores {
         let known = calls.targets().len();
         match self.take(object) {
             Some(read) if read.is_at(known, object) => Ok(Some(read)),
-            Some(read) => self.onward(read, calls, source, left, object, effort),
+            Some(read) => {
+                let onward = self.onward(read, calls, source, left, object, effort)?;
+                if onward.is_some() {
+                    return Ok(onward);
+                }
+                self.anew(calls, source, state, evaluated, left, object, effort)
+            }
             None => self.anew(calls, source, state, evaluated, left, object, effort),
         }
     }

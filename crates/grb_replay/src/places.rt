@@ -81,7 +81,7 @@ pub(crate) fn put(place: &Place, word: u64, count: u32, version: Version)
 
 /// The place with the longest version of more than `above` calls, and of no more than `most`, that may be read.
 pub(crate) fn longest(places: &[Place], above: usize, most: usize) -> Option<Seen>
-    ensures { IfSome result (λ seen. (seen.at < length places.now) × IsTurn seen.word (seen.word + 4)) }
+    ensures { IfSome result (λ seen. (seen.at < length places.now) × IsTurn seen.word (seen.word + 4) × (above < most)) }
 {
     let mut longest = above;
     let mut found: Option<Seen> = None;

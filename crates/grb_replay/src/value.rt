@@ -114,7 +114,7 @@ impl Held {
         }
     }
 
-    /// How many calls were made for it: those of its slice. Takes no memory.
+    /// How many calls its slice has. Takes no memory.
     pub fn evaluated(&self) -> u32
         ensures { result ≡ self.now.evaluated }
     {

@@ -1,8 +1,8 @@
 //! A version: calls, and the store that they leave.
-ghost use Rattle.std.specs.Prelude.{◌≡◌, ◌+◌, ◌<◌, ◌≤◌, IsTrue, IfOk, IfSome, length, map, take};
-ghost use Rattle.grb_state.specs.Evaluated.{IsEvaluated};
+ghost use Rattle.std.specs.Prelude.{◌≡◌, ◌<◌, ◌≤◌, IsTrue, IfOk, IfSome, length, map, take};
 ghost use Rattle.grb_state.specs.Settled.{AreAllAssembled};
 ghost use Rattle.grb_state.specs.State.{is_assembled};
+ghost use Rattle.grb_replay.specs.Advanced.{IsAdvanced, MayAdvance};
 ghost use Rattle.grb_replay.specs.Versions.{IsFold, Serves};
 
 use counted_slot::Fits;
@@ -19,6 +19,7 @@ pub(crate) struct Version {
 }
 
 impl Model for Version {
+    ghost use Rattle.std.specs.Prelude.{◌<◌, length};
     ghost use Rattle.grb_state.specs.Settled.{AreAllAssembled};
     ghost use Rattle.grb_state.specs.State.{is_assembled};
     ghost use Rattle.grb_replay.specs.Versions.{VersionView, IsFold};
@@ -27,7 +28,8 @@ impl Model for Version {
 
     ghost view = { λ v. record { calls = v.calls.items; state = v.state } };
 
-    ghost invariant = { λ v. IsFold v.calls.items v.state.store × AreAllAssembled (is_assembled v.state.matrices v.state.vectors) };
+    ghost invariant = { λ v. IsFold v.calls.items v.state.store × AreAllAssembled (is_assembled v.state.matrices v.state.vectors)
+        × (0 < length v.calls.items) };
 }
 
 /// Nothing is asked of a version beyond what its type says.
@@ -76,6 +78,7 @@ impl Version {
     pub(crate) fn of(alloc: Global, calls: &[&Call], state: State) -> Result<Version, AllocError>
         requires fold { IsFold (map (λ c. c.now) calls.now) state.store }
         requires assembled { AreAllAssembled (is_assembled state.matrices state.vectors) }
+        requires counted { 0 < length calls.now }
         ensures { IfOk result (λ version. version.calls ≡ map (λ c. c.now) calls.now) }
     {
         Ok(Version {
@@ -88,6 +91,7 @@ impl Version {
     pub(crate) fn serving(&self, calls: &[&Call]) -> Option<(usize, &State)>
         ensures serves { IfSome result (λ found. Serves (map (λ c. c.now) calls.now) found.0 found.1.now.store) }
         ensures assembled { IfSome result (λ found. AreAllAssembled (is_assembled found.1.now.matrices found.1.now.vectors)) }
+        ensures counted { IfSome result (λ found. 0 < found.0) }
     {
         if begin_with(calls, &self.calls) {
             Some((self.calls.len(), &self.state))
@@ -111,14 +115,8 @@ impl Version {
         evaluated: usize,
         room: u32,
     ) -> usize
-        requires few { length calls.now ≤ room }
-        requires evaluated { IsEvaluated (map (λ c. c.now) calls.now) evaluated state.old.store }
-        requires room { room ≤ state.old.room + evaluated }
-        ensures evaluated { IsEvaluated (map (λ c. c.now) calls.now) result state.new.store }
-        ensures further { evaluated ≤ result }
-        ensures room { room ≤ state.new.room + result }
-        ensures stays { result ≡ evaluated → state.new ≡ state.old }
-        ensures assembled { evaluated < result → AreAllAssembled (is_assembled state.new.matrices state.new.vectors) }
+        requires { MayAdvance (map (λ c. c.now) calls.now) room evaluated state.old }
+        ensures { IsAdvanced (map (λ c. c.now) calls.now) room evaluated state.old result state.new }
     {
         if self.calls.len() <= evaluated {
             return evaluated;

@@ -1,8 +1,9 @@
-//! The versions of a context: one in each cell, set once, and the latest that dear work left.
-ghost use Rattle.std.specs.Prelude.{◌≡◌, ◌+◌, ◌*◌, ◌<◌, ◌≤◌, ◌^◌, true, Ok, IfOk, IfSome, length, map};
+//! The versions of a context: those in cells, each set once, and the four latest.
+ghost use Rattle.std.specs.Prelude.{◌≡◌, ◌+◌, ◌*◌, ◌<◌, ◌≤◌, ◌^◌, ◌↔◌, true, Ok, None, IfOk, IfSome, IsTrue, length, map};
 ghost use Rattle.grb_state.specs.Evaluated.{IsEvaluated};
 ghost use Rattle.grb_state.specs.Settled.{AreAllAssembled};
 ghost use Rattle.grb_state.specs.State.{is_assembled};
+ghost use Rattle.grb_replay.specs.Advanced.{IsAdvanced, MayAdvance};
 ghost use Rattle.grb_replay.specs.Versions.{IsFold, Serves};
 
 use crate::places::{Place, length_of, longest, put, read, shortest};
@@ -14,27 +15,43 @@ use once_cell::race::OnceBox;
 use std::alloc::{AllocError, Global};
 use std::marker::Model;
 
-/// How many lengths of versions share a cell.
+/// How many lengths the first cell is for, and of how many lengths one version is kept at most that doubles none (own).
 const LENGTHS: usize = 64;
 
 /// How often one who goes on from one of the latest looks for another, where the one that it found does not serve or has made way (own).
 const LOOKS: usize = 8;
 
-/// Evaluated states that passes share. Cell k has place for one whose calls are more than 64 k, and no more than 64 (k + 1); it is set
-/// once. Beside them lie the latest that were left, four at most: a further one takes the place of the one of the fewest calls.
+/// Evaluated states that passes share, in cells and in four places. The first cell is for one of up to 64 calls, the next for one of up to
+/// 128, and so on, each for up to twice as many. It is set once, where the versions next to it have half as many calls at most, or twice as
+/// many at least: so there are a dozen, whatever is offered. The four places are for the latest: a further one takes the place of the one of
+/// the fewest calls. None of this is in a contract.
 #[derive(Drop)]
 pub struct Versions {
     alloc: Global,
+    /// Versions of up to 64 times as many calls are kept.
+    blocks: usize,
     cells: Vec<OnceBox<Version>>,
     latest: [Place; 4],
 }
 
 impl Model for Versions {
-    ghost use Rattle.std.specs.Prelude.{ℕ, length};
+    ghost use Rattle.std.specs.Prelude.{ℕ};
 
     ghost Value = { ℕ };
 
-    ghost view = { λ v. length v.cells.items };
+    ghost view = { λ v. v.blocks };
+}
+
+/// Which cell is for a version of so many calls, from 0.
+fn cell_of(count: usize) -> usize
+    ensures { result ≤ 64 }
+{
+    let before = count.saturating_sub(1) / LENGTHS;
+    if before == 0 {
+        0
+    } else {
+        before.ilog2() as usize + 1
+    }
 }
 
 impl Versions {
@@ -42,7 +59,8 @@ impl Versions {
     pub fn open(alloc: Global, room: u32) -> Result<Versions, AllocError>
         ensures places { IfOk result (λ versions. (room ≤ 64 * versions) × (64 * versions < room + 64)) }
     {
-        let count = (room as usize).div_ceil(LENGTHS);
+        let blocks = (room as usize).div_ceil(LENGTHS);
+        let count = cell_of(room as usize) + 1;
         let mut cells = Vec::with_capacity(alloc, count)?;
         for _ in 0..count {
             cells.push_reserved(OnceBox::new(alloc));
@@ -55,45 +73,69 @@ impl Versions {
         ];
         Ok(Versions {
             alloc,
+            blocks,
             cells,
             latest,
         })
     }
 
-    /// The cell for a version of so many calls; none for no calls, and for more than there are places for.
-    fn cell_for(&self, count: usize) -> Option<&OnceBox<Version>>
-        ensures { IfSome result (λ cell. (0 < count) × (count ≤ 64 * self.now)) }
+    /// Whether a version may have so many calls: one at least, and no more than versions of are kept.
+    fn is_in_range(&self, count: usize) -> bool
+        ensures { IsTrue result ↔ ((0 < count) × (count ≤ 64 * self.now)) }
     {
-        if count == 0 {
-            return None;
-        }
-        self.cells.get((count - 1) / LENGTHS)
+        count > 0 && count.div_ceil(LENGTHS) <= self.blocks
     }
 
-    /// Whether a version of so many calls would be kept: there is a cell for it, and the cell is empty. Takes no memory.
+    /// The cell that would keep a version of so many calls; none where a cell has one of more than half as many and fewer than twice as many.
+    fn free_cell(&self, count: usize) -> Option<&OnceBox<Version>> {
+        if self.has_cell_beyond(count / 2, count.saturating_mul(2).saturating_sub(1)) {
+            return None;
+        }
+        let cell = self.cells.get(cell_of(count))?;
+        if cell.get().is_some() {
+            return None;
+        }
+        Some(cell)
+    }
+
+    /// Whether there is a version of the same 64 lengths: of 1 to 64 calls, of 65 to 128, and so on.
+    fn has_near(&self, count: usize) -> bool {
+        let start = count.saturating_sub(1) / LENGTHS * LENGTHS;
+        self.has_beyond(start, start.saturating_add(LENGTHS))
+    }
+
+    /// Whether a version of so many calls would be kept: in a cell, or among the latest. Takes no memory.
     pub fn takes(&self, count: usize) -> bool
         ensures { result ≡ true → (0 < count) × (count ≤ 64 * self.now) }
     {
-        match self.cell_for(count) {
-            Some(cell) => cell.get().is_none(),
-            None => false,
+        if !self.is_in_range(count) {
+            return false;
         }
+        if self.free_cell(count).is_some() {
+            return true;
+        }
+        !self.has_near(count) && shortest(&self.latest, count).is_some()
     }
 
-    /// Keeps the state of these calls, in which no change waits, unless its cell has one, or there is none, as of no calls and of more than
-    /// there are places for: then it takes no memory. `AllocError` where memory is refused; then nothing is kept.
+    /// Keeps the state of these calls, in which no change waits: in a cell, if versions double by it, and else among the latest, as `leave`
+    /// does, unless there is a version of the same 64 lengths. It keeps none of no calls, and of more than there are places for. What it does
+    /// not keep takes no memory; which it keeps no contract says. `AllocError` where memory is refused; then nothing is kept.
     pub fn offer(&self, calls: &[&Call], state: State) -> Result<(), AllocError>
         requires fold { IsFold (map (λ c. c.now) calls.now) state.store }
         requires assembled { AreAllAssembled (is_assembled state.matrices state.vectors) }
         ensures none { length calls.now ≡ 0 → result ≡ Ok tt }
         ensures beyond { 64 * self.now < length calls.now → result ≡ Ok tt }
     {
-        let Some(cell) = self.cell_for(calls.len()) else {
-            return Ok(());
-        };
-        if cell.get().is_some() {
+        let count = calls.len();
+        if !self.is_in_range(count) {
             return Ok(());
         }
+        let Some(cell) = self.free_cell(count) else {
+            if self.has_near(count) {
+                return Ok(());
+            }
+            return self.leave(calls, state);
+        };
         let version = Version::of(self.alloc, calls, state)?;
         let boxed = Box::new(self.alloc, version)?;
         let _ = cell.set(boxed);
@@ -105,8 +147,10 @@ impl Versions {
     pub fn newest(&self, calls: &[&Call]) -> Option<(usize, &State)>
         ensures serves { IfSome result (λ found. Serves (map (λ c. c.now) calls.now) found.0 found.1.now.store) }
         ensures assembled { IfSome result (λ found. AreAllAssembled (is_assembled found.1.now.matrices found.1.now.vectors)) }
+        ensures counted { IfSome result (λ found. 0 < found.0) }
+        ensures none { length calls.now ≡ 0 → result ≡ None }
     {
-        let mut k = calls.len().div_ceil(LENGTHS).min(self.cells.len());
+        let mut k = self.cells.len();
         'cells: while k > 0 {
             k -= 1;
             if let Some(version) = self.cells[k].get() {
@@ -140,12 +184,14 @@ impl Versions {
     }
 
     /// Whether a cell has a version of more calls than are evaluated, and of no more than are known.
-    fn has_cell_beyond(&self, evaluated: usize, known: usize) -> bool {
-        let end = known.div_ceil(LENGTHS).min(self.cells.len());
-        for k in evaluated / LENGTHS..end {
-            if let Some(version) = self.cells[k].get() {
+    fn has_cell_beyond(&self, evaluated: usize, known: usize) -> bool
+        ensures { result ≡ true → evaluated < known }
+    {
+        'cells: for cell in &self.cells {
+            if let Some(version) = cell.get() {
                 let version: &Version = version;
-                if evaluated < version.count() && version.count() <= known {
+                let count = version.count();
+                if evaluated < count && count <= known {
                     return true;
                 }
             }
@@ -154,13 +200,17 @@ impl Versions {
     }
 
     /// Whether one of the latest has more calls than are evaluated, and no more than are known. Takes no memory, and compares no call.
-    pub fn has_latest_beyond(&self, evaluated: usize, known: usize) -> bool {
+    pub fn has_latest_beyond(&self, evaluated: usize, known: usize) -> bool
+        ensures { result ≡ true → evaluated < known }
+    {
         longest(&self.latest, evaluated, known).is_some()
     }
 
     /// Whether there is a version of more calls than are evaluated, and of no more than are known, in a cell or among the latest. Takes no
     /// memory, and compares no call.
-    pub fn has_beyond(&self, evaluated: usize, known: usize) -> bool {
+    pub fn has_beyond(&self, evaluated: usize, known: usize) -> bool
+        ensures { result ≡ true → evaluated < known }
+    {
         self.has_latest_beyond(evaluated, known) || self.has_cell_beyond(evaluated, known)
     }
 
@@ -172,14 +222,8 @@ impl Versions {
         evaluated: usize,
         room: u32,
     ) -> usize
-        requires few { length calls.now ≤ room }
-        requires evaluated { IsEvaluated (map (λ c. c.now) calls.now) evaluated state.old.store }
-        requires room { room ≤ state.old.room + evaluated }
-        ensures evaluated { IsEvaluated (map (λ c. c.now) calls.now) result state.new.store }
-        ensures further { evaluated ≤ result }
-        ensures room { room ≤ state.new.room + result }
-        ensures stays { result ≡ evaluated → state.new ≡ state.old }
-        ensures assembled { evaluated < result → AreAllAssembled (is_assembled state.new.matrices state.new.vectors) }
+        requires { MayAdvance (map (λ c. c.now) calls.now) room evaluated state.old }
+        ensures { IsAdvanced (map (λ c. c.now) calls.now) room evaluated state.old result state.new }
     {
         let mut most = calls.len();
         'looks: for _ in 0..LOOKS {
@@ -210,17 +254,11 @@ impl Versions {
         evaluated: usize,
         room: u32,
     ) -> usize
-        requires few { length calls.now ≤ room }
-        requires evaluated { IsEvaluated (map (λ c. c.now) calls.now) evaluated state.old.store }
-        requires room { room ≤ state.old.room + evaluated }
-        ensures evaluated { IsEvaluated (map (λ c. c.now) calls.now) result state.new.store }
-        ensures further { evaluated ≤ result }
-        ensures room { room ≤ state.new.room + result }
-        ensures stays { result ≡ evaluated → state.new ≡ state.old }
-        ensures assembled { evaluated < result → AreAllAssembled (is_assembled state.new.matrices state.new.vectors) }
+        requires { MayAdvance (map (λ c. c.now) calls.now) room evaluated state.old }
+        ensures { IsAdvanced (map (λ c. c.now) calls.now) room evaluated state.old result state.new }
     {
-        let mut k = calls.len().div_ceil(LENGTHS).min(self.cells.len());
-        'cells: while k > evaluated / LENGTHS {
+        let mut k = self.cells.len();
+        'cells: while k > 0 {
             k -= 1;
             if let Some(version) = self.cells[k].get() {
                 let version: &Version = version;

@@ -8,7 +8,6 @@ use Rattle.std.proofs.lemmas.List.{take_more, get_or_default}
 use Rattle.std.proofs.lemmas.List.Elements.{recursion_from_All, All-map, All-filter}
 use lib.Dec.{T}
 use Rattle.grb_core.specs.declared.value.Value.{Value}
-use Rattle.grb_core.specs.declared.value.Value.TheVariants as value
 use Rattle.grb_core.specs.Entries.{Cell, cell_cmp, VectorEntries, MatrixEntries}
 use Rattle.std.proofs.lemmas.Bool.Decides.{nat_tests}
 use Rattle.grb_core.specs.Results.{row_of}
@@ -16,7 +15,6 @@ use Rattle.grb_rows.specs.Stored.{paired}
 use Rattle.grb_rows.specs.Cells.{code_of, cell_of, decoded, coded_entries, coded, codes_of, row_at, IsFlat}
 use Rattle.grb_rows.proofs.FlatLists.{length-paired, get_or-paired, keys-paired, values-paired}
 use Rattle.grb_rows.proofs.FlatCells.{length-codes, code_at}
-use Rattle.grb_rows.proofs.Places.{holds, passes}
 use Rattle.grb_rows.proofs.Ends.{below_taken, keys_rise}
 use Rattle.grb_rows.proofs.CellCodes.{cell_of-code_of, is_sorted-decoded, row_of-decoded}
 

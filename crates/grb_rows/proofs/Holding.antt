@@ -23,6 +23,21 @@ stored-assembled row ds p nvals a h is =
     let none = h.settled is in
     ap (changed (kept row.entries ds)) none.0 ∙ kept-unmarked row.entries ds none.1
 
+kept-whole : (m : VectorEntries) (ds : List Bool) → length (kept m ds) ≡ length m → kept m ds ≡ m
+kept-whole [] ds h = refl
+kept-whole (e ∷ m) [] h = refl
+kept-whole (e ∷ m) (true ∷ ds) h = let few = length-kept_le m ds in absurd (omega (arith, h, few))
+kept-whole (e ∷ m) (false ∷ ds) h = ap (λ (s : VectorEntries). e ∷ s) (kept-whole m ds (omega (arith, h)))
+
+-- where no change waits and each entry is there, none is marked, and the rows are the map
+pub stored-settled : (row : RowView) (ds : List Bool) (p : PendingView) (nvals : ℕ) (a : Bool) → IsHeld row ds p nvals a → (p.changes ≡ []) × (nvals ≡ length row.entries) → stored row ds p.changes ≡ row.entries
+stored-settled row ds p nvals a held settled =
+    let none = ap (changed (kept row.entries ds)) settled.0 in
+    none ∙ kept-whole row.entries ds (sym (ap length none) ∙ sym held.counted ∙ settled.1)
+
+pub settled-assembled : (row : RowView) (ds : List Bool) (p : PendingView) (nvals : ℕ) (a : Bool) → IsHeld row ds p nvals a → a ≡ true → (p.changes ≡ []) × (nvals ≡ length row.entries)
+settled-assembled row ds p nvals a held is = ((held.settled is).0, held.counted ∙ ap length (stored-assembled row ds p nvals a held is))
+
 -- there are no more entries than those that were assembled and the changes
 pub length-stored_le : (row : RowView) (ds : List Bool) (cs : List Change) → IsLaid row ds cs → length (stored row ds cs) ≤ length row.entries + length cs
 length-stored_le row ds cs laid =

@@ -1,4 +1,4 @@
--- inside: no public contract names it. The values of one object, kept in a list of their domain's type (own).
+-- believed: The values of one object, in a list of their domain's type (own): what the view of flat lists is made of.
 use Rattle.std.specs.Prelude.{ℕ, List, map}
 use Rattle.std.specs.Vec.{vec_len, vec_capacity}
 use Rattle.grb_core.specs.declared.domain.Domain.{Domain}

@@ -12,7 +12,7 @@ ghost use Rattle.grb_core.specs.Results.{row_of};
 ghost use Rattle.grb_rows.specs.Cells.{row_at, codes_of, cell_of, decoded, in_row, IsFlat};
 ghost use Rattle.grb_rows.specs.Stored.{IsInRow};
 
-use crate::values::Values;
+use crate::values::{self, Values};
 use grb_core::{Domain, Value};
 use std::alloc::{AllocError, Global};
 use std::marker::Model;
@@ -72,11 +72,7 @@ impl FlatRows {
     }
 
     /// No entries, and memory for `room`.
-    pub(crate) fn with_capacity(
-        alloc: Global,
-        domain: Domain,
-        room: usize,
-    ) -> Result<FlatRows, AllocError>
+    pub fn with_capacity(alloc: Global, domain: Domain, room: usize) -> Result<FlatRows, AllocError>
         ensures entries { IfOk result (λ row. row.entries ≡ []) }
         ensures domain { IfOk result (λ row. row.domain ≡ domain) }
         ensures room { IfOk result (λ row. row.room ≡ room) }
@@ -154,18 +150,32 @@ impl FlatRows {
         self.values.get(at)
     }
 
+    /// The number of the last entry's cell, if there is an entry.
+    pub fn last_index(&self) -> Option<u64>
+        ensures some { IfSome result (λ index. (0 < length self.now.entries) × ((d : ℕ × Stored) → index ≡ (slice_index_or self.now.entries (length self.now.entries - 1) d).0)) }
+        ensures none { IfNone result (self.now.entries ≡ []) }
+    {
+        let count = self.len();
+        if count == 0 {
+            return None;
+        }
+        let mut hint = self.rows.len().saturating_sub(1);
+        Some(self.index_at(count - 1, &mut hint))
+    }
+
     /// Writes a value over the one at a place.
-    pub(crate) fn write(&mut self, at: usize, value: Value)
+    pub fn write(&mut self, at: usize, value: Value)
         requires at { at < length self.old.entries }
         requires domain { value_domain value ≡ self.old.domain }
         ensures entries { (d : ℕ × Stored) → self.new.entries ≡ slice_set self.old.entries at ((slice_index_or self.old.entries at d).0, value) }
         ensures domain { self.new.domain ≡ self.old.domain }
+        ensures room { self.new.room ≡ self.old.room }
     {
         self.values.set(at, value);
     }
 
     /// One more entry, at an index above all others.
-    pub(crate) fn push_reserved(&mut self, index: u64, value: Value)
+    pub fn push_reserved(&mut self, index: u64, value: Value)
         requires room { 0 < self.old.room }
         requires above { AllByRecursion (λ e. e.0 < index) self.old.entries }
         requires domain { value_domain value ≡ self.old.domain }
@@ -179,33 +189,33 @@ impl FlatRows {
         self.values.push_reserved(value);
     }
 
-    /// Gives back the memory of the lists of rows, starts and columns that no entry takes; the values keep theirs.
-    pub(crate) fn shrink(&mut self)
+    /// Gives back the memory that no entry takes.
+    pub fn shrink(&mut self)
         ensures entries { self.new.entries ≡ self.old.entries }
         ensures domain { self.new.domain ≡ self.old.domain }
     {
         self.rows.shrink_to_fit();
         self.starts.shrink_to_fit();
         self.columns.shrink_to_fit();
+        self.values.shrink();
     }
 
-    /// A row of these entries.
-    pub(crate) fn from_entries(
-        alloc: Global,
-        domain: Domain,
-        entries: &[(u64, Value)],
-    ) -> Result<FlatRows, AllocError>
-        requires ordered { IsTrue (is_sorted nat_cmp entries.now) }
-        requires of_domain { All (λ e. value_domain e.1 ≡ domain) entries.now }
-        ensures entries { IfOk result (λ row. row.entries ≡ entries.now) }
-        ensures domain { IfOk result (λ row. row.domain ≡ domain) }
+    /// The same entries in lists of their own, each copied whole.
+    pub(crate) fn try_clone(&self) -> Result<FlatRows, AllocError>
+        ensures entries { IfOk result (λ copy. copy.entries ≡ self.now.entries) }
+        ensures domain { IfOk result (λ copy. copy.domain ≡ self.now.domain) }
     {
-        let mut row = FlatRows::with_capacity(alloc, domain, entries.len())?;
-        for entry in entries {
-            row.push_reserved(entry.0, entry.1);
-        }
-        row.shrink();
-        Ok(row)
+        let alloc = self.allocator();
+        let rows = values::copied(alloc, &self.rows)?;
+        let starts = values::copied(alloc, &self.starts)?;
+        let columns = values::copied(alloc, &self.columns)?;
+        let values = self.values.try_clone(alloc)?;
+        Ok(FlatRows {
+            rows,
+            starts,
+            columns,
+            values,
+        })
     }
 
     /// Where the entries of row `i` start and where they end.

@@ -1,5 +1,5 @@
 //! What is held of one object: flat lists with marks and changes, how one entry is stored or taken away, and how all are assembled.
-ghost use Rattle.std.specs.Prelude.{◌≡◌, ◌+◌, ◌-◌, ◌<◌, ◌≤◌, ◌^◌, ℕ, [], true, false, if◌then◌else◌, cond, nat_eq, length, slice_index_or, Some, None, All, IfOk, OnOk, OnErr, IsTrue, is_some};
+ghost use Rattle.std.specs.Prelude.{◌≡◌, ◌+◌, ◌-◌, ◌<◌, ◌≤◌, ◌^◌, ℕ, [], true, false, if◌then◌else◌, cond, nat_eq, length, slice_index_or, Some, None, All, IfOk, OnOk, OnErr, IsOk, ◌↔◌, IsTrue, is_some};
 ghost use Rattle.std.specs.List.{AllByRecursion};
 ghost use Rattle.std.specs.Ordering.{nat_cmp};
 ghost use Rattle.std.specs.FinMap.{find, put, is_sorted};
@@ -201,24 +201,23 @@ impl Held {
         self.assembled = false;
     }
 
-    /// What is stored, as rows of their own.
+    /// What is stored, as rows of their own. Where nothing waits, the lists are copied whole.
     fn merged(&self) -> Result<FlatRows, AllocError>
         ensures entries { IfOk result (λ new. new.entries ≡ self.now.entries) }
         ensures domain { IfOk result (λ new. new.domain ≡ self.now.domain) }
     {
+        if is_settled(&self.rows, &self.pending, self.nvals) {
+            return self.rows.try_clone();
+        }
         let changes = self.pending.in_order()?;
         merge::merged(&self.rows, &self.deleted, &changes)
     }
 
-    /// Puts rows in place of all that is held. Takes no memory.
+    /// Puts rows in place of all that is held, and gives back what waited with its memory. Takes no memory.
     fn settle(&mut self, rows: FlatRows, assembled: bool)
         ensures { self.new ≡ record { entries = rows.entries; domain = rows.domain; assembled = assembled; reserved = 0; pending = 0 } }
     {
-        self.nvals = rows.len() as u64;
-        self.deleted = Vec::new(rows.allocator());
-        self.rows = rows;
-        self.pending.clear();
-        self.assembled = assembled;
+        *self = Held::of(rows.allocator(), rows, assembled);
     }
 
     /// Takes away all entries, changes and reserved places. Takes no memory.
@@ -229,16 +228,16 @@ impl Held {
         self.settle(none, true);
     }
 
-    /// Holds these entries in place of all others. `AllocError` where memory is refused, and then nothing changes.
-    pub fn fill(&mut self, entries: &[(u64, Value)]) -> Result<(), AllocError>
-        requires ordered { IsTrue (is_sorted nat_cmp entries.now) }
-        requires of_domain { All (λ e. value_domain e.1 ≡ self.old.domain) entries.now }
-        ensures ok { OnOk result (self.new ≡ record { entries = entries.now; domain = self.old.domain; assembled = true; reserved = 0; pending = 0 }) }
-        ensures err { OnErr result (self.new ≡ self.old) }
+    /// What is stored within `nrows` rows and `ncols` columns, as rows of their own.
+    fn merged_within(&self, nrows: u64, ncols: u64) -> Result<FlatRows, AllocError>
+        ensures entries { IfOk result (λ new. new.entries ≡ restricted (λ k. is_cell_in nrows ncols (cell_of k)) self.now.entries) }
+        ensures domain { IfOk result (λ new. new.domain ≡ self.now.domain) }
     {
-        let rows = FlatRows::from_entries(self.rows.allocator(), self.rows.domain(), entries)?;
-        self.settle(rows, true);
-        Ok(())
+        if is_settled(&self.rows, &self.pending, self.nvals) {
+            return self.rows.within(nrows, ncols);
+        }
+        let whole = self.merged()?;
+        whole.within(nrows, ncols)
     }
 
     /// Keeps the entries within `nrows` rows and `ncols` columns alone, with no change that waits. `AllocError` where memory is refused, and
@@ -247,8 +246,7 @@ impl Held {
         ensures ok { OnOk result (self.new ≡ record { entries = restricted (λ k. is_cell_in nrows ncols (cell_of k)) self.old.entries; domain = self.old.domain; assembled = self.old.assembled; reserved = 0; pending = 0 }) }
         ensures err { OnErr result (self.new ≡ self.old) }
     {
-        let whole = self.merged()?;
-        let rows = whole.within(nrows, ncols)?;
+        let rows = self.merged_within(nrows, ncols)?;
         self.settle(rows, self.assembled);
         Ok(())
     }
@@ -266,17 +264,27 @@ impl Held {
     /// this and takes no memory.
     pub fn assemble(&mut self) -> Result<(), AllocError>
         ensures ok { OnOk result (self.new ≡ record { entries = self.old.entries; domain = self.old.domain; assembled = true; reserved = 0; pending = 0 }) }
+        ensures done { self.old.assembled ≡ true → IsOk result }
         ensures err { OnErr result (self.new ≡ self.old) }
     {
-        if self.assembled {
-            self.deleted.clear();
-            self.pending.clear();
+        if is_settled(&self.rows, &self.pending, self.nvals) {
+            let alloc = self.rows.allocator();
+            self.deleted = Vec::new(alloc);
+            self.pending = Pending::new(alloc);
+            self.assembled = true;
             return Ok(());
         }
         let rows = self.merged()?;
         self.settle(rows, true);
         Ok(())
     }
+}
+
+/// Whether nothing waits: there is no change, and as many entries as places, so that none is marked as deleted.
+fn is_settled(rows: &FlatRows, pending: &Pending, nvals: u64) -> bool
+    ensures { result ≡ true ↔ (pending.now.changes ≡ []) × (nvals ≡ length rows.now.entries) }
+{
+    pending.len() == 0 && nvals == rows.len() as u64
 }
 
 /// Whether the entry at a place is marked as deleted. Where there is no mark, none is.

@@ -146,15 +146,6 @@ impl Pending {
         let changes = packed::in_order(alloc, &self.changes)?;
         last_of_each(alloc, &changes)
     }
-
-    /// Takes away all changes and places.
-    pub fn clear(&mut self)
-        ensures { self.new ≡ record { changes = []; reserved = 0 } }
-    {
-        self.changes.clear();
-        self.latest.clear();
-        self.reserved = 0;
-    }
 }
 
 /// The last change of each index, where those of one index stand together.

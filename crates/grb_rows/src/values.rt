@@ -28,6 +28,15 @@ fn number_of(value: Value) -> u64
     }
 }
 
+/// A list of its own with the same elements, copied whole.
+pub(crate) fn copied<T: Copy>(alloc: Global, list: &[T]) -> Result<Vec<T>, AllocError>
+    ensures { IfOk result (λ copy. copy.items ≡ list.now) }
+{
+    let mut copy = Vec::with_capacity(alloc, list.len())?;
+    copy.extend_from_slice(list)?;
+    Ok(copy)
+}
+
 /// The values of one domain, in order.
 #[derive(Drop)]
 pub(crate) enum Values {
@@ -98,6 +107,8 @@ impl Values {
         requires domain { value_domain value ≡ values_domain self.old }
         ensures list { values_list self.new ≡ slice_set (values_list self.old) at value }
         ensures domain { values_domain self.new ≡ values_domain self.old }
+        ensures len { values_len self.new ≡ values_len self.old }
+        ensures capacity { values_capacity self.new ≡ values_capacity self.old }
     {
         match self {
             Values::Bool(bools) => {
@@ -123,6 +134,34 @@ impl Values {
         match self {
             Values::Bool(bools) => bools.push_reserved(bool_of(value)),
             Values::Uint64(numbers) => numbers.push_reserved(number_of(value)),
+        }
+    }
+
+    /// Gives back the memory that no value takes.
+    pub(crate) fn shrink(&mut self)
+        ensures list { values_list self.new ≡ values_list self.old }
+        ensures domain { values_domain self.new ≡ values_domain self.old }
+    {
+        match self {
+            Values::Bool(bools) => bools.shrink_to_fit(),
+            Values::Uint64(numbers) => numbers.shrink_to_fit(),
+        }
+    }
+
+    /// The same values in a list of their own, copied whole.
+    pub(crate) fn try_clone(&self, alloc: Global) -> Result<Values, AllocError>
+        ensures list { IfOk result (λ copy. values_list copy ≡ values_list self.now) }
+        ensures domain { IfOk result (λ copy. values_domain copy ≡ values_domain self.now) }
+    {
+        match self {
+            Values::Bool(bools) => {
+                let copy = copied(alloc, bools)?;
+                Ok(Values::Bool(copy))
+            }
+            Values::Uint64(numbers) => {
+                let copy = copied(alloc, numbers)?;
+                Ok(Values::Uint64(copy))
+            }
         }
     }
 }

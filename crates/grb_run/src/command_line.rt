@@ -14,12 +14,22 @@ use std::alloc::{AllocError, Global};
 /// The version of the programs, of which `--version` prints `grbrun 1.0.0`.
 const VERSION: &str = "1.0.0";
 
+/// What help ends with.
+const AFTER_HELP: &str =
+    "A line `thread 1` begins a section that runs after the lines before it, next to\n\
+    those of `thread 2` and so on; a line `finally` begins the last section. A first\n\
+    line `version 2` adds the statement `vxm`, the option `tran`, and thread sections\n\
+    up to 255. docs/FORMATS.md has each statement, refusal and fault.\n\n\
+    Exit status: 0 where all lines were written, or help was; 1 where the run ended\n\
+    early, and standard error says why; 2 where the command line is faulty.";
+
 /// The command without its arguments: its name, what it does, and its version. The words begin after the name.
 fn named<'a>(alloc: Global, program: &'a str) -> Command<'a>
     ensures { app_of result ≡ named_command program.now }
 {
     Command::new(alloc, program)
         .about("Runs a script of GraphBLAS calls on one shared store")
+        .after_help(AFTER_HELP)
         .version(VERSION)
         .no_binary_name(true)
 }

@@ -9,7 +9,8 @@ use grb_script::{FaultKind, ReadFault, ScriptFault};
 use std::alloc::AllocError;
 use thiserror::Error;
 
-/// Why a run of a script ended without writing all of its lines.
+/// Why a run of a script ended without writing all of its lines. That no statement was run, and before `TooManySections` no file read, is
+/// in no contract; tests show it.
 #[derive(Debug, PartialEq, Eq, Drop, Error)]
 pub enum RunFault {
     /// The script has a fault, and this is the first. Nothing was run or written.

@@ -194,13 +194,13 @@ fn sum_of(domain: Domain) -> Monoid
     }
 }
 
-/// The statement that fills the matrix of a load, which stands for this name. Takes no memory.
-pub(crate) fn filling(name: usize, loaded: Loaded) -> Statement
-    ensures { result ≡ filling name loaded }
+/// The statement that fills the matrix of a load, which stands for this name. `AllocError` where memory is refused to its list.
+pub(crate) fn filling(name: usize, loaded: Loaded) -> Result<Statement, AllocError>
+    ensures { IfOk result (λ statement. statement ≡ filling name loaded) }
 {
-    Statement::BuildMatrix {
+    Ok(Statement::BuildMatrix {
         name,
-        tuples: MatrixTuples::from_vec(loaded.tuples.into_vec()),
+        tuples: MatrixTuples::from_vec(loaded.tuples.into_vec())?,
         dup: sum_of(loaded.domain),
-    }
+    })
 }

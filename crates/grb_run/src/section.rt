@@ -48,11 +48,13 @@ fn answer_to_load(
         (record { objects = objects.new.items; pass = pass.new })) }
 {
     let name = objects.len();
-    let made = answer_to(context, pass, objects, making(&loaded))?;
+    let first = making(&loaded);
+    let second = filling(name, loaded)?;
+    let made = answer_to(context, pass, objects, first)?;
     if made.is_err() {
         return Ok(made);
     }
-    answer_to(context, pass, objects, filling(name, loaded))
+    answer_to(context, pass, objects, second)
 }
 
 /// Makes the calls of a step.

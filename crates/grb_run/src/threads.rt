@@ -35,7 +35,7 @@ pub(crate) fn check_sections(room: u32, threads: usize) -> Result<(), RunFault>
     }
 }
 
-/// A thread section that is to run: its pass, which has met main's, what main's names stand for, and its steps.
+/// A thread section that is to run: its pass, which has adopted main's, what main's names stand for, and its steps.
 #[derive(Drop)]
 pub(crate) struct Job {
     pass: Pass,
@@ -106,7 +106,7 @@ fn names_for(
     Ok(Vec::from_slice(alloc, objects)?)
 }
 
-/// A thread section that is to run by this pass, which meets main's.
+/// A thread section that is to run by this pass, which adopts main's.
 fn job_of(
     alloc: Global,
     context: &Context,
@@ -129,7 +129,7 @@ fn job_of(
     })
 }
 
-/// The thread sections that are to run, each by the next of these passes. Each pass meets main's.
+/// The thread sections that are to run, each by the next of these passes. Each pass adopts main's.
 fn jobs_of(
     alloc: Global,
     context: &Context,
@@ -323,10 +323,11 @@ fn several_ask(threads: &[Vec<Step>]) -> bool {
 /// Lets main's pass evaluate what main left, where several sections ask for entries.
 fn prepare_main(context: &Context, main: &mut Pass, threads: &[Vec<Step>])
     requires { IsPassOf context.now main.old }
-    ensures { main.new ≡ main.old }
+    ensures pass { IsPassOf context.now main.new }
+    ensures same { main.new ≡ record main.old { made = main.new.made } }
 {
     if several_ask(threads) {
-        context.prepare(main);
+        let _ = context.prepare(main);
     }
 }
 

@@ -25,17 +25,17 @@ use Rattle.grb_slices.proofs.Refusals.{same_refusal}
 use Rattle.grb_slices.proofs.Wants.{is_same_object-self, is_same_object-true, read_before, other_before}
 
 -- how many objects of each sort there are after a call
-abbrev makes_matrix : Call → Bool
+abbrev pub makes_matrix : Call → Bool
 makes_matrix (call.NewMatrix domain nrows ncols) = true
 makes_matrix (call.DupMatrix a) = true
 makes_matrix _ = false
 
-abbrev makes_vector : Call → Bool
+abbrev pub makes_vector : Call → Bool
 makes_vector (call.NewVector domain size) = true
 makes_vector (call.DupVector v) = true
 makes_vector _ = false
 
-abbrev more : Bool → ℕ → ℕ
+abbrev pub more : Bool → ℕ → ℕ
 more b n = if b then suc n else n
 
 one_more : {X : Type 0} (xs : List X) (x : X) → length (xs ++ x ∷ []) ≡ suc (length xs)
@@ -66,18 +66,18 @@ module _ (s : Store) (c : Call) where
   by_shapes : (p : Option Refusal) → refused_by_shapes (shapes_of s) c ≡ p → shapes_of (after s c) ≡ option_map_or (λ _. shapes_of s) p (reshaped (shapes_of s) c)
   by_shapes p e = shapes_of-after s c ∙ ap (λ p. option_map_or (λ _. shapes_of s) p (reshaped (shapes_of s) c)) e
 
-  after_matrices : refused_by_shapes (shapes_of s) c ≡ None → length (after s c).matrices ≡ more (makes_matrix c) (length s.matrices)
+  pub after_matrices : refused_by_shapes (shapes_of s) c ≡ None → length (after s c).matrices ≡ more (makes_matrix c) (length s.matrices)
   after_matrices e = sym (matrices_of (after s c)) ∙ (ap (λ (t : ObjectShapes). length t.matrices) (by_shapes None e)
       ∙ (reshaped_matrices (shapes_of s) c ∙ ap (more (makes_matrix c)) (matrices_of s)))
 
-  after_vectors : refused_by_shapes (shapes_of s) c ≡ None → length (after s c).vectors ≡ more (makes_vector c) (length s.vectors)
+  pub after_vectors : refused_by_shapes (shapes_of s) c ≡ None → length (after s c).vectors ≡ more (makes_vector c) (length s.vectors)
   after_vectors e = sym (vectors_of (after s c)) ∙ (ap (λ (t : ObjectShapes). length t.vectors) (by_shapes None e)
       ∙ (reshaped_vectors (shapes_of s) c ∙ ap (more (makes_vector c)) (vectors_of s)))
 
-  same_matrices : (r : Refusal) → refused_by_shapes (shapes_of s) c ≡ Some r → length (after s c).matrices ≡ length s.matrices
+  pub same_matrices : (r : Refusal) → refused_by_shapes (shapes_of s) c ≡ Some r → length (after s c).matrices ≡ length s.matrices
   same_matrices r e = sym (matrices_of (after s c)) ∙ (ap (λ (t : ObjectShapes). length t.matrices) (by_shapes (Some r) e) ∙ matrices_of s)
 
-  same_vectors : (r : Refusal) → refused_by_shapes (shapes_of s) c ≡ Some r → length (after s c).vectors ≡ length s.vectors
+  pub same_vectors : (r : Refusal) → refused_by_shapes (shapes_of s) c ≡ Some r → length (after s c).vectors ≡ length s.vectors
   same_vectors r e = sym (vectors_of (after s c)) ∙ (ap (λ (t : ObjectShapes). length t.vectors) (by_shapes (Some r) e) ∙ vectors_of s)
 
 -- targets
@@ -256,7 +256,7 @@ module _ (w : Wants) (s t : Store) (c : Call) where
   unmade o None target unwanted output follows = follows_placed w s t c o target unwanted output follows
   unmade o (Some q) target unwanted output follows = follows_left w s t c o q target unwanted output follows
 
-  by_want : (o : Object) → effective_target (shapes_of s) c ≡ Some o → (b : Bool) → w o ≡ b → Follows (if b then wants_before w o (Make c) else w) s t →
+  pub by_want : (o : Object) → effective_target (shapes_of s) c ≡ Some o → (b : Bool) → w o ≡ b → Follows (if b then wants_before w o (Make c) else w) s t →
       Follows w (after s c) (part_after b (Some o) c t)
   by_want o target true wanted follows = follows_chosen w s t c o target follows
   by_want o target false unwanted follows = unmade o (output_of c) target unwanted refl follows

@@ -1,6 +1,7 @@
 pub mod Answered
 pub mod Effects
 pub mod Followed
+pub mod Freed
 pub mod Going
 pub mod Live
 pub mod Marks

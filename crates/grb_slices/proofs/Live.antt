@@ -26,7 +26,7 @@ some_map : {X Y : Type 0} (f : X → Y) (o : Option X) → is_some (option_map f
 some_map f (Some x) = refl
 some_map f None = refl
 
-live_by : (s : Store) (o : Object) → is_live (shapes_of s) o ≡ is_some (content_at s o)
+pub live_by : (s : Store) (o : Object) → is_live (shapes_of s) o ≡ is_some (content_at s o)
 live_by s (object.Matrix a) = ap is_some (object_at-map matrix_shape s.matrices a.0) ∙ (some_map matrix_shape (matrix_at s a) ∙ sym (some_map MatrixContent (matrix_at s a)))
 live_by s (object.Vector v) = ap is_some (object_at-map vector_shape s.vectors v.0) ∙ (some_map vector_shape (vector_at s v) ∙ sym (some_map VectorContent (vector_at s v)))
 

@@ -1,3 +1,4 @@
+pub mod InOrder
 pub mod Inside
 pub mod Building
 pub mod Built

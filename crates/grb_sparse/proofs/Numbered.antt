@@ -1,5 +1,5 @@
 -- A build at the numbers of cells is that at the cells.
-use Rattle.std.proofs.Common.{◌≡◌, ℕ, ◌<◌, List, [], ◌∷◌, ◌++◌, refl, sym, ap, ◌∙◌}
+use Rattle.std.proofs.Common.{◌≡◌, ℕ, zero, suc, ◌<◌, length, get_or, arith, List, [], ◌∷◌, ◌++◌, refl, sym, ap, ◌∙◌}
 use Rattle.std.specs.Prelude.{map, Option, Some, None}
 use Rattle.std.specs.List.{All}
 use Rattle.std.specs.Ordering.{nat_cmp, is_eq, eq_by_cmp}
@@ -61,3 +61,13 @@ values_numbered P tuples h =
 pub numbered-push : (es : List (ℕ × ℕ × Value)) (e : ℕ × ℕ × Value) → coded_entries (cells_of (es ++ e ∷ [])) ≡ coded_entries (cells_of es) ++ (code_of (e.0, e.1), e.2) ∷ []
 numbered-push [] e = refl
 numbered-push (x ∷ es) e = ap (λ (s : VectorEntries). (code_of (x.0, x.1), x.2) ∷ s) (numbered-push es e)
+
+pub numbered_at : (es : List (ℕ × ℕ × Value)) (i : ℕ) (e : ℕ × ℕ × Value) (d : ℕ × Value) → i < length es
+    → get_or (coded_entries (cells_of es)) i d ≡ (code_of ((get_or es i e).0, (get_or es i e).1), (get_or es i e).2)
+numbered_at [] i e d l = absurd (omega arith)
+numbered_at (x ∷ es) zero e d l = refl
+numbered_at (x ∷ es) (suc i) e d l = numbered_at es i e d (omega arith)
+
+pub length-numbered : (es : List (ℕ × ℕ × Value)) → length (coded_entries (cells_of es)) ≡ length es
+length-numbered [] = refl
+length-numbered (x ∷ es) = ap suc (length-numbered es)

@@ -8,6 +8,7 @@
 mod iter;
 mod made;
 mod matrix;
+mod matrix_tuples;
 mod tuples;
 mod vector;
 

@@ -12,11 +12,12 @@ use grb_rows::{FlatRows, Held};
 use std::alloc::{AllocError, Global};
 
 impl SparseVector {
-    /// The vector of these entries, assembled. Takes no memory.
-    fn from_row(alloc: Global, size: u64, row: FlatRows) -> SparseVector
+    /// The vector of these entries, assembled. Takes no memory, and gives back what no entry takes.
+    fn from_row(alloc: Global, size: u64, mut row: FlatRows) -> SparseVector
         requires whole { IsVector (record { domain = row.domain; size = size; entries = row.entries }) }
         ensures { result ≡ record { vector = record { domain = row.domain; size = size; entries = row.entries }; assembled = true; reserved = 0; pending = 0 } }
     {
+        row.shrink();
         SparseVector {
             size,
             held: Held::of(alloc, row, true),
@@ -61,13 +62,15 @@ impl SparseVector {
 }
 
 impl SparseMatrix {
-    /// The matrix of `nrows` rows and `ncols` columns that stores these lists, assembled. Takes no memory.
+    /// The matrix of `nrows` rows and `ncols` columns that stores these lists, assembled. Takes no memory, and gives back what no entry
+    /// takes.
     ///
     /// Source: own.
-    pub fn from_lists(alloc: Global, nrows: u64, ncols: u64, lists: FlatRows) -> SparseMatrix
+    pub fn from_lists(alloc: Global, nrows: u64, ncols: u64, mut lists: FlatRows) -> SparseMatrix
         requires whole { IsMatrix (record { domain = lists.domain; nrows = nrows; ncols = ncols; entries = decoded lists.entries }) }
         ensures { result ≡ record { matrix = record { domain = lists.domain; nrows = nrows; ncols = ncols; entries = decoded lists.entries }; assembled = true; reserved = 0; pending = 0 } }
     {
+        lists.shrink();
         SparseMatrix {
             nrows,
             ncols,

@@ -1,15 +1,15 @@
 //! Sparse matrices.
-ghost use Rattle.std.specs.Prelude.{◌≡◌, ◌+◌, ◌<◌, ◌≤◌, ◌^◌, [], true, false, All, OnOk, OnErr, IfOk};
+ghost use Rattle.std.specs.Prelude.{◌≡◌, ◌+◌, ◌<◌, ◌≤◌, ◌^◌, [], true, false, All, OnOk, OnErr, IsOk, IfOk};
 ghost use Rattle.std.specs.FinMap.{find, put};
 ghost use Rattle.grb_core.specs.Value.{value_domain};
 ghost use Rattle.grb_core.specs.Entries.{cell_cmp, cells_of, nvals_of, without_entry, built_from};
 ghost use Rattle.grb_core.specs.Monoid.{monoid_domain};
 ghost use Rattle.grb_core.specs.Results.{row_of};
-ghost use Rattle.grb_rows.specs.Cells.{coded_entries, decoded};
+ghost use Rattle.grb_rows.specs.Cells.{decoded};
 ghost use Rattle.grb_core.specs.Contents.{IsDimension, IsMatrix, edited_matrix, resized_matrix};
 
 use crate::iter::{Entries, Row};
-use crate::tuples;
+use crate::{matrix_tuples, tuples};
 use grb_core::{Domain, Monoid, Value};
 use grb_rows::{FlatRows, Held, code};
 use std::alloc::{AllocError, Global};
@@ -229,7 +229,7 @@ impl SparseMatrix {
     }
 
     /// Stores the tuples of a row, a column and a value in a matrix that stores nothing; the values of one place are combined by
-    /// `dup`. `AllocError` where memory is refused, and then nothing changes. It copies the tuples and sorts the copy.
+    /// `dup`. `AllocError` where memory is refused, and then nothing changes. It sorts a copy of the tuples, unless they are in order.
     ///
     /// Source: GraphBLAS C API 2.0, `GrB_Matrix_build`.
     pub fn build(&mut self, tuples: &[(u64, u64, Value)], dup: Monoid) -> Result<(), AllocError>
@@ -245,9 +245,8 @@ impl SparseMatrix {
         ensures err { OnErr result (self.new ≡ self.old) }
     {
         let alloc = self.held.allocator();
-        let numbered = numbered(alloc, tuples)?;
-        let built = tuples::build(alloc, &numbered, dup)?;
-        self.held.fill(&built)?;
+        let built = matrix_tuples::build(alloc, tuples, dup)?;
+        self.held = Held::of(alloc, built, true);
         Ok(())
     }
 
@@ -261,6 +260,7 @@ impl SparseMatrix {
         ensures assembled { OnOk result (self.new.assembled ≡ true) }
         ensures reserved { OnOk result (self.new.reserved ≡ 0) }
         ensures pending { OnOk result (self.new.pending ≡ 0) }
+        ensures done { self.old.assembled ≡ true → IsOk result }
         ensures err { OnErr result (self.new ≡ self.old) }
     {
         self.held.assemble()
@@ -300,17 +300,4 @@ impl SparseMatrix {
     {
         Row::over(self.held.rows(), i)
     }
-}
-
-/// The tuples, each as the number of its place and a value.
-fn numbered(alloc: Global, tuples: &[(u64, u64, Value)]) -> Result<Vec<(u64, Value)>, AllocError>
-    requires rows { All (λ e. e.0 < 2 ^ 32) tuples.now }
-    requires columns { All (λ e. e.1 < 2 ^ 32) tuples.now }
-    ensures { IfOk result (λ numbered. numbered.items ≡ coded_entries (cells_of tuples.now)) }
-{
-    let mut numbered = Vec::with_capacity(alloc, tuples.len())?;
-    for tuple in tuples {
-        numbered.push_reserved((code(tuple.0, tuple.1), tuple.2));
-    }
-    Ok(numbered)
 }

@@ -1,5 +1,5 @@
 //! Sparse vectors.
-ghost use Rattle.std.specs.Prelude.{◌≡◌, ◌+◌, ◌-◌, ◌<◌, ◌≤◌, ◌^◌, [], true, false, if◌then◌else◌, map, All, OnOk, OnErr, IfOk};
+ghost use Rattle.std.specs.Prelude.{◌≡◌, ◌+◌, ◌-◌, ◌<◌, ◌≤◌, ◌^◌, [], true, false, if◌then◌else◌, map, All, OnOk, OnErr, IsOk, IfOk};
 ghost use Rattle.std.specs.Ordering.{nat_cmp};
 ghost use Rattle.std.specs.FinMap.{find, put};
 ghost use Rattle.grb_core.specs.Value.{value_domain};
@@ -242,7 +242,7 @@ impl SparseVector {
     }
 
     /// Stores the tuples of an index and a value in a vector that stores nothing; the values of one index are combined by `dup`.
-    /// `AllocError` where memory is refused, and then nothing changes. It copies the tuples and sorts the copy.
+    /// `AllocError` where memory is refused, and then nothing changes. It sorts a copy of the tuples, unless they are in order.
     ///
     /// Source: GraphBLAS C API 2.0, `GrB_Vector_build`.
     pub fn build(&mut self, tuples: &[(u64, Value)], dup: Monoid) -> Result<(), AllocError>
@@ -256,8 +256,9 @@ impl SparseVector {
         ensures pending { OnOk result (self.new.pending ≡ 0) }
         ensures err { OnErr result (self.new ≡ self.old) }
     {
-        let built = tuples::build(self.held.allocator(), tuples, dup)?;
-        self.held.fill(&built)?;
+        let alloc = self.held.allocator();
+        let built = tuples::build(alloc, tuples, dup)?;
+        self.held = Held::of(alloc, built, true);
         Ok(())
     }
 
@@ -271,6 +272,7 @@ impl SparseVector {
         ensures assembled { OnOk result (self.new.assembled ≡ true) }
         ensures reserved { OnOk result (self.new.reserved ≡ 0) }
         ensures pending { OnOk result (self.new.pending ≡ 0) }
+        ensures done { self.old.assembled ≡ true → IsOk result }
         ensures err { OnErr result (self.new ≡ self.old) }
     {
         self.held.assemble()

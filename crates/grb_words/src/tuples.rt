@@ -36,7 +36,7 @@ pub fn vector_tuples(alloc: Global, values: &[Value]) -> Result<VectorTuples, Un
         tuples.push((*i, *value)).map_err(AllocError::from)?;
         rest = after;
     }
-    Ok(VectorTuples::from_vec(tuples))
+    Ok(VectorTuples::from_vec(tuples)?)
 }
 
 /// The tuples that the values are: groups of a row, a column and a value.
@@ -53,5 +53,5 @@ pub fn matrix_tuples(alloc: Global, values: &[Value]) -> Result<MatrixTuples, Un
         tuples.push((*i, *j, *value)).map_err(AllocError::from)?;
         rest = after;
     }
-    Ok(MatrixTuples::from_vec(tuples))
+    Ok(MatrixTuples::from_vec(tuples)?)
 }

@@ -1,17 +1,32 @@
 //! The program `grbtrace [--room N] SCRIPT`: it runs a script as `grbrun` does, and writes to standard error how long each statement
 //! took, as `section 0 statement 2: 14 us`.
 //!
-//! It shows what a `Gate` is for: `run_script` calls it before and after each statement, and leaves the rest of the run to itself.
+//! It shows what a `Gate` is for: `run_script` calls it before and after each statement, and leaves the rest of the run to itself. It also
+//! tells on standard error what `grbrun` does not: of a fault the line as it stands, its form and its names, of a refused statement the hint
+//! and the objects, and of a file its path and the cause.
 #![tactic(auto)]
 
 ghost use Rattle.std.specs.Prelude.{◌<◌, ◌≤◌};
 ghost use Rattle.grb_order.specs.declared.limits.TheConstants.{MOST_ROOM};
 
+mod ends;
+mod faults;
+mod files;
+mod forms;
 mod gate;
+mod names;
+mod near;
+mod refusals;
+#[cfg(test)]
+mod tests;
+mod told;
 
+use crate::ends::{tell_end, tell_refusals};
 use crate::gate::TraceGate;
+use grb_market::put_all;
 use grb_run::{
-    FileSource, Options, OutputSink, RunFault, report_unread_words, run_script, run_words,
+    FileSource, Options, OutputSink, RunFault, options, report_run, report_unread_words,
+    report_words, run_script,
 };
 use std::process::ExitCode;
 use std::rt::{Clock, Env, Files};
@@ -22,16 +37,48 @@ use std::{env, io};
 /// The name that the program gives itself in what it tells.
 const PROGRAM: &str = "grbtrace";
 
-/// Runs the script that the options name, and traces it.
+/// The lines of the script that the options name, which is traced.
+fn lines_of<R>(rt: &R, options: Options<'_>) -> Result<Vec<u8>, RunFault>
+where
+    R: Clock + Files + Eprint + AllocGlobal + Threads + Wait + Sync,
+    requires room { (0 < options.room) × (options.room ≤ MOST_ROOM) }
+{
+    let mut source = FileSource::new(rt, options.path);
+    let mut sink = OutputSink::new(Vec::new(rt.alloc()));
+    let gate = TraceGate::open(rt)?;
+    match run_script(rt, rt.alloc(), options.room, &mut source, &mut sink, &gate) {
+        Ok(()) => Ok(sink.writer),
+        // A list takes no byte only where memory is refused.
+        Err(RunFault::CannotWrite) => Err(RunFault::OutOfMemory),
+        Err(fault) => Err(fault),
+    }
+}
+
+/// Runs the script that the options name, writes its lines to standard output, and tells of those that were refused.
 fn run<R>(rt: &R, options: Options<'_>) -> Result<(), RunFault>
 where
     R: Clock + Files + Print + Eprint + AllocGlobal + Threads + Wait + Sync,
     requires room { (0 < options.room) × (options.room ≤ MOST_ROOM) }
 {
-    let mut source = FileSource::new(rt, options.path);
+    let lines = lines_of(rt, options)?;
     let mut sink = OutputSink::new(io::writer(rt));
-    let gate = TraceGate::open(rt)?;
-    run_script(rt, rt.alloc(), options.room, &mut source, &mut sink, &gate)
+    put_all(&mut sink, &lines)?;
+    tell_refusals(rt, options.path, &lines);
+    Ok(())
+}
+
+/// Runs the script that the options name, tells how that ended, and answers the exit status.
+fn run_options<R>(rt: &R, options: Options<'_>) -> u8
+where
+    R: Clock + Files + Print + Eprint + AllocGlobal + Threads + Wait + Sync,
+    requires room { (0 < options.room) × (options.room ≤ MOST_ROOM) }
+{
+    let outcome = run(rt, options);
+    let status = report_run(rt, PROGRAM, &outcome);
+    if let Err(fault) = &outcome {
+        tell_end(rt, options.path, fault);
+    }
+    status
 }
 
 /// Runs the program on its arguments, of which the first is its name.
@@ -44,10 +91,10 @@ where
         .iter()
         .map(|word| word.as_str())
         .collect(rt.alloc())?;
-    let run_with = |options: Options<'_>|
-        requires room { (0 < options.room) × (options.room ≤ MOST_ROOM) }
-    { run(rt, options) };
-    Ok(run_words(rt, PROGRAM, &words, run_with))
+    match options(rt.alloc(), PROGRAM, &words) {
+        Ok(options) => Ok(run_options(rt, options)),
+        Err(error) => Ok(report_words(rt, PROGRAM, &error)),
+    }
 }
 
 fn main(rt: HostRuntime) -> ExitCode {

@@ -1,5 +1,5 @@
 //! A case: a script, or several that differ in their last line, and what may be printed.
-ghost use Rattle.std.specs.Prelude.{◌<◌, ◌≤◌};
+ghost use Rattle.std.specs.Prelude.{◌<◌, ◌≤◌, IfOk};
 ghost use Rattle.grb_order.specs.declared.limits.TheConstants.{MOST_ROOM};
 
 use crate::difference::first_difference;
@@ -24,16 +24,36 @@ pub(crate) struct Case<'a> {
     room: u32,
     runs: u32,
     outputs: Vec<String>,
+    ghost in_range: { (0 < room) × (room ≤ MOST_ROOM) },
 }
 
-/// The number after these words, in the first line that begins with them.
-fn number_after(text: &str, words: &str) -> Option<u32> {
+/// The number in a text, which is above 0; else `InvalidData`.
+fn number_in(text: &str) -> io::Result<u32> {
+    match text.parse::<u32>() {
+        Ok(number) if number > 0 => Ok(number),
+        _ => Err(io::Error::from(ErrorKind::InvalidData)),
+    }
+}
+
+/// The number after this word and a space, in the first line that begins with the word. `InvalidData` where that line has no such number.
+fn number_after(text: &str, word: &str) -> io::Result<Option<u32>> {
     for line in text.lines() {
-        if let Some(number) = line.strip_prefix(words) {
-            return number.parse().ok();
+        if let Some(rest) = line.strip_prefix(word) {
+            return Ok(Some(number_in(rest.strip_prefix(" ").unwrap_or(""))?));
         }
     }
-    None
+    Ok(None)
+}
+
+/// The room that a text asks for, or the usual one. `InvalidData` where no store has it.
+fn room_of(text: &str) -> io::Result<u32>
+    ensures { IfOk result (λ room. (0 < room) × (room ≤ MOST_ROOM)) }
+{
+    let room = number_after(text, "# room")?.unwrap_or(4096);
+    if room == 0 || room > MOST_ROOM {
+        return Err(io::Error::from(ErrorKind::InvalidData));
+    }
+    Ok(room)
 }
 
 /// The scripts of a text: one, or one for each line after the line `# each`, which ends in that line.
@@ -87,17 +107,18 @@ where
 }
 
 impl<'a> Case<'a> {
-    /// The case of the script of this path.
+    /// The case of the script of this path. `InvalidData` where a comment line has no number of its own, or a text is none.
     pub(crate) fn read<R: Files + AllocGlobal>(rt: &R, path: &'a str) -> io::Result<Self> {
         let bytes = fs::read(rt, path)?;
         let text = str::from_utf8(&bytes).unwrap_or("");
         let outputs = outputs_of(rt, path)?;
-        let most = if outputs.len() > 1 { 1000 } else { 1 };
+        let room = room_of(text)?;
+        let often = if outputs.len() > 1 { 1000 } else { 1 };
         Ok(Case {
             path,
             scripts: scripts_of(rt.alloc(), &bytes)?,
-            room: number_after(text, "# room ").unwrap_or(4096),
-            runs: number_after(text, "# runs ").unwrap_or(most),
+            room,
+            runs: number_after(text, "# runs")?.unwrap_or(often),
             outputs,
         })
     }
@@ -109,7 +130,7 @@ impl<'a> Case<'a> {
     {
         let mut text = String::new(rt.alloc());
         for script in &self.scripts {
-            print_run(rt, script, self.room.clamp(1, MOST_ROOM), &mut text)?;
+            print_run(rt, script, self.room, &mut text)?;
         }
         Ok(text)
     }

@@ -3,12 +3,13 @@
 //! A case is two text files, `NAME.grb` and `NAME.out`, in one of the folders below, and no code. The output is what the script prints;
 //! where a run ends early, it has why in one line, as `line 2: semiring`. The paths of loads begin in `data/`. Comment lines say the rest:
 //!
-//! - `# room 2`: the room is 2. Else it is 4,096.
+//! - `# room 2`: the room is 2, of 1 to 65,536. Else it is 4,096.
 //! - `# runs 100`: the script is run 100 times. Else it is run once, and 1,000 times where it has several lawful outputs.
 //! - `# each`: each line below it is the last line of a script of its own, which begins with the lines above. The output has what these
 //!   scripts print, one after another.
 //!
-//! Where sections race, `NAME.2.out`, `NAME.3.out` and so on are lawful outputs too. Who adds a case counts it in the file `stdout`.
+//! A `# room` or `# runs` without such a number is an error, as is an output that is no text. Where sections race, `NAME.2.out`, `NAME.3.out`
+//! and so on are lawful outputs too. Who adds a case counts it in the file `stdout`.
 #![tactic(auto)]
 
 mod case;
@@ -19,6 +20,7 @@ mod source;
 use crate::case::Case;
 use crate::folder::scripts_in;
 use std::io;
+use std::io::ErrorKind;
 use std::process::ExitCode;
 use std::rt::Files;
 use std::sync::Wait;
@@ -60,8 +62,14 @@ where
     R: Files + Print + AllocGlobal + Threads + Wait + Sync + Clone + Drop,
 {
     for script in scripts_in(rt, folder)? {
-        let case = Case::read(rt, script.as_str())?;
-        counts.add(case.is_as_expected(rt)?);
+        match Case::read(rt, script.as_str()) {
+            Ok(case) => counts.add(case.is_as_expected(rt)?),
+            Err(error) if error.kind() == ErrorKind::InvalidData => {
+                println!(rt; "{script}: `# room`, `# runs` or an output is faulty")?;
+                counts.add(false);
+            }
+            Err(error) => return Err(error),
+        }
     }
     Ok(())
 }

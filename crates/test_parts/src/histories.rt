@@ -99,7 +99,7 @@ fn call_on_vector(alloc: Global, draw: &mut Draw, domain: Domain) -> Result<Call
         7 | 8 => Call::RemoveVector { v, i },
         9..12 => Call::BuildVector {
             v,
-            tuples: VectorTuples::from_vec(vec![in alloc; (i, value), (k, second)]?),
+            tuples: VectorTuples::from_vec(vec![in alloc; (i, value), (k, second)]?)?,
             dup: draw.monoid(domain),
         },
         _ => Call::SetVector { v, i, value },
@@ -121,7 +121,7 @@ fn call_on_matrix(alloc: Global, draw: &mut Draw, domain: Domain) -> Result<Call
         7 | 8 => Call::RemoveMatrix { a, i, j },
         9..12 => Call::BuildMatrix {
             a,
-            tuples: MatrixTuples::from_vec(vec![in alloc; (i, j, value), (j, i, second)]?),
+            tuples: MatrixTuples::from_vec(vec![in alloc; (i, j, value), (j, i, second)]?)?,
             dup: draw.monoid(domain),
         },
         _ => Call::SetMatrix { a, i, j, value },

@@ -274,12 +274,12 @@ fn build_call(
     dup: Monoid,
 ) -> Result<Call, AllocError> {
     if shape.is_matrix {
-        let tuples = MatrixTuples::from_vec(tuples);
+        let tuples = MatrixTuples::from_vec(tuples)?;
         let a = MatrixId(number);
         return Ok(Call::BuildMatrix { a, tuples, dup });
     }
     let tuples = tuples.iter().map(|t| (t.0, t.2)).collect(alloc)?;
-    let tuples = VectorTuples::from_vec(tuples);
+    let tuples = VectorTuples::from_vec(tuples)?;
     let v = VectorId(number);
     Ok(Call::BuildVector { v, tuples, dup })
 }

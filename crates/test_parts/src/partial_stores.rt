@@ -65,11 +65,11 @@ static ROWS: [Row; 7] = [
     ("after four calls more", 16, 1, EIGHT, 1 << 12, 1),
     ("what the first of the calls stored", 16, 0, SEVEN, 0, 1),
     (
-        "after a sum with a vector that was changed",
+        "after a sum with a vector that was changed, which takes all calls anew",
         17,
         2,
         None,
-        1 << 16,
+        ALL,
         0,
     ),
     ("where all calls are to be made", 17, 2, None, ALL, 0),

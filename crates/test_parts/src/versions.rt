@@ -117,16 +117,16 @@ fn found(versions: &Versions, calls: &[&Call]) -> Option<(usize, Option<u64>)> {
 }
 
 /// Of how many calls a state is that goes on from a version, and what the vector stores in it; none where it stays the empty one. The calls
-/// are 128 at most.
+/// are 512 at most.
 fn advanced(
     alloc: Global,
     versions: &Versions,
     calls: &[&Call],
 ) -> Result<Option<(usize, Option<u64>)>, AllocError>
-    requires { length calls.now ≤ 128 }
+    requires { length calls.now ≤ 512 }
 {
-    let mut state = State::empty(alloc).try_clone(128)?;
-    let length = versions.advance(calls, &mut state, 0, 128);
+    let mut state = State::empty(alloc).try_clone(512)?;
+    let length = versions.advance(calls, &mut state, 0, 512);
     if length == 0 {
         return Ok(None);
     }
@@ -215,7 +215,7 @@ static ROWS: [Row; 13] = [
         found: Some((2, Some(1))),
     },
     Row {
-        name: "64 calls and 65 in cells of their own",
+        name: "the shorter of 64 calls and 65",
         room: 128,
         offered: &[Until(64), Until(65)],
         asked: Until(64),
@@ -245,7 +245,7 @@ fn expect_row(rt: &impl Abort, alloc: Global, row: &Row) -> Result<(), AllocErro
     let calls = calls_of(alloc, row.asked)?;
     let lent = lent(alloc, &calls)?;
     same(rt, found(&versions, &lent), row.found, row.name);
-    if lent.len() > 128 {
+    if lent.len() > 512 {
         panic!(rt; "{calls} calls", calls = lent.len());
     }
     same(rt, advanced(alloc, &versions, &lent)?, row.found, row.name);
@@ -260,22 +260,83 @@ fn a_version_serves_the_calls_that_begin_with_its_own(rt: HostRuntime) -> Result
     Ok(())
 }
 
+/// Versions of 64, 100, 128, 200 and 256 calls were offered in turn. Those of 64, 128 and 256 double, so cells have them; the others are among
+/// the latest. Here is how many calls are asked for, and how many the version has that is found in a cell, and in any place; 0 is none.
+static DOUBLED: [(u64, usize, usize); 10] = [
+    (63, 0, 0),
+    (64, 64, 64),
+    (99, 64, 64),
+    (100, 64, 100),
+    (127, 64, 100),
+    (128, 128, 128),
+    (199, 128, 128),
+    (200, 128, 200),
+    (255, 128, 200),
+    (256, 256, 256),
+];
+
+#[test]
+fn versions_in_cells_double(rt: HostRuntime) -> Result<(), AllocError> {
+    let versions = Versions::open(rt.alloc(), 512)?;
+    for count in [64, 100, 128, 200, 256] {
+        offer(&rt, rt.alloc(), &versions, Until(count))?;
+    }
+    for (asked, in_cell, anywhere) in &DOUBLED {
+        let calls = calls_of(rt.alloc(), Until(*asked))?;
+        let lent = lent(rt.alloc(), &calls)?;
+        if lent.len() > 512 {
+            panic!(rt; "{calls} calls", calls = lent.len());
+        }
+        let cell = match found(&versions, &lent) {
+            Some((length, _)) => length,
+            None => 0,
+        };
+        let any = match advanced(rt.alloc(), &versions, &lent)? {
+            Some((length, _)) => length,
+            None => 0,
+        };
+        same(&rt, (cell, any), (*in_cell, *anywhere), *asked);
+    }
+    Ok(())
+}
+
+/// 64, 128 and 256 calls in cells, and four numbers of calls in no cell.
+const CROWDED: &[History] = &[
+    Until(64),
+    Until(128),
+    Until(256),
+    Until(300),
+    Until(330),
+    Until(390),
+    Until(450),
+];
+
 /// The room, what was offered in turn, and whether a version of so many calls would be kept then.
-static TAKEN: [(u32, &[History], usize, bool); 10] = [
+static TAKEN: [(u32, &[History], usize, bool); 20] = [
+    (128, &[], 0, false),
     (128, &[], 1, true),
     (128, &[], 64, true),
     (128, &[], 65, true),
     (128, &[], 128, true),
+    (128, &[], 129, false),
     (65, &[], 128, true),
     (128, &[These(&[0, 5])], 1, false),
     (128, &[These(&[0, 5])], 64, false),
     (128, &[These(&[0, 5])], 65, true),
     (128, &[Until(65)], 64, true),
     (128, &[Until(65)], 128, false),
+    (256, &[Until(64), Until(100)], 127, false),
+    (256, &[Until(64), Until(100)], 128, true),
+    (256, &[Until(64), Until(100)], 129, true),
+    (512, CROWDED, 180, false),
+    (512, CROWDED, 310, false),
+    (512, CROWDED, 350, false),
+    (512, CROWDED, 511, false),
+    (512, CROWDED, 512, true),
 ];
 
 #[test]
-fn a_version_is_kept_where_its_cell_is_empty(rt: HostRuntime) -> Result<(), AllocError> {
+fn a_version_is_kept_where_it_doubles_or_none_is_near(rt: HostRuntime) -> Result<(), AllocError> {
     for (at, (room, offered, count, takes)) in TAKEN.iter().enumerate() {
         let versions = Versions::open(rt.alloc(), *room)?;
         for history in *offered {
@@ -408,7 +469,7 @@ fn expect_latest(rt: &impl Abort, alloc: Global, row: &Latest) -> Result<(), All
     }
     let calls = calls_of(alloc, row.asked)?;
     let lent = lent(alloc, &calls)?;
-    if lent.len() > 128 {
+    if lent.len() > 512 {
         panic!(rt; "{calls} calls", calls = lent.len());
     }
     same(rt, advanced(alloc, &versions, &lent)?, row.found, row.name);
@@ -425,7 +486,7 @@ fn the_latest_are_four(rt: HostRuntime) -> Result<(), AllocError> {
 
 /// What was offered, and what was left; how many calls are evaluated and known; and whether one of the latest, and any version, has more than
 /// the ones and no more than the others.
-static BEYOND: [(&[History], &[History], usize, usize, bool, bool); 10] = [
+static BEYOND: [(&[History], &[History], usize, usize, bool, bool); 12] = [
     (&[], &[], 0, 5, false, false),
     (&[TWO], &[], 0, 1, false, false),
     (&[TWO], &[], 0, 2, false, true),
@@ -436,6 +497,8 @@ static BEYOND: [(&[History], &[History], usize, usize, bool, bool); 10] = [
     (&[TWO], &[THREE], 2, 2, false, false),
     (&[TWO], &[THREE], 2, 3, true, true),
     (&[TWO], &[THREE], 3, 5, false, false),
+    (&[Until(64), Until(65)], &[], 64, 65, true, true),
+    (&[Until(64), Until(65)], &[], 63, 64, false, true),
 ];
 
 #[test]

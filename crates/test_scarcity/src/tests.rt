@@ -1,6 +1,8 @@
 //! The tests of this crate, a module for each reason to have them.
 mod calls;
+mod large;
 mod memory;
+mod offers;
 mod rows;
 mod same;
 mod scripts;

@@ -1,6 +1,8 @@
 //! The tests of this crate, a module for each reason to have them.
 mod asked;
 mod command_line;
+mod dear_races;
+mod draw;
 mod drawn;
 mod endings;
 mod files;
@@ -12,6 +14,9 @@ mod meetings;
 mod methods;
 mod order;
 mod output;
+mod plain;
+mod plain_store;
+mod plan;
 mod races;
 mod records;
 mod report;

@@ -99,6 +99,16 @@ fn what_is_settled_is_read_without_memory(rt: HostRuntime) -> Result<(), AllocEr
     Ok(())
 }
 
+/// The first wait leaves its store, and the second has nothing to evaluate, and nothing more is left so soon.
+#[test]
+fn a_wait_that_leaves_nothing_takes_no_memory(rt: HostRuntime) -> Result<(), AllocError> {
+    let script =
+        "vector v uint64 4\nset v 0 5\nwait v materialize\nset v 1 6\ntotal v plus\nfinally\nwait v materialize\n";
+    let settled = expect_starved(&rt, 128, script, &[DONE], &[DONE])?;
+    same(&rt, settled, 3, "the settled calls");
+    Ok(())
+}
+
 #[test]
 fn other_refusals_come_before_out_of_memory(rt: HostRuntime) -> Result<(), AllocError> {
     let script = "vector v uint64 4\nset v 0 5\nfinally\nmatrix A bool 0 1\nset v 4 5\nset v 3 5\n";
@@ -240,7 +250,7 @@ fn is_adopted<R: Abort>(rt: &R, hoard: &mut Hoard, store: &mut Store, bytes: usi
 {
     let (context, p, q) = (&store.context, &mut store.p, &mut store.q);
     leave(rt, hoard, bytes);
-    context.prepare(p);
+    let _ = context.prepare(p);
     same(rt, context.adopt(q, p), Ok(()), "the adoption");
     leave_ample(rt, hoard);
     let value = context.get_vector(q, V, 62);

@@ -16,6 +16,20 @@ const SCRIPT: &str = "load A file\nvector v uint64 5\nset v 2 7\nget v 2\nnvals 
 
 const LINES: &[u8] = b"ok\nok\nok\nvalue 7\ncount 1\n";
 
+const OK: &[u8] = b"ok";
+
+const SEVEN: &[u8] = b"value 7";
+
+const NONE: &[u8] = b"none";
+
+const ONE: &[u8] = b"count 1";
+
+const ZERO: &[u8] = b"count 0";
+
+const GONE: &[u8] = b"GrB_UNINITIALIZED_OBJECT";
+
+const REFUSED: &[u8] = b"GrB_OUT_OF_MEMORY";
+
 const FILE: &[u8] = b"%%MatrixMarket matrix coordinate integer general\n2 2 1\n1 2 3\n";
 
 /// Hands out a script and a file that it has, and takes no memory.
@@ -90,28 +104,56 @@ enum End {
     Whole,
 }
 
-fn count(lines: &[u8], line: &[u8]) -> usize {
-    lines
-        .split(|byte| *byte == b'\n')
-        .filter(|it| *it == line)
-        .count()
+/// Whether a line is this one, or tells that memory was refused.
+fn is_or_tells(line: &[u8], wanted: &[u8]) -> bool {
+    line == wanted || line == REFUSED
+}
+
+/// Whether these are the five lines of the script, of which some tell that memory was refused. What such a call had made is not there for those
+/// after it, but for a matrix whose file alone was not taken over.
+fn are_told(lines: &[&[u8]]) -> bool {
+    let [load, made, set, get, count, end] = lines else {
+        return false;
+    };
+    let (is_loaded, is_made, is_set) = (*load == OK, *made == OK, *set == OK);
+    let may_set = if is_made { OK } else { GONE };
+    let may_get = match (is_made, is_set) {
+        (true, true) => SEVEN,
+        (true, false) => NONE,
+        _ => GONE,
+    };
+    let may_count = if is_loaded { ONE } else { GONE };
+    is_or_tells(*load, OK)
+        && is_or_tells(*made, OK)
+        && is_or_tells(*set, may_set)
+        && is_or_tells(*get, may_get)
+        && (is_or_tells(*count, may_count) || (!is_loaded && *count == ZERO))
+        && end.is_empty()
 }
 
 /// How a run ended with these lines, which is as it may.
-fn end_of<R: Abort>(rt: &R, ended: &Result<(), RunFault>, lines: &[u8]) -> End {
+fn end_of<R: Abort>(
+    rt: &R,
+    alloc: Global,
+    ended: &Result<(), RunFault>,
+    lines: &[u8],
+) -> Result<End, AllocError> {
     let end = match ended {
-        Ok(()) if lines == LINES => return End::Whole,
+        Ok(()) if lines == LINES => return Ok(End::Whole),
         Ok(()) => {
-            let told = count(lines, b"GrB_OUT_OF_MEMORY");
-            same(rt, (told > 0, count(lines, b"")), (true, 1), "the lines");
-            return End::Told;
+            let mut each = Vec::new(alloc);
+            for line in lines.split(|byte| *byte == b'\n') {
+                each.push(line)?;
+            }
+            same(rt, are_told(&each), true, lines);
+            return Ok(End::Told);
         }
         Err(RunFault::OutOfMemory) => End::Refused,
         Err(RunFault::NoThread) => End::NoThread,
         Err(_) => panic!(rt; "the run has another fault"),
     };
     same(rt, lines.len(), 0, "the bytes written");
-    end
+    Ok(end)
 }
 
 /// Runs the script with so many bytes.
@@ -128,7 +170,7 @@ fn run_with<R: Abort + Threads + Wait + Sync>(
     leave(rt, hoard, bytes);
     let ended = run_script(rt, alloc, 8, &mut source, &mut sink, &OpenGate);
     leave_ample(rt, hoard);
-    Ok(end_of(rt, &ended, &sink.taken))
+    end_of(rt, alloc, &ended, &sink.taken)
 }
 
 #[test]

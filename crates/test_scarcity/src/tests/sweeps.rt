@@ -212,9 +212,16 @@ fn plans_of(alloc: Global, calls: Vec<Call>, way: Way) -> Result<Vec<Plan>, Allo
     Ok(plans)
 }
 
-/// Whether it takes memory: all calls do but those for dimensions, and each list does.
+/// Whether it takes memory that the same call has not given back: all calls do but those for dimensions, and a wait for all objects by a
+/// pass that has read some, since it lets go first of what it read; and each list does.
 fn takes_memory(plan: &Plan) -> bool {
-    plan.way == Way::List || !matches!(plan.call, Call::SizeMatrix { .. } | Call::SizeVector { .. })
+    match plan.call {
+        Call::SizeMatrix { .. } | Call::SizeVector { .. } => plan.way == Way::List,
+        Call::WaitMatrix { mode, .. } | Call::WaitVector { mode, .. } => {
+            mode == WaitMode::Complete || matches!(plan.way, Way::List | Way::Other)
+        }
+        _ => true,
+    }
 }
 
 /// Tries so many calls in this way.

@@ -34,9 +34,29 @@ pub(super) type IntoMatrix = (MatrixId, Option<MatrixId>, Option<BinaryOp>, Desc
 
 pub(super) type IntoVector = (VectorId, Option<VectorId>, Option<BinaryOp>, Descriptor);
 
+/// A list by a rule: so many tuples, of which each is `step` places after the one before, round about; the places are numbered row by row. The
+/// numbers count from 1. A vector has one column.
+#[derive(Clone, Copy, Debug)]
+pub(super) struct Rule {
+    pub(super) count: u64,
+    pub(super) step: u64,
+    pub(super) nrows: u64,
+    pub(super) ncols: u64,
+}
+
+impl Rule {
+    /// The tuple of this number, from 0: its row, its column and its number.
+    pub(super) fn tuple(&self, k: u64) -> (u64, u64, u64) {
+        let ncols = self.ncols.max(1);
+        let places = self.nrows.wrapping_mul(ncols).max(1);
+        let at = k.wrapping_mul(self.step) % places;
+        (at / ncols, at % ncols, k.wrapping_add(1))
+    }
+}
+
 /// A call without a list of its own. A build adds up numbers by their places; one of truth values, which are true where the numbers are
 /// odd, combines them by exclusive or.
-#[derive(Clone, Copy)]
+#[derive(Clone, Copy, Debug)]
 pub(super) enum Asked {
     NewMatrix(Domain, u64, u64),
     NewVector(Domain, u64),
@@ -60,6 +80,8 @@ pub(super) enum Asked {
     DupVector(VectorId),
     BuildMatrix(MatrixId, Domain, &'static [(u64, u64, u64)]),
     BuildVector(VectorId, Domain, &'static [(u64, u64)]),
+    FillMatrix(MatrixId, Domain, Rule),
+    FillVector(VectorId, Domain, Rule),
     EwiseAddMatrix(IntoMatrix, BinaryOp, MatrixId, MatrixId),
     EwiseAddVector(IntoVector, BinaryOp, VectorId, VectorId),
     EwiseMultMatrix(IntoMatrix, BinaryOp, MatrixId, MatrixId),
@@ -82,7 +104,7 @@ pub(super) fn value_of(domain: Domain, number: u64) -> Value {
     }
 }
 
-fn sum_of(domain: Domain) -> Monoid {
+pub(super) fn sum_of(domain: Domain) -> Monoid {
     match domain {
         Domain::Bool => Monoid::Lxor,
         Domain::Uint64 => Monoid::Plus,
@@ -94,7 +116,7 @@ fn values(alloc: Global, domain: Domain, list: &[(u64, u64)]) -> Result<VectorTu
     for (i, number) in list {
         tuples.push((*i, value_of(domain, *number)))?;
     }
-    Ok(VectorTuples::from_vec(tuples))
+    VectorTuples::from_vec(tuples)
 }
 
 fn cells(
@@ -106,7 +128,25 @@ fn cells(
     for (i, j, number) in list {
         tuples.push((*i, *j, value_of(domain, *number)))?;
     }
-    Ok(MatrixTuples::from_vec(tuples))
+    MatrixTuples::from_vec(tuples)
+}
+
+fn values_by(alloc: Global, domain: Domain, rule: Rule) -> Result<VectorTuples, AllocError> {
+    let mut tuples = Vec::new(alloc);
+    for k in 0..rule.count {
+        let (i, _, number) = rule.tuple(k);
+        tuples.push((i, value_of(domain, number)))?;
+    }
+    VectorTuples::from_vec(tuples)
+}
+
+fn cells_by(alloc: Global, domain: Domain, rule: Rule) -> Result<MatrixTuples, AllocError> {
+    let mut tuples = Vec::new(alloc);
+    for k in 0..rule.count {
+        let (i, j, number) = rule.tuple(k);
+        tuples.push((i, j, value_of(domain, number)))?;
+    }
+    MatrixTuples::from_vec(tuples)
 }
 
 /// Makes an operation on several objects, or a total.
@@ -168,6 +208,10 @@ fn ask_matrix(alloc: Global, context: &Context, pass: &mut Pass, asked: Asked) -
             Ok(tuples) => context.build_matrix(pass, a, tuples, sum_of(domain)),
             Err(_) => Err(Refusal::OutOfMemory),
         },
+        Asked::FillMatrix(a, domain, rule) => match cells_by(alloc, domain, rule) {
+            Ok(tuples) => context.build_matrix(pass, a, tuples, sum_of(domain)),
+            Err(_) => Err(Refusal::OutOfMemory),
+        },
         Asked::WaitMatrix(a, mode) => context.wait_matrix(pass, a, mode),
         _ => operate(context, pass, asked),
     }
@@ -190,6 +234,10 @@ pub(super) fn ask(alloc: Global, context: &Context, pass: &mut Pass, asked: Aske
         Asked::ResizeVector(v, size) => context.resize_vector(pass, v, size),
         Asked::DupVector(v) => context.dup_vector(pass, v),
         Asked::BuildVector(v, domain, list) => match values(alloc, domain, list) {
+            Ok(tuples) => context.build_vector(pass, v, tuples, sum_of(domain)),
+            Err(_) => Err(Refusal::OutOfMemory),
+        },
+        Asked::FillVector(v, domain, rule) => match values_by(alloc, domain, rule) {
             Ok(tuples) => context.build_vector(pass, v, tuples, sum_of(domain)),
             Err(_) => Err(Refusal::OutOfMemory),
         },

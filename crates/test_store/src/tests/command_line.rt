@@ -15,7 +15,15 @@ const ARGUMENTS: &str =
     symmetric. All files are read and checked after the script, and before\n            \
     anything runs.\n\n\
     Options:\n      --room <N>  How many calls may change the store, two of each load, from 1 to 65536 [default: 4096]\n  \
-    -h, --help      Print help\n  -V, --version   Print version\n";
+    -h, --help      Print help\n  -V, --version   Print version\n\n";
+
+const ENDING: &str =
+    "A line `thread 1` begins a section that runs after the lines before it, next to\n\
+    those of `thread 2` and so on; a line `finally` begins the last section. A first\n\
+    line `version 2` adds the statement `vxm`, the option `tran`, and thread sections\n\
+    up to 255. docs/FORMATS.md has each statement, refusal and fault.\n\n\
+    Exit status: 0 where all lines were written, or help was; 1 where the run ended\n\
+    early, and standard error says why; 2 where the command line is faulty.\n";
 
 const MISSING_SCRIPT: &str =
     "error: the following required arguments were not provided:\n  <SCRIPT>\n\n\
@@ -131,7 +139,7 @@ fn help_and_the_version_have_the_name_of_the_program(rt: HostRuntime) -> Result<
     let alloc = rt.alloc();
     for program in ["grbrun", "grbtrace"] {
         let usage = format!(in alloc; "Usage: {program} [OPTIONS] <SCRIPT>")?;
-        let help = format!(in alloc; "{ABOUT}{usage}\n\n{ARGUMENTS}")?;
+        let help = format!(in alloc; "{ABOUT}{usage}\n\n{ARGUMENTS}{ENDING}")?;
         let version = format!(in alloc; "{program} 1.0.0\n")?;
         expect_told(&rt, alloc, program, "--help", &help)?;
         expect_told(&rt, alloc, program, "--version", &version)?;

@@ -1,333 +1,150 @@
-//! Drawn histories: four passes of a store ask in turn, and a pass alone, in a store of its own, is asked the same. That one has all changes
-//! done before each call, so it reads what all calls together left. At the end they read all that each object holds. No contract says which
-//! of its ways to a value a read takes, and no script has passes in turn; here each way is compared with the plain one.
+//! Drawn histories: four passes of a store ask in turn, and a plain store of test code is asked the same. In some histories objects are small,
+//! and passes adopt others; in others they are so large that what one pass evaluates is left to the others, and that some of it was taken is
+//! counted. At the end the passes read all that each object holds. No contract says which of its ways to a value a read takes, and no script
+//! has passes in turn; here each way is compared with the plain one.
 ghost use Rattle.grb_context.specs.Known.{IsPassOf};
 
-use crate::tests::asked::{Answer, Asked, FIRST, IntoMatrix, IntoVector, ask, value_of};
+use crate::tests::asked::{Answer, Asked, ask, sum_of};
+use crate::tests::draw::{Draw, Scale};
+use crate::tests::plain_store::PlainStore;
+use crate::tests::plan::object_read;
 use crate::tests::rows::next_pass;
 use crate::tests::same::same;
-use grb_call::{Descriptor, MatrixId, Reply, VectorId, WaitMode};
+use grb_call::{MatrixId, VectorId};
 use grb_context::{Context, Pass};
-use grb_core::{BinaryOp, Domain, Monoid, Value};
 use std::alloc::{AllocError, Global};
 use std::process::Abort;
 
-/// How many calls a history has before its end.
-const CALLS: u32 = 240;
-
-/// How many of them one pass makes, at the least.
+/// How many calls one pass makes, at the least.
 const TURN: u32 = 8;
 
-/// How many calls at its end read the matrix and the vector of one number whole.
-const READS: u32 = 24;
+/// How many calls at the end read the matrix and the vector of one number.
+const READS: u32 = 26;
 
-/// Calls are on this many objects of a sort, those that were made last; so many are made first.
-const LAST: u32 = 8;
+/// The room of a store.
+const ROOM: u32 = 256;
 
-const HISTORIES: u64 = 2_000;
+/// Objects of four places across.
+const SMALL: Scale = Scale {
+    size: 4,
+    side: 4,
+    fills: 0,
+    entries: 0,
+    fills_matrices: false,
+    is_shared: true,
+    calls: 240,
+};
 
-/// Numbers that look drawn by chance, the same in each run (Knuth's linear congruential generator).
-#[derive(Drop)]
-struct Draw {
-    state: u64,
-    /// The domain of all operators, and of most objects and values.
-    domain: Domain,
-    /// How many vectors were made.
-    vectors: u32,
-    /// How many matrices were made.
-    matrices: u32,
-    /// What an operation wrote last.
-    vector_written: VectorId,
-    matrix_written: MatrixId,
+/// Vectors of thousands of entries.
+const LONG: Scale = Scale {
+    size: 9_000,
+    side: 4,
+    fills: 3,
+    entries: 6_000,
+    fills_matrices: false,
+    is_shared: false,
+    calls: 160,
+};
+
+/// Matrices whose products take thousands of sets.
+const WIDE: Scale = Scale {
+    size: 64,
+    side: 64,
+    fills: 4,
+    entries: 2_000,
+    fills_matrices: true,
+    is_shared: false,
+    calls: 160,
+};
+
+/// What is counted of a history.
+#[derive(Clone, Copy)]
+struct Counts {
+    /// How many calls were not refused.
+    accepted: u32,
+    /// How many calls the store had when each pass last may have evaluated some.
+    evaluated: [u32; 4],
+    /// How many reads found made, by another pass, what their pass had not made.
+    taken: u32,
 }
 
-impl Draw {
-    /// The next number below `n`, or 0.
-    fn below(&mut self, n: u64) -> u64 {
-        self.state = self
-            .state
-            .wrapping_mul(6_364_136_223_846_793_005)
-            .wrapping_add(1_442_695_040_888_963_407);
-        if n == 0 {
-            return 0;
-        }
-        (self.state >> 33) % n
-    }
-
-    /// The number of one of the objects that were made last, of `made` objects.
-    fn number(&mut self, made: u32) -> u32 {
-        let later = (self.below(8) & 7) as u32;
-        made.saturating_sub(LAST).saturating_add(later)
-    }
-
-    fn vector(&mut self) -> VectorId {
-        let made = self.vectors;
-        VectorId(self.number(made))
-    }
-
-    fn matrix(&mut self) -> MatrixId {
-        let made = self.matrices;
-        MatrixId(self.number(made))
-    }
-
-    /// Now and then the other domain than that of the operators.
-    fn any_domain(&mut self) -> Domain {
-        let is_other = self.below(8) == 0;
-        match self.domain {
-            Domain::Bool if is_other => Domain::Uint64,
-            Domain::Uint64 if is_other => Domain::Bool,
-            domain => domain,
+impl Counts {
+    fn new() -> Counts {
+        Counts {
+            accepted: 0,
+            evaluated: [0; 4],
+            taken: 0,
         }
     }
 
-    fn value(&mut self) -> Value {
-        let domain = self.any_domain();
-        value_of(domain, self.below(4))
-    }
-
-    fn new_vector(&mut self) -> Asked {
-        Asked::NewVector(self.any_domain(), 4)
-    }
-
-    fn new_matrix(&mut self) -> Asked {
-        Asked::NewMatrix(self.any_domain(), 4, 4)
-    }
-
-    /// A size, which is most often that of a new object.
-    fn size(&mut self) -> u64 {
-        if self.below(2) == 0 {
-            return 4;
-        }
-        self.below(5)
-    }
-
-    fn mode(&mut self) -> WaitMode {
-        if self.below(2) == 0 {
-            WaitMode::Complete
-        } else {
-            WaitMode::Materialize
+    /// How many calls this pass has evaluated at most.
+    fn evaluated(&self, number: u32) -> u32 {
+        match self.evaluated.get(number as usize) {
+            Some(calls) => *calls,
+            None => u32::MAX,
         }
     }
 
-    fn op(&mut self) -> BinaryOp {
-        match (self.domain, self.below(7)) {
-            (Domain::Bool, 0) => BinaryOp::Lor,
-            (Domain::Bool, 1) => BinaryOp::Land,
-            (Domain::Bool, 2) => BinaryOp::Lxor,
-            (Domain::Bool, 3) => BinaryOp::Lxnor,
-            (Domain::Bool, 4) => BinaryOp::FirstBool,
-            (Domain::Bool, _) => BinaryOp::SecondBool,
-            (Domain::Uint64, 0) => BinaryOp::Plus,
-            (Domain::Uint64, 1) => BinaryOp::Times,
-            (Domain::Uint64, 2) => BinaryOp::Min,
-            (Domain::Uint64, 3) => BinaryOp::Max,
-            (Domain::Uint64, 4) => BinaryOp::Minus,
-            (Domain::Uint64, 5) => BinaryOp::First,
-            (Domain::Uint64, _) => BinaryOp::Second,
+    /// Counts a call of a pass, which made so many calls for its answer.
+    fn note(&mut self, store: &PlainStore, number: u32, made: u32, asked: Asked, answer: Answer) {
+        if answer.is_err() {
+            return;
         }
-    }
-
-    fn accum(&mut self) -> Option<BinaryOp> {
-        if self.below(2) == 0 {
-            return None;
+        self.accepted = self.accepted.saturating_add(1);
+        let read = object_read(asked);
+        if let Some(object) = read {
+            let is_new = store.changed(object) > self.evaluated(number);
+            if is_new && made == 0 {
+                self.taken = self.taken.saturating_add(1);
+            }
         }
-        Some(self.op())
-    }
-
-    fn into_vector(&mut self) -> IntoVector {
-        let (w, mask) = (self.vector(), self.vector());
-        let mask = if self.below(2) == 0 { None } else { Some(mask) };
-        (w, mask, self.accum(), self.descriptor())
-    }
-
-    fn into_matrix(&mut self) -> IntoMatrix {
-        let (c, mask) = (self.matrix(), self.matrix());
-        let mask = if self.below(2) == 0 { None } else { Some(mask) };
-        (c, mask, self.accum(), self.descriptor())
-    }
-
-    fn monoid(&mut self) -> Monoid {
-        match (self.domain, self.below(4)) {
-            (Domain::Bool, 0) => Monoid::Lor,
-            (Domain::Bool, 1) => Monoid::Land,
-            (Domain::Bool, 2) => Monoid::Lxor,
-            (Domain::Bool, _) => Monoid::Lxnor,
-            (Domain::Uint64, 0) => Monoid::Plus,
-            (Domain::Uint64, 1) => Monoid::Times,
-            (Domain::Uint64, 2) => Monoid::Min,
-            (Domain::Uint64, _) => Monoid::Max,
-        }
-    }
-
-    fn descriptor(&mut self) -> Descriptor {
-        Descriptor {
-            structure: self.below(2) == 0,
-            comp: self.below(2) == 0,
-            replace: self.below(2) == 0,
-            tran: self.below(2) == 0,
-        }
-    }
-
-    /// A change of a vector; the first one is never freed.
-    fn change_of_a_vector(&mut self) -> Asked {
-        let v = self.vector();
-        let i = self.below(5);
-        match self.below(128) {
-            0..=3 => self.new_vector(),
-            4..=7 => Asked::FreeVector(VectorId(v.0.saturating_add(1))),
-            8..=11 => Asked::ClearVector(v),
-            12..=15 => Asked::ResizeVector(v, self.size()),
-            16..=19 => Asked::DupVector(v),
-            20 => Asked::BuildVector(v, self.domain, &[(2, 7), (0, 5), (2, 1)]),
-            21..=40 => Asked::RemoveVector(v, i),
-            _ => Asked::SetVector(v, i, self.value()),
-        }
-    }
-
-    fn change_of_a_matrix(&mut self) -> Asked {
-        let a = self.matrix();
-        let (i, j) = (self.below(5), self.below(5));
-        match self.below(128) {
-            0..=3 => self.new_matrix(),
-            4..=7 => Asked::FreeMatrix(a),
-            8..=11 => Asked::ClearMatrix(a),
-            12..=15 => Asked::ResizeMatrix(a, self.size(), self.size()),
-            16..=19 => Asked::DupMatrix(a),
-            20 => Asked::BuildMatrix(a, self.domain, &[(2, 1, 7), (0, 3, 5), (2, 1, 1)]),
-            21..=40 => Asked::RemoveMatrix(a, i, j),
-            _ => Asked::SetMatrix(a, i, j, self.value()),
-        }
-    }
-
-    /// A call that changes nothing, now and then of what an operation wrote last.
-    fn read(&mut self) -> Asked {
-        let (v, a) = if self.below(2) == 0 {
-            (self.vector_written, self.matrix_written)
-        } else {
-            (self.vector(), self.matrix())
-        };
-        let (i, j) = (self.below(5), self.below(5));
-        match self.below(16) {
-            0 => Asked::WaitVector(v, self.mode()),
-            1 => Asked::WaitMatrix(a, self.mode()),
-            2 => Asked::SizeVector(v),
-            3 => Asked::SizeMatrix(a),
-            4 | 5 => Asked::NvalsVector(v),
-            6 | 7 => Asked::NvalsMatrix(a),
-            8 => Asked::ReduceVector(v, self.monoid()),
-            9 => Asked::ReduceMatrix(a, self.monoid()),
-            10..=12 => Asked::GetVector(v, i),
-            _ => Asked::GetMatrix(a, i, j),
-        }
-    }
-
-    fn ewise(&mut self) -> Asked {
-        let (u, v, a, b) = (self.vector(), self.vector(), self.matrix(), self.matrix());
-        let op = self.op();
-        match self.below(4) {
-            0 => Asked::EwiseAddMatrix(self.into_matrix(), op, a, b),
-            1 => Asked::EwiseMultMatrix(self.into_matrix(), op, a, b),
-            2 => Asked::EwiseAddVector(self.into_vector(), op, u, v),
-            _ => Asked::EwiseMultVector(self.into_vector(), op, u, v),
-        }
-    }
-
-    fn product(&mut self) -> Asked {
-        let (u, a, b) = (self.vector(), self.matrix(), self.matrix());
-        let (monoid, op) = (self.monoid(), self.op());
-        match self.below(4) {
-            0 => Asked::Mxv(self.into_vector(), monoid, op, a, u),
-            1 => Asked::Vxm(self.into_vector(), monoid, op, u, a),
-            2 => Asked::Mxm(self.into_matrix(), monoid, op, a, b),
-            _ => Asked::ReduceRows(self.into_vector(), monoid, a),
-        }
-    }
-
-    /// The call at this place. Between two that read much is left to be done in some histories, so that a read does a part of it.
-    fn call(&mut self, turn: u32, pace: u64) -> Asked {
-        if self.vectors < LAST {
-            return self.new_vector();
-        }
-        if self.matrices < LAST {
-            return self.new_matrix();
-        }
-        let is_read = match pace {
-            0 => turn % 4 == 0,
-            1 => turn % 12 == 0,
-            _ => turn % 24 == 0,
-        };
-        if is_read {
-            return self.read();
-        }
-        match self.below(6) {
-            0 | 1 => self.change_of_a_vector(),
-            2 | 3 => self.change_of_a_matrix(),
-            4 => self.ewise(),
-            _ => self.product(),
-        }
-    }
-
-    /// Notes an object that was made, or written by an operation.
-    fn note(&mut self, asked: Asked, answer: Answer) {
-        match (asked, answer) {
-            (_, Ok(Reply::MadeVector(v))) => self.vectors = v.0.saturating_add(1),
-            (_, Ok(Reply::MadeMatrix(a))) => self.matrices = a.0.saturating_add(1),
-            (
-                Asked::EwiseAddMatrix((c, ..), ..)
-                | Asked::EwiseMultMatrix((c, ..), ..)
-                | Asked::Mxm((c, ..), ..),
-                Ok(Reply::Done),
-            ) => self.matrix_written = c,
-            (
-                Asked::EwiseAddVector((w, ..), ..)
-                | Asked::EwiseMultVector((w, ..), ..)
-                | Asked::Mxv((w, ..), ..)
-                | Asked::Vxm((w, ..), ..)
-                | Asked::ReduceRows((w, ..), ..),
-                Ok(Reply::Done),
-            ) => self.vector_written = w,
-            _ => {}
+        if read.is_some() || made > 0 {
+            if let Some(calls) = self.evaluated.get_mut(number as usize) {
+                *calls = store.calls();
+            }
         }
     }
 }
 
-/// Of the calls that read all objects, the one at this place: for each number they ask for the entries of the matrix and of the vector,
-/// whose indices are below 4, and for their counts and sizes.
-fn read_at(at: u32) -> Asked {
+/// Of the calls that read all objects, the one at this place: for each number they ask for entries of the matrix and of the vector, for their
+/// counts and sizes, and for the sums of all entries.
+fn read_at(at: u32, draw: &Draw) -> Asked {
     let (a, v) = (MatrixId(at / READS), VectorId(at / READS));
     let place = u64::from(at % READS);
+    let (down, across) = (place / 4, place % 4);
+    let (side, size) = (draw.scale.side / 4, draw.scale.size / 4);
     match place {
-        0..=15 => Asked::GetMatrix(a, place / 4, place % 4),
+        0..=15 => Asked::GetMatrix(a, down.saturating_mul(side), across.saturating_mul(side)),
         16 => Asked::NvalsMatrix(a),
         17 => Asked::SizeMatrix(a),
         18 => Asked::NvalsVector(v),
         19 => Asked::SizeVector(v),
-        _ => Asked::GetVector(v, place % 4),
+        20 => Asked::ReduceMatrix(a, sum_of(draw.domain)),
+        21 => Asked::ReduceVector(v, sum_of(draw.domain)),
+        _ => Asked::GetVector(v, across.saturating_mul(size)),
     }
 }
 
-/// Both answer alike.
+/// The pass answers as the plain store does.
 fn expect_alike(
     rt: &impl Abort,
     alloc: Global,
     context: &Context,
     pass: &mut Pass,
-    alone: &Context,
-    only: &mut Pass,
+    store: &mut PlainStore,
+    counts: &mut Counts,
     asked: Asked,
 ) -> Answer
-    requires pass { IsPassOf context.now pass.old }
-    requires only { IsPassOf alone.now only.old }
-    ensures pass { IsPassOf context.now pass.new }
-    ensures only { IsPassOf alone.now only.new }
+    requires { IsPassOf context.now pass.old }
+    ensures { IsPassOf context.now pass.new }
 {
-    let _ = alone.wait_vector(only, FIRST, WaitMode::Materialize);
-    let wanted = ask(alloc, alone, only, asked);
-    same(rt, ask(alloc, context, pass, asked), wanted, "a drawn call");
+    let wanted = store.answer(asked);
+    same(rt, ask(alloc, context, pass, asked), wanted, asked);
+    counts.note(store, pass.number(), pass.made(), asked, wanted);
     wanted
 }
 
-/// The pass of this number, from 0 to 3, and the one alone answer alike.
+/// The pass of this number, from 0 to 3, answers as the plain store does.
 fn expect_by(
     rt: &impl Abort,
     alloc: Global,
@@ -336,8 +153,8 @@ fn expect_by(
     q: &mut Pass,
     r: &mut Pass,
     s: &mut Pass,
-    alone: &Context,
-    only: &mut Pass,
+    store: &mut PlainStore,
+    counts: &mut Counts,
     number: u64,
     asked: Asked,
 ) -> Answer
@@ -345,18 +162,16 @@ fn expect_by(
     requires second { IsPassOf context.now q.old }
     requires third { IsPassOf context.now r.old }
     requires fourth { IsPassOf context.now s.old }
-    requires only { IsPassOf alone.now only.old }
     ensures first { IsPassOf context.now p.new }
     ensures second { IsPassOf context.now q.new }
     ensures third { IsPassOf context.now r.new }
     ensures fourth { IsPassOf context.now s.new }
-    ensures only { IsPassOf alone.now only.new }
 {
     match number {
-        0 => expect_alike(rt, alloc, context, p, alone, only, asked),
-        1 => expect_alike(rt, alloc, context, q, alone, only, asked),
-        2 => expect_alike(rt, alloc, context, r, alone, only, asked),
-        _ => expect_alike(rt, alloc, context, s, alone, only, asked),
+        0 => expect_alike(rt, alloc, context, p, store, counts, asked),
+        1 => expect_alike(rt, alloc, context, q, store, counts, asked),
+        2 => expect_alike(rt, alloc, context, r, store, counts, asked),
+        _ => expect_alike(rt, alloc, context, s, store, counts, asked),
     }
 }
 
@@ -379,18 +194,26 @@ fn share(
     ensures third { IsPassOf context.now r.new }
     ensures fourth { IsPassOf context.now s.new }
 {
+    if !draw.scale.is_shared {
+        return;
+    }
     match draw.below(10) {
         0 => same(rt, context.adopt(p, q), Ok(()), "the first adopts"),
         1 => same(rt, context.adopt(q, r), Ok(()), "the second adopts"),
         2 => same(rt, context.adopt(r, s), Ok(()), "the third adopts"),
         3 => same(rt, context.adopt(s, p), Ok(()), "the fourth adopts"),
-        4 => context.prepare(p),
-        5 => context.prepare(s),
+        4 => {
+            let _ = context.prepare(p);
+        }
+        5 => {
+            let _ = context.prepare(s);
+        }
         _ => {}
     }
 }
 
-/// A drawn history: one of the passes makes some calls, and which of them is drawn anew then.
+/// A drawn history: one of the passes makes some calls, and which of them is drawn anew then. What one reads in a history of large objects
+/// another reads again.
 fn expect_history(
     rt: &impl Abort,
     alloc: Global,
@@ -399,35 +222,37 @@ fn expect_history(
     q: &mut Pass,
     r: &mut Pass,
     s: &mut Pass,
-    alone: &Context,
-    only: &mut Pass,
+    store: &mut PlainStore,
+    counts: &mut Counts,
     draw: &mut Draw,
 )
     requires first { IsPassOf context.now p.old }
     requires second { IsPassOf context.now q.old }
     requires third { IsPassOf context.now r.old }
     requires fourth { IsPassOf context.now s.old }
-    requires only { IsPassOf alone.now only.old }
     ensures first { IsPassOf context.now p.new }
     ensures second { IsPassOf context.now q.new }
     ensures third { IsPassOf context.now r.new }
     ensures fourth { IsPassOf context.now s.new }
-    ensures only { IsPassOf alone.now only.new }
 {
     let pace = draw.below(3);
     let mut number = 0;
-    'calls: for turn in 0..CALLS {
+    'calls: for turn in 0..draw.scale.calls {
         if turn % TURN == 0 {
             number = draw.below(4);
             share(rt, context, p, q, r, s, draw);
         }
         let asked = draw.call(turn, pace);
-        let answer = expect_by(rt, alloc, context, p, q, r, s, alone, only, number, asked);
+        let answer = expect_by(rt, alloc, context, p, q, r, s, store, counts, number, asked);
         draw.note(asked, answer);
+        if !draw.scale.is_shared && object_read(asked).is_some() {
+            let other = draw.below(4);
+            let _same = expect_by(rt, alloc, context, p, q, r, s, store, counts, other, asked);
+        }
     }
 }
 
-/// Each object is read whole, by one of the passes.
+/// Each object is read, by one of the passes.
 fn expect_objects(
     rt: &impl Abort,
     alloc: Global,
@@ -436,15 +261,14 @@ fn expect_objects(
     q: &mut Pass,
     r: &mut Pass,
     s: &mut Pass,
-    alone: &Context,
-    only: &mut Pass,
+    store: &mut PlainStore,
+    counts: &mut Counts,
     draw: &mut Draw,
 )
     requires first { IsPassOf context.now p.old }
     requires second { IsPassOf context.now q.old }
     requires third { IsPassOf context.now r.old }
     requires fourth { IsPassOf context.now s.old }
-    requires only { IsPassOf alone.now only.old }
 {
     let made = draw.vectors.max(draw.matrices);
     let mut number = 0;
@@ -452,62 +276,92 @@ fn expect_objects(
         if at % READS == 0 {
             number = draw.below(4);
         }
-        let _ = expect_by(
-            rt,
-            alloc,
-            context,
-            p,
-            q,
-            r,
-            s,
-            alone,
-            only,
-            number,
-            read_at(at),
-        );
+        let asked = read_at(at, draw);
+        let _answer = expect_by(rt, alloc, context, p, q, r, s, store, counts, number, asked);
     }
 }
 
-fn draw_of(seed: u64) -> Draw {
-    Draw {
-        state: seed,
-        domain: if seed % 4 == 0 {
-            Domain::Bool
-        } else {
-            Domain::Uint64
-        },
-        vectors: 0,
-        matrices: 0,
-        vector_written: FIRST,
-        matrix_written: MatrixId(0),
-    }
-}
-
-/// One drawn history, in new stores.
-fn expect_drawn(rt: &impl Abort, alloc: Global, seed: u64) -> Result<(), AllocError> {
-    let (context, mut passes) = Context::open(alloc, 256, 4)?;
+/// One drawn history, in new stores; what is counted of it before its end.
+fn expect_drawn(
+    rt: &impl Abort,
+    alloc: Global,
+    seed: u64,
+    scale: Scale,
+) -> Result<Counts, AllocError> {
+    let (context, mut passes) = Context::open(alloc, ROOM, 4)?;
     let mut s = next_pass(rt, &context, &mut passes);
     let mut r = next_pass(rt, &context, &mut passes);
     let mut q = next_pass(rt, &context, &mut passes);
     let mut p = next_pass(rt, &context, &mut passes);
-    let (alone, mut passes) = Context::open(alloc, 256, 1)?;
-    let mut only = next_pass(rt, &alone, &mut passes);
-    let mut draw = draw_of(seed);
+    let mut store = PlainStore::new(alloc, ROOM);
+    let mut counts = Counts::new();
+    let mut draw = Draw::new(seed, scale);
     expect_history(
-        rt, alloc, &context, &mut p, &mut q, &mut r, &mut s, &alone, &mut only, &mut draw,
+        rt,
+        alloc,
+        &context,
+        &mut p,
+        &mut q,
+        &mut r,
+        &mut s,
+        &mut store,
+        &mut counts,
+        &mut draw,
     );
+    let before_end = counts;
     expect_objects(
-        rt, alloc, &context, &mut p, &mut q, &mut r, &mut s, &alone, &mut only, &mut draw,
+        rt,
+        alloc,
+        &context,
+        &mut p,
+        &mut q,
+        &mut r,
+        &mut s,
+        &mut store,
+        &mut counts,
+        &mut draw,
     );
+    Ok(before_end)
+}
+
+/// So many histories of a scale. In each so many calls are not refused, and in all so many reads took what another pass had made.
+fn expect_all(
+    rt: &(impl Abort + Print),
+    alloc: Global,
+    histories: u64,
+    scale: Scale,
+    accepted: u32,
+    taken: u32,
+) -> Result<(), AllocError> {
+    let mut fewest = u32::MAX;
+    let mut all = 0u32;
+    for seed in 0..histories {
+        let counts = expect_drawn(rt, alloc, seed, scale)?;
+        fewest = fewest.min(counts.accepted);
+        all = all.saturating_add(counts.taken);
+    }
+    let text = println!(rt; "accepted: {fewest} at least, taken: {all}");
+    same(rt, text.is_ok(), true, "the line");
+    same(rt, fewest >= accepted, true, ("accepted calls", fewest));
+    same(rt, all >= taken, true, ("reads of what was left", all));
     Ok(())
 }
 
 #[test]
-fn drawn_histories_are_answered_as_by_one_that_makes_all(
+fn drawn_histories_are_answered_as_by_a_plain_store(rt: HostRuntime) -> Result<(), AllocError> {
+    expect_all(&rt, rt.alloc(), 2_000, SMALL, 60, 0)
+}
+
+#[test]
+fn drawn_histories_of_long_vectors_are_answered_as_by_a_plain_store(
     rt: HostRuntime,
 ) -> Result<(), AllocError> {
-    for seed in 0..HISTORIES {
-        expect_drawn(&rt, rt.alloc(), seed)?;
-    }
-    Ok(())
+    expect_all(&rt, rt.alloc(), 30, LONG, 40, 1)
+}
+
+#[test]
+fn drawn_histories_of_wide_matrices_are_answered_as_by_a_plain_store(
+    rt: HostRuntime,
+) -> Result<(), AllocError> {
+    expect_all(&rt, rt.alloc(), 20, WIDE, 40, 0)
 }

@@ -1,5 +1,8 @@
 //! How a run ends where its sink or its source fails. Contracts say that a beginning was written, or nothing; which beginning, which fault, and
 //! that the rest was not asked for, no contract says. The files and the output of a script are real ones, which do not fail.
+ghost use Rattle.std.specs.Prelude.{◌<◌, ◌≤◌};
+ghost use Rattle.grb_order.specs.declared.limits.TheConstants.{MOST_ROOM};
+
 use crate::tests::gates::SectionGates;
 use crate::tests::same::same;
 use crate::tests::sinks::{Full, sink_of};
@@ -150,4 +153,32 @@ fn a_source_that_fails_ends_a_run_before_its_first_statement(rt: HostRuntime) {
     for row in &FAILED {
         expect_failed(&rt, rt.alloc(), row);
     }
+}
+
+/// A file, and sixteen thread sections.
+const CROWDED: &str =
+    "load A empty.mtx\nthread 1\nthread 2\nthread 3\nthread 4\nthread 5\nthread 6\nthread 7\nthread 8\nthread 9\nthread 10\nthread 11\nthread 12\nthread 13\nthread 14\nthread 15\nthread 16\n";
+
+/// With this room the run of that script ends so, and has read so many files.
+fn expect_files_read<R: Abort + Threads + Wait + Sync>(
+    rt: &R,
+    alloc: Global,
+    room: u32,
+    ended: &Result<(), RunFault>,
+    files: u64,
+)
+    requires { (0 < room) × (room ≤ MOST_ROOM) }
+{
+    let mut source = source_of(alloc, CROWDED, &FILES);
+    let mut sink = sink_of(alloc, 1000, 1000);
+    let result = run_script(rt, alloc, room, &mut source, &mut sink, &OpenGate);
+    same(rt, &result, ended, ("the end with room", room));
+    same(rt, source.files_read, files, ("files with room", room));
+}
+
+#[test]
+fn no_file_is_read_where_sections_are_too_many_for_the_room(rt: HostRuntime) {
+    let refused = Err(RunFault::TooManySections);
+    expect_files_read(&rt, rt.alloc(), 65_536, &refused, 0);
+    expect_files_read(&rt, rt.alloc(), 4_096, &Ok(()), 1);
 }

@@ -165,6 +165,22 @@ fn a_wait_after_few_calls_leaves_its_store_to_the_other_passes(
     run(&rt, 512, &FEW)
 }
 
+/// A wait for one object makes its calls, and settles none; a read then makes nothing.
+static COMPLETED: [Row; 7] = [
+    (P, Asks(NewVector(Domain::Uint64, 4), MADE)),
+    (P, Asks(SetVector(FIRST, 0, FIVE), DONE)),
+    (P, Asks(WaitVector(FIRST, WaitMode::Complete), DONE)),
+    (P, Made(2)),
+    (P, Settled(0)),
+    (P, Asks(GetVector(FIRST, 0), IS_5)),
+    (P, Made(0)),
+];
+
+#[test]
+fn a_wait_for_one_object_makes_its_calls(rt: HostRuntime) -> Result<(), AllocError> {
+    run(&rt, 64, &COMPLETED)
+}
+
 /// One pass evaluates all that it knows. Another adopts it and makes nothing for that, and a third meets it and makes all. What the one that
 /// adopted then changes is seen by all, and changes nothing that the other had evaluated.
 static ADOPTED: [Row; 18] = [

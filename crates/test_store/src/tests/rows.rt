@@ -94,7 +94,7 @@ fn fill(
     for i in 0..count {
         ones.push((i, Value::Uint64(1)))?;
     }
-    let tuples = VectorTuples::from_vec(ones);
+    let tuples = VectorTuples::from_vec(ones)?;
     Ok(context.build_vector(pass, v, tuples, Monoid::Plus))
 }
 
@@ -122,7 +122,9 @@ fn expect_step<A: Abort>(
         Step::Made(calls) => same(rt, pass.made(), calls, row),
         Step::Settled(calls) => same(rt, pass.settled(), calls, row),
         Step::Status(object, status) => same(rt, pass.last_info(object), status, row),
-        Step::Prepares => context.prepare(pass),
+        Step::Prepares => {
+            let _ = context.prepare(pass);
+        }
         Step::Fills(v, count) => {
             let answer = fill(alloc, context, pass, v, count);
             same(rt, answer, Ok(Ok(Reply::Done)), row);

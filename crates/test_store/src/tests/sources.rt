@@ -19,6 +19,8 @@ pub(super) struct TextSource<'a> {
     pub(super) cannot_read: u64,
     pub(super) too_long: u64,
     pub(super) out_of_memory: u64,
+    /// How often it was asked for a file.
+    pub(super) files_read: u64,
 }
 
 impl<'a> TextSource<'a> {
@@ -69,6 +71,7 @@ impl Source for TextSource<'_> {
     }
 
     fn file(&mut self, path: &str) -> Result<Vec<u8>, SourceFault> {
+        self.files_read = self.files_read.saturating_add(1);
         let bytes = match self.named(path) {
             Ok(bytes) => bytes,
             Err(fault) => return Err(self.count(fault)),
@@ -99,5 +102,6 @@ pub(super) fn source_of<'a>(
         cannot_read: 0,
         too_long: 0,
         out_of_memory: 0,
+        files_read: 0,
     }
 }

@@ -24,7 +24,7 @@ rows-init g c =
     record {
       none = c.requires.none;
       clear = c.requires.clear;
-      making = making_begins tv (mxm_of s a b) numbers (rise_as numbers c.args.a.now.lists.now.rows listed.list listed.rise) _ _ _ _ c.new-rows.ensures.items c.new-starts.ensures.items c.new-columns.ensures.items c.new-values.ensures.items
+      making = making_begins tv (mxm_of s a b) numbers (rise_as numbers c.args.a.now.lists.now.rows listed.list listed.rise) _ _ _ _ c.new-rows.ensures.items c.new-starts.ensures.items c.list_with_room-columns.ensures c.list_with_room-values.ensures
           (sorted-mxm s a b) (λ i none. no_row-mxm s a b i (listed.all i (subst (λ (m : List ℕ). (k : ℕ) → k < length m → get_or m k 0 ≡ i → ⊥) listed.list none)));
     }
 

@@ -35,7 +35,7 @@ loop-place-preserved c =
     let now : (length opened < passes) × (c.in-Some.place ≡ fresh_at order passes (length opened)) × (drop (suc (length opened)) c.args.places.items ≡ c.next.new.self.rest.items)
     = next_place order passes c.args.places.items (length opened) c.in-Some.place c.next.new.self.rest.items c.requires.places (sym c.loop-place.invariant.rest ∙ c.in-Some.ensures.steps.0) in
     let pass : Knowing = c.in_ok-open.field-0 in
-    let is : pass ≡ new_at order passes (length opened) = c.in_ok-open.ensures ∙ ap (λ (h : Holding). record { order = h.table_id; view = h.view; shown = []; steps = 0; statuses = no_rows (room_of h.table_id); settled = 0 }) now.1 in
+    let is : pass ≡ new_at order passes (length opened) = c.in_ok-open.ensures ∙ ap (λ (h : Holding). record { order = h.table_id; view = h.view; shown = []; steps = 0; statuses = no_rows (room_of h.table_id); settled = 0; made = 0 }) now.1 in
     let n : length c.push_reserved.new.self.items ≡ length opened + 1 = ap length c.push_reserved.ensures.items ∙ length_push opened pass in
     let more : AreNew order passes (opened ++ pass ∷ []) (length opened + 1) = new_more order passes opened pass c.loop-place.invariant.opened is in
     record {

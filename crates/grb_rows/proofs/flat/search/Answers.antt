@@ -1,4 +1,4 @@
-use Rattle.std.proofs.Common.{◌≡◌, ◌<◌, ◌≤◌, ℕ, get_or, Err}
+use Rattle.std.proofs.Common.{get_or, Err}
 use Rattle.std.proofs.lemmas.List.Sorted.{searched}
 use Rattle.grb_rows.proofs.FlatLists.{not_there}
 use Rattle.grb_rows.proofs.flat.search.Goals as goal

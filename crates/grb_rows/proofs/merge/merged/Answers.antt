@@ -1,11 +1,10 @@
-use Rattle.std.proofs.Common.{◌≡◌, ◌≤◌, ◌<◌, ◌+◌, ◌∙◌, ℕ, List, Bool, length, get_or, ap, sym, subst, arith, true, false, cond, ◌++◌, ◌∷◌, []}
+use Rattle.std.proofs.Common.{◌≡◌, ◌<◌, ◌∙◌, List, Bool, length, get_or, ap, sym, subst, arith, false, cond, ◌++◌, ◌∷◌, []}
 use Rattle.std.proofs.lemmas.List.{get_or_default}
-use Rattle.grb_core.specs.declared.value.Value.{Value}
 use Rattle.grb_core.specs.Entries.{VectorEntries}
 use Rattle.std.specs.List.{AllByRecursion}
-use Rattle.grb_rows.specs.Pending.{Change, changed_at}
+use Rattle.grb_rows.specs.Pending.{changed_at}
 use Rattle.grb_rows.proofs.Places.{holds}
-use Rattle.grb_rows.proofs.Merging.{so_far, so_far-all, entry_above, entry_more, change_above, change_more, row_below_entry, changes_below_entry, row_below_change, changes_below_change, strictly}
+use Rattle.grb_rows.proofs.Merging.{so_far-all, entry_above, entry_more, change_above, change_more, row_below_entry, changes_below_entry, row_below_change, changes_below_change, strictly}
 use Rattle.grb_rows.proofs.merge.merged.Goals as goal
 use Rattle.grb_rows.proofs.merge.merged.Goals.{then-i-len, else-i-len+then-j-len}
 

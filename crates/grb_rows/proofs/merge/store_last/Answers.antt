@@ -1,4 +1,4 @@
-use Rattle.std.proofs.Common.{◌≡◌, ◌∙◌, sym, ap, Some, None}
+use Rattle.std.proofs.Common.{◌∙◌, sym, ap}
 use Rattle.grb_rows.specs.Pending.{changed_at}
 use Rattle.grb_rows.proofs.Ends.{put-end, without-end}
 use Rattle.grb_rows.proofs.merge.store_last.Goals as goal

@@ -1,9 +1,8 @@
-use Rattle.std.proofs.Common.{◌≡◌, ◌<◌, ◌+◌, ◌-◌, ◌∙◌, ℕ, length, get_or, ap, sym, subst, arith, set, List, [], ◌∷◌, ◌++◌}
+use Rattle.std.proofs.Common.{◌≡◌, ◌+◌, ◌-◌, ◌∙◌, length, ap, sym, arith, List, [], ◌∷◌, ◌++◌}
 use Rattle.grb_rows.specs.Pending.{Change}
 use Rattle.std.proofs.lemmas.List.{nil_from_length}
 use Rattle.std.specs.Ordering.{nat_cmp}
 use Rattle.std.specs.FinMap.{put}
-use Rattle.std.proofs.lemmas.Bool.Decides.{nat_tests}
 use Rattle.grb_rows.proofs.Places.{holds}
 use Rattle.grb_rows.proofs.Ends.{put-end, put-last, all_lower}
 use Rattle.grb_rows.proofs.pending.add.Goals as goal

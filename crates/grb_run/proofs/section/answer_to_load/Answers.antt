@@ -9,5 +9,5 @@ returns-clause-told c =
     let named : c.len-name.result ≡ length c.args.objects.now.items = search rules in
     load_told c.args.context.now (record { objects = c.args.objects.now.items; pass = c.args.pass.now })
     (record { objects = c.answer_to.new.objects.items; pass = c.answer_to.new.pass })
-    (record { objects = c.answer_to-2.new.objects.items; pass = c.answer_to-2.new.pass }) c.args.loaded _ _ _ c.in_ok-made.made c.answer_to-2.result c.making.ensures named c.filling.ensures
+    (record { objects = c.answer_to-2.new.objects.items; pass = c.answer_to-2.new.pass }) c.args.loaded _ _ _ c.in_ok-made.made c.answer_to-2.result c.making-first.ensures named c.in_ok-second.ensures
     unrefused (record { answered = c.in_ok-made.ensures.answered; objects = c.in_ok-made.ensures.objects }) c.answer_to-2.ensures.answered c.answer_to-2.ensures.objects

@@ -1,10 +1,11 @@
-use Rattle.std.proofs.Common.{◌≡◌, length, map, subst, rules}
-use Rattle.std.specs.Prelude.{OnOk}
+use Prim.{search}
+use Rattle.std.proofs.Common.{◌≡◌, length, map, sym, subst, rules, ◌∙◌}
+use Rattle.std.proofs.lemmas.List.{length-map}
 use Rattle.grb_context.specs.Known.{Knowing}
 use Rattle.std.proofs.lemmas.Result.{on_ok_weaker}
 use Rattle.grb_run.specs.Threads.{AreGathered, AreThreadsRun}
 use Rattle.grb_run.proofs.ScriptEnds.{none_run}
-use Rattle.grb_run.proofs.ThreadLemmas.{passes_of, ended_passes, threads_run}
+use Rattle.grb_run.proofs.ThreadLemmas.{passes_of, ended_passes, threads_alike, threads_run}
 use Rattle.grb_run.proofs.threads.run_threads.Goals as goal
 
 pub returns-then-is_empty-clause-run : goal.returns-then-is_empty-clause-run
@@ -20,13 +21,14 @@ gather_all-requires-clause-ended g c = ended_passes _ _ _ c.in_ok-ended.ensures.
 
 pub returns-clause-run : goal.returns-clause-run
 returns-clause-run g c =
-    subst
-    (λ (k : Knowing).
-    OnOk c.gather_all.result
-    (AreThreadsRun c.args.context.now (record { objects = c.args.objects.now; pass = k }) c.args.passes.items (map (λ steps. steps.items) c.args.threads.items) c.args.answers.now.items c.gather_all.new.main c.gather_all.new.answers.items))
-    c.prepare_main.ensures
-    (on_ok_weaker c.gather_all.result
+    let some : length c.args.threads.items ≡ 0 → ⊥ = search rules in
+    on_ok_weaker c.gather_all.result
     (λ gathered.
-    threads_run _ _ _ _ _ _ _ _ _ c.in_ok-jobs.ensures.jobs c.in_ok-ended.ensures.ended
-    (subst (λ m. AreGathered c.args.context.now m c.args.answers.now.items c.in_ok-ended.ended.items c.gather_all.new.main c.gather_all.new.answers.items) c.in_ok-jobs.ensures.main gathered))
-    c.gather_all.ensures.gathered)
+    threads_alike _ c.args.objects.now c.args.main.now c.prepare_main.new.main.made _ _ _ _ _ (λ none. some (sym (length-map c.args.threads.items (λ steps. steps.items)) ∙ none))
+    (subst
+    (λ (k : Knowing).
+    AreThreadsRun c.args.context.now (record { objects = c.args.objects.now; pass = k }) c.args.passes.items (map (λ steps. steps.items) c.args.threads.items) c.args.answers.now.items c.gather_all.new.main c.gather_all.new.answers.items)
+    c.prepare_main.ensures.same
+    (threads_run _ _ _ _ _ _ _ _ _ c.in_ok-jobs.ensures.jobs c.in_ok-ended.ensures.ended
+    (subst (λ m. AreGathered c.args.context.now m c.args.answers.now.items c.in_ok-ended.ended.items c.gather_all.new.main c.gather_all.new.answers.items) c.in_ok-jobs.ensures.main gathered))))
+    c.gather_all.ensures.gathered

@@ -1,9 +1,6 @@
 use Rattle.std.proofs.Common.{◌≤◌, length, subst}
 use Rattle.grb_pass.specs.Known.{Knowing, known}
-use Rattle.grb_pass.proofs.Settling.{settled_known}
 use Rattle.grb_pass.proofs.pass.Pass.begin.Goals as goal
 
 pub returns-clause-settled : goal.returns-clause-settled
-returns-clause-settled c =
-    let p = c.self.inside in
-    subst (λ (k : Knowing). k.settled ≤ length (known k)) c.self.view_is (settled_known p.reader p.evaluated.state p.evaluated.count c.self.invariant.store)
+returns-clause-settled c = subst (λ (k : Knowing). k.settled ≤ length (known k)) c.self.view_is c.self.invariant.step.evaluated.within

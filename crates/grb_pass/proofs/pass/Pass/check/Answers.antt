@@ -1,14 +1,15 @@
-use Rattle.std.proofs.Common.{◌≡◌, sym, ap, subst, ◌∙◌}
+use Rattle.std.proofs.Common.{◌≡◌, true, false, refl, sym, ap, subst, ◌∙◌}
 use Rattle.std.specs.Prelude.{Ok, Err}
 use Rattle.std.proofs.lemmas.Result.{err_from_is_err_and}
 use Rattle.grb_call.specs.declared.checking.Kind.{Kind}
 use Rattle.grb_call.specs.declared.checking.Kind.TheVariants.{Build}
-use Rattle.grb_call.specs.Refused.{check_of, is_in_bounds}
+use Rattle.grb_call.specs.Refused.{check_of}
 use Rattle.grb_call.specs.Store.{shapes_of}
 use Rattle.grb_call.specs.History.{store_of}
+use Rattle.grb_call.proofs.Checked.{by_shapes-ok}
 use Rattle.grb_call.proofs.KindsChecked.{kind-checked}
 use Rattle.grb_pass.specs.Known.{Knowing, known}
-use Rattle.grb_pass.specs.Reading.{IsBuildChecked, IsChecked}
+use Rattle.grb_pass.specs.Reading.{IsChecked}
 use Rattle.grb_pass.proofs.Checking.{checked_err, checked_plain, checked_build}
 use Rattle.grb_pass.proofs.pass.Pass.check.Goals as goal
 
@@ -18,22 +19,38 @@ returns-in_err-in_bounds-clause-checked c =
     let p = err_from_is_err_and c.from_residual.result c.from_residual.ensures.1 in
     rw (p.1, p.2) (subst (λ (k : Knowing). IsChecked (store_of (known k)) call (Err r)) c.self.view_is (checked_err (store_of (known c.self.inside.reader)) call r (sym c.check.ensures ∙ c.in_err-in_bounds.was)))
 
+pub check_build-requires-clause-build : goal.check_build-requires-clause-build
+check_build-requires-clause-build c =
+    let call = c.args.call.now in
+    let e = ap (λ (k : Knowing). check_of (shapes_of (store_of (known k))) call) (sym c.self.view_is) ∙ sym c.check.ensures ∙ c.in_ok-in_bounds.was ∙ ap (λ (k : Kind). Ok k) c.in-Build.is in
+    (kind-checked (shapes_of (store_of (known c.args.self.now))) call (Build c.in-Build.in_bounds) e).1
+
+pub check_build-requires-clause-accepted : goal.check_build-requires-clause-accepted
+check_build-requires-clause-accepted c =
+    let call = c.args.call.now in
+    let e = ap (λ (k : Knowing). check_of (shapes_of (store_of (known k))) call) (sym c.self.view_is) ∙ sym c.check.ensures ∙ c.in_ok-in_bounds.was ∙ ap (λ (k : Kind). Ok k) c.in-Build.is in
+    by_shapes-ok (store_of (known c.args.self.now)) call (Build c.in-Build.in_bounds) e
+
 pub check_build-requires-clause-in_bounds : goal.check_build-requires-clause-in_bounds
 check_build-requires-clause-in_bounds c =
     let call = c.args.call.now in
     let e = ap (λ (k : Knowing). check_of (shapes_of (store_of (known k))) call) (sym c.self.view_is) ∙ sym c.check.ensures ∙ c.in_ok-in_bounds.was ∙ ap (λ (k : Kind). Ok k) c.in-Build.is in
-    subst (λ (k : Knowing). c.in-Build.in_bounds ≡ is_in_bounds (shapes_of (store_of (known k))) call) (sym c.go_on.ensures.same)
     (kind-checked (shapes_of (store_of (known c.args.self.now))) call (Build c.in-Build.in_bounds) e).2
 
 pub returns-in-Build-clause-checked : goal.returns-in-Build-clause-checked
 returns-in-Build-clause-checked c =
     let call = c.args.call.now in
     let e = ap (λ (k : Knowing). check_of (shapes_of (store_of (known k))) call) (sym c.self.view_is) ∙ sym c.check.ensures ∙ c.in_ok-in_bounds.was ∙ ap (λ (k : Kind). Ok k) c.in-Build.is in
-    let checked = subst (λ (k : Knowing). IsBuildChecked (store_of (known k)) call c.check_build.result) c.go_on.ensures.same c.check_build.ensures.checked in
-    checked_build (store_of (known c.args.self.now)) call c.in-Build.in_bounds c.check_build.result e checked
+    checked_build (store_of (known c.args.self.now)) call c.in-Build.in_bounds c.check_build.result e c.check_build.ensures.checked
 
 pub returns-in-Enters : goal.returns-in-Enters
 returns-in-Enters c =
     let call = c.args.call.now in
     let e = ap (λ (k : Knowing). check_of (shapes_of (store_of (known k))) call) (sym c.self.view_is) ∙ sym c.check.ensures ∙ c.in_ok-in_bounds.was in
-    record { checked = checked_plain (store_of (known c.args.self.now)) call c.in_ok-in_bounds.field-0 e c.in-Enters.is; same = λ _. c.args.self.now }
+    record { checked = checked_plain (store_of (known c.args.self.now)) call c.in_ok-in_bounds.field-0 e c.in-Enters.is; same = λ _. c.args.self.now; made = λ plain. refl }
+
+pub returns-in-Build-clause-made : goal.returns-in-Build-clause-made
+returns-in-Build-clause-made c plain =
+    let call = c.args.call.now in
+    let e = ap (λ (k : Knowing). check_of (shapes_of (store_of (known k))) call) (sym c.self.view_is) ∙ sym c.check.ensures ∙ c.in_ok-in_bounds.was ∙ ap (λ (k : Kind). Ok k) c.in-Build.is in
+    let no : false ≡ true = sym plain ∙ (kind-checked (shapes_of (store_of (known c.args.self.now))) call (Build c.in-Build.in_bounds) e).1 in cc

@@ -1,11 +1,18 @@
-use Rattle.std.proofs.Common.{◌≡◌, length, sym, subst}
+use Rattle.std.proofs.Common.{◌≡◌, length, sym, subst, arith}
 use Rattle.grb_order.specs.Order.{room_of}
 use Rattle.grb_pass.specs.Known.{Knowing}
-use Rattle.grb_pass.proofs.Evaluating.{evaluated_tried}
+use Rattle.grb_pass.specs.Cells.{OwnBelow}
+use Rattle.grb_pass.proofs.Evaluating.{in_step_tried}
+use Rattle.grb_pass.proofs.Cells.{own_tried}
 use Rattle.grb_pass.proofs.pass.Pass.enter.Goals as goal
 
 pub invariant_of-self : goal.invariant_of-self
 invariant_of-self c =
     let all = subst (λ (p : Knowing). length p.shown ≡ length p.view.words) (sym c.self.view_is) c.requires.shown in
     let room = room_of c.args.order.now in let p = c.self.inside in
-    evaluated_tried room p.reader c.enter-back.new.self c.args.token p.evaluated c.enter-back.result c.enter-back.ensures.order c.enter-back.ensures.settled c.enter-back.ensures.enters all c.self.invariant
+    let new = c.enter-back.new.self in let is = c.enter-back.ensures in let token = c.args.token in
+    let fresh : OwnBelow token.index p.reader.view = subst (λ (p : Knowing). OwnBelow token.index p.view) (sym c.self.view_is) c.requires.fresh in
+    record {
+      step = in_step_tried room p.reader new token p.evaluated c.enter-back.result is.order is.settled is.made is.enters all c.self.invariant.step;
+      own = own_tried room p.reader new token c.enter-back.result c.spend.new.self.next is.enters c.requires.index (omega (arith, c.index-index.ensures, c.spend.ensures.behind)) fresh;
+    }

@@ -1,6 +1,21 @@
 use Prim.{search}
-use Rattle.std.proofs.Common.{rules}
+use Rattle.std.proofs.Common.{rules, ◌<◌, ◌^◌, IfOk, subst, arith}
+use Rattle.grb_pass.specs.Cells.{OwnBelow}
+use Rattle.grb_pass.specs.Known.{Knowing}
+use Rattle.grb_pass.proofs.Cells.{fresh_put, own_wider, small_put}
 use Rattle.grb_pass.proofs.pass.Pass.put.Goals as goal
 
 pub returns-clause-put : goal.returns-clause-put
 returns-clause-put c = search rules
+
+pub returns-clause-fresh : goal.returns-clause-fresh
+returns-clause-fresh c =
+    let p = c.self.inside in
+    fresh_put c.put.result _ p.row.next c.args.call c.args.self.now.view c.put.ensures.put (subst (λ (k : Knowing). OwnBelow p.row.next k.view) c.self.view_is c.self.invariant.own)
+
+pub returns-clause-index : goal.returns-clause-index
+returns-clause-index c = small_put c.put.result _ c.self.inside.row.next _ c.args.call c.put.ensures.put c.put.ensures.within (omega arith)
+
+pub invariant_of-self : goal.invariant_of-self
+invariant_of-self c =
+    let p = c.self.inside in record { step = c.self.invariant.step; own = own_wider p.row.next c.put.new.self.next p.reader.view c.put.ensures.behind c.self.invariant.own }

@@ -38,10 +38,10 @@ invariant_of-self-in-Lost c =
     kept_order _ _ _ _ _ _ _ _ same (kept_lost _ _ _ _ _ _ _ c.self.invariant c.in-Lost.field-0 _ lost.0 lost.1 (sound_order _ _ _ same c.enter.ensures.sound))
 
 pub returns-in-Won-clause-steady : goal.returns-in-Won-clause-steady
-returns-in-Won-clause-steady c = steady _ _ _ _ _ _ (invariant_of-self c) _ _ _
+returns-in-Won-clause-steady c = steady _ _ _ _ _ _ (invariant_of-self c) _ _ _ _
 
 pub returns-in-Lost-clause-steady : goal.returns-in-Lost-clause-steady
-returns-in-Lost-clause-steady c = steady _ _ _ _ _ _ (invariant_of-self-in-Lost c) _ _ _
+returns-in-Lost-clause-steady c = steady _ _ _ _ _ _ (invariant_of-self-in-Lost c) _ _ _ _
 
 pub returns-in-Lost-clause-counts : goal.returns-in-Lost-clause-counts
 returns-in-Lost-clause-counts c = grind (arith, common_steps)

@@ -12,7 +12,7 @@ invariant_of-self c =
     kept_order _ _ _ _ _ _ _ _ same (kept_look _ _ _ _ _ _ _ c.self.invariant _ c.look-look.result _ c.look-look.ensures.look (sound_order _ _ _ same c.look-look.ensures.sound))
 
 pub returns-clause-steady : goal.returns-clause-steady
-returns-clause-steady c = steady _ _ _ _ _ _ (invariant_of-self c) _ _ _
+returns-clause-steady c = steady _ _ _ _ _ _ (invariant_of-self c) _ _ _ _
 
 pub returns-clause-counts : goal.returns-clause-counts
 returns-clause-counts c =

@@ -10,4 +10,4 @@ returns-then-shown-words-clause-next c =
     let n : c.len-shown.result ≡ length inside.tokens.items = c.len-shown.ensures ∙ inside.tokens.ok.0 in
     let same : length c.words-words.result.now ≡ length inside.place.view.words = ap length words in
     let lt : length inside.tokens.items < length inside.place.view.words = omega (arith, c.if-shown-words.true) in
-    subst (λ (y : Knowing × ℕ). IsNextUnshown y.0 y.1) (λ i. (c.self.view_is i, get_or (sym words i) (sym n i) 0)) (next_is _ _ _ _ _ _ c.self.invariant _ _ _ lt)
+    subst (λ (y : Knowing × ℕ). IsNextUnshown y.0 y.1) (λ i. (c.self.view_is i, get_or (sym words i) (sym n i) 0)) (next_is _ _ _ _ _ _ c.self.invariant _ _ _ _ lt)

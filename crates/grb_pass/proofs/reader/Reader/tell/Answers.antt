@@ -16,7 +16,7 @@ invariant_of-self-2 c =
     kept_told _ _ _ _ _ _ c.other.inside.place.view.words _ _ _ c.self.invariant same c.tell.ensures.told c.tell.ensures.others c.tell.ensures.sound
 
 pub returns-clause-steady : goal.returns-clause-steady
-returns-clause-steady c = steady _ _ _ _ _ _ (invariant_of-self-2 c) _ _ _
+returns-clause-steady c = steady _ _ _ _ _ _ (invariant_of-self-2 c) _ _ _ _
 
 pub returns-clause-steady_other : goal.returns-clause-steady_other
-returns-clause-steady_other c = subst IsSteady c.other.view_is (steady _ _ _ _ _ _ c.other.invariant _ _ _)
+returns-clause-steady_other c = subst IsSteady c.other.view_is (steady _ _ _ _ _ _ c.other.invariant _ _ _ _)

@@ -16,6 +16,7 @@ records-preserved c =
       pass = pass_push c.args.self.now mid new token (ap (λ p. p.order) c.admit.ensures) (ap (λ p. p.shown) c.admit.ensures) one c.records.invariant.pass;
       view = ap (λ p. p.view) c.admit.ensures ∙ c.records.invariant.view;
       steps = ap (λ p. p.steps) c.admit.ensures ∙ c.records.invariant.steps;
+      made = ap (λ p. p.made) c.admit.ensures ∙ c.records.invariant.made;
       learns = learns_then old mid new c.records.invariant.learns (learns_shown mid new token c.in-Some.word c.in-Some.ensures.next c.admit.ensures);
     }
 

@@ -8,6 +8,7 @@ invariant-records l = record {
   pass : IsPassOf l.self l.reader;
   view : l.reader.view ≡ l.initial.reader.view;
   steps : l.reader.steps ≡ l.initial.reader.steps;
+  made : l.reader.made ≡ l.initial.reader.made;
   learns : Learns l.initial.reader l.reader;
 }
 

@@ -1,8 +1,9 @@
-use Rattle.std.proofs.Common.{sym, subst}
+use Rattle.std.proofs.Common.{◌≡◌, false, sym, ap, subst, ◌∙◌}
 use Rattle.std.specs.Prelude.{Err}
 use Rattle.std.proofs.lemmas.Result.{err_from_is_err_and}
 use Rattle.grb_order.specs.Order.{room_of}
 use Rattle.grb_call.specs.declared.call.Call.{Call}
+use Rattle.grb_call.specs.Kinds.{is_build}
 use Rattle.grb_pass.specs.Known.{Knowing}
 use Rattle.grb_pass.specs.Counting.{CountsCall, CountsTries}
 use Rattle.grb_pass.specs.Explains.{ExplainsAnswer, IsCaughtUp, ground_of}
@@ -44,3 +45,10 @@ returns-clause-explains c =
     let after : ExplainsAnswer room c.put.new.self new c.in_ok-token.token.call answer = c.enter_token.ensures.explains in
     let same : ExplainsAnswer room mid new c.args.call answer = subst (λ (y : Knowing × Call). ExplainsAnswer room y.0 new y.1 answer) (λ i. (c.put.ensures.same i, c.in_ok-token.ensures.put.1 i)) after in
     explains_before room old mid new c.args.call answer c.ready.ensures.learns same
+
+pub returns-in_err-token-clause-made : goal.returns-in_err-token-clause-made
+returns-in_err-token-clause-made c plain = ap (λ (k : Knowing). k.made) c.put.ensures.same ∙ c.ready.ensures.made plain
+
+pub returns-clause-made : goal.returns-clause-made
+returns-clause-made c plain =
+    c.enter_token.ensures.made (subst (λ (x : Call). is_build x ≡ false) (sym c.in_ok-token.ensures.put.1) plain) ∙ (ap (λ (k : Knowing). k.made) c.put.ensures.same ∙ c.ready.ensures.made plain)

@@ -1,9 +1,10 @@
-use Rattle.std.proofs.Common.{inr, refl, sym, subst, ◌∙◌}
+use Rattle.std.proofs.Common.{◌≡◌, false, inr, refl, sym, ap, subst, ◌∙◌}
 use Rattle.std.specs.Prelude.{Err}
 use Rattle.std.proofs.lemmas.Result.{err_from_is_err_and}
 use Rattle.grb_core.specs.declared.refusal.Refusal.TheVariants.{OutOfMemory}
 use Rattle.grb_order.specs.Order.{room_of}
 use Rattle.grb_call.specs.declared.call.Call.{Call}
+use Rattle.grb_call.specs.Kinds.{is_build}
 use Rattle.grb_pass.specs.Known.{Knowing}
 use Rattle.grb_pass.specs.Counting.{CountsCall, CountsTries}
 use Rattle.grb_pass.specs.Explains.{ExplainsAnswer, IsCaughtUp, ground_of}
@@ -58,3 +59,10 @@ returns-in_default-clause-explains c = explains_refused (room_of c.args.self.now
 
 pub returns-in_default-clause-caught_up : goal.returns-in_default-clause-caught_up
 returns-in_default-clause-caught_up c = (refused_copy c).caught_up
+
+pub returns-in_err-token-clause-made : goal.returns-in_err-token-clause-made
+returns-in_err-token-clause-made c plain = ap (λ (k : Knowing). k.made) c.put.ensures.same ∙ c.ready.ensures.made plain
+
+pub returns-clause-made : goal.returns-clause-made
+returns-clause-made c plain =
+    c.enter_token.ensures.made (subst (λ (x : Call). is_build x ≡ false) (sym (c.in_ok-token.ensures.put.1 ∙ c.in-Ok.ensures.equal)) plain) ∙ (ap (λ (k : Knowing). k.made) c.put.ensures.same ∙ c.ready.ensures.made plain)

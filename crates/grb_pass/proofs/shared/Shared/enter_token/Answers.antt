@@ -1,4 +1,4 @@
-use Rattle.std.proofs.Common.{◌≡◌, ◌^◌, ◌<◌, ◌≤◌, None, refl, sym, subst, ap, arith, ◌∙◌}
+use Rattle.std.proofs.Common.{◌≡◌, ◌^◌, ◌<◌, ◌≤◌, false, None, refl, sym, subst, ap, arith, ◌∙◌}
 use Rattle.std.proofs.lemmas.Result.{err_from_is_err_and}
 use Rattle.grb_order.specs.declared.limits.TheConstants.{MOST_ROOM}
 use Rattle.grb_order.specs.Word.{order_word}
@@ -6,17 +6,20 @@ use Rattle.grb_order.specs.Holding.{TableId}
 use Rattle.grb_order.specs.Order.{room_of}
 use Rattle.grb_records.specs.Token.{Shown, IsOf}
 use Rattle.grb_call.specs.declared.call.Call.{Call}
+use Rattle.grb_call.specs.Kinds.{is_build}
 use Rattle.grb_call.specs.Refused.{refused_by_shapes}
 use Rattle.grb_call.specs.Store.{shapes_of}
 use Rattle.grb_call.specs.After.{reply_of}
 use Rattle.grb_call.specs.History.{store_of}
 use Rattle.grb_pass.specs.Known.{Knowing, known}
 use Rattle.grb_pass.specs.Learning.{IsReady, IsRefused, Learns}
+use Rattle.grb_pass.specs.Cells.{OwnBelow}
 use Rattle.grb_pass.proofs.Checking.{unrefused_by_shapes}
 use Rattle.grb_pass.proofs.Learnt.{learns_refl, learns_then, pass_push}
 use Rattle.grb_pass.proofs.Answering.{explains_refused, explains_won, known_entered, learns_lost, refused_before}
 use Rattle.grb_pass.proofs.Counted.{counts_then, counts_same, counts_won, counts_lost, lost_again, steps_near, steps_lost}
 use Rattle.grb_pass.proofs.Rising.{tried_none}
+use Rattle.grb_pass.proofs.Cells.{own_learns, own_lost}
 use Rattle.grb_pass.proofs.shared.Shared.enter_token.Goals as goal
 
 pub tries-init : goal.tries-init
@@ -27,10 +30,12 @@ tries-init c =
       of = c.requires.of;
       own = c.requires.own;
       index = c.requires.index;
+      fresh = c.requires.fresh;
       call = refl;
       ready = c.requires.ready;
       small = subst (λ (o : TableId). room_of o ≤ MOST_ROOM) c.requires.pass.order c.requires.steady.small;
       counts = counts_same pass pass refl refl;
+      made = λ plain. refl;
       lost = λ earlier is. tried_none earlier pass.view is;
     }
 
@@ -39,6 +44,9 @@ enter-requires-clause-accepted c =
     let now = c.tries.invariant in
     let is : c.call_of-call.result.now ≡ c.args.token.call = subst (λ (x : Call). c.call_of-call.result.now ≡ x) now.call c.call_of-call.ensures.call in
     subst (λ (x : Call). refused_by_shapes (shapes_of (store_of (known c.tries.pass))) x ≡ None) (sym is) (unrefused_by_shapes (store_of (known c.tries.pass)) c.args.token.call now.ready.unrefused)
+
+pub enter-requires-clause-fresh : goal.enter-requires-clause-fresh
+enter-requires-clause-fresh c = subst (λ (t : Shown). OwnBelow t.index c.tries.pass.view) (sym c.call_of-call.ensures.same) c.tries.invariant.fresh
 
 pub enter-requires-clause-few : goal.enter-requires-clause-few
 enter-requires-clause-few c =
@@ -71,8 +79,10 @@ returns-in_default-clause-caught_up c =
 
 pub returns-in_default-clause-counts : goal.returns-in_default-clause-counts
 returns-in_default-clause-counts c =
-    let old = c.args.pass.now in let mid = c.tries.pass in let now = c.tries.invariant in
-    counts_won (room_of c.args.self.now.order) old mid c.enter.new.self (order_word mid.view.number c.call_of-call.new.token.index) now.learns now.counts c.enter.ensures.counts c.in_default.ensures.enters.0 now.ready.room_left now.lost
+    let room = room_of c.args.self.now.order in let old = c.args.pass.now in let mid = c.tries.pass in let new = c.enter.new.self in let token = c.call_of-call.new.token in
+    let now = c.tries.invariant in let won = c.in_default.ensures.enters in
+    counts_won room old mid new (order_word mid.view.number token.index) now.learns now.counts c.enter.ensures.counts won.0 now.ready.room_left
+    (known_entered mid new token room c.args.token.call now.ready (rw c.call_of-call.ensures.same now.index) won.0 won.1) now.lost
 
 pub tries-preserved : goal.tries-preserved
 tries-preserved c =
@@ -89,10 +99,12 @@ tries-preserved c =
       of = subst (λ (t : Shown). IsOf c.args.self.now.records t) (sym token) now.of;
       own = ap (λ (t : Shown). t.pass) token ∙ now.own ∙ now.learns.grown.number ∙ sym all.grown.number;
       index = rw token now.index;
+      fresh = subst (λ (t : Shown). OwnBelow t.index new.view) (sym token) (own_learns c.tries.token.index lost new c.ready.ensures.learns (own_lost c.tries.token.index mid.view lost.view back.2 back.3 now.fresh));
       call = ap (λ (t : Shown). t.call) token ∙ now.call;
       ready = ready;
       small = now.small;
       counts = counts_then old lost new (counts_then old mid lost now.counts c.enter.ensures.counts) c.ready.ensures.counts;
+      made = λ plain. c.ready.ensures.made (subst (λ (x : Call). is_build x ≡ false) (sym is) plain) ∙ c.enter.ensures.made ∙ now.made plain;
       lost = lost_again room old mid lost new back.2 c.args.token.call now.learns now.lost back.3 c.ready.ensures.learns c.ready.ensures.looks ready;
     }
 
@@ -113,3 +125,12 @@ returns-in_err-ready-clause-explains c =
     let p = err_from_is_err_and c.from_residual.result c.from_residual.ensures.1 in
     rw (p.1, p.2) (explains_refused room old new call _ (learns_then old lost new first c.ready.ensures.learns)
     (refused_before room old lost new call first _ (subst (λ (x : Call). IsRefused room lost new x c.in_err-ready.field-0.0) is c.in_err-ready.ensures.refused)))
+
+pub returns-in_default-clause-made : goal.returns-in_default-clause-made
+returns-in_default-clause-made c plain = c.enter.ensures.made ∙ c.tries.invariant.made plain
+
+pub returns-in_err-ready-clause-made : goal.returns-in_err-ready-clause-made
+returns-in_err-ready-clause-made c plain =
+    let now = c.tries.invariant in
+    let is : c.call_of-call.result.now ≡ c.args.token.call = subst (λ (x : Call). c.call_of-call.result.now ≡ x) now.call c.call_of-call.ensures.call in
+    c.ready.ensures.made (subst (λ (x : Call). is_build x ≡ false) (sym is) plain) ∙ c.enter.ensures.made ∙ now.made plain

@@ -1,10 +1,12 @@
-use Rattle.std.proofs.Common.{◌≡◌, ◌<◌, ◌≤◌, ◌-◌, ◌^◌, length}
+use Rattle.std.proofs.Common.{◌≡◌, ◌<◌, ◌≤◌, ◌-◌, ◌^◌, false, length}
 use Rattle.grb_order.specs.declared.limits.TheConstants.{MOST_ROOM}
 use Rattle.grb_order.specs.Order.{room_of}
 use Rattle.grb_records.specs.Token.{IsOf}
+use Rattle.grb_call.specs.Kinds.{is_build}
 use Rattle.grb_pass.specs.Known.{IsPassOf}
 use Rattle.grb_pass.specs.Counting.{Counts}
 use Rattle.grb_pass.specs.Learning.{IsReady, Learns}
+use Rattle.grb_pass.specs.Cells.{OwnBelow}
 use Rattle.grb_pass.proofs.Counted.{AreLost}
 use Rattle.grb_pass.proofs.shared.Shared.enter_token.Given as goal
 
@@ -15,10 +17,12 @@ invariant-tries l = record {
   of : IsOf l.self.records l.token;
   own : l.token.pass ≡ l.pass.view.number;
   index : l.token.index < 2 ^ 48;
+  fresh : OwnBelow l.token.index l.pass.view;
   call : l.token.call ≡ l.fn.token.call;
   ready : IsReady (room_of l.self.order) l.pass l.fn.token.call;
   small : room_of l.self.order ≤ MOST_ROOM;
   counts : Counts l.fn.pass l.pass;
+  made : is_build l.fn.token.call ≡ false → l.pass.made ≡ l.fn.pass.made;
   lost : AreLost l.fn.pass l.pass;
 }
 

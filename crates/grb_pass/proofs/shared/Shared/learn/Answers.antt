@@ -4,6 +4,7 @@ use Rattle.grb_order.specs.Order.{room_of}
 use Rattle.grb_order.specs.declared.view.View.{View}
 use Rattle.grb_pass.specs.Known.{Shared}
 use Rattle.grb_pass.specs.Learning.{Learns}
+use Rattle.grb_pass.proofs.Answering.{length_known}
 use Rattle.grb_pass.proofs.Counted.{counts_same, counts_then, steps_few}
 use Rattle.grb_pass.proofs.Learnt.{learns_then, learns_word, learns_vacant, learns_same, pass_same}
 use Rattle.grb_pass.proofs.shared.Shared.learn.Goals as goal
@@ -23,6 +24,7 @@ words-preserved c =
       looks = ap (λ (v : View). v.looks) look.0 ∙ ap (λ (v : View). v.looks) c.catch_up.ensures.view ∙ c.words.invariant.looks;
       counts = counts_then old p q (counts_then c.args.reader.now c.words.reader c.catch_up.new.reader c.words.invariant.counts (counts_same c.words.reader c.catch_up.new.reader c.catch_up.ensures.steps c.catch_up.ensures.view)) c.look.ensures.counts;
       learns = learns_then old p q first (learns_word p q c.catch_up.ensures.steady.few c.look.ensures.shown c.look.ensures.statuses c.look.ensures.settled c.in-Next.field-0 look.0);
+      made = c.look.ensures.made ∙ c.catch_up.ensures.made ∙ c.words.invariant.made;
     }
 
 pub returns-in_err-catch_up-clause-looks : goal.returns-in_err-catch_up-clause-looks
@@ -34,7 +36,8 @@ returns-in-Vacant-clause-looks c =
     let room : room_of c.self.inside.order ≡ room_of c.args.self.now.order = ap (λ (s : Shared). room_of s.order) c.self.view_is in
     let same : length c.look.new.self.view.words ≡ length p.view.words = ap (λ (v : View). length v.words) is in
     let before : p.view.looks ≡ old.view.looks = ap (λ (v : View). v.looks) c.catch_up.ensures.view ∙ c.words.invariant.looks in
-    inl (ap (λ (v : View). v.looks) is ∙ (λ i. before i ++ length (sym is i).words ∷ []), omega (arith, same, left, room))
+    let shown : length c.look.new.self.shown ≡ length c.look.new.self.view.words = ap length c.look.ensures.shown ∙ c.in_ok-catch_up.ensures.all ∙ sym same in
+    inl (ap (λ (v : View). v.looks) is ∙ (λ i. before i ++ length (sym is i).words ∷ []), omega (arith, same, left, room), length_known c.look.new.self shown)
 
 pub returns-in-Full-clause-looks : goal.returns-in-Full-clause-looks
 returns-in-Full-clause-looks c =
@@ -58,3 +61,12 @@ returns-in-Full-clause-learns c =
 
 pub returns-in-Full-clause-finds : goal.returns-in-Full-clause-finds
 returns-in-Full-clause-finds c = search rules
+
+pub returns-in_err-catch_up-clause-made : goal.returns-in_err-catch_up-clause-made
+returns-in_err-catch_up-clause-made c = c.catch_up.ensures.made ∙ c.words.invariant.made
+
+pub returns-in-Vacant-clause-made : goal.returns-in-Vacant-clause-made
+returns-in-Vacant-clause-made c = c.look.ensures.made ∙ c.catch_up.ensures.made ∙ c.words.invariant.made
+
+pub returns-in-Full-clause-made : goal.returns-in-Full-clause-made
+returns-in-Full-clause-made c = c.look.ensures.made ∙ c.catch_up.ensures.made ∙ c.words.invariant.made

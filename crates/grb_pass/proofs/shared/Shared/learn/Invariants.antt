@@ -10,6 +10,7 @@ invariant-words l = record {
   pass : IsPassOf l.self l.reader;
   looks : l.reader.view.looks ≡ l.initial.reader.view.looks;
   learns : Learns l.initial.reader l.reader;
+  made : l.reader.made ≡ l.initial.reader.made;
   counts : Counts l.initial.reader l.reader;
 }
 

@@ -2,6 +2,8 @@ use Rattle.std.proofs.Common.{◌≡◌, length, subst, sym, ap, ◌∙◌}
 use Rattle.std.specs.Prelude.{Err}
 use Rattle.std.proofs.lemmas.Result.{err_from_is_err_and}
 use Rattle.grb_order.specs.Order.{room_of}
+use Rattle.grb_call.specs.History.{store_of}
+use Rattle.grb_call.proofs.Checked.{by_shapes-ok}
 use Rattle.grb_pass.specs.Known.{Knowing, known}
 use Rattle.grb_pass.specs.Counting.{CountsCall, LooksOnce}
 use Rattle.grb_pass.specs.Explains.{Answer, ExplainsAnswer, IsCaughtUp, ground_of}
@@ -10,8 +12,9 @@ use Rattle.grb_pass.specs.Settled.{settled_after}
 use Rattle.grb_pass.proofs.Alike.{counts_alike, steady_alike}
 use Rattle.grb_pass.proofs.Answering.{refused_by_check, explains_refused, explains_evaluated, known_evaluated}
 use Rattle.grb_pass.proofs.Counted.{counts_looked, looks_once}
-use Rattle.grb_pass.proofs.Evaluating.{evaluated_learns}
+use Rattle.grb_pass.proofs.Cells.{state_learns}
 use Rattle.grb_pass.proofs.Learnt.{pass_same}
+use Rattle.grb_pass.proofs.Making.{read_none}
 use Rattle.grb_pass.proofs.Settling.{settled_read}
 use Rattle.grb_pass.proofs.shared.Shared.read_at_end.Goals as goal
 
@@ -48,7 +51,7 @@ pub returns-in_err-check-clause-counts : goal.returns-in_err-check-clause-counts
 returns-in_err-check-clause-counts c = (subst (λ (old : Knowing). CountsCall (room_of c.args.self.now.order) old c.learn.new.reader) c.pass.view_is (counts_looked (room_of c.args.self.now.order) c.pass.inside.reader c.learn.new.reader c.learn.ensures.learns c.learn.ensures.counts (ap (λ (p : Knowing). p.steps) c.pass.view_is ∙ c.requires.begun) c.learn.ensures.looks))
 
 pub returns-clause-counts : goal.returns-clause-counts
-returns-clause-counts c = subst (λ (p : Knowing). CountsCall (room_of c.args.self.now.order) c.args.pass.now p) (sym c.reply.ensures.same) (counts_alike (room_of c.args.self.now.order) c.args.pass.now c.learn.new.reader c.learn.new.reader.statuses c.reply.new.self.settled (subst (λ (old : Knowing). CountsCall (room_of c.args.self.now.order) old c.learn.new.reader) c.pass.view_is (counts_looked (room_of c.args.self.now.order) c.pass.inside.reader c.learn.new.reader c.learn.ensures.learns c.learn.ensures.counts (ap (λ (p : Knowing). p.steps) c.pass.view_is ∙ c.requires.begun) c.learn.ensures.looks)))
+returns-clause-counts c = subst (λ (p : Knowing). CountsCall (room_of c.args.self.now.order) c.args.pass.now p) (sym c.reply.ensures.same) (counts_alike (room_of c.args.self.now.order) c.args.pass.now c.learn.new.reader c.learn.new.reader.statuses c.reply.new.self.settled c.reply.new.self.made (subst (λ (old : Knowing). CountsCall (room_of c.args.self.now.order) old c.learn.new.reader) c.pass.view_is (counts_looked (room_of c.args.self.now.order) c.pass.inside.reader c.learn.new.reader c.learn.ensures.learns c.learn.ensures.counts (ap (λ (p : Knowing). p.steps) c.pass.view_is ∙ c.requires.begun) c.learn.ensures.looks)))
 
 pub returns-in_err-learn-clause-looks : goal.returns-in_err-learn-clause-looks
 returns-in_err-learn-clause-looks c = subst (λ (old : Knowing). LooksOnce old c.learn.new.reader) c.pass.view_is (looks_once (room_of c.args.self.now.order) c.pass.inside.reader c.learn.new.reader c.learn.ensures.counts (ap (λ (p : Knowing). p.steps) c.pass.view_is ∙ c.requires.begun) c.learn.ensures.looks)
@@ -63,7 +66,7 @@ pub returns-clause-pass : goal.returns-clause-pass
 returns-clause-pass c = pass_same c.args.self.now c.learn.new.reader c.reply.new.self (ap (λ (p : Knowing). p.order) c.reply.ensures.same) (ap (λ (p : Knowing). p.shown) c.reply.ensures.same) c.learn.ensures.pass
 
 pub returns-clause-steady : goal.returns-clause-steady
-returns-clause-steady c = subst IsSteady (sym c.reply.ensures.same) (steady_alike c.learn.new.reader c.learn.new.reader.statuses c.reply.new.self.settled c.learn.ensures.steady)
+returns-clause-steady c = subst IsSteady (sym c.reply.ensures.same) (steady_alike c.learn.new.reader c.learn.new.reader.statuses c.reply.new.self.settled c.reply.new.self.made c.learn.ensures.steady)
 
 pub returns-clause-statuses : goal.returns-clause-statuses
 returns-clause-statuses c = ap (λ (p : Knowing). p.statuses) c.reply.ensures.same ∙ c.learn.ensures.learns.statuses ∙ ap (λ (p : Knowing). p.statuses) c.pass.view_is
@@ -91,14 +94,23 @@ returns-in_err-check-clause-settled c =
 pub invariant_of-pass : goal.invariant_of-pass
 invariant_of-pass c =
     let order = c.learn.ensures.pass.order ∙ sym (ap (λ (p : Knowing). p.order) c.pass.view_is ∙ c.requires.pass.order) in
-    evaluated_learns c.pass.inside.reader c.learn.new.reader c.pass.inside.evaluated order c.learn.ensures.learns c.pass.invariant
+    state_learns c.pass.inside.reader c.learn.new.reader c.pass.inside.evaluated c.pass.inside.row.next order c.learn.ensures.learns c.learn.ensures.made c.pass.invariant
 
 pub invariant_of-pass-in_err-check : goal.invariant_of-pass-in_err-check
 invariant_of-pass-in_err-check c =
     let order = c.learn.ensures.pass.order ∙ sym (ap (λ (p : Knowing). p.order) c.pass.view_is ∙ c.requires.pass.order) in
-    evaluated_learns c.pass.inside.reader c.learn.new.reader c.pass.inside.evaluated order c.learn.ensures.learns c.pass.invariant
+    state_learns c.pass.inside.reader c.learn.new.reader c.pass.inside.evaluated c.pass.inside.row.next order c.learn.ensures.learns c.learn.ensures.made c.pass.invariant
 
 pub invariant_of-pass-2 : goal.invariant_of-pass-2
 invariant_of-pass-2 c =
     let order = c.learn.ensures.pass.order ∙ sym (ap (λ (p : Knowing). p.order) c.pass.view_is ∙ c.requires.pass.order) in
-    evaluated_learns c.pass.inside.reader c.learn.new.reader c.pass.inside.evaluated order c.learn.ensures.learns c.pass.invariant
+    state_learns c.pass.inside.reader c.learn.new.reader c.pass.inside.evaluated c.pass.inside.row.next order c.learn.ensures.learns c.learn.ensures.made c.pass.invariant
+
+pub returns-clause-made : goal.returns-clause-made
+returns-clause-made c none = read_none c.learn.new.reader c.reply.new.self c.args.call.now c.args.pass.now.settled c.reply.ensures.same (c.learn.ensures.learns.settled ∙ ap (λ (p : Knowing). p.settled) c.pass.view_is) (by_shapes-ok (store_of (known c.learn.new.reader)) c.args.call.now c.in_ok-check.field-0 (sym c.check.ensures ∙ c.in_ok-check.was)) c.reply.ensures.size c.reply.ensures.made none ∙ (c.learn.ensures.made ∙ ap (λ (p : Knowing). p.made) c.pass.view_is)
+
+pub returns-in_err-learn-clause-made : goal.returns-in_err-learn-clause-made
+returns-in_err-learn-clause-made c none = c.learn.ensures.made ∙ ap (λ (p : Knowing). p.made) c.pass.view_is
+
+pub returns-in_err-check-clause-made : goal.returns-in_err-check-clause-made
+returns-in_err-check-clause-made c none = c.learn.ensures.made ∙ ap (λ (p : Knowing). p.made) c.pass.view_is

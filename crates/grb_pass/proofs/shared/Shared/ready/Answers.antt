@@ -1,28 +1,111 @@
 use Prim.{search}
-use Rattle.std.proofs.Common.{rules, sym, ap, subst, ◌∙◌}
+use Rattle.std.proofs.Common.{◌≡◌, false, rules, sym, ap, subst, ◌∙◌}
 use Rattle.std.specs.Prelude.{Ok}
 use Rattle.std.proofs.lemmas.Result.{err_from_is_err_and}
 use Rattle.grb_core.specs.declared.refusal.Refusal.TheVariants.{OrderFull}
 use Rattle.grb_order.specs.Order.{room_of}
+use Rattle.grb_order.specs.View.{LookedLast}
 use Rattle.grb_pass.specs.declared.learn.End.{End}
+use Rattle.grb_pass.specs.declared.learn.End.TheVariants.{Vacant}
 use Rattle.grb_pass.specs.Known.{Knowing}
 use Rattle.grb_pass.specs.Learning.{Finds, IsRefused}
+use Rattle.grb_pass.proofs.Alike.{IsAtEnd, at_end_after, ready_after, refused_after}
 use Rattle.grb_pass.proofs.Answering.{refused_checked, refused_by_room}
-use Rattle.grb_pass.proofs.Evaluating.{evaluated_learns}
+use Rattle.grb_pass.proofs.Cells.{state_learns}
 use Rattle.grb_pass.proofs.shared.Shared.ready.Goals as goal
+
+end_in_err_check : (c : goal.After-from_residual-in_err-check) → IsAtEnd c.args.self.now (room_of c.args.self.now.order) c.args.pass.now c.check.new.self
+end_in_err_check c =
+    let is = c.learn.ensures in let room = room_of c.args.self.now.order in
+    at_end_after c.args.self.now room c.args.pass.now c.learn.new.reader c.check.new.self c.check.ensures.same
+    (subst (λ (old : Knowing). IsAtEnd c.args.self.now room old c.learn.new.reader) c.pass.view_is (record { pass = is.pass; counts = is.counts; looks = is.looks; learns = is.learns; steady = is.steady }))
+
+pub returns-in_err-check-clause-pass : goal.returns-in_err-check-clause-pass
+returns-in_err-check-clause-pass c = (end_in_err_check c).pass
+
+pub returns-in_err-check-clause-counts : goal.returns-in_err-check-clause-counts
+returns-in_err-check-clause-counts c = (end_in_err_check c).counts
+
+pub returns-in_err-check-clause-looks : goal.returns-in_err-check-clause-looks
+returns-in_err-check-clause-looks c = (end_in_err_check c).looks
+
+pub returns-in_err-check-clause-learns : goal.returns-in_err-check-clause-learns
+returns-in_err-check-clause-learns c = (end_in_err_check c).learns
+
+pub returns-in_err-check-clause-steady : goal.returns-in_err-check-clause-steady
+returns-in_err-check-clause-steady c = (end_in_err_check c).steady
+
+pub returns-in_err-check-clause-made : goal.returns-in_err-check-clause-made
+returns-in_err-check-clause-made c plain = c.check.ensures.made plain ∙ c.learn.ensures.made ∙ ap (λ (p : Knowing). p.made) c.pass.view_is
+
+end_in_Full : (c : goal.In-Full) → IsAtEnd c.args.self.now (room_of c.args.self.now.order) c.args.pass.now c.check.new.self
+end_in_Full c =
+    let is = c.learn.ensures in let room = room_of c.args.self.now.order in
+    at_end_after c.args.self.now room c.args.pass.now c.learn.new.reader c.check.new.self c.check.ensures.same
+    (subst (λ (old : Knowing). IsAtEnd c.args.self.now room old c.learn.new.reader) c.pass.view_is (record { pass = is.pass; counts = is.counts; looks = is.looks; learns = is.learns; steady = is.steady }))
+
+pub returns-in-Full-clause-pass : goal.returns-in-Full-clause-pass
+returns-in-Full-clause-pass c = (end_in_Full c).pass
+
+pub returns-in-Full-clause-counts : goal.returns-in-Full-clause-counts
+returns-in-Full-clause-counts c = (end_in_Full c).counts
+
+pub returns-in-Full-clause-looks : goal.returns-in-Full-clause-looks
+returns-in-Full-clause-looks c = (end_in_Full c).looks
+
+pub returns-in-Full-clause-learns : goal.returns-in-Full-clause-learns
+returns-in-Full-clause-learns c = (end_in_Full c).learns
+
+pub returns-in-Full-clause-steady : goal.returns-in-Full-clause-steady
+returns-in-Full-clause-steady c = (end_in_Full c).steady
+
+pub returns-in-Full-clause-made : goal.returns-in-Full-clause-made
+returns-in-Full-clause-made c plain = c.check.ensures.made plain ∙ c.learn.ensures.made ∙ ap (λ (p : Knowing). p.made) c.pass.view_is
+
+end_in_Vacant : (c : goal.In-Vacant) → IsAtEnd c.args.self.now (room_of c.args.self.now.order) c.args.pass.now c.check.new.self
+end_in_Vacant c =
+    let is = c.learn.ensures in let room = room_of c.args.self.now.order in
+    at_end_after c.args.self.now room c.args.pass.now c.learn.new.reader c.check.new.self c.check.ensures.same
+    (subst (λ (old : Knowing). IsAtEnd c.args.self.now room old c.learn.new.reader) c.pass.view_is (record { pass = is.pass; counts = is.counts; looks = is.looks; learns = is.learns; steady = is.steady }))
+
+pub returns-in-Vacant-clause-pass : goal.returns-in-Vacant-clause-pass
+returns-in-Vacant-clause-pass c = (end_in_Vacant c).pass
+
+pub returns-in-Vacant-clause-counts : goal.returns-in-Vacant-clause-counts
+returns-in-Vacant-clause-counts c = (end_in_Vacant c).counts
+
+pub returns-in-Vacant-clause-looks : goal.returns-in-Vacant-clause-looks
+returns-in-Vacant-clause-looks c = (end_in_Vacant c).looks
+
+pub returns-in-Vacant-clause-learns : goal.returns-in-Vacant-clause-learns
+returns-in-Vacant-clause-learns c = (end_in_Vacant c).learns
+
+pub returns-in-Vacant-clause-steady : goal.returns-in-Vacant-clause-steady
+returns-in-Vacant-clause-steady c = (end_in_Vacant c).steady
+
+pub returns-in-Vacant-clause-made : goal.returns-in-Vacant-clause-made
+returns-in-Vacant-clause-made c plain = c.check.ensures.made plain ∙ c.learn.ensures.made ∙ ap (λ (p : Knowing). p.made) c.pass.view_is
+
+pub returns-in-Vacant-clause-ready : goal.returns-in-Vacant-clause-ready
+returns-in-Vacant-clause-ready c =
+    let room = room_of c.args.self.now.order in let mid = c.learn.new.reader in
+    let f : Finds room c.pass.inside.reader (Ok Vacant) mid = subst (λ (end : End). Finds room c.pass.inside.reader (Ok end) mid) c.in-Vacant.is c.in_ok-end.ensures.finds in
+    let looked : LookedLast mid.view = (c.pass.inside.reader.view.looks, f.1) in
+    ready_after c.args.self.now room c.args.pass.now mid c.check.new.self c.check.ensures.same c.args.call.now (record { all = f.0; looked = looked; room_left = f.2; unrefused = c.in_ok-check.ensures.checked })
 
 pub returns-in_err-check-clause-refused : goal.returns-in_err-check-clause-refused
 returns-in_err-check-clause-refused c =
     let room = room_of c.args.self.now.order in let mid = c.learn.new.reader in let call = c.args.call.now in let r = c.in_err-check.field-0.0 in
     let p = err_from_is_err_and c.from_residual-in_err-check.result c.from_residual-in_err-check.ensures.1 in
     let is : IsRefused room c.pass.inside.reader mid call r = refused_checked room c.pass.inside.reader mid c.in_ok-end.end call r c.in_ok-end.ensures.finds c.in_err-check.ensures.checked in
-    rw (p.1, p.2) (subst (λ (k : Knowing × Knowing). IsRefused room k.0 k.1 call r) (λ i. (c.pass.view_is i, sym c.check.ensures.same i)) is)
+    rw (p.1, p.2) (subst (λ (old : Knowing). IsRefused room old c.check.new.self call r) c.pass.view_is (refused_after c.args.self.now room c.pass.inside.reader mid c.check.new.self c.check.ensures.same call r is))
 
 pub returns-in-Full-clause-refused : goal.returns-in-Full-clause-refused
 returns-in-Full-clause-refused c =
     let room = room_of c.args.self.now.order in let mid = c.learn.new.reader in let call = c.args.call.now in
     let f = subst (λ (end : End). Finds room c.pass.inside.reader (Ok end) mid) c.in-Full.is c.in_ok-end.ensures.finds in
-    subst (λ (k : Knowing × Knowing). IsRefused room k.0 k.1 call OrderFull) (λ i. (c.pass.view_is i, sym c.check.ensures.same i)) (refused_by_room room c.pass.inside.reader mid call f c.requires.enters c.in_ok-check.ensures.checked)
+    subst (λ (old : Knowing). IsRefused room old c.check.new.self call OrderFull) c.pass.view_is
+    (refused_after c.args.self.now room c.pass.inside.reader mid c.check.new.self c.check.ensures.same call OrderFull (refused_by_room room c.pass.inside.reader mid call f c.requires.enters c.in_ok-check.ensures.checked))
 
 pub returns-in-Vacant-clause-refused : goal.returns-in-Vacant-clause-refused
 returns-in-Vacant-clause-refused c = search rules
@@ -30,9 +113,9 @@ returns-in-Vacant-clause-refused c = search rules
 pub invariant_of-pass : goal.invariant_of-pass
 invariant_of-pass c =
     let order = c.learn.ensures.pass.order ∙ sym (ap (λ (p : Knowing). p.order) c.pass.view_is ∙ c.requires.pass.order) in
-    evaluated_learns c.pass.inside.reader c.learn.new.reader c.pass.inside.evaluated order c.learn.ensures.learns c.pass.invariant
+    state_learns c.pass.inside.reader c.learn.new.reader c.pass.inside.evaluated c.pass.inside.row.next order c.learn.ensures.learns c.learn.ensures.made c.pass.invariant
 
 pub invariant_of-pass-2 : goal.invariant_of-pass-2
 invariant_of-pass-2 c =
     let order = c.learn.ensures.pass.order ∙ sym (ap (λ (p : Knowing). p.order) c.pass.view_is ∙ c.requires.pass.order) in
-    evaluated_learns c.pass.inside.reader c.learn.new.reader c.pass.inside.evaluated order c.learn.ensures.learns c.pass.invariant
+    state_learns c.pass.inside.reader c.learn.new.reader c.pass.inside.evaluated c.pass.inside.row.next order c.learn.ensures.learns c.learn.ensures.made c.pass.invariant

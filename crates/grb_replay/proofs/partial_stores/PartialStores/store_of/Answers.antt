@@ -25,12 +25,23 @@ returns-in-Some-clause-one g c =
       holds = c.is_at.ensures.holds c.if-is_at.true;
     }
 
-pub returns-in-Some-2-clause-partial : goal.returns-in-Some-2-clause-partial
-returns-in-Some-2-clause-partial g c =
+pub returns-in_err-onward-in-Some-2-clause-partial : goal.returns-in_err-onward-in-Some-2-clause-partial
+returns-in_err-onward-in-Some-2-clause-partial g c =
     let known : List Call = g.C.CallList.calls c.args.source.now c.args.calls.now in
     subst (ArePartial known) (sym c.onward.ensures.same) (partial_with known c.args.self.now c.take.new.self c.take.ensures.same c.requires.partial (c.take.ensures.others c.args.self.now.room known c.requires.partial.stores))
+
+pub returns-then-is_some-clause-partial : goal.returns-then-is_some-clause-partial
+returns-then-is_some-clause-partial g c =
+    let known : List Call = g.C.CallList.calls c.args.source.now c.args.calls.now in
+    subst (ArePartial known) (sym c.onward.ensures.same) (partial_with known c.args.self.now c.take.new.self c.take.ensures.same c.requires.partial (c.take.ensures.others c.args.self.now.room known c.requires.partial.stores))
+
+pub returns-else-is_some-clause-partial : goal.returns-else-is_some-clause-partial
+returns-else-is_some-clause-partial g c =
+    let known : List Call = g.C.CallList.calls c.args.source.now c.args.calls.now in
+    let same = c.anew.ensures.same ∙ c.onward.ensures.same in
+    subst (ArePartial known) (sym same) (partial_with known c.args.self.now c.take.new.self c.take.ensures.same c.requires.partial (c.take.ensures.others c.args.self.now.room known c.requires.partial.stores))
 
 pub returns-in-None-clause-partial : goal.returns-in-None-clause-partial
 returns-in-None-clause-partial g c =
     let known : List Call = g.C.CallList.calls c.args.source.now c.args.calls.now in
-    subst (ArePartial known) (sym c.anew.ensures.same) (partial_with known c.args.self.now c.take.new.self c.take.ensures.same c.requires.partial (c.take.ensures.others c.args.self.now.room known c.requires.partial.stores))
+    subst (ArePartial known) (sym c.anew-in-None.ensures.same) (partial_with known c.args.self.now c.take.new.self c.take.ensures.same c.requires.partial (c.take.ensures.others c.args.self.now.room known c.requires.partial.stores))

@@ -1,9 +1,9 @@
-use Rattle.std.proofs.Common.{◌≡◌, ◌≤◌}
+use Rattle.std.proofs.Common.{◌≡◌, ◌≤◌, length}
 use Rattle.grb_replay.proofs.versions.Versions.advance_by_cells.Given as goal
 
 abbrev pub invariant-cells : goal.invariant-cells
 invariant-cells l = record {
-  fits : l.k ≤ l.self;
+  fits : l.k ≤ length l.self-inside.cells.items;
   same : l.state ≡ l.initial.state;
 }
 

@@ -1,6 +1,5 @@
-use Rattle.std.proofs.Common.{◌∙◌, ℕ, Bool, sym}
+use Rattle.std.proofs.Common.{◌∙◌, Bool, sym}
 use Rattle.std.proofs.lemmas.List.{length-map}
-use Rattle.grb_core.specs.declared.value.Value.{Value}
 use Rattle.grb_core.specs.declared.value.Value.TheVariants as value
 use Rattle.grb_rows.proofs.FlatCells.{length-codes}
 use Rattle.grb_rows.proofs.flat.FlatRows.from_bools.Goals as goal

@@ -1,23 +1,15 @@
-use Rattle.std.proofs.Common.{refl, sym, ap, subst, ◌∙◌, arith, get_or, take, drop, rules, ◌≡◌, ◌+◌, ◌-◌, ◌*◌, ◌/◌, ◌%◌, ◌<◌, ◌≤◌, ◌^◌, ◌++◌, ℕ, [], ◌∷◌, None, length, map, All, IfOk, IfSome, IfNone, IsTrue, slice_set, slice_index_or, slice_index, Bool, true, false, nat_eq, nat_lt, List, bit_and, bit_or, Fits, w8, w32, w64, Bor, MutBor}
-use Rattle.std.specs.List.{AllByRecursion}
-use Rattle.std.specs.Ordering.{nat_cmp}
-use Rattle.std.specs.FinMap.{find, is_sorted}
-use Rattle.std.specs.Vec.{vec_len, vec_capacity}
+use Rattle.std.proofs.Common.{sym, ap, subst, ◌∙◌, arith, get_or, take, drop, ◌≡◌, ◌-◌, ◌<◌, ◌≤◌, ℕ, length, map, List}
 use Rattle.grb_core.specs.declared.value.Value.{Value as Stored}
-use Rattle.grb_core.specs.Value.{value_domain}
-use Rattle.grb_core.specs.Entries.{restricted, values_of}
-use Rattle.grb_core.specs.Contents.{is_cell_in}
-use Rattle.grb_rows.specs.Cells.{row_at, codes_of, cell_of, IsFlat}
+use Rattle.grb_core.specs.Entries.{values_of}
+use Rattle.grb_rows.specs.Cells.{row_at}
 use Rattle.grb_rows.specs.Values.{values_list}
-use Rattle.grb_rows.specs.Stored.{RowView, paired}
-use Rattle.grb_rows.proofs.Places.{holds, passes}
-use Rattle.grb_rows.proofs.FlatLists.{length-paired, get_or-paired, indices_rise, length-pushed, entries-pushed, is_sorted-pushed}
-use Rattle.std.proofs.lemmas.List.{get_or_default, length_push, length-map}
-use Rattle.grb_rows.proofs.FlatCells.{length-codes, code_at, row_at-at, codes-begun, part-at, part-length, split_some, split_upto, split_above, rising, in_span, span_inside, span_of, standing, cell_found, no_row, no_column, columns_rise, same_row, new_before, new_here, new_flat}
+use Rattle.grb_rows.specs.Stored.{RowView}
+use Rattle.std.proofs.lemmas.List.{length-map}
+use Rattle.grb_rows.proofs.FlatCells.{length-codes}
 use Rattle.grb_core.specs.Results.{row_of}
 use Rattle.grb_rows.specs.Cells.{decoded}
 use Rattle.grb_core.specs.declared.value.Value.TheVariants as value
-use Rattle.grb_rows.proofs.CellLists.{row_columns-are, row_values-are, map-part}
+use Rattle.grb_rows.proofs.CellLists.{row_values-are, map-part}
 use Rattle.grb_rows.proofs.flat.FlatRows.row_bools.Goals as goal
 
 pub part-requires-clause-within : goal.part-requires-clause-within

@@ -1,4 +1,4 @@
-use Rattle.std.proofs.Common.{◌≡◌, ◌+◌, ◌*◌, ◌/◌, ◌<◌, ◌≤◌, ◌∙◌, ℕ, length, get_or, ap, sym, subst, arith, false}
+use Rattle.std.proofs.Common.{◌≡◌, ◌+◌, ◌/◌, ◌<◌, ◌≤◌, ◌∙◌, ℕ, length, get_or, ap, sym, subst, arith, false}
 use Rattle.std.proofs.lemmas.List.{get_or_default}
 use Rattle.grb_core.specs.declared.value.Value.{Value}
 use Rattle.grb_core.specs.declared.value.Value.TheVariants as value
@@ -6,7 +6,7 @@ use Rattle.grb_rows.specs.Cells.{row_at, codes_of}
 use Rattle.grb_rows.specs.Values.{values_list}
 use Rattle.grb_rows.specs.Stored.{RowView, IsInRow, paired}
 use Rattle.grb_rows.proofs.FlatLists.{length-paired, get_or-paired}
-use Rattle.grb_rows.proofs.FlatCells.{length-codes, code_at, row_at-at}
+use Rattle.grb_rows.proofs.FlatCells.{length-codes, code_at}
 use Rattle.grb_rows.proofs.flat.FlatRows.row_end.Goals as goal
 
 pub returns : goal.returns

@@ -1,9 +1,8 @@
 use Prim.{search}
-use Rattle.std.proofs.Common.{rules, ◌∙◌, ◌<◌, length, List, ℕ, Bool, sym, ap, subst}
+use Rattle.std.proofs.Common.{rules, ◌∙◌, List, ℕ, Bool, sym, ap, subst}
 use Rattle.std.specs.Prelude.{IsTrue, map}
 use Rattle.std.specs.Ordering.{nat_cmp}
 use Rattle.std.specs.FinMap.{is_sorted}
-use Rattle.grb_core.specs.declared.value.Value.{Value}
 use Rattle.grb_core.specs.declared.value.Value.TheVariants as value
 use Rattle.grb_rows.specs.Stored.{paired}
 use Rattle.grb_rows.proofs.OneRow.{codes-first_row}

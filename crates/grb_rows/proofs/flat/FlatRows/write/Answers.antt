@@ -1,15 +1,10 @@
-use Rattle.std.proofs.Common.{◌≡◌, ◌<◌, ◌∙◌, ℕ, length, get_or, set, ap, sym, subst, arith, List}
-use Rattle.std.specs.Prelude.{map}
-use Rattle.std.proofs.lemmas.List.{get_or_default}
-use Rattle.std.specs.Ordering.{nat_cmp}
-use Rattle.std.specs.FinMap.{find}
-use Rattle.grb_core.specs.declared.value.Value.{Value}
+use Rattle.std.proofs.Common.{◌<◌, ◌∙◌, length, get_or, set, ap, sym, subst, arith}
 use Rattle.grb_rows.specs.Values.{values_list}
-use Rattle.grb_rows.specs.Stored.{RowView, paired}
-use Rattle.grb_rows.specs.Cells.{codes_of, cell_of, row_at, IsFlat}
-use Rattle.grb_rows.proofs.FlatCells.{length-codes, code_at, standing, codes-begun, coded-low}
+use Rattle.grb_rows.specs.Stored.{RowView}
+use Rattle.grb_rows.specs.Cells.{codes_of}
+use Rattle.grb_rows.proofs.FlatCells.{length-codes}
 use Rattle.grb_rows.proofs.Places.{holds, passes}
-use Rattle.grb_rows.proofs.FlatLists.{length-paired, get_or-paired, keys-paired, indices_rise, find-nowhere, length-pushed, entries-pushed, is_sorted-pushed, length-written, entries-written, is_sorted-written}
+use Rattle.grb_rows.proofs.FlatLists.{length-paired, length-written, entries-written, is_sorted-written}
 use Rattle.grb_rows.proofs.flat.FlatRows.write.Goals as goal
 
 pub set-requires-clause-at : goal.set-requires-clause-at

@@ -5,6 +5,7 @@ use Rattle.grb_rows.specs.Held.{HeldView}
 use Rattle.grb_rows.proofs.Places.{holds}
 use Rattle.grb_rows.proofs.Ends.{nowhere}
 use Rattle.grb_rows.proofs.FlatLists.{is_sorted-kept}
+use Rattle.grb_rows.proofs.Holding.{stored-settled}
 use Rattle.grb_rows.proofs.LaidOut.{last_at-sorted, same_changes}
 use Rattle.grb_rows.proofs.held.Held.merged.Goals as goal
 
@@ -26,3 +27,10 @@ returns-clause-entries c =
     let sorted = holds c.in_ok-changes.ensures.sorted in
     IfOk-weaker c.merged.result _ _ (λ new h. h ∙ same_changes (kept m ds) last i.pending.changes (is_sorted-kept m ds (holds c.self.invariant.laid.ordered)) (λ q. last_at-sorted q last sorted ∙ c.in_ok-changes.ensures.found q)
     ∙ ap (λ (v : HeldView). v.entries) c.self.view_is) c.merged.ensures.entries
+
+-- where nothing waits, the lists are what is stored
+pub returns-then-is_settled-clause-entries : goal.returns-then-is_settled-clause-entries
+returns-then-is_settled-clause-entries c =
+    let i = c.self.inside in
+    let all = stored-settled i.rows i.deleted.items i.pending i.nvals i.assembled c.self.invariant (c.is_settled.ensures.0 c.if-is_settled.true) in
+    IfOk-weaker c.try_clone.result _ _ (λ new h. h ∙ sym all ∙ ap (λ (v : HeldView). v.entries) c.self.view_is) c.try_clone.ensures.entries

@@ -1,9 +1,7 @@
-use Rattle.std.proofs.Common.{◌≡◌, ◌<◌, ◌∙◌, ℕ, Result, Ok, Err, ap, sym, subst, cond, nat_eq, Some, arith, rules}
-use Rattle.std.specs.Prelude.{IsOk, OnOk}
+use Rattle.std.proofs.Common.{◌<◌, ◌∙◌, ap, sym, subst, cond, nat_eq, Some, arith}
 use Rattle.std.proofs.lemmas.Bool.Decides.{nat_tests}
 use Rattle.grb_rows.specs.Pending.{last_at, PendingView}
 use Rattle.grb_rows.proofs.Changes.{last_at-push, told}
-use Rattle.grb_rows.proofs.FlatLists.{rises}
 use Rattle.grb_rows.proofs.pending.Pending.push.Goals as goal
 
 pub invariant_of-self : goal.invariant_of-self

@@ -1,4 +1,4 @@
-use Rattle.std.proofs.Common.{◌≡◌, ◌∙◌, ap, sym, set}
+use Rattle.std.proofs.Common.{◌∙◌, ap, sym, set}
 use Rattle.std.proofs.lemmas.List.{map-set}
 use Rattle.grb_core.specs.declared.value.Value.TheVariants as value
 use Rattle.grb_rows.specs.declared.values.Values.TheVariants as values

@@ -7,5 +7,4 @@ invariant-reads g l = record {
   second : IsPassOf l.context l.q;
   third : IsPassOf l.context l.r;
   fourth : IsPassOf l.context l.s;
-  only : IsPassOf l.alone l.only;
 }

@@ -1,0 +1,21 @@
+use Rattle.std.proofs.Common.{◌≡◌, ap, ◌∙◌}
+use Rattle.grb_call.specs.declared.call.Call.{Call}
+use Rattle.grb_call.specs.declared.reply.Reply.TheVariants.{Count}
+use Rattle.grb_call.specs.After.{refused, reply_of}
+use Rattle.grb_call.specs.History.{store_of}
+use Rattle.grb_pass.specs.Known.{known}
+use Rattle.grb_pass.specs.Reading.{count_of_output}
+use Rattle.grb_pass.proofs.Checking.{count_accepted, count_replied}
+use Rattle.grb_pass.proofs.pass.Pass.count_of_output.Goals as goal
+
+pub reply_of_entries-requires-clause-accepted : goal.reply_of_entries-requires-clause-accepted
+reply_of_entries-requires-clause-accepted c =
+    let s = store_of (known c.args.self.now) in
+    ap (λ (q : Call). refused s q) c.count_call.ensures ∙ count_accepted s c.args.call.now c.requires.build c.requires.accepted
+
+pub unreachable-requires : goal.unreachable-requires
+unreachable-requires c =
+    let s = store_of (known c.args.self.now) in
+    let counted : c.in_ok-count.field-0 ≡ Count (count_of_output s c.args.call.now) =
+    c.in_ok-count.ensures.reply ∙ ap (λ (q : Call). reply_of s q) c.count_call.ensures ∙ count_replied s c.args.call.now c.requires.build in
+    c.in_default.not-Count (count_of_output s c.args.call.now) counted

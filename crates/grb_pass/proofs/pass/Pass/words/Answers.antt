@@ -1,0 +1,7 @@
+use Rattle.std.proofs.Common.{subst}
+use Rattle.grb_pass.specs.Cells.{OwnBelow}
+use Rattle.grb_pass.specs.Known.{Knowing}
+use Rattle.grb_pass.proofs.pass.Pass.words.Goals as goal
+
+pub returns-clause-own : goal.returns-clause-own
+returns-clause-own c = let next = c.self.inside.row.next in (next, subst (λ (k : Knowing). OwnBelow next k.view) c.self.view_is c.self.invariant.own)

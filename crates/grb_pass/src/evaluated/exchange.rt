@@ -1,0 +1,131 @@
+//! When a pass asks for a store that others left, and when it leaves its own to them.
+ghost use Rattle.std.specs.Prelude.{◌≡◌, All};
+ghost use Rattle.grb_records.specs.Token.{IsOf};
+ghost use Rattle.grb_call.specs.History.{store_of};
+ghost use Rattle.grb_pass.specs.Evaluated.{IsAssembled, IsEvaluatedFor};
+ghost use Rattle.grb_pass.specs.Known.{known};
+
+use super::Evaluated;
+use crate::reader::Reader;
+use crate::sharing::{advance, entries_of, offer, share};
+use grb_records::Records;
+use grb_replay::Amount;
+use std::alloc::AllocError;
+
+/// How many calls more are known where a pass asks for a version again, and how many are to be made where it asks at once (own).
+pub(super) const MANY: usize = 64;
+
+/// From how much on calls are dear, as a number of sets: a pass asks for a version before it makes them, and offers their store when it has
+/// made them (own).
+const DEAR: u64 = 4096;
+
+/// How many entries of a store are copied in the time of a set, about, where the passes that share it change its objects (own).
+const COPIED: u64 = 64;
+
+impl Evaluated {
+    /// Whether the known calls that were not gone over are dear.
+    pub(super) fn is_dear(&self, reader: &Reader) -> bool {
+        self.effort.of(&self.left(reader)) >= DEAR
+    }
+
+    /// Whether operations are to be made of which it has no measure: then a version that has them was worth more than to copy its calls, to
+    /// whoever left it.
+    fn may_be_dear(&self, reader: &Reader) -> bool {
+        self.left(reader).has_operations() && self.effort.is_unknown()
+    }
+
+    /// Whether the known calls that were not gone over take as much as to compare all known calls with those of a version.
+    fn is_worth_comparing(&self, reader: &Reader) -> bool {
+        let known = reader.amount_beyond(&Amount::none());
+        self.effort.of(&self.left(reader)) >= known.compared()
+    }
+
+    /// Whether there is a version to go on from: in a cell where so many calls are known or more, and among the latest where those that were
+    /// not gone over are dear; but not where to compare calls would take longer than to make them.
+    fn finds(&self, reader: &Reader, from: usize) -> bool {
+        let known = reader.known() as usize;
+        let count = self.reached.count();
+        if known >= from && self.is_worth_comparing(reader) {
+            return self.versions.has_beyond(count, known);
+        }
+        if !self.versions.has_latest_beyond(count, known) {
+            return false;
+        }
+        self.may_be_dear(reader) || (self.is_dear(reader) && self.is_worth_comparing(reader))
+    }
+
+    /// Goes on from a version where one is found, and where so many calls are known or more.
+    pub(super) fn advance_from(&mut self, records: &Records, reader: &mut Reader, from: usize)
+        requires evaluated { IsEvaluatedFor reader.old self.old }
+        requires of { All (IsOf records.now) reader.old.shown }
+        ensures same { reader.new ≡ reader.old }
+        ensures evaluated { IsEvaluatedFor reader.new self.new }
+        ensures made { self.new.made ≡ self.old.made }
+    {
+        if self.finds(reader, from) {
+            advance(&self.versions, records, reader, &mut self.reached);
+            self.let_base_go();
+        }
+    }
+
+    /// Goes on from a version before a read, or a build's check: the first time, and then where 64 calls more are known than when it last
+    /// did so, or those that were not gone over are dear; not where comparing calls would take longer.
+    pub(crate) fn go_on(&mut self, records: &Records, reader: &mut Reader)
+        requires evaluated { IsEvaluatedFor reader.old self.old }
+        requires of { All (IsOf records.now) reader.old.shown }
+        ensures same { reader.new ≡ reader.old }
+        ensures evaluated { IsEvaluatedFor reader.new self.new }
+        ensures made { self.new.made ≡ self.old.made }
+    {
+        let known = reader.known() as usize;
+        let from = self.next;
+        if known >= self.next {
+            self.next = known + MANY;
+        }
+        self.advance_from(records, reader, from);
+    }
+
+    /// Leaves the store, in which all known calls are evaluated, to the other passes, where there are some, and what was made for the answer
+    /// was dear, also next to copies of the calls and of what the passes may change. Nothing is missed where memory is refused to that.
+    pub(super) fn share_dear(&mut self, records: &Records, reader: &mut Reader)
+        requires evaluated { IsEvaluatedFor reader.old self.old }
+        requires of { All (IsOf records.now) reader.old.shown }
+        ensures same { reader.new ≡ reader.old }
+        ensures evaluated { IsEvaluatedFor reader.new self.new }
+        ensures made { self.new.made ≡ self.old.made }
+        ensures kept { self.new.reached ≡ record self.old.reached { state = self.new.reached.state } }
+    {
+        let spent = self.effort.spent();
+        if self.alone || spent < DEAR || spent < self.reached.amount().copied() {
+            return;
+        }
+        if spent < entries_of(self.reached.state()) / COPIED || !self.is_made(reader) {
+            return;
+        }
+        share(&self.versions, records, reader, &mut self.reached);
+    }
+
+    /// Whether what was evaluated since the store was last offered takes as much as copies of the calls, and of what the passes may change.
+    fn is_worth_offering(&self, reader: &Reader) -> bool {
+        let since = self.effort.of(&reader.amount_beyond(&self.offered));
+        let known = reader.amount_beyond(&Amount::none());
+        since >= known.copied() && since >= entries_of(self.reached.state()) / COPIED
+    }
+
+    /// Offers the store, in which no change waits, to the other passes, where there are some and it is worth that. `AllocError` where memory
+    /// is refused; then it has not offered it.
+    pub(super) fn offer(&mut self, records: &Records, reader: &mut Reader) -> Result<(), AllocError>
+        requires of { All (IsOf records.now) reader.old.shown }
+        requires all { self.old.reached.state.store ≡ store_of (known reader.old) }
+        requires assembled { IsAssembled self.old.reached.state }
+        ensures same { reader.new ≡ reader.old }
+        ensures evaluated { self.new ≡ self.old }
+    {
+        if self.alone || !self.is_worth_offering(reader) {
+            return Ok(());
+        }
+        offer(&self.versions, records, reader, self.reached.state())?;
+        self.offered = reader.amount_beyond(&Amount::none());
+        Ok(())
+    }
+}

@@ -1,0 +1,15 @@
+use Rattle.std.proofs.Common.{◌≡◌, ◌-◌, ◌≤◌, length}
+use Rattle.std.specs.Prelude.{IfSome}
+use Rattle.grb_replay.specs.Reached.{IsReachedIn, IsWholeIn}
+use Rattle.grb_replay.proofs.going.go_on.Given as goal
+
+abbrev pub invariant-calls : goal.invariant-calls
+invariant-calls g l = record {
+  same : l.calls ≡ l.initial.calls;
+  reached : IsReachedIn l.room (g.C.CallList.calls l.source l.initial.calls) l.reached;
+  base : IfSome l.base (IsWholeIn l.room (g.C.CallList.calls l.source l.initial.calls));
+  further : l.initial.reached.count ≤ l.reached.count;
+}
+
+abbrev pub decreases-calls : goal.decreases-calls
+decreases-calls g l = length (g.C.CallList.calls l.source l.initial.calls) - l.reached.count

@@ -1,0 +1,199 @@
+//! A store that goes on over calls to the end of a list, and the whole store that stays behind where it leaves some out.
+ghost use Rattle.std.specs.Prelude.{◌≡◌, ◌+◌, ◌<◌, ◌≤◌, List, length, IfSome, OnOk, OnErr};
+ghost use Rattle.grb_call.specs.declared.call.Call.{Call};
+ghost use Rattle.grb_call.specs.Store.{empty_store, shapes_of};
+ghost use Rattle.grb_slices.specs.Followed.{targets_of};
+ghost use Rattle.grb_replay.specs.Reached.{IsReached, IsReachedIn, IsWholeIn};
+
+use crate::choice::{Choice, Next};
+use crate::effort::Effort;
+use crate::reached::Reached;
+use grb_slices::CallList;
+use std::alloc::{AllocError, Global};
+
+/// Before a call is left out: a copy of the store stays at its place, where it lacks no object and none stays yet. No entry is copied.
+/// `AllocError` where memory is refused.
+fn stay(reached: &Reached, base: &mut Option<Reached>, room: u32) -> Result<(), AllocError>
+    requires few { reached.now.count ≤ room }
+    requires matrices { length reached.now.state.store.matrices ≤ reached.now.count }
+    requires vectors { length reached.now.state.store.vectors ≤ reached.now.count }
+    ensures { (calls : List Call) → IsReachedIn room calls reached.now → IfSome base.old (IsWholeIn room calls) → IfSome base.new (IsWholeIn room calls) }
+{
+    if base.is_none() && reached.is_whole() {
+        let copy = reached.try_clone(room - reached.count() as u32)?;
+        *base = Some(copy);
+    }
+    Ok(())
+}
+
+/// Leaves the next call out. `AllocError` where memory is refused.
+fn leave_out<S, C: CallList<S>>(
+    reached: &mut Reached,
+    base: &mut Option<Reached>,
+    calls: &mut C,
+    source: &S,
+    room: u32,
+) -> Result<(), AllocError>
+    requires held { C.is_in source.now calls.old }
+    requires targets { C.target_list calls.old ≡ targets_of (shapes_of empty_store) (C.calls source.now calls.old) }
+    requires few { length (C.calls source.now calls.old) ≤ room }
+    requires next { reached.old.count < length (C.calls source.now calls.old) }
+    requires reached { IsReachedIn room (C.calls source.now calls.old) reached.old }
+    requires base { IfSome base.old (IsWholeIn room (C.calls source.now calls.old)) }
+    ensures same { calls.new ≡ calls.old }
+    ensures reached { IsReachedIn room (C.calls source.now calls.old) reached.new }
+    ensures base { IfSome base.new (IsWholeIn room (C.calls source.now calls.old)) }
+    ensures ok { OnOk result (reached.new.count ≡ reached.old.count + 1) }
+    ensures err { OnErr result (reached.new.count ≡ reached.old.count) }
+{
+    stay(reached, base, room)?;
+    reached.leave(calls, source)
+}
+
+/// Makes the next call, which the answer needs. `AllocError` where memory is refused.
+fn make_needed<S, C: CallList<S>>(
+    reached: &mut Reached,
+    calls: &mut C,
+    source: &S,
+    choice: &mut Choice,
+    effort: &mut Effort,
+) -> Result<(), AllocError>
+    requires held { C.is_in source.now calls.old }
+    requires targets { C.target_list calls.old ≡ targets_of (shapes_of empty_store) (C.calls source.now calls.old) }
+    requires next { reached.old.count < length (C.calls source.now calls.old) }
+    requires reached { IsReached (C.calls source.now calls.old) reached.old }
+    requires room { 0 < reached.old.state.room }
+    ensures same { calls.new ≡ calls.old }
+    ensures reached { IsReached (C.calls source.now calls.old) reached.new }
+    ensures room { reached.old.state.room + reached.old.count ≤ reached.new.state.room + reached.new.count }
+    ensures ok { OnOk result (reached.new.count ≡ reached.old.count + 1) }
+    ensures err { OnErr result (reached.new.count ≡ reached.old.count) }
+{
+    let before = effort.spent();
+    reached.make(calls, source, effort)?;
+    choice.earn(effort.spent().saturating_sub(before));
+    Ok(())
+}
+
+/// Makes the next call, which the answer does not need; where memory is refused to it, it is left out.
+fn try_other<S, C: CallList<S>>(
+    reached: &mut Reached,
+    base: &mut Option<Reached>,
+    calls: &mut C,
+    source: &S,
+    room: u32,
+    choice: &mut Choice,
+    effort: &mut Effort,
+) -> Result<(), AllocError>
+    requires held { C.is_in source.now calls.old }
+    requires targets { C.target_list calls.old ≡ targets_of (shapes_of empty_store) (C.calls source.now calls.old) }
+    requires few { length (C.calls source.now calls.old) ≤ room }
+    requires next { reached.old.count < length (C.calls source.now calls.old) }
+    requires reached { IsReachedIn room (C.calls source.now calls.old) reached.old }
+    requires base { IfSome base.old (IsWholeIn room (C.calls source.now calls.old)) }
+    ensures same { calls.new ≡ calls.old }
+    ensures reached { IsReachedIn room (C.calls source.now calls.old) reached.new }
+    ensures base { IfSome base.new (IsWholeIn room (C.calls source.now calls.old)) }
+    ensures ok { OnOk result (reached.new.count ≡ reached.old.count + 1) }
+    ensures err { OnErr result (reached.new.count ≡ reached.old.count) }
+{
+    let before = effort.spent();
+    if reached.make(calls, source, effort).is_err() {
+        return leave_out(reached, base, calls, source, room);
+    }
+    choice.pay(effort.spent().saturating_sub(before));
+    Ok(())
+}
+
+/// Goes over the next call, as is chosen. `AllocError` where memory is refused to what the answer needs.
+fn go_over<S, C: CallList<S>>(
+    alloc: Global,
+    reached: &mut Reached,
+    base: &mut Option<Reached>,
+    calls: &mut C,
+    source: &S,
+    room: u32,
+    choice: &mut Choice,
+    effort: &mut Effort,
+) -> Result<(), AllocError>
+    requires held { C.is_in source.now calls.old }
+    requires targets { C.target_list calls.old ≡ targets_of (shapes_of empty_store) (C.calls source.now calls.old) }
+    requires few { length (C.calls source.now calls.old) ≤ room }
+    requires next { reached.old.count < length (C.calls source.now calls.old) }
+    requires reached { IsReachedIn room (C.calls source.now calls.old) reached.old }
+    requires base { IfSome base.old (IsWholeIn room (C.calls source.now calls.old)) }
+    ensures same { calls.new ≡ calls.old }
+    ensures reached { IsReachedIn room (C.calls source.now calls.old) reached.new }
+    ensures base { IfSome base.new (IsWholeIn room (C.calls source.now calls.old)) }
+    ensures ok { OnOk result (reached.new.count ≡ reached.old.count + 1) }
+    ensures err { OnErr result (reached.new.count ≡ reached.old.count) }
+{
+    let at = reached.count();
+    match choice.next(alloc, reached, at, calls.call_at(source, at)) {
+        Next::Make => make_needed(reached, calls, source, choice, effort),
+        Next::Try => try_other(reached, base, calls, source, room, choice, effort),
+        Next::LeaveOut => leave_out(reached, base, calls, source, room),
+        Next::PassOver => {
+            if choice.leaves_out() {
+                return leave_out(reached, base, calls, source, room);
+            }
+            reached.leave(calls, source)
+        }
+    }
+}
+
+/// Goes over all calls of the list that it has not gone over, as is chosen, in a history that takes `room` calls. Where it first leaves one
+/// out, a store that lacks no object stays behind as the base. `AllocError` where memory is refused to what the answer needs; then what it
+/// has gone over stays so.
+pub fn go_on<S, C: CallList<S>>(
+    alloc: Global,
+    reached: &mut Reached,
+    base: &mut Option<Reached>,
+    calls: &mut C,
+    source: &S,
+    room: u32,
+    choice: &mut Choice,
+    effort: &mut Effort,
+) -> Result<(), AllocError>
+    requires held { C.is_in source.now calls.old }
+    requires targets { C.target_list calls.old ≡ targets_of (shapes_of empty_store) (C.calls source.now calls.old) }
+    requires few { length (C.calls source.now calls.old) ≤ room }
+    requires reached { IsReachedIn room (C.calls source.now calls.old) reached.old }
+    requires base { IfSome base.old (IsWholeIn room (C.calls source.now calls.old)) }
+    ensures same { calls.new ≡ calls.old }
+    ensures reached { IsReachedIn room (C.calls source.now calls.old) reached.new }
+    ensures base { IfSome base.new (IsWholeIn room (C.calls source.now calls.old)) }
+    ensures all { OnOk result (length (C.calls source.now calls.old) ≤ reached.new.count) }
+    ensures further { reached.old.count ≤ reached.new.count }
+    ensures err { OnErr result (reached.new.count < length (C.calls source.now calls.old)) }
+{
+    'calls: while reached.count() < calls.targets().len() {
+        go_over(alloc, reached, base, calls, source, room, choice, effort)?;
+    }
+    Ok(())
+}
+
+/// Makes all calls of the list that were not gone over, in a history that takes `room` calls, by a store that lacks no object.
+/// `AllocError` where memory is refused; then what it has gone over stays so.
+pub fn make_everything<S, C: CallList<S>>(
+    reached: &mut Reached,
+    calls: &mut C,
+    source: &S,
+    room: u32,
+    effort: &mut Effort,
+) -> Result<(), AllocError>
+    requires held { C.is_in source.now calls.old }
+    requires targets { C.target_list calls.old ≡ targets_of (shapes_of empty_store) (C.calls source.now calls.old) }
+    requires few { length (C.calls source.now calls.old) ≤ room }
+    requires reached { IsWholeIn room (C.calls source.now calls.old) reached.old }
+    ensures same { calls.new ≡ calls.old }
+    ensures reached { IsWholeIn room (C.calls source.now calls.old) reached.new }
+    ensures all { OnOk result (length (C.calls source.now calls.old) ≤ reached.new.count) }
+    ensures further { reached.old.count ≤ reached.new.count }
+    ensures err { OnErr result (reached.new.count < length (C.calls source.now calls.old)) }
+{
+    'calls: while reached.count() < calls.targets().len() {
+        reached.make(calls, source, effort)?;
+    }
+    Ok(())
+}

@@ -1,0 +1,130 @@
+//! What is told of faults and of refusals, which no contract says and which no script prints.
+use crate::faults::told_of_fault;
+use crate::near::is_near;
+use crate::refusals::told_of_refusals;
+use grb_script::{ReadFault, ScriptFault, read_script};
+use std::alloc::{AllocError, Global};
+use std::process::Abort;
+
+/// A script, and what is told of its first fault.
+static FAULTS: [(&str, &str); 9] = [
+    (
+        "vector v1 uint64 5\nset v2 0 1\n",
+        "  line 2: set v2 0 1\n  form: set NAME PLACE VALUE\n  \
+        `v2` does not stand here; near it `v1` is a vector of uint64 of size 5, made on line 1\n",
+    ),
+    (
+        "thread 1\nvector a bool 3\nthread 2\nfree a\n",
+        "  line 4: free a\n  form: free NAME\n  \
+        `a` does not stand here; line 2 makes it, in another section or later\n",
+    ),
+    (
+        "nvals far\n",
+        "  line 1: nvals far\n  form: nvals NAME\n  \
+        `far` does not stand here, and no name near it does\n",
+    ),
+    (
+        "matrix A bool 2 3\ndup A A\n",
+        "  line 2: dup A A\n  `A` is a matrix of bool of 2 rows and 3 columns, made on line 1\n",
+    ),
+    (
+        "load G a.mtx\nset G 1 1\n",
+        "  line 2: set G 1 1\n  form: set NAME PLACE VALUE\n  \
+        `G` is a matrix as its file spells it, made on line 1\n",
+    ),
+    (
+        "matrix A bool 2 2\nmxm A A A lor.plus\n",
+        "  line 2: mxm A A A lor.plus\n  form: mxm NAME NAME NAME SEMIRING OPTIONS\n  \
+        OPTIONS: mask NAME, structure, comp, accum OP, replace, and in version 2 tran, in this order\n  \
+        its MONOID is of bool, and its OP of uint64\n",
+    ),
+    (
+        "# first\nvectr v bool 2\n",
+        "  line 2: vectr v bool 2\n  no line begins so; near it is vector\n",
+    ),
+    (
+        "get\tv 0\n",
+        "  line 1: get\\x09v 0\n  a byte other than 0x20 to 0x7E is shown as \\xNN\n",
+    ),
+    (
+        "finally\nthread 1",
+        "  line 2: thread 1\n  no line end stands after it\n",
+    ),
+];
+
+/// A script, the lines that it printed, and what is told of those that are refusals.
+static REFUSALS: [(&str, &str, &str); 3] = [
+    ("vector v bool 2\nget v 0\n", "ok\nnone\n", ""),
+    (
+        "version 2\nvector v uint64 4\nresize v 9\nset v 9 1\nfree v\nsize v\n",
+        "ok\nok\nGrB_INVALID_INDEX\nok\nGrB_UNINITIALIZED_OBJECT\n",
+        "  line 4: set v 9 1\n  GrB_INVALID_INDEX: Give an index below the dimension; the first is 0.\n  \
+        `v` is a vector of uint64 of size 9, made on line 2\n  \
+        line 6: size v\n  GrB_UNINITIALIZED_OBJECT: Use the number of an object that was made and not freed.\n  \
+        `v` is a vector of uint64 of size 9, made on line 2 and freed on line 5\n",
+    ),
+    (
+        "matrix A bool 0 1\nvector m bool 3\nthread 1\newiseadd A A A lor mask A\nfinally\nclear m\n",
+        "GrB_INVALID_VALUE\nok\nGrB_UNINITIALIZED_OBJECT\nok\n",
+        "  line 1: matrix A bool 0 1\n  GrB_INVALID_VALUE: Give dimensions from 1 to 4,294,967,295.\n  \
+        line 4: ewiseadd A A A lor mask A\n  \
+        GrB_UNINITIALIZED_OBJECT: Use the number of an object that was made and not freed.\n  \
+        `A` is a matrix of bool of 0 rows and 1 columns, whose making on line 1 was refused\n",
+    ),
+];
+
+/// The first fault of a script, if it has one.
+fn fault_of(alloc: Global, script: &str) -> Option<ScriptFault> {
+    match read_script(alloc, script.as_bytes()) {
+        Err(ReadFault::Fault(fault)) => Some(fault),
+        _ => None,
+    }
+}
+
+/// These texts are the same.
+fn same(rt: &impl Abort, told: &str, wanted: &str) {
+    assert!(rt; told == wanted, "told: {told}, and wanted: {wanted}");
+}
+
+#[test]
+fn a_fault_is_told_with_its_line_its_form_and_its_names(rt: HostRuntime) -> Result<(), AllocError> {
+    let alloc = rt.alloc();
+    for (script, wanted) in &FAULTS {
+        let Some(fault) = fault_of(alloc, *script) else {
+            same(&rt, "no fault", *script);
+            continue;
+        };
+        let told = told_of_fault(alloc, script.as_bytes(), fault)?;
+        same(&rt, told.as_str(), *wanted);
+    }
+    Ok(())
+}
+
+#[test]
+fn a_refusal_is_told_with_its_hint_and_its_objects(rt: HostRuntime) -> Result<(), AllocError> {
+    for (script, output, wanted) in &REFUSALS {
+        let told = told_of_refusals(rt.alloc(), script.as_bytes(), output.as_bytes(), &[])?;
+        same(&rt, told.as_str(), *wanted);
+    }
+    Ok(())
+}
+
+#[test]
+fn words_are_near_that_are_one_slip_apart(rt: HostRuntime) {
+    let rows = [
+        ("set", "sett", true),
+        ("set", "se", true),
+        ("set", "sat", true),
+        ("set", "est", true),
+        ("set", "set", false),
+        ("set", "sets2", false),
+        ("v", "w", false),
+        ("abcd", "badc", false),
+    ];
+    for (one, other, wanted) in rows {
+        assert!(rt;
+            is_near(one.as_bytes(), other.as_bytes()) == wanted,
+            "{one} and {other}"
+        );
+    }
+}
