@@ -1,4 +1,5 @@
 pub mod Ran
+pub mod Snapshot
 pub use Rattle.grb_pass.specs.Answered
 pub use Rattle.grb_pass.specs.Counting
 pub use Rattle.grb_pass.specs.Explains
@@ -9,3 +10,4 @@ pub use Rattle.grb_pass.specs.Meeting
 pub use Rattle.grb_pass.specs.Point
 pub use Rattle.grb_pass.specs.Settled
 pub use Rattle.grb_pass.specs.Statuses
+pub use Rattle.grb_pass.specs.StoredIn

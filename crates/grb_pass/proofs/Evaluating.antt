@@ -123,7 +123,7 @@ store_known p r is whole all = whole_all (calls_of (known p)) r is.at.reached wh
 pub count_within : (p : Knowing) (r : ReachedView) → IsStoreFor p r → r.count ≤ length (known p)
 count_within p r is = omega (arith, is.at.reached.within, length-calls_of (known p))
 
-le_or_lt : (m n : ℕ) → (m ≤ n) ⊎ (n < m)
+pub le_or_lt : (m n : ℕ) → (m ≤ n) ⊎ (n < m)
 le_or_lt zero n = inl (omega arith)
 le_or_lt (suc m) zero = inr (omega arith)
 le_or_lt (suc m) (suc n) = elim (le_or_lt m n) [

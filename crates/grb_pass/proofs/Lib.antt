@@ -6,6 +6,7 @@ mod Cells
 mod Checking
 mod Counted
 mod Evaluating
+mod Held
 mod Learnt
 mod Making
 mod Meeting

@@ -14,3 +14,4 @@ pub mod Putting
 pub mod Reading
 pub mod Settled
 pub use Rattle.grb_call.specs.Statuses
+pub use Rattle.grb_state.specs.StoredIn

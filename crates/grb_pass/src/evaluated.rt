@@ -16,6 +16,7 @@ ghost use Rattle.grb_pass.specs.Settled.{is_materialize};
 
 mod answers;
 mod exchange;
+mod held;
 mod making;
 
 use crate::reader::Reader;

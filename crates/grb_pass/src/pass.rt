@@ -1,5 +1,5 @@
 //! A pass: one thread's way into the history, with what it knows, has evaluated and was answered.
-ghost use Rattle.std.specs.Prelude.{◌≡◌, ℕ, ◌<◌, ◌≤◌, ◌+◌, ◌^◌, ◌⊎◌, false, true, None, Some, [], if◌then◌else◌, length, All, IfOk, IfErr, IfSome, OnOk, OnErr};
+ghost use Rattle.std.specs.Prelude.{◌≡◌, ℕ, ◌<◌, ◌≤◌, ◌+◌, ◌^◌, ◌⊎◌, false, true, None, Some, [], if◌then◌else◌, is_some, length, All, IfOk, IfErr, IfSome, MatchOption, OnOk, OnErr};
 ghost use Rattle.std.specs.Option.{option_or};
 ghost use Rattle.grb_order.specs.declared.limits.TheConstants.{MOST_ROOM};
 ghost use Rattle.grb_order.specs.View.{fresh, LookedLast};
@@ -7,11 +7,12 @@ ghost use Rattle.grb_order.specs.Order.{room_of};
 ghost use Rattle.grb_records.specs.Token.{IsOf};
 ghost use Rattle.grb_call.specs.Kinds.{enters, is_build, is_size};
 ghost use Rattle.grb_call.specs.Refused.{is_in_bounds, refused_by_shapes};
-ghost use Rattle.grb_call.specs.Store.{empty_store, shapes_of};
+ghost use Rattle.grb_call.specs.Store.{empty_store, matrix_at, shapes_of, vector_at};
 ghost use Rattle.grb_call.specs.After.{refused, reply_of};
 ghost use Rattle.grb_call.specs.History.{store_of};
 ghost use Rattle.grb_call.specs.Status.{info_of, made_by, object_of, with_status};
 ghost use Rattle.grb_call.specs.Statuses.{no_rows, status_at};
+ghost use Rattle.grb_state.specs.StoredIn.{IsMatrixOf, IsVectorOf};
 ghost use Rattle.grb_pass.specs.Known.{known};
 ghost use Rattle.grb_pass.specs.Counting.{Counts};
 ghost use Rattle.grb_pass.specs.Laws.{Begins};
@@ -24,11 +25,12 @@ use crate::back_off::BackOff;
 use crate::evaluated::Evaluated;
 use crate::reader::Reader;
 use crate::row::RecordRow;
-use grb_call::{Call, Kind, Object, Reply, WaitMode};
+use grb_call::{Call, Kind, MatrixId, Object, Reply, VectorId, WaitMode};
 use grb_core::{Info, Refusal};
 use grb_order::{Order, Place};
 use grb_records::{Records, Token};
 use grb_replay::Versions;
+use grb_sparse::{SparseMatrix, SparseVector};
 use std::alloc::{AllocError, Global};
 use std::marker::Model;
 use std::sync::Arc;
@@ -180,6 +182,23 @@ impl Pass {
         ensures { result ≡ status_at self.now.statuses object }
     {
         self.reader.last_info(object)
+    }
+
+    /// The matrix as it is after all calls that the pass knows, where it lies ready, as it does after a wait for it: with no change left that
+    /// waits, and as all share it that hold it. Who clones the `Arc` keeps it as it is, whatever comes, and no entry is copied: a pass that
+    /// changes its matrix while another holds it changes a copy. `None` where there is no such matrix or it does not lie ready; where all
+    /// that the pass knows is settled, each matrix lies ready. Evaluates nothing, learns nothing and takes no memory (own).
+    pub fn matrix(&self, a: MatrixId) -> Option<&Arc<SparseMatrix>>
+        ensures { MatchOption result (is_some (matrix_at (store_of (known self.now)) a) ≡ true → self.now.settled < length (known self.now)) (λ matrix. IsMatrixOf (store_of (known self.now)) a matrix.now.value) }
+    {
+        self.evaluated.held_matrix(&self.reader, a)
+    }
+
+    /// The vector as it is after all calls that the pass knows, where it lies ready, as [`Pass::matrix`] gives a matrix (own).
+    pub fn vector(&self, v: VectorId) -> Option<&Arc<SparseVector>>
+        ensures { MatchOption result (is_some (vector_at (store_of (known self.now)) v) ≡ true → self.now.settled < length (known self.now)) (λ vector. IsVectorOf (store_of (known self.now)) v vector.now.value) }
+    {
+        self.evaluated.held_vector(&self.reader, v)
     }
 
     /// Keeps the status that this answer leaves on the target of its call, which is about that object.

@@ -1,4 +1,5 @@
 mod Begins
+pub mod HeldNow
 mod SameCalls
 mod Served
 pub mod NextTarget

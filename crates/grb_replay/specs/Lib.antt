@@ -6,4 +6,5 @@ pub mod Targets
 pub mod Versions
 pub use Rattle.grb_state.specs.Evaluated
 pub use Rattle.grb_state.specs.Settled
+pub use Rattle.grb_state.specs.StoredIn
 pub use Rattle.grb_state.specs.State

@@ -23,6 +23,7 @@ use grb_sparse::{SparseMatrix, SparseVector};
 use grb_state::State;
 use std::alloc::{AllocError, Global};
 use std::marker::Model;
+use std::sync::Arc;
 
 /// Some objects of a store at one place of a list of calls. They go on to a later place by the calls that they depend on; what the other
 /// objects hold is left behind.
@@ -159,6 +160,20 @@ impl PartialStore {
         ensures assembled { option_map_or (λ vector. vector.now.assembled) result true ≡ is_assembled self.now.state.matrices self.now.state.vectors (Object.Vector v) }
     {
         self.state.vector(v)
+    }
+
+    /// The matrix as all share it that hold it, as far as it is held here, as [`State::held_matrix`] says. Takes no memory.
+    pub(crate) fn held_matrix(&self, a: MatrixId) -> Option<&Arc<SparseMatrix>>
+        ensures { option_map (λ matrix. matrix.now.value.matrix) result ≡ matrix_at self.now.state.store a }
+    {
+        self.state.held_matrix(a)
+    }
+
+    /// The vector as all share it that hold it, as far as it is held here, as [`State::held_vector`] says. Takes no memory.
+    pub(crate) fn held_vector(&self, v: VectorId) -> Option<&Arc<SparseVector>>
+        ensures { option_map (λ vector. vector.now.value.vector) result ≡ vector_at self.now.state.store v }
+    {
+        self.state.held_vector(v)
     }
 
     /// Which objects it holds. Takes no memory.

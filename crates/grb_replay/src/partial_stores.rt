@@ -9,16 +9,19 @@ ghost use Rattle.grb_call.specs.History.{after_all};
 ghost use Rattle.grb_state.specs.Evaluated.{IsEvaluated};
 ghost use Rattle.grb_slices.specs.Followed.{targets_of};
 ghost use Rattle.grb_slices.specs.Wanted.{is_wanted};
-ghost use Rattle.grb_replay.specs.Partial.{ArePartial, IsPartialAt, IsPartialNow};
+ghost use Rattle.grb_state.specs.StoredIn.{IsMatrixOf, IsVectorOf};
+ghost use Rattle.grb_replay.specs.Partial.{ArePartial, HoldsMatrix, HoldsVector, IsPartialAt, IsPartialNow};
 
 use crate::effort::{Amount, Effort};
 use crate::partial_store::PartialStore;
 use crate::plan::{Plan, plan_anew, plan_onward};
-use grb_call::{Call, Object, Reply};
+use grb_call::{Call, MatrixId, Object, Reply, VectorId};
 use grb_slices::CallList;
+use grb_sparse::{SparseMatrix, SparseVector};
 use grb_state::State;
 use std::alloc::{AllocError, Global};
 use std::marker::Model;
+use std::sync::Arc;
 
 /// How many objects are kept, at most (own).
 const MOST: usize = 8;
@@ -68,6 +71,32 @@ impl ReadObject {
         ensures holds { result ≡ true → is_wanted self.now.store.objects object ≡ true }
     {
         self.upto == known && self.store.objects().contains(object)
+    }
+
+    /// The matrix as all share it that hold it, where it is here after just so many calls and no change waits in it.
+    fn held_matrix(&self, known: usize, a: MatrixId) -> Option<&Arc<SparseMatrix>>
+        ensures { IfSome result (λ matrix. HoldsMatrix self.now known a matrix.now.value) }
+    {
+        if !self.is_at(known, Object::Matrix(a)) {
+            return None;
+        }
+        match self.store.held_matrix(a) {
+            Some(matrix) if matrix.is_assembled() => Some(matrix),
+            _ => None,
+        }
+    }
+
+    /// The vector as all share it that hold it, where it is here after just so many calls and no change waits in it.
+    fn held_vector(&self, known: usize, v: VectorId) -> Option<&Arc<SparseVector>>
+        ensures { IfSome result (λ vector. HoldsVector self.now known v vector.now.value) }
+    {
+        if !self.is_at(known, Object::Vector(v)) {
+            return None;
+        }
+        match self.store.held_vector(v) {
+            Some(vector) if vector.is_assembled() => Some(vector),
+            _ => None,
+        }
     }
 }
 
@@ -123,6 +152,28 @@ impl PartialStores {
         ensures { result ≡ length self.now.stores }
     {
         self.stores.len()
+    }
+
+    /// The matrix as all share it that hold it, as it is after all calls, of which there are so many: where it was read there and no change
+    /// waits in it. Takes no memory.
+    pub fn held_matrix(&self, known: usize, a: MatrixId) -> Option<&Arc<SparseMatrix>>
+        ensures { (calls : List Call) → ArePartial calls self.now → length calls ≡ known → IfSome result (λ matrix. IsMatrixOf (after_all empty_store calls) a matrix.now.value) }
+    {
+        match self.place_of(Object::Matrix(a)) {
+            Some(at) => self.stores[at].held_matrix(known, a),
+            None => None,
+        }
+    }
+
+    /// The vector as all share it that hold it, as it is after all calls, of which there are so many: where it was read there and no change
+    /// waits in it. Takes no memory.
+    pub fn held_vector(&self, known: usize, v: VectorId) -> Option<&Arc<SparseVector>>
+        ensures { (calls : List Call) → ArePartial calls self.now → length calls ≡ known → IfSome result (λ vector. IsVectorOf (after_all empty_store calls) v vector.now.value) }
+    {
+        match self.place_of(Object::Vector(v)) {
+            Some(at) => self.stores[at].held_vector(known, v),
+            None => None,
+        }
     }
 
     /// How much may be spent yet on single objects, while calls that take so much are not evaluated in the store: half of that, since all

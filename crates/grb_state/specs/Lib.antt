@@ -3,4 +3,5 @@ pub mod Fits
 pub mod Operation
 pub mod Places
 pub mod Settled
+pub mod StoredIn
 pub mod State

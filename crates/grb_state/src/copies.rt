@@ -4,12 +4,13 @@ ghost use Rattle.std.specs.Option.{option_map, option_map_or};
 ghost use Rattle.grb_call.specs.Store.{matrix_at, shapes_of, vector_at};
 ghost use Rattle.grb_state.specs.State.{count_in, is_assembled};
 
-use crate::places::object_of;
+use crate::places::{held_of, object_of};
 use crate::shared::share_all;
 use crate::state::State;
 use grb_call::{MatrixId, Object, Shapes, VectorId};
 use grb_sparse::{SparseMatrix, SparseVector};
 use std::alloc::AllocError;
+use std::sync::Arc;
 
 impl State {
     /// How many matrices were made. Takes no memory.
@@ -50,6 +51,23 @@ impl State {
         ensures assembled { option_map_or (λ vector. vector.now.assembled) result true ≡ is_assembled self.now.matrices self.now.vectors (Object.Vector v) }
     {
         object_of(&self.vectors, v)
+    }
+
+    /// The matrix as all share it that hold it, if it was made and not freed: who clones the `Arc` holds it too, and no entry is copied. It
+    /// stays what it is; a state that changes its matrix while another holds it changes a copy. Takes no memory.
+    pub fn held_matrix(&self, a: MatrixId) -> Option<&Arc<SparseMatrix>>
+        ensures stored { option_map (λ matrix. matrix.now.value.matrix) result ≡ matrix_at self.now.store a }
+        ensures assembled { option_map_or (λ matrix. matrix.now.value.assembled) result true ≡ is_assembled self.now.matrices self.now.vectors (Object.Matrix a) }
+    {
+        held_of(&self.matrices, a)
+    }
+
+    /// The vector as all share it that hold it, if it was made and not freed, as [`State::held_matrix`] gives a matrix. Takes no memory.
+    pub fn held_vector(&self, v: VectorId) -> Option<&Arc<SparseVector>>
+        ensures stored { option_map (λ vector. vector.now.value.vector) result ≡ vector_at self.now.store v }
+        ensures assembled { option_map_or (λ vector. vector.now.value.assembled) result true ≡ is_assembled self.now.matrices self.now.vectors (Object.Vector v) }
+    {
+        held_of(&self.vectors, v)
     }
 
     /// The domain and dimensions of all objects. Takes no memory.

@@ -112,6 +112,20 @@ pub(crate) fn object_of<T: StoredObject>(
     }
 }
 
+/// The object with this number as all share it that hold it, if it was made and not freed. Takes no memory.
+pub(crate) fn held_of<T: StoredObject>(
+    places: &[Option<SharedObject<T>>],
+    id: T::Id,
+) -> Option<&Arc<T>>
+    ensures stored { option_map (λ x. T.contents x.now.value) result ≡ object_at (contents_at T.contents places.now) (T.number id) }
+    ensures object { option_map (λ x. x.now.value) result ≡ object_at places.now (T.number id) }
+{
+    match places.get(T::number(id) as usize) {
+        Some(Some(shared)) => Some(shared.held()),
+        _ => None,
+    }
+}
+
 /// Assembles the object, or a copy of it where another store holds it; one that is assembled stays as it is. `AllocError` where memory is
 /// refused; its entries are as before in any case.
 fn assemble_shared<T: StoredObject>(

@@ -41,6 +41,13 @@ impl<T> SharedObject<T> {
         })
     }
 
+    /// The object as all share it that hold it. Takes no memory.
+    pub(crate) fn held(&self) -> &Arc<T>
+        ensures { result.now.value ≡ self.now }
+    {
+        &self.object
+    }
+
     /// The object. Takes no memory.
     pub(crate) fn lent(&self) -> &T
         ensures { result.now ≡ self.now }

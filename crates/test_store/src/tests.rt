@@ -25,6 +25,7 @@ mod same;
 mod sections;
 mod settled;
 mod sinks;
+mod snapshots;
 mod sources;
 mod statuses;
 mod steps;

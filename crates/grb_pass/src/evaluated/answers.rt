@@ -76,7 +76,7 @@ impl Evaluated {
     }
 
     /// Whether the store has gone over all known calls, and does not lack the object.
-    fn holds(&self, reader: &Reader, object: Object) -> bool
+    pub(super) fn holds(&self, reader: &Reader, object: Object) -> bool
         ensures held { result ≡ true → (length (known reader.now) ≤ self.now.reached.count) × (is_wanted self.now.reached.lacking object ≡ false) }
         ensures left { result ≡ false → IsWhole self.now.reached → length (known reader.now) ≤ self.now.reached.count → ⊥ }
     {

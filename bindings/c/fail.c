@@ -1,0 +1,246 @@
+/* A fixed list of calls with one allocation refused, or all from one on.
+ *
+ *     fail K once     the K-th allocation is refused. A call that is refused memory is made again, and
+ *                     then answers as it does where memory is there.
+ *     fail K on       the K-th allocation and all after it are refused. The first call that is refused
+ *                     memory ends the list.
+ *
+ * Whatever is refused: no call answers anything but TrB_OUT_OF_MEMORY or what it answers where memory is
+ * there, and when the passes are freed, all that was allocated has been given back, but for the number
+ * of the store that TrB_open tells of.
+ *
+ * Ends with status 0 where the list was made with no allocation refused, 2 where one was refused and all
+ * was as it should be, and 1 where something was not. fail.sh goes through all K.
+ *
+ * The linker's --wrap has malloc, calloc, realloc and free of this program and of the library lead here:
+ *
+ *     cc -std=c11 -O2 -Wl,--wrap=malloc,--wrap=calloc,--wrap=realloc,--wrap=free \
+ *         -o fail fail.c libgrb_c.a liblibc_c.a -lpthread
+ */
+#include "trowelheath.h"
+
+#include <stdio.h>
+#include <stdlib.h>
+#include <string.h>
+
+enum { PASSED = 0, FAILED = 1, REFUSED = 2 };
+enum { ROOM = 400, PASSES = 2, SIZE = 64 };
+
+/* ---- Memory ------------------------------------------------------------------------------------ */
+
+void *__real_malloc(size_t size);
+void *__real_calloc(size_t count, size_t size);
+void *__real_realloc(void *block, size_t size);
+void __real_free(void *block);
+void *__wrap_malloc(size_t size);
+void *__wrap_calloc(size_t count, size_t size);
+void *__wrap_realloc(void *block, size_t size);
+void __wrap_free(void *block);
+
+static unsigned long allocations; /* how many were asked for */
+static unsigned long refused_at;  /* which of them is refused, from 1 */
+static bool refuses_on;           /* and so are all after it */
+static long blocks;               /* how many are not given back */
+
+static bool is_refused(void)
+{
+    allocations++;
+    return allocations == refused_at || (refuses_on && allocations > refused_at);
+}
+
+void *__wrap_malloc(size_t size)
+{
+    void *block = is_refused() ? NULL : __real_malloc(size);
+    blocks += block != NULL;
+    return block;
+}
+
+void *__wrap_calloc(size_t count, size_t size)
+{
+    void *block = is_refused() ? NULL : __real_calloc(count, size);
+    blocks += block != NULL;
+    return block;
+}
+
+void *__wrap_realloc(void *old, size_t size)
+{
+    if (is_refused()) {
+        return NULL;
+    }
+    bool had_block = old != NULL;
+    void *block = __real_realloc(old, size);
+    if (block != NULL) {
+        blocks += !had_block;
+    } else if (size == 0) {
+        blocks -= had_block;
+    }
+    return block;
+}
+
+void __wrap_free(void *block)
+{
+    blocks -= block != NULL;
+    __real_free(block);
+}
+
+/* ---- Calls ------------------------------------------------------------------------------------- */
+
+static unsigned long refusals; /* how many calls were refused memory */
+
+/* Makes the call, once more where it is refused memory and memory is there again. Ends the list where
+ * memory is refused from now on, and the program where the status is another than this one. */
+#define ANSWERS(call, status)                                              \
+    do {                                                                   \
+        TrB_Info info = (call);                                            \
+        if (info == TrB_OUT_OF_MEMORY) {                                   \
+            refusals++;                                                    \
+            if (refuses_on) {                                              \
+                return false;                                              \
+            }                                                              \
+            info = (call);                                                 \
+        }                                                                  \
+        HOLDS(info == (status));                                           \
+    } while (0)
+
+#define OK(call) ANSWERS(call, TrB_SUCCESS)
+
+#define HOLDS(statement)                                                                         \
+    do {                                                                                         \
+        if (!(statement)) {                                                                      \
+            fprintf(stderr, "allocation %lu refused: line %d: %s does not hold\n", refused_at,   \
+                    __LINE__, #statement);                                                       \
+            exit(FAILED);                                                                        \
+        }                                                                                        \
+    } while (0)
+
+/* A chain of SIZE vertices, as arrays. */
+static TrB_Index rows[SIZE - 1], columns[SIZE - 1];
+static uint64_t numbers[SIZE - 1];
+static bool truths[SIZE - 1];
+
+static void draw_chain(void)
+{
+    for (size_t k = 0; k < SIZE - 1; k++) {
+        rows[k] = k;
+        columns[k] = k + 1;
+        numbers[k] = k + 1;
+        truths[k] = k % 2 == 0;
+    }
+}
+
+/* Matrices: builds, entries and operations. Answers false where memory is refused from now on, as the
+ * functions below do. */
+static bool make_matrices(TrB_Pass *pass, TrB_Matrix *a)
+{
+    TrB_Matrix c, t, copy;
+    uint64_t x;
+    bool truth;
+    TrB_Index nvals, nrows, ncols;
+    OK(TrB_Matrix_new(pass, a, TrB_UINT64, SIZE, SIZE));
+    OK(TrB_Matrix_build_UINT64(pass, *a, rows, columns, numbers, SIZE - 1, TrB_PLUS));
+    ANSWERS(TrB_Matrix_build_UINT64(pass, *a, rows, columns, numbers, SIZE - 1, TrB_PLUS), TrB_OUTPUT_NOT_EMPTY);
+    OK(TrB_Matrix_new(pass, &t, TrB_BOOL, SIZE, SIZE));
+    OK(TrB_Matrix_build_BOOL(pass, t, rows, columns, truths, SIZE - 1, TrB_LOR));
+    OK(TrB_Matrix_reduce_BOOL(pass, &truth, TrB_LAND, t));
+    HOLDS(!truth);
+    OK(TrB_Matrix_new(pass, &c, TrB_UINT64, SIZE, SIZE));
+    OK(TrB_mxm(pass, c, TrB_NO_MATRIX, TrB_NO_ACCUM, TrB_PLUS_TIMES, *a, *a, TrB_DEFAULT));
+    OK(TrB_Matrix_extractElement_UINT64(pass, &x, c, 1, 3));
+    HOLDS(x == 2 * 3);
+    OK(TrB_Matrix_eWiseAdd(pass, c, TrB_NO_MATRIX, TrB_PLUS, TrB_PLUS, c, *a, TrB_DEFAULT));
+    OK(TrB_Matrix_eWiseMult(pass, c, t, TrB_NO_ACCUM, TrB_TIMES, c, *a, TrB_DEFAULT));
+    OK(TrB_Matrix_nvals(pass, &nvals, c));
+    HOLDS(nvals == (SIZE - 2) + (SIZE - 1)); /* paths of two edges and of one */
+    OK(TrB_Matrix_dup(pass, &copy, c));
+    OK(TrB_Matrix_resize(pass, copy, SIZE / 2, SIZE));
+    OK(TrB_Matrix_clear(pass, copy));
+    OK(TrB_Matrix_size(pass, &nrows, &ncols, copy));
+    HOLDS(nrows == SIZE / 2 && ncols == SIZE);
+    OK(TrB_Matrix_free(pass, copy));
+    ANSWERS(TrB_Matrix_nvals(pass, &nvals, copy), TrB_UNINITIALIZED_OBJECT);
+    ANSWERS(TrB_mxm(pass, c, TrB_NO_MATRIX, TrB_NO_ACCUM, TrB_LOR_LAND, *a, *a, TrB_DEFAULT), TrB_DOMAIN_MISMATCH);
+    return true;
+}
+
+/* Vectors, by another pass than the one that made the matrix. */
+static bool make_vectors(TrB_Pass *pass, TrB_Matrix a)
+{
+    TrB_Vector u, w;
+    TrB_Index indices[SIZE], nvals = 1;
+    uint64_t values[SIZE], x;
+    OK(TrB_Vector_new(pass, &u, TrB_UINT64, SIZE));
+    OK(TrB_Vector_build_UINT64(pass, u, columns, numbers, SIZE - 1, TrB_MIN));
+    OK(TrB_Vector_new(pass, &w, TrB_UINT64, SIZE));
+    OK(TrB_mxv(pass, w, TrB_NO_VECTOR, TrB_NO_ACCUM, TrB_PLUS_TIMES, a, u, TrB_DEFAULT));
+    OK(TrB_vxm(pass, w, u, TrB_PLUS, TrB_MIN_PLUS, u, a, TrB_STRUCTURE));
+    OK(TrB_Vector_eWiseAdd(pass, w, TrB_NO_VECTOR, TrB_NO_ACCUM, TrB_MAX, w, u, TrB_DEFAULT));
+    OK(TrB_Vector_eWiseMult(pass, w, u, TrB_NO_ACCUM, TrB_MIN, w, u, TrB_COMP));
+    OK(TrB_Matrix_reduce(pass, u, w, TrB_NO_ACCUM, TrB_PLUS, a, TrB_REPLACE | TrB_TRAN));
+    ANSWERS(TrB_Vector_extractTuples_UINT64(pass, indices, values, &nvals, u), TrB_INSUFFICIENT_SPACE);
+    HOLDS(nvals == SIZE - 1);
+    OK(TrB_Vector_extractTuples_UINT64(pass, indices, values, &nvals, u));
+    for (size_t k = 0; k < SIZE - 1; k++) {
+        HOLDS(indices[k] == k + 1 && values[k] == k + 1);
+    }
+    OK(TrB_Vector_removeElement(pass, u, 1));
+    OK(TrB_Vector_reduce_UINT64(pass, &x, TrB_PLUS, u));
+    HOLDS(x == (uint64_t)SIZE * (SIZE - 1) / 2 - 1);
+    return true;
+}
+
+/* Many changes of one matrix with reads between them, waits, and what one pass takes over of another. */
+static bool serve(TrB_Pass *passes, TrB_Matrix a)
+{
+    uint32_t evaluated;
+    TrB_Index nvals;
+    for (TrB_Index k = 0; k < 2 * SIZE; k++) {
+        uint64_t x;
+        TrB_Pass *pass = &passes[k % PASSES];
+        OK(TrB_Matrix_setElement_UINT64(pass, a, k, k % SIZE, 0));
+        OK(TrB_Matrix_extractElement_UINT64(pass, &x, a, k % SIZE, 0));
+        HOLDS(x == k);
+        if (k % 50 == 0) {
+            OK(TrB_Matrix_wait(pass, a, TrB_COMPLETE));
+            OK(TrB_Matrix_wait(pass, a, TrB_MATERIALIZE));
+        }
+    }
+    OK(TrB_prepare(&passes[0], &evaluated));
+    OK(TrB_meet(&passes[1], &passes[0]));
+    OK(TrB_adopt(&passes[1], &passes[0]));
+    OK(TrB_Matrix_nvals(&passes[1], &nvals, a));
+    HOLDS(nvals == (SIZE - 1) + SIZE);
+    return true;
+}
+
+static bool make_all(TrB_Pass *passes, long *stores)
+{
+    TrB_Matrix a;
+    OK(TrB_open(ROOM, passes, PASSES));
+    *stores = 1;
+    return make_matrices(&passes[0], &a) && make_vectors(&passes[1], a) && serve(passes, a);
+}
+
+int main(int argc, char **argv)
+{
+    if (argc != 3 || (strcmp(argv[2], "once") != 0 && strcmp(argv[2], "on") != 0)) {
+        fprintf(stderr, "usage: fail K once, or fail K on\n");
+        return FAILED;
+    }
+    draw_chain();
+    TrB_Pass passes[PASSES] = {TRB_PASS_INIT};
+    long before = blocks, stores = 0;
+    allocations = 0;
+    refused_at = strtoul(argv[1], NULL, 10);
+    refuses_on = strcmp(argv[2], "on") == 0;
+
+    bool is_whole = make_all(passes, &stores);
+    for (size_t t = 0; t < PASSES; t++) {
+        TrB_free(&passes[t]);
+    }
+
+    /* The number of the store is what is left. */
+    HOLDS(blocks == before + stores);
+    HOLDS(refusals <= 1);
+    HOLDS(is_whole || refusals == 1);
+    return allocations < refused_at ? PASSED : REFUSED;
+}

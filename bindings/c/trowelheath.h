@@ -1,0 +1,912 @@
+/* trowelheath.h - the Trowelheath store for programs in C11 and C++11.
+ *
+ * A store holds sparse matrices and vectors, with the operations of GraphBLAS. The threads of one
+ * process share it. Link with libgrb_c.a, liblibc_c.a and -lpthread.
+ *
+ *     TrB_Pass pass = TRB_PASS_INIT;
+ *     TrB_Matrix a;
+ *     uint64_t x;
+ *     TrB_Info info = TrB_open(1000, &pass, 1);              // room for 1,000 changes, one pass
+ *     if (info != TrB_SUCCESS) { puts(TrB_hint(info)); return 1; }
+ *     TrB_Matrix_new(&pass, &a, TrB_UINT64, 4, 5);           // 4 rows, 5 columns, no entries
+ *     TrB_Matrix_setElement_UINT64(&pass, a, 7, 0, 1);       // 7 at row 0, column 1
+ *     TrB_Matrix_extractElement_UINT64(&pass, &x, a, 0, 1);  // x is 7
+ *     TrB_free(&pass);
+ *
+ * The words
+ *
+ *   store     The objects, and the one history of the calls that made them. TrB_open opens a store.
+ *             It ends with its last pass.
+ *   history   The calls that changed the store, in one order that all threads see.
+ *   room      How many changes the history takes in its whole life, from 1 to 65,536.
+ *   pass      One thread's view of a store, a TrB_Pass. A store has 1 to 256 passes, all from its
+ *             opening. Each call is made by a pass.
+ *   object    A matrix or a vector. Its number, a TrB_Matrix or TrB_Vector, may be copied. It is good
+ *             for every pass of its store, and is never used twice.
+ *   entry     A value that an object stores. A stored 0 or false is an entry. Indices begin at 0.
+ *   change    A call that takes one place of the room. It is checked and answered at once. Its work
+ *             is done when a read needs it.
+ *   read      A call that changes no object and takes no room.
+ *   refusal   A status below 0. The call did nothing: it took no room, and the store and all that its
+ *             pointers lead to are as before. TrB_INSUFFICIENT_SPACE alone tells a count.
+ *
+ * What threads see
+ *
+ *   Each call takes effect at one moment between its start and its return. So a call sees what its
+ *   own pass did before, and what other passes did by calls that returned before it began. No call
+ *   waits for another thread.
+ *
+ * What any call can be refused for
+ *
+ *   TrB_UNINITIALIZED_OBJECT   The pass is none: it was not opened, or was freed. Or an object of the
+ *                              call, its mask too, was never made or was freed.
+ *   TrB_INVALID_VALUE          A number stands for no type, operator, monoid, mode or descriptor.
+ *   TrB_ORDER_FULL             To a change alone: the room is used up. Reads go on.
+ *   TrB_OUT_OF_MEMORY          Memory was refused. Free some, and make the call again.
+ *   TrB_PANIC                  The record of a call was not taken or not shown. Make the call again;
+ *                              where it comes again, stop using the store.
+ *
+ *   The comment of a function names what else it is refused for. What the numbers of a call alone
+ *   show is refused first. Of other refusals that apply, the first in the list of TrB_Info is
+ *   answered.
+ *
+ * What a service does
+ *
+ *   Each pass evaluates for itself. Load by one pass, prepare it, and let the others adopt it before
+ *   they serve reads. While the store changes, wait with TrB_MATERIALIZE by one pass after each few
+ *   hundred changes: the others go on from what that leaves. The history keeps every change, the
+ *   arrays of builds too, as long as the store is open. When the room is used up, open another store,
+ *   read all entries here, and build the objects there.
+ *
+ * What the caller owes, since nothing checks it
+ *
+ *   - A TrB_Pass begins as TRB_PASS_INIT, which is all bytes 0. Only the functions of this header
+ *     change it. It may be moved to another place in memory, but is never copied.
+ *   - One call at a time has a given pass. A pass goes to another thread by something that orders
+ *     memory: a lock, or the creation or the joining of a thread.
+ *   - A pointer leads to live, aligned memory of its type, writable where it is not const, of as many
+ *     items as the call says. No two pointers of one call lead to memory that overlaps, so not to one
+ *     array either: for a diagonal, copy the rows to columns. A bool in memory is 0 or 1.
+ *   - An object is used with passes of its own store. In another store its number names another
+ *     object, or none.
+ *   - Two stores that are open were opened with two numbers. TrB_open sees to it.
+ *   - malloc, realloc and free are of one allocator.
+ *   - No call is made in a signal handler, or in the child of a fork of a process with threads.
+ */
+#ifndef TROWELHEATH_H
+#define TROWELHEATH_H
+
+#include <stdbool.h>
+#include <stddef.h>
+#include <stdint.h>
+#include <stdlib.h>
+
+#ifdef __cplusplus
+extern "C" {
+#endif
+
+/* ---- Types and constants ----------------------------------------------------------------------- */
+
+/* What a call answers. The numbers are those of GraphBLAS.h, but for the one that is marked `own`. */
+typedef enum {
+    TrB_SUCCESS = 0,                /* the call was made */
+    TrB_NO_VALUE = 1,               /* a read asked for what is not there; its result is not written */
+    TrB_UNINITIALIZED_OBJECT = -1,  /* no pass, or an object that was never made or was freed */
+    TrB_INVALID_VALUE = -3,         /* a number, a dimension or a length that is out of its range */
+    TrB_INVALID_INDEX = -4,         /* an index of one entry is not below the dimension */
+    TrB_DOMAIN_MISMATCH = -5,       /* truth values and numbers are mixed */
+    TrB_DIMENSION_MISMATCH = -6,    /* the objects do not fit together */
+    TrB_OUTPUT_NOT_EMPTY = -7,      /* the object of a build stores an entry */
+    TrB_INDEX_OUT_OF_BOUNDS = -105, /* an index in the arrays of a build is not below the dimension */
+    TrB_ORDER_FULL = -1001,         /* own: the room is used up */
+    TrB_OUT_OF_MEMORY = -102,       /* memory was refused */
+    TrB_PANIC = -101,               /* the record of a call was not taken or not shown */
+    TrB_INSUFFICIENT_SPACE = -103   /* an array is too short for all entries; their count is told */
+} TrB_Info;
+
+/* The domain of an object: what its values are. The numbers are those of GrB_Type_Code. */
+typedef enum {
+    TrB_BOOL = 1,  /* truth values */
+    TrB_UINT64 = 9 /* whole numbers from 0 to 2^64 - 1 */
+} TrB_Type;
+
+/* Operators on two values x and y of one domain (own numbers). A monoid is named by its operator; its
+ * identity is told here, and operators without one are no monoids. */
+typedef enum {
+    TrB_NO_ACCUM = 0,    /* no operator: as an accumulator alone */
+    TrB_LOR = 1,         /* bool: x or y; identity false */
+    TrB_LAND = 2,        /* bool: x and y; identity true */
+    TrB_LXOR = 3,        /* bool: x differs from y; identity false */
+    TrB_LXNOR = 4,       /* bool: x equals y; identity true */
+    TrB_FIRST_BOOL = 5,  /* bool: x */
+    TrB_SECOND_BOOL = 6, /* bool: y */
+    TrB_PLUS = 7,        /* uint64: x + y modulo 2^64; identity 0 */
+    TrB_TIMES = 8,       /* uint64: x * y modulo 2^64; identity 1 */
+    TrB_MIN = 9,         /* uint64: the smaller; identity 2^64 - 1 */
+    TrB_MAX = 10,        /* uint64: the larger; identity 0 */
+    TrB_MINUS = 11,      /* uint64: x - y modulo 2^64 */
+    TrB_FIRST = 12,      /* uint64: x */
+    TrB_SECOND = 13      /* uint64: y */
+} TrB_BinaryOp;
+
+/* How much a wait has done. The numbers are those of GraphBLAS.h. */
+typedef enum {
+    TrB_COMPLETE = 0,   /* the pending work on one object */
+    TrB_MATERIALIZE = 1 /* the pending work on all objects */
+} TrB_WaitMode;
+
+/* A descriptor: these bits, joined by `|`. All but TrB_TRAN have the numbers of GraphBLAS.h. */
+typedef uint32_t TrB_Descriptor;
+enum {
+    TrB_DEFAULT = 0,   /* none of them */
+    TrB_REPLACE = 1,   /* entries of the output outside of the mask are removed */
+    TrB_COMP = 2,      /* inside the mask are the places that it would leave out */
+    TrB_STRUCTURE = 4, /* inside the mask are the places where it stores an entry, false or 0 too */
+    TrB_TRAN = 8       /* own: the first input, a matrix, is read transposed */
+};
+
+/* An index, a dimension or a number of entries. Dimensions are from 1 to 2^32 - 1. */
+typedef uint64_t TrB_Index;
+
+/* The number of a matrix. All passes of its store may use it. */
+typedef struct {
+    uint32_t id;
+} TrB_Matrix;
+
+/* The number of a vector. All passes of its store may use it. */
+typedef struct {
+    uint32_t id;
+} TrB_Vector;
+
+/* A semiring: the operator `multiply` joins two values, and the monoid of `add` what was joined. Both
+ * are of one domain. */
+typedef struct {
+    TrB_BinaryOp add;
+    TrB_BinaryOp multiply;
+} TrB_Semiring;
+
+/* TrB_NO_MATRIX and TrB_NO_VECTOR stand for no mask. TrB_SEMIRING makes a semiring. */
+#ifdef __cplusplus
+#define TrB_NO_MATRIX (TrB_Matrix{UINT32_MAX})
+#define TrB_NO_VECTOR (TrB_Vector{UINT32_MAX})
+#define TrB_SEMIRING(add, multiply) (TrB_Semiring{(add), (multiply)})
+#else
+#define TrB_NO_MATRIX ((TrB_Matrix){UINT32_MAX})
+#define TrB_NO_VECTOR ((TrB_Vector){UINT32_MAX})
+#define TrB_SEMIRING(add, multiply) ((TrB_Semiring){(add), (multiply)})
+#endif
+
+/* Semirings of truth values: paths, and which of two inputs a path takes its value from. */
+#define TrB_LOR_LAND TrB_SEMIRING(TrB_LOR, TrB_LAND)
+#define TrB_LAND_LOR TrB_SEMIRING(TrB_LAND, TrB_LOR)
+#define TrB_LXOR_LAND TrB_SEMIRING(TrB_LXOR, TrB_LAND)
+#define TrB_LXNOR_LOR TrB_SEMIRING(TrB_LXNOR, TrB_LOR)
+#define TrB_LOR_FIRST TrB_SEMIRING(TrB_LOR, TrB_FIRST_BOOL)
+#define TrB_LOR_SECOND TrB_SEMIRING(TrB_LOR, TrB_SECOND_BOOL)
+
+/* Semirings of numbers. */
+#define TrB_PLUS_TIMES TrB_SEMIRING(TrB_PLUS, TrB_TIMES)
+#define TrB_PLUS_MIN TrB_SEMIRING(TrB_PLUS, TrB_MIN)
+#define TrB_PLUS_FIRST TrB_SEMIRING(TrB_PLUS, TrB_FIRST)
+#define TrB_PLUS_SECOND TrB_SEMIRING(TrB_PLUS, TrB_SECOND)
+#define TrB_MIN_PLUS TrB_SEMIRING(TrB_MIN, TrB_PLUS)
+#define TrB_MIN_TIMES TrB_SEMIRING(TrB_MIN, TrB_TIMES)
+#define TrB_MIN_MAX TrB_SEMIRING(TrB_MIN, TrB_MAX)
+#define TrB_MIN_FIRST TrB_SEMIRING(TrB_MIN, TrB_FIRST)
+#define TrB_MIN_SECOND TrB_SEMIRING(TrB_MIN, TrB_SECOND)
+#define TrB_MAX_PLUS TrB_SEMIRING(TrB_MAX, TrB_PLUS)
+#define TrB_MAX_TIMES TrB_SEMIRING(TrB_MAX, TrB_TIMES)
+#define TrB_MAX_MIN TrB_SEMIRING(TrB_MAX, TrB_MIN)
+#define TrB_MAX_FIRST TrB_SEMIRING(TrB_MAX, TrB_FIRST)
+#define TrB_MAX_SECOND TrB_SEMIRING(TrB_MAX, TrB_SECOND)
+
+/* A pass, or none. What is in it is the library's. */
+typedef struct {
+    bool is_open;
+    struct {
+        void *opaque;
+    } raw;
+} TrB_Pass;
+
+/* No pass: what every TrB_Pass begins as. All members of an array that is initialized with
+ * { TRB_PASS_INIT } begin so. */
+#ifdef __cplusplus
+#define TRB_PASS_INIT {}
+#else
+#define TRB_PASS_INIT {0}
+#endif
+
+/* What a pass tells of itself. */
+typedef struct {
+    uint32_t number;    /* its place in the array of the opening, from 0 */
+    uint32_t known;     /* how many calls of the history it knows */
+    uint32_t words;     /* how many places of the room it knows to be taken */
+    uint32_t settled;   /* how many calls it knew at its last wait with TrB_MATERIALIZE */
+    uint32_t room_left; /* how many more changes there is room for, as far as it knows */
+    uint32_t steps;     /* how many atomic steps its last call made */
+    uint32_t made;      /* how many calls of the history its last call evaluated to answer */
+} TrB_Facts;
+
+#ifdef __cplusplus
+static_assert(sizeof(TrB_Pass) == 16 && sizeof(bool) == 1, "the library is for 64-bit machines");
+#else
+_Static_assert(sizeof(TrB_Pass) == 16 && sizeof(bool) == 1, "the library is for 64-bit machines");
+#endif
+
+/* ---- The exports of the library ---------------------------------------------------------------- */
+
+/* The functions of libgrb_c.a as they are. Objects are bare numbers here, a mask of UINT32_MAX is
+ * none, and each array has a length of its own: arrays of one call whose lengths differ are refused
+ * with TrB_INVALID_VALUE by a build, and the shortest counts for a read of all entries. The typed
+ * functions below call them; what they say holds here too. trb_open takes the number of the store,
+ * which no other open store of the process may have. */
+int32_t trb_open(uint64_t store, uint32_t room, TrB_Pass *passes, size_t npasses);
+void trb_free(TrB_Pass *pass);
+int32_t trb_meet(TrB_Pass *pass, TrB_Pass *other);
+int32_t trb_adopt(TrB_Pass *pass, TrB_Pass *other);
+int32_t trb_prepare(TrB_Pass *pass, uint32_t *out);
+int32_t trb_facts(TrB_Pass *pass, TrB_Facts *out);
+int32_t trb_matrix_last_info(TrB_Pass *pass, int32_t *out, uint32_t a);
+int32_t trb_vector_last_info(TrB_Pass *pass, int32_t *out, uint32_t v);
+
+int32_t trb_matrix_new(TrB_Pass *pass, uint32_t *out, uint32_t domain, uint64_t nrows, uint64_t ncols);
+int32_t trb_vector_new(TrB_Pass *pass, uint32_t *out, uint32_t domain, uint64_t size);
+int32_t trb_matrix_dup(TrB_Pass *pass, uint32_t *out, uint32_t a);
+int32_t trb_vector_dup(TrB_Pass *pass, uint32_t *out, uint32_t v);
+int32_t trb_matrix_free(TrB_Pass *pass, uint32_t a);
+int32_t trb_vector_free(TrB_Pass *pass, uint32_t v);
+int32_t trb_matrix_clear(TrB_Pass *pass, uint32_t a);
+int32_t trb_vector_clear(TrB_Pass *pass, uint32_t v);
+int32_t trb_matrix_resize(TrB_Pass *pass, uint32_t a, uint64_t nrows, uint64_t ncols);
+int32_t trb_vector_resize(TrB_Pass *pass, uint32_t v, uint64_t size);
+int32_t trb_matrix_size(TrB_Pass *pass, uint64_t *nrows, uint64_t *ncols, uint32_t a);
+int32_t trb_vector_size(TrB_Pass *pass, uint64_t *out, uint32_t v);
+
+int32_t trb_matrix_set_uint64(TrB_Pass *pass, uint32_t a, uint64_t x, uint64_t i, uint64_t j);
+int32_t trb_vector_set_uint64(TrB_Pass *pass, uint32_t v, uint64_t x, uint64_t i);
+int32_t trb_matrix_get_uint64(TrB_Pass *pass, uint64_t *out, uint32_t a, uint64_t i, uint64_t j);
+int32_t trb_vector_get_uint64(TrB_Pass *pass, uint64_t *out, uint32_t v, uint64_t i);
+int32_t trb_matrix_set_bool(TrB_Pass *pass, uint32_t a, bool x, uint64_t i, uint64_t j);
+int32_t trb_vector_set_bool(TrB_Pass *pass, uint32_t v, bool x, uint64_t i);
+int32_t trb_matrix_get_bool(TrB_Pass *pass, bool *out, uint32_t a, uint64_t i, uint64_t j);
+int32_t trb_vector_get_bool(TrB_Pass *pass, bool *out, uint32_t v, uint64_t i);
+int32_t trb_matrix_remove(TrB_Pass *pass, uint32_t a, uint64_t i, uint64_t j);
+int32_t trb_vector_remove(TrB_Pass *pass, uint32_t v, uint64_t i);
+int32_t trb_matrix_nvals(TrB_Pass *pass, uint64_t *out, uint32_t a);
+int32_t trb_vector_nvals(TrB_Pass *pass, uint64_t *out, uint32_t v);
+int32_t trb_matrix_reduce_uint64(TrB_Pass *pass, uint64_t *out, uint32_t monoid, uint32_t a);
+int32_t trb_vector_reduce_uint64(TrB_Pass *pass, uint64_t *out, uint32_t monoid, uint32_t v);
+int32_t trb_matrix_reduce_bool(TrB_Pass *pass, bool *out, uint32_t monoid, uint32_t a);
+int32_t trb_vector_reduce_bool(TrB_Pass *pass, bool *out, uint32_t monoid, uint32_t v);
+
+int32_t trb_matrix_build_uint64(TrB_Pass *pass, uint32_t a, const uint64_t *rows, size_t nrows, const uint64_t *columns, size_t ncolumns, const uint64_t *values, size_t nvalues, uint32_t dup);
+int32_t trb_vector_build_uint64(TrB_Pass *pass, uint32_t v, const uint64_t *indices, size_t nindices, const uint64_t *values, size_t nvalues, uint32_t dup);
+int32_t trb_matrix_build_bool(TrB_Pass *pass, uint32_t a, const uint64_t *rows, size_t nrows, const uint64_t *columns, size_t ncolumns, const bool *values, size_t nvalues, uint32_t dup);
+int32_t trb_vector_build_bool(TrB_Pass *pass, uint32_t v, const uint64_t *indices, size_t nindices, const bool *values, size_t nvalues, uint32_t dup);
+int32_t trb_matrix_tuples_uint64(TrB_Pass *pass, uint64_t *rows, size_t nrows, uint64_t *columns, size_t ncolumns, uint64_t *values, size_t nvalues, uint64_t *count, uint32_t a);
+int32_t trb_vector_tuples_uint64(TrB_Pass *pass, uint64_t *indices, size_t nindices, uint64_t *values, size_t nvalues, uint64_t *count, uint32_t v);
+int32_t trb_matrix_tuples_bool(TrB_Pass *pass, uint64_t *rows, size_t nrows, uint64_t *columns, size_t ncolumns, bool *values, size_t nvalues, uint64_t *count, uint32_t a);
+int32_t trb_vector_tuples_bool(TrB_Pass *pass, uint64_t *indices, size_t nindices, bool *values, size_t nvalues, uint64_t *count, uint32_t v);
+
+int32_t trb_mxm(TrB_Pass *pass, uint32_t c, uint32_t mask, uint32_t accum, uint32_t monoid, uint32_t op, uint32_t a, uint32_t b, uint32_t desc);
+int32_t trb_mxv(TrB_Pass *pass, uint32_t w, uint32_t mask, uint32_t accum, uint32_t monoid, uint32_t op, uint32_t a, uint32_t u, uint32_t desc);
+int32_t trb_vxm(TrB_Pass *pass, uint32_t w, uint32_t mask, uint32_t accum, uint32_t monoid, uint32_t op, uint32_t u, uint32_t a, uint32_t desc);
+int32_t trb_matrix_ewise_add(TrB_Pass *pass, uint32_t c, uint32_t mask, uint32_t accum, uint32_t op, uint32_t a, uint32_t b, uint32_t desc);
+int32_t trb_vector_ewise_add(TrB_Pass *pass, uint32_t w, uint32_t mask, uint32_t accum, uint32_t op, uint32_t u, uint32_t v, uint32_t desc);
+int32_t trb_matrix_ewise_mult(TrB_Pass *pass, uint32_t c, uint32_t mask, uint32_t accum, uint32_t op, uint32_t a, uint32_t b, uint32_t desc);
+int32_t trb_vector_ewise_mult(TrB_Pass *pass, uint32_t w, uint32_t mask, uint32_t accum, uint32_t op, uint32_t u, uint32_t v, uint32_t desc);
+int32_t trb_reduce_rows(TrB_Pass *pass, uint32_t w, uint32_t mask, uint32_t accum, uint32_t monoid, uint32_t a, uint32_t desc);
+int32_t trb_matrix_wait(TrB_Pass *pass, uint32_t a, uint32_t mode);
+int32_t trb_vector_wait(TrB_Pass *pass, uint32_t v, uint32_t mode);
+
+/* ---- Stores and passes ------------------------------------------------------------------------- */
+
+/* Opens a store with room for `room` changes, and gives its passes: passes[k] has the number k. Each
+ * of them is none before. The room is from 1 to 65,536, npasses from 1 to 256, and one times the other
+ * at most 1,048,576. A pass reserves some 200 bytes for each change that there is room for; they are
+ * used when changes come.
+ *
+ * The store gets a number, by which passes of two stores are told apart: the address of a few bytes
+ * from malloc. They are never given back, since nothing tells when the last pass is freed. They stay
+ * reachable, so leak checkers do not complain. Where the opening is refused, they are given back, and
+ * every pass is none.
+ * Refused: TrB_INVALID_VALUE where room or npasses is out of its range. */
+static inline TrB_Info TrB_open(uint32_t room, TrB_Pass *passes, size_t npasses)
+{
+    static void **latest = NULL; /* leads to the numbers of all stores, each to the one before */
+    void **number = (void **)malloc(sizeof *number);
+    if (number == NULL) {
+        return TrB_OUT_OF_MEMORY;
+    }
+    TrB_Info info = (TrB_Info)trb_open((uint64_t)(uintptr_t)number, room, passes, npasses);
+    if (info != TrB_SUCCESS) {
+        for (size_t k = 0; k < npasses; k++) {
+            trb_free(&passes[k]);
+        }
+        free(number);
+        return info;
+    }
+    *number = __atomic_exchange_n(&latest, number, __ATOMIC_RELAXED);
+    return info;
+}
+
+/* Ends the pass, which is none after. What it entered stays in the store. With the last pass of a
+ * store its memory is given back. A pass that is none stays none. */
+static inline void TrB_free(TrB_Pass *pass)
+{
+    trb_free(pass);
+}
+
+/* Lets `pass` learn all that `other` knows. Each call looks for news by itself, so this is for passes
+ * that hand work over with no call between. Nothing that `other` knows changes. Both passes are used by
+ * this thread meanwhile. Takes no room.
+ * Refused: TrB_INVALID_VALUE where the two are of two stores, or are one pass. */
+static inline TrB_Info TrB_meet(TrB_Pass *pass, TrB_Pass *other)
+{
+    return pass == other ? TrB_INVALID_VALUE : (TrB_Info)trb_meet(pass, other);
+}
+
+/* Does as TrB_meet, and lets `pass` go on from what `other` has evaluated: its next read does what is
+ * left. No entry is copied until one of the two changes its object.
+ * Refused: as TrB_meet. */
+static inline TrB_Info TrB_adopt(TrB_Pass *pass, TrB_Pass *other)
+{
+    return pass == other ? TrB_INVALID_VALUE : (TrB_Info)trb_adopt(pass, other);
+}
+
+/* Evaluates what the pass knows where that is dear, so that others may adopt it. It learns nothing new
+ * and changes no answer. *evaluated is how many of the known calls are evaluated then; where memory is
+ * refused they are fewer, and that is no refusal. Takes no room. */
+static inline TrB_Info TrB_prepare(TrB_Pass *pass, uint32_t *evaluated)
+{
+    return (TrB_Info)trb_prepare(pass, evaluated);
+}
+
+/* Tells what the pass is and knows. It learns nothing new. Takes no room. */
+static inline TrB_Info TrB_facts(TrB_Pass *pass, TrB_Facts *facts)
+{
+    return (TrB_Info)trb_facts(pass, facts);
+}
+
+/* ---- Objects ----------------------------------------------------------------------------------- */
+
+/* Makes a matrix *A of nrows rows and ncols columns with no entries. A change.
+ * Refused: TrB_INVALID_VALUE where a dimension is not from 1 to 2^32 - 1. */
+static inline TrB_Info TrB_Matrix_new(TrB_Pass *pass, TrB_Matrix *A, TrB_Type type, TrB_Index nrows,
+                                      TrB_Index ncols)
+{
+    return (TrB_Info)trb_matrix_new(pass, &A->id, (uint32_t)type, nrows, ncols);
+}
+
+/* Makes a vector *v of this size with no entries. A change.
+ * Refused: TrB_INVALID_VALUE where the size is not from 1 to 2^32 - 1. */
+static inline TrB_Info TrB_Vector_new(TrB_Pass *pass, TrB_Vector *v, TrB_Type type, TrB_Index size)
+{
+    return (TrB_Info)trb_vector_new(pass, &v->id, (uint32_t)type, size);
+}
+
+/* Makes a matrix *C with the domain, the dimensions and the entries that A has now. Later changes of
+ * the one leave the other as it is. A change. */
+static inline TrB_Info TrB_Matrix_dup(TrB_Pass *pass, TrB_Matrix *C, TrB_Matrix A)
+{
+    return (TrB_Info)trb_matrix_dup(pass, &C->id, A.id);
+}
+
+/* Makes a vector *w with the domain, the size and the entries that u has now. Later changes of the one
+ * leave the other as it is. A change. */
+static inline TrB_Info TrB_Vector_dup(TrB_Pass *pass, TrB_Vector *w, TrB_Vector u)
+{
+    return (TrB_Info)trb_vector_dup(pass, &w->id, u.id);
+}
+
+/* Ends the matrix, for all passes. Its number is refused from then on. It is taken by value, since
+ * other threads may have copies of the number. A change. */
+static inline TrB_Info TrB_Matrix_free(TrB_Pass *pass, TrB_Matrix A)
+{
+    return (TrB_Info)trb_matrix_free(pass, A.id);
+}
+
+/* Ends the vector, for all passes. Its number is refused from then on. It is taken by value, since
+ * other threads may have copies of the number. A change. */
+static inline TrB_Info TrB_Vector_free(TrB_Pass *pass, TrB_Vector v)
+{
+    return (TrB_Info)trb_vector_free(pass, v.id);
+}
+
+/* Removes all entries of the matrix. Domain and dimensions stay. A change. */
+static inline TrB_Info TrB_Matrix_clear(TrB_Pass *pass, TrB_Matrix A)
+{
+    return (TrB_Info)trb_matrix_clear(pass, A.id);
+}
+
+/* Removes all entries of the vector. Domain and size stay. A change. */
+static inline TrB_Info TrB_Vector_clear(TrB_Pass *pass, TrB_Vector v)
+{
+    return (TrB_Info)trb_vector_clear(pass, v.id);
+}
+
+/* Gives the matrix nrows rows and ncols columns. Entries outside of them are gone for good; a later
+ * resize does not bring them back. A change.
+ * Refused: TrB_INVALID_VALUE where a dimension is not from 1 to 2^32 - 1. */
+static inline TrB_Info TrB_Matrix_resize(TrB_Pass *pass, TrB_Matrix C, TrB_Index nrows, TrB_Index ncols)
+{
+    return (TrB_Info)trb_matrix_resize(pass, C.id, nrows, ncols);
+}
+
+/* Gives the vector this size. Entries outside of it are gone for good; a later resize does not bring
+ * them back. A change.
+ * Refused: TrB_INVALID_VALUE where the size is not from 1 to 2^32 - 1. */
+static inline TrB_Info TrB_Vector_resize(TrB_Pass *pass, TrB_Vector w, TrB_Index size)
+{
+    return (TrB_Info)trb_vector_resize(pass, w.id, size);
+}
+
+/* Tells how many rows and columns the matrix has, both at one moment. A read. */
+static inline TrB_Info TrB_Matrix_size(TrB_Pass *pass, TrB_Index *nrows, TrB_Index *ncols, TrB_Matrix A)
+{
+    return (TrB_Info)trb_matrix_size(pass, nrows, ncols, A.id);
+}
+
+/* Tells the size of the vector. A read. */
+static inline TrB_Info TrB_Vector_size(TrB_Pass *pass, TrB_Index *size, TrB_Vector v)
+{
+    return (TrB_Info)trb_vector_size(pass, size, v.id);
+}
+
+/* Tells how many entries the matrix stores. A read. */
+static inline TrB_Info TrB_Matrix_nvals(TrB_Pass *pass, TrB_Index *nvals, TrB_Matrix A)
+{
+    return (TrB_Info)trb_matrix_nvals(pass, nvals, A.id);
+}
+
+/* Tells how many entries the vector stores. A read. */
+static inline TrB_Info TrB_Vector_nvals(TrB_Pass *pass, TrB_Index *nvals, TrB_Vector v)
+{
+    return (TrB_Info)trb_vector_nvals(pass, nvals, v.id);
+}
+
+/* Finishes the pending work on the matrix, or with TrB_MATERIALIZE on all objects. No value changes,
+ * and no other thread is waited for. After TrB_SUCCESS of a wait with TrB_MATERIALIZE, no read of this
+ * pass is refused memory until the pass learns of new calls. A read. */
+static inline TrB_Info TrB_Matrix_wait(TrB_Pass *pass, TrB_Matrix A, TrB_WaitMode mode)
+{
+    return (TrB_Info)trb_matrix_wait(pass, A.id, (uint32_t)mode);
+}
+
+/* Finishes the pending work on the vector, or with TrB_MATERIALIZE on all objects. No value changes,
+ * and no other thread is waited for. After TrB_SUCCESS of a wait with TrB_MATERIALIZE, no read of this
+ * pass is refused memory until the pass learns of new calls. A read. */
+static inline TrB_Info TrB_Vector_wait(TrB_Pass *pass, TrB_Vector v, TrB_WaitMode mode)
+{
+    return (TrB_Info)trb_vector_wait(pass, v.id, (uint32_t)mode);
+}
+
+/* Tells in *last the status that the last call of this pass on the matrix left. A call is on the object
+ * that it reads, changes or makes, an operation on its output. What the numbers and arrays of a call
+ * alone show leaves none, and a read of a value of the other domain leaves TrB_SUCCESS. Answers
+ * TrB_NO_VALUE where the pass made no call on the matrix yet. It does not ask whether the matrix is
+ * there. Takes no room. */
+static inline TrB_Info TrB_Matrix_error(TrB_Pass *pass, TrB_Info *last, TrB_Matrix A)
+{
+    int32_t status = 0;
+    TrB_Info info = (TrB_Info)trb_matrix_last_info(pass, &status, A.id);
+    if (info == TrB_SUCCESS) {
+        *last = (TrB_Info)status;
+    }
+    return info;
+}
+
+/* Tells in *last the status that the last call of this pass on the vector left. A call is on the object
+ * that it reads, changes or makes, an operation on its output. What the numbers and arrays of a call
+ * alone show leaves none, and a read of a value of the other domain leaves TrB_SUCCESS. Answers
+ * TrB_NO_VALUE where the pass made no call on the vector yet. It does not ask whether the vector is
+ * there. Takes no room. */
+static inline TrB_Info TrB_Vector_error(TrB_Pass *pass, TrB_Info *last, TrB_Vector v)
+{
+    int32_t status = 0;
+    TrB_Info info = (TrB_Info)trb_vector_last_info(pass, &status, v.id);
+    if (info == TrB_SUCCESS) {
+        *last = (TrB_Info)status;
+    }
+    return info;
+}
+
+/* ---- One entry --------------------------------------------------------------------------------- */
+
+/* Stores x at row i and column j, in place of what was stored there. A change.
+ * Refused: TrB_INVALID_INDEX where i is not below the rows of C, or j not below its columns;
+ * TrB_DOMAIN_MISMATCH where C is not of TrB_UINT64. */
+static inline TrB_Info TrB_Matrix_setElement_UINT64(TrB_Pass *pass, TrB_Matrix C, uint64_t x, TrB_Index i,
+                                                    TrB_Index j)
+{
+    return (TrB_Info)trb_matrix_set_uint64(pass, C.id, x, i, j);
+}
+
+/* Stores x at index i, in place of what was stored there. A change.
+ * Refused: TrB_INVALID_INDEX where i is not below the size of w; TrB_DOMAIN_MISMATCH where w is not of
+ * TrB_UINT64. */
+static inline TrB_Info TrB_Vector_setElement_UINT64(TrB_Pass *pass, TrB_Vector w, uint64_t x, TrB_Index i)
+{
+    return (TrB_Info)trb_vector_set_uint64(pass, w.id, x, i);
+}
+
+/* Stores x at row i and column j, in place of what was stored there. A change.
+ * Refused: TrB_INVALID_INDEX where i is not below the rows of C, or j not below its columns;
+ * TrB_DOMAIN_MISMATCH where C is not of TrB_BOOL. */
+static inline TrB_Info TrB_Matrix_setElement_BOOL(TrB_Pass *pass, TrB_Matrix C, bool x, TrB_Index i,
+                                                  TrB_Index j)
+{
+    return (TrB_Info)trb_matrix_set_bool(pass, C.id, x, i, j);
+}
+
+/* Stores x at index i, in place of what was stored there. A change.
+ * Refused: TrB_INVALID_INDEX where i is not below the size of w; TrB_DOMAIN_MISMATCH where w is not of
+ * TrB_BOOL. */
+static inline TrB_Info TrB_Vector_setElement_BOOL(TrB_Pass *pass, TrB_Vector w, bool x, TrB_Index i)
+{
+    return (TrB_Info)trb_vector_set_bool(pass, w.id, x, i);
+}
+
+/* Tells in *x the value stored at row i and column j, or answers TrB_NO_VALUE where none is. A read.
+ * Refused: TrB_INVALID_INDEX where i is not below the rows of A, or j not below its columns;
+ * TrB_DOMAIN_MISMATCH where the value stored there is a truth value. */
+static inline TrB_Info TrB_Matrix_extractElement_UINT64(TrB_Pass *pass, uint64_t *x, TrB_Matrix A,
+                                                        TrB_Index i, TrB_Index j)
+{
+    return (TrB_Info)trb_matrix_get_uint64(pass, x, A.id, i, j);
+}
+
+/* Tells in *x the value stored at index i, or answers TrB_NO_VALUE where none is. A read.
+ * Refused: TrB_INVALID_INDEX where i is not below the size of u; TrB_DOMAIN_MISMATCH where the value
+ * stored there is a truth value. */
+static inline TrB_Info TrB_Vector_extractElement_UINT64(TrB_Pass *pass, uint64_t *x, TrB_Vector u,
+                                                        TrB_Index i)
+{
+    return (TrB_Info)trb_vector_get_uint64(pass, x, u.id, i);
+}
+
+/* Tells in *x the value stored at row i and column j, or answers TrB_NO_VALUE where none is. A read.
+ * Refused: TrB_INVALID_INDEX where i is not below the rows of A, or j not below its columns;
+ * TrB_DOMAIN_MISMATCH where the value stored there is a number. */
+static inline TrB_Info TrB_Matrix_extractElement_BOOL(TrB_Pass *pass, bool *x, TrB_Matrix A, TrB_Index i,
+                                                      TrB_Index j)
+{
+    return (TrB_Info)trb_matrix_get_bool(pass, x, A.id, i, j);
+}
+
+/* Tells in *x the value stored at index i, or answers TrB_NO_VALUE where none is. A read.
+ * Refused: TrB_INVALID_INDEX where i is not below the size of u; TrB_DOMAIN_MISMATCH where the value
+ * stored there is a number. */
+static inline TrB_Info TrB_Vector_extractElement_BOOL(TrB_Pass *pass, bool *x, TrB_Vector u, TrB_Index i)
+{
+    return (TrB_Info)trb_vector_get_bool(pass, x, u.id, i);
+}
+
+/* Removes the entry at row i and column j, if there is one. A change.
+ * Refused: TrB_INVALID_INDEX where i is not below the rows of C, or j not below its columns. */
+static inline TrB_Info TrB_Matrix_removeElement(TrB_Pass *pass, TrB_Matrix C, TrB_Index i, TrB_Index j)
+{
+    return (TrB_Info)trb_matrix_remove(pass, C.id, i, j);
+}
+
+/* Removes the entry at index i, if there is one. A change.
+ * Refused: TrB_INVALID_INDEX where i is not below the size of w. */
+static inline TrB_Info TrB_Vector_removeElement(TrB_Pass *pass, TrB_Vector w, TrB_Index i)
+{
+    return (TrB_Info)trb_vector_remove(pass, w.id, i);
+}
+
+/* ---- All entries ------------------------------------------------------------------------------- */
+
+/* Fills a matrix that stores nothing: values[k] at rows[k] and columns[k], for k from 0 to nvals - 1,
+ * in any order. The monoid of dup joins values of one place. The arrays are copied, and the copy is
+ * kept as long as the store is open. A change.
+ * Refused: TrB_INVALID_VALUE where dup is no monoid; TrB_DOMAIN_MISMATCH where C, dup and the values
+ * are not of one domain; TrB_OUTPUT_NOT_EMPTY where C stores an entry; TrB_INDEX_OUT_OF_BOUNDS where
+ * an index is not below its dimension, and then nothing was stored. */
+static inline TrB_Info TrB_Matrix_build_UINT64(TrB_Pass *pass, TrB_Matrix C, const TrB_Index *rows,
+                                               const TrB_Index *columns, const uint64_t *values,
+                                               TrB_Index nvals, TrB_BinaryOp dup)
+{
+    size_t n = (size_t)nvals;
+    return (TrB_Info)trb_matrix_build_uint64(pass, C.id, rows, n, columns, n, values, n, (uint32_t)dup);
+}
+
+/* Fills a vector that stores nothing: values[k] at indices[k], for k from 0 to nvals - 1, in any order.
+ * The monoid of dup joins values of one place. The arrays are copied, and the copy is kept as long as
+ * the store is open. A change.
+ * Refused: TrB_INVALID_VALUE where dup is no monoid; TrB_DOMAIN_MISMATCH where w, dup and the values
+ * are not of one domain; TrB_OUTPUT_NOT_EMPTY where w stores an entry; TrB_INDEX_OUT_OF_BOUNDS where
+ * an index is not below the size, and then nothing was stored. */
+static inline TrB_Info TrB_Vector_build_UINT64(TrB_Pass *pass, TrB_Vector w, const TrB_Index *indices,
+                                               const uint64_t *values, TrB_Index nvals, TrB_BinaryOp dup)
+{
+    size_t n = (size_t)nvals;
+    return (TrB_Info)trb_vector_build_uint64(pass, w.id, indices, n, values, n, (uint32_t)dup);
+}
+
+/* Fills a matrix that stores nothing: values[k] at rows[k] and columns[k], for k from 0 to nvals - 1,
+ * in any order. The monoid of dup joins values of one place. The arrays are copied, and the copy is
+ * kept as long as the store is open. A change.
+ * Refused: TrB_INVALID_VALUE where dup is no monoid; TrB_DOMAIN_MISMATCH where C, dup and the values
+ * are not of one domain; TrB_OUTPUT_NOT_EMPTY where C stores an entry; TrB_INDEX_OUT_OF_BOUNDS where
+ * an index is not below its dimension, and then nothing was stored. */
+static inline TrB_Info TrB_Matrix_build_BOOL(TrB_Pass *pass, TrB_Matrix C, const TrB_Index *rows,
+                                             const TrB_Index *columns, const bool *values,
+                                             TrB_Index nvals, TrB_BinaryOp dup)
+{
+    size_t n = (size_t)nvals;
+    return (TrB_Info)trb_matrix_build_bool(pass, C.id, rows, n, columns, n, values, n, (uint32_t)dup);
+}
+
+/* Fills a vector that stores nothing: values[k] at indices[k], for k from 0 to nvals - 1, in any order.
+ * The monoid of dup joins values of one place. The arrays are copied, and the copy is kept as long as
+ * the store is open. A change.
+ * Refused: TrB_INVALID_VALUE where dup is no monoid; TrB_DOMAIN_MISMATCH where w, dup and the values
+ * are not of one domain; TrB_OUTPUT_NOT_EMPTY where w stores an entry; TrB_INDEX_OUT_OF_BOUNDS where
+ * an index is not below the size, and then nothing was stored. */
+static inline TrB_Info TrB_Vector_build_BOOL(TrB_Pass *pass, TrB_Vector w, const TrB_Index *indices,
+                                             const bool *values, TrB_Index nvals, TrB_BinaryOp dup)
+{
+    size_t n = (size_t)nvals;
+    return (TrB_Info)trb_vector_build_bool(pass, w.id, indices, n, values, n, (uint32_t)dup);
+}
+
+/* Writes all entries of A to the front of three arrays, in rising order of row, then column, all as
+ * they are at one moment. *nvals is the length of each array before, and the number of entries after.
+ * What stands behind the entries in the arrays stays. A read.
+ * Refused: TrB_DOMAIN_MISMATCH where A is not of TrB_UINT64; TrB_INSUFFICIENT_SPACE where there are
+ * more entries than *nvals, which then tells how many there are, and the arrays stay. Other threads
+ * may add entries before the next try, so go on until it is not refused so. */
+static inline TrB_Info TrB_Matrix_extractTuples_UINT64(TrB_Pass *pass, TrB_Index *rows, TrB_Index *columns,
+                                                       uint64_t *values, TrB_Index *nvals, TrB_Matrix A)
+{
+    size_t n = (size_t)*nvals;
+    return (TrB_Info)trb_matrix_tuples_uint64(pass, rows, n, columns, n, values, n, nvals, A.id);
+}
+
+/* Writes all entries of u to the front of two arrays, in rising order of index, all as they are at one
+ * moment. *nvals is the length of each array before, and the number of entries after. What stands
+ * behind the entries in the arrays stays. A read.
+ * Refused: TrB_DOMAIN_MISMATCH where u is not of TrB_UINT64; TrB_INSUFFICIENT_SPACE where there are
+ * more entries than *nvals, which then tells how many there are, and the arrays stay. Other threads
+ * may add entries before the next try, so go on until it is not refused so. */
+static inline TrB_Info TrB_Vector_extractTuples_UINT64(TrB_Pass *pass, TrB_Index *indices, uint64_t *values,
+                                                       TrB_Index *nvals, TrB_Vector u)
+{
+    size_t n = (size_t)*nvals;
+    return (TrB_Info)trb_vector_tuples_uint64(pass, indices, n, values, n, nvals, u.id);
+}
+
+/* Writes all entries of A to the front of three arrays, in rising order of row, then column, all as
+ * they are at one moment. *nvals is the length of each array before, and the number of entries after.
+ * What stands behind the entries in the arrays stays. A read.
+ * Refused: TrB_DOMAIN_MISMATCH where A is not of TrB_BOOL; TrB_INSUFFICIENT_SPACE where there are more
+ * entries than *nvals, which then tells how many there are, and the arrays stay. Other threads may add
+ * entries before the next try, so go on until it is not refused so. */
+static inline TrB_Info TrB_Matrix_extractTuples_BOOL(TrB_Pass *pass, TrB_Index *rows, TrB_Index *columns,
+                                                     bool *values, TrB_Index *nvals, TrB_Matrix A)
+{
+    size_t n = (size_t)*nvals;
+    return (TrB_Info)trb_matrix_tuples_bool(pass, rows, n, columns, n, values, n, nvals, A.id);
+}
+
+/* Writes all entries of u to the front of two arrays, in rising order of index, all as they are at one
+ * moment. *nvals is the length of each array before, and the number of entries after. What stands
+ * behind the entries in the arrays stays. A read.
+ * Refused: TrB_DOMAIN_MISMATCH where u is not of TrB_BOOL; TrB_INSUFFICIENT_SPACE where there are more
+ * entries than *nvals, which then tells how many there are, and the arrays stay. Other threads may add
+ * entries before the next try, so go on until it is not refused so. */
+static inline TrB_Info TrB_Vector_extractTuples_BOOL(TrB_Pass *pass, TrB_Index *indices, bool *values,
+                                                     TrB_Index *nvals, TrB_Vector u)
+{
+    size_t n = (size_t)*nvals;
+    return (TrB_Info)trb_vector_tuples_bool(pass, indices, n, values, n, nvals, u.id);
+}
+
+/* Tells in *x all values of A joined by the monoid; without entries, its identity. A read.
+ * Refused: TrB_INVALID_VALUE where the operator is no monoid; TrB_DOMAIN_MISMATCH where A or the
+ * monoid is not of TrB_UINT64. */
+static inline TrB_Info TrB_Matrix_reduce_UINT64(TrB_Pass *pass, uint64_t *x, TrB_BinaryOp monoid,
+                                                TrB_Matrix A)
+{
+    return (TrB_Info)trb_matrix_reduce_uint64(pass, x, (uint32_t)monoid, A.id);
+}
+
+/* Tells in *x all values of u joined by the monoid; without entries, its identity. A read.
+ * Refused: TrB_INVALID_VALUE where the operator is no monoid; TrB_DOMAIN_MISMATCH where u or the
+ * monoid is not of TrB_UINT64. */
+static inline TrB_Info TrB_Vector_reduce_UINT64(TrB_Pass *pass, uint64_t *x, TrB_BinaryOp monoid,
+                                                TrB_Vector u)
+{
+    return (TrB_Info)trb_vector_reduce_uint64(pass, x, (uint32_t)monoid, u.id);
+}
+
+/* Tells in *x all values of A joined by the monoid; without entries, its identity. A read.
+ * Refused: TrB_INVALID_VALUE where the operator is no monoid; TrB_DOMAIN_MISMATCH where A or the
+ * monoid is not of TrB_BOOL. */
+static inline TrB_Info TrB_Matrix_reduce_BOOL(TrB_Pass *pass, bool *x, TrB_BinaryOp monoid, TrB_Matrix A)
+{
+    return (TrB_Info)trb_matrix_reduce_bool(pass, x, (uint32_t)monoid, A.id);
+}
+
+/* Tells in *x all values of u joined by the monoid; without entries, its identity. A read.
+ * Refused: TrB_INVALID_VALUE where the operator is no monoid; TrB_DOMAIN_MISMATCH where u or the
+ * monoid is not of TrB_BOOL. */
+static inline TrB_Info TrB_Vector_reduce_BOOL(TrB_Pass *pass, bool *x, TrB_BinaryOp monoid, TrB_Vector u)
+{
+    return (TrB_Info)trb_vector_reduce_bool(pass, x, (uint32_t)monoid, u.id);
+}
+
+/* ---- Operations -------------------------------------------------------------------------------- */
+
+/* An operation computes a result T from its inputs and writes it into its output, C or w:
+ *
+ *     C<Mask> = accum(C, T)
+ *
+ *   accum    With TrB_NO_ACCUM the new entries are those of T. With an operator, a place where both C
+ *            and T store a value gets the operator of the old and the new one; a place where one of
+ *            them does gets that value.
+ *   Mask     Says where C is written. Inside are the places where Mask stores a value that is not
+ *            false or 0; with TrB_STRUCTURE, where it stores any value; with TrB_COMP, all others.
+ *            With TrB_NO_MATRIX or TrB_NO_VECTOR all places are inside, with TrB_COMP none. A mask has
+ *            the shape of the output, and either domain.
+ *   outside  The entries of C outside of the mask stay. With TrB_REPLACE they are removed.
+ *   desc     TrB_DEFAULT, or bits, as TrB_STRUCTURE | TrB_COMP | TrB_REPLACE. With TrB_TRAN
+ *            the first input is read transposed, as A' below stands for A.
+ *
+ * All objects are read before the output is written, so one object may be output, input and mask. The
+ * output keeps its domain and its shape.
+ *
+ * Every operation is a change, and is refused with
+ *
+ *   TrB_INVALID_VALUE       where an operator, a monoid or a descriptor has no such number;
+ *   TrB_DOMAIN_MISMATCH     where output, inputs, operators, monoid and accumulator are not all of one
+ *                           domain;
+ *   TrB_DIMENSION_MISMATCH  where the shapes are not those that its comment tells, or Mask has not the
+ *                           shape of the output. */
+
+/* C<Mask> = accum(C, A * B): at row i and column j, `multiply` of A(i,k) and B(k,j) for each k where
+ * both are stored, joined by `add`; nothing where there is no such k. A change.
+ * Shapes: A is m x l, B is l x n, C and Mask are m x n. With TrB_TRAN A is l x m, and A' is read.
+ * Refused: as every operation. */
+static inline TrB_Info TrB_mxm(TrB_Pass *pass, TrB_Matrix C, TrB_Matrix Mask, TrB_BinaryOp accum,
+                               TrB_Semiring semiring, TrB_Matrix A, TrB_Matrix B, TrB_Descriptor desc)
+{
+    return (TrB_Info)trb_mxm(pass, C.id, Mask.id, (uint32_t)accum, (uint32_t)semiring.add,
+                             (uint32_t)semiring.multiply, A.id, B.id, desc);
+}
+
+/* w<mask> = accum(w, A * u): at index i, `multiply` of A(i,k) and u(k) for each k where both are
+ * stored, joined by `add`; nothing where there is no such k. A change.
+ * Shapes: A is m x n, u is of size n, w and mask are of size m. With TrB_TRAN A is n x m, and A' is
+ * read.
+ * Refused: as every operation. */
+static inline TrB_Info TrB_mxv(TrB_Pass *pass, TrB_Vector w, TrB_Vector mask, TrB_BinaryOp accum,
+                               TrB_Semiring semiring, TrB_Matrix A, TrB_Vector u, TrB_Descriptor desc)
+{
+    return (TrB_Info)trb_mxv(pass, w.id, mask.id, (uint32_t)accum, (uint32_t)semiring.add,
+                             (uint32_t)semiring.multiply, A.id, u.id, desc);
+}
+
+/* w<mask> = accum(w, u * A): at index j, `multiply` of u(k) and A(k,j) for each k where both are
+ * stored, joined by `add`; nothing where there is no such k. So values go along the edges of a graph
+ * whose edge from i to j is A(i,j). TrB_TRAN is not for this operation, but for TrB_mxv. A change.
+ * Shapes: u is of size m, A is m x n, w and mask are of size n.
+ * Refused: as every operation. */
+static inline TrB_Info TrB_vxm(TrB_Pass *pass, TrB_Vector w, TrB_Vector mask, TrB_BinaryOp accum,
+                               TrB_Semiring semiring, TrB_Vector u, TrB_Matrix A, TrB_Descriptor desc)
+{
+    return (TrB_Info)trb_vxm(pass, w.id, mask.id, (uint32_t)accum, (uint32_t)semiring.add,
+                             (uint32_t)semiring.multiply, u.id, A.id, desc);
+}
+
+/* C<Mask> = accum(C, A + B): where both A and B store a value, op of these; where one of them does,
+ * that value. A change.
+ * Shapes: A, B, C and Mask are m x n. With TrB_TRAN A is n x m, and A' is read.
+ * Refused: as every operation. */
+static inline TrB_Info TrB_Matrix_eWiseAdd(TrB_Pass *pass, TrB_Matrix C, TrB_Matrix Mask,
+                                           TrB_BinaryOp accum, TrB_BinaryOp op, TrB_Matrix A,
+                                           TrB_Matrix B, TrB_Descriptor desc)
+{
+    return (TrB_Info)trb_matrix_ewise_add(pass, C.id, Mask.id, (uint32_t)accum, (uint32_t)op, A.id, B.id,
+                                          desc);
+}
+
+/* w<mask> = accum(w, u + v): where both u and v store a value, op of these; where one of them does,
+ * that value. A change.
+ * Shapes: u, v, w and mask are of one size.
+ * Refused: as every operation. */
+static inline TrB_Info TrB_Vector_eWiseAdd(TrB_Pass *pass, TrB_Vector w, TrB_Vector mask,
+                                           TrB_BinaryOp accum, TrB_BinaryOp op, TrB_Vector u,
+                                           TrB_Vector v, TrB_Descriptor desc)
+{
+    return (TrB_Info)trb_vector_ewise_add(pass, w.id, mask.id, (uint32_t)accum, (uint32_t)op, u.id, v.id,
+                                          desc);
+}
+
+/* C<Mask> = accum(C, A .* B): where both A and B store a value, op of these, and nothing elsewhere. A
+ * change.
+ * Shapes: A, B, C and Mask are m x n. With TrB_TRAN A is n x m, and A' is read.
+ * Refused: as every operation. */
+static inline TrB_Info TrB_Matrix_eWiseMult(TrB_Pass *pass, TrB_Matrix C, TrB_Matrix Mask,
+                                            TrB_BinaryOp accum, TrB_BinaryOp op, TrB_Matrix A,
+                                            TrB_Matrix B, TrB_Descriptor desc)
+{
+    return (TrB_Info)trb_matrix_ewise_mult(pass, C.id, Mask.id, (uint32_t)accum, (uint32_t)op, A.id, B.id,
+                                           desc);
+}
+
+/* w<mask> = accum(w, u .* v): where both u and v store a value, op of these, and nothing elsewhere. A
+ * change.
+ * Shapes: u, v, w and mask are of one size.
+ * Refused: as every operation. */
+static inline TrB_Info TrB_Vector_eWiseMult(TrB_Pass *pass, TrB_Vector w, TrB_Vector mask,
+                                            TrB_BinaryOp accum, TrB_BinaryOp op, TrB_Vector u,
+                                            TrB_Vector v, TrB_Descriptor desc)
+{
+    return (TrB_Info)trb_vector_ewise_mult(pass, w.id, mask.id, (uint32_t)accum, (uint32_t)op, u.id, v.id,
+                                           desc);
+}
+
+/* w<mask> = accum(w, the rows of A, each joined): at index i, the values of row i of A joined by the
+ * monoid; nothing where row i stores none. With TrB_TRAN these are the columns of A. A change.
+ * Shapes: A is m x n, w and mask are of size m. With TrB_TRAN w and mask are of size n.
+ * Refused: as every operation; TrB_INVALID_VALUE where the operator is no monoid. */
+static inline TrB_Info TrB_Matrix_reduce(TrB_Pass *pass, TrB_Vector w, TrB_Vector mask,
+                                         TrB_BinaryOp accum, TrB_BinaryOp monoid, TrB_Matrix A,
+                                         TrB_Descriptor desc)
+{
+    return (TrB_Info)trb_reduce_rows(pass, w.id, mask.id, (uint32_t)accum, (uint32_t)monoid, A.id, desc);
+}
+
+/* ---- Texts ------------------------------------------------------------------------------------- */
+
+/* The name of a status as the pages and the scripts of the store have it: that of GraphBLAS, as
+ * "GrB_INVALID_INDEX", or our own, "OrderFull". A static text, never NULL. */
+static inline const char *TrB_name(TrB_Info info)
+{
+    switch (info) {
+    case TrB_SUCCESS: return "GrB_SUCCESS";
+    case TrB_NO_VALUE: return "GrB_NO_VALUE";
+    case TrB_UNINITIALIZED_OBJECT: return "GrB_UNINITIALIZED_OBJECT";
+    case TrB_INVALID_VALUE: return "GrB_INVALID_VALUE";
+    case TrB_INVALID_INDEX: return "GrB_INVALID_INDEX";
+    case TrB_DOMAIN_MISMATCH: return "GrB_DOMAIN_MISMATCH";
+    case TrB_DIMENSION_MISMATCH: return "GrB_DIMENSION_MISMATCH";
+    case TrB_OUTPUT_NOT_EMPTY: return "GrB_OUTPUT_NOT_EMPTY";
+    case TrB_INDEX_OUT_OF_BOUNDS: return "GrB_INDEX_OUT_OF_BOUNDS";
+    case TrB_ORDER_FULL: return "OrderFull";
+    case TrB_OUT_OF_MEMORY: return "GrB_OUT_OF_MEMORY";
+    case TrB_PANIC: return "GrB_PANIC";
+    case TrB_INSUFFICIENT_SPACE: return "GrB_INSUFFICIENT_SPACE";
+    }
+    return "unknown status";
+}
+
+/* What to do about a status, in one line for a person. A static text, never NULL. */
+static inline const char *TrB_hint(TrB_Info info)
+{
+    switch (info) {
+    case TrB_SUCCESS: return "The call was made.";
+    case TrB_NO_VALUE: return "Nothing is stored there; this is no refusal.";
+    case TrB_UNINITIALIZED_OBJECT: return "Use an open pass, and objects that were made and not freed.";
+    case TrB_INVALID_VALUE: return "Give numbers, dimensions and lengths within their ranges.";
+    case TrB_INVALID_INDEX: return "Give an index below the dimension; the first is 0.";
+    case TrB_DOMAIN_MISMATCH: return "Give values, objects and operators of one domain.";
+    case TrB_DIMENSION_MISMATCH: return "Give objects whose dimensions fit together.";
+    case TrB_OUTPUT_NOT_EMPTY: return "Clear the object, or build a new one.";
+    case TrB_INDEX_OUT_OF_BOUNDS: return "Give a list whose indices are below the dimensions.";
+    case TrB_ORDER_FULL: return "Open a store with more room; this one still answers reads.";
+    case TrB_OUT_OF_MEMORY: return "Nothing has changed: free memory, and make the call again.";
+    case TrB_PANIC: return "The call did nothing: make it again.";
+    case TrB_INSUFFICIENT_SPACE: return "Give arrays with a place for each entry; the count is told.";
+    }
+    return "Link the library that this header is of.";
+}
+
+#ifdef __cplusplus
+}
+#endif
+
+#endif

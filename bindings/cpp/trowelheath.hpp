@@ -1,0 +1,1080 @@
+// trowelheath.hpp - the Trowelheath store for programs in C++17.
+//
+// A store holds sparse matrices and vectors, with the operations of GraphBLAS. The threads of one process
+// share it. The top of trowelheath.h has the words: store, history, room, pass, object, entry, change,
+// read, refusal; and what threads see. Link with libgrb_c.a, liblibc_c.a and -lpthread.
+//
+//     trowelheath::Store store(1000, 1);                      // room for 1,000 changes, one pass
+//     trowelheath::Pass pass = store.take();
+//     auto a = pass.new_matrix<std::uint64_t>(4, 5);          // 4 rows, 5 columns, no entries
+//     pass.set(a, 0, 1, 7);                                   // 7 at row 0, column 1
+//     std::optional<std::uint64_t> x = pass.get(a, 0, 1);     // 7
+//
+// What the types see to, and what the caller owes:
+//
+//   - A Pass is moved and never copied, and ends by itself. A store ends with its last pass.
+//   - Objects and operators have the type of their values, bool or std::uint64_t, so domains are not mixed.
+//   - One thread at a time uses a given pass. A pass goes to another thread by something that orders
+//     memory, as a lock, the start of a thread or its join.
+//   - An object is used with passes of its own store. In another store its number names another object,
+//     or none.
+//   - No call is made in a signal handler, or in the child of a fork of a process with threads.
+#ifndef TROWELHEATH_HPP
+#define TROWELHEATH_HPP
+
+#include "trowelheath.h"
+
+#include <array>
+#include <cstddef>
+#include <cstdint>
+#include <cstdio>
+#include <exception>
+#include <memory>
+#include <optional>
+#include <stdexcept>
+#include <type_traits>
+#include <utility>
+#include <vector>
+
+namespace trowelheath {
+
+/// An index, a dimension or a number of entries. Indices begin at 0; dimensions are from 1 to 2^32 - 1.
+using Index = std::uint64_t;
+
+/// What a pass tells of itself. trowelheath.h explains each member.
+using Facts = TrB_Facts;
+
+/// The most changes that a store has room for.
+inline constexpr std::uint32_t most_room = 65536;
+
+/// The most passes of a store. Room times passes is at most 1,048,576.
+inline constexpr std::uint32_t most_passes = 256;
+
+// ---- Statuses ------------------------------------------------------------------------------------------
+
+/// What a call answers. The numbers are those of GraphBLAS.h, but for order_full, which is our own.
+enum class Status : std::int32_t {
+    success = TrB_SUCCESS,                            ///< the call was made
+    no_value = TrB_NO_VALUE,                          ///< a read asked for what is not there
+    uninitialized_object = TrB_UNINITIALIZED_OBJECT,  ///< a pass that was moved from, or an object that was freed
+    invalid_value = TrB_INVALID_VALUE,                ///< a number, a dimension or a length is out of its range
+    invalid_index = TrB_INVALID_INDEX,                ///< an index of one entry is not below the dimension
+    domain_mismatch = TrB_DOMAIN_MISMATCH,            ///< truth values and numbers are mixed
+    dimension_mismatch = TrB_DIMENSION_MISMATCH,      ///< the objects do not fit together
+    output_not_empty = TrB_OUTPUT_NOT_EMPTY,          ///< the object of a build stores an entry
+    index_out_of_bounds = TrB_INDEX_OUT_OF_BOUNDS,    ///< an index in the list of a build is not below the dimension
+    order_full = TrB_ORDER_FULL,                      ///< the room is used up
+    out_of_memory = TrB_OUT_OF_MEMORY,                ///< memory was refused
+    panic = TrB_PANIC,                                ///< the record of a call was not taken or not shown
+    insufficient_space = TrB_INSUFFICIENT_SPACE,      ///< arrays are too short; entries() sees to it
+};
+
+/// A refused call: it did nothing, and took no room. Each method names a function of trowelheath.h, whose
+/// comment has the shapes and the refusals; those that end in _UINT64 stand for those of _BOOL too. Any call
+/// may be refused with uninitialized_object, out_of_memory and panic, and any change with order_full.
+class Refusal : public std::exception {
+public:
+    /// The refusal of this status. Takes no memory.
+    explicit Refusal(Status code) noexcept : code_(code)
+    {
+        std::snprintf(text_.data(), text_.size(), "%s. %s", name(), hint());
+    }
+
+    /// The status.
+    [[nodiscard]] Status code() const noexcept { return code_; }
+
+    /// Its name, as "GrB_INVALID_INDEX".
+    [[nodiscard]] const char *name() const noexcept { return TrB_name(static_cast<TrB_Info>(code_)); }
+
+    /// What to do about it, in one line for a person.
+    [[nodiscard]] const char *hint() const noexcept { return TrB_hint(static_cast<TrB_Info>(code_)); }
+
+    /// The name and the hint.
+    [[nodiscard]] const char *what() const noexcept override { return text_.data(); }
+
+private:
+    Status code_;
+    std::array<char, 128> text_{};
+};
+
+namespace detail {
+
+// A parameter of this type is not deduced from: the objects of a call say what T is.
+template <typename T>
+struct Same {
+    using type = T;
+};
+template <typename T>
+using same = typename Same<T>::type;
+
+template <typename T>
+inline constexpr bool is_bool = std::is_same_v<T, bool>;
+
+template <typename T>
+inline constexpr bool is_domain = is_bool<T> || std::is_same_v<T, std::uint64_t>;
+
+// Throws where the call was refused. What is not refused is Status::success or Status::no_value.
+inline Status check(TrB_Info info)
+{
+    if (info < 0) {
+        throw Refusal(static_cast<Status>(info));
+    }
+    return static_cast<Status>(info);
+}
+
+inline Status check(std::int32_t status)
+{
+    return check(static_cast<TrB_Info>(status));
+}
+
+} // namespace detail
+
+// ---- Operators -----------------------------------------------------------------------------------------
+
+/// An operator on two values of T, with a result of T. The constants below are all that there are.
+template <typename T>
+class BinaryOp {
+    static_assert(detail::is_domain<T>, "values are bool or std::uint64_t");
+
+public:
+    /// The operator of this number, which is one of T.
+    constexpr explicit BinaryOp(TrB_BinaryOp number) noexcept : number_(number) {}
+
+    /// Its number in trowelheath.h.
+    [[nodiscard]] constexpr TrB_BinaryOp number() const noexcept { return number_; }
+
+private:
+    TrB_BinaryOp number_;
+};
+
+/// An operator that is associative and commutative and has an identity.
+template <typename T>
+class Monoid : public BinaryOp<T> {
+public:
+    using BinaryOp<T>::BinaryOp;
+};
+
+/// A semiring: `multiply` joins two values, and `add` what was joined.
+template <typename T>
+struct Semiring {
+    Monoid<T> add;
+    BinaryOp<T> multiply;
+};
+
+inline constexpr Monoid<bool> lor{TrB_LOR};                    ///< x or y; identity false
+inline constexpr Monoid<bool> land{TrB_LAND};                  ///< x and y; identity true
+inline constexpr Monoid<bool> lxor{TrB_LXOR};                  ///< x differs from y; identity false
+inline constexpr Monoid<bool> lxnor{TrB_LXNOR};                ///< x equals y; identity true
+inline constexpr BinaryOp<bool> first_bool{TrB_FIRST_BOOL};    ///< x
+inline constexpr BinaryOp<bool> second_bool{TrB_SECOND_BOOL};  ///< y
+
+inline constexpr Monoid<std::uint64_t> plus{TrB_PLUS};        ///< x + y modulo 2^64; identity 0
+inline constexpr Monoid<std::uint64_t> times{TrB_TIMES};      ///< x * y modulo 2^64; identity 1
+inline constexpr Monoid<std::uint64_t> min{TrB_MIN};          ///< the smaller; identity 2^64 - 1
+inline constexpr Monoid<std::uint64_t> max{TrB_MAX};          ///< the larger; identity 0
+inline constexpr BinaryOp<std::uint64_t> minus{TrB_MINUS};    ///< x - y modulo 2^64
+inline constexpr BinaryOp<std::uint64_t> first{TrB_FIRST};    ///< x
+inline constexpr BinaryOp<std::uint64_t> second{TrB_SECOND};  ///< y
+
+inline constexpr Semiring<bool> lor_land{lor, land};           ///< paths
+inline constexpr Semiring<bool> land_lor{land, lor};           ///< the dual of lor_land
+inline constexpr Semiring<bool> lxor_land{lxor, land};         ///< the field of two elements
+inline constexpr Semiring<bool> lxnor_lor{lxnor, lor};         ///< the dual of lxor_land
+inline constexpr Semiring<bool> lor_first{lor, first_bool};    ///< whether a first value is true
+inline constexpr Semiring<bool> lor_second{lor, second_bool};  ///< whether a second value is true
+
+inline constexpr Semiring<std::uint64_t> plus_times{plus, times};    ///< the usual product
+inline constexpr Semiring<std::uint64_t> plus_min{plus, min};        ///< sums of the smaller values
+inline constexpr Semiring<std::uint64_t> plus_first{plus, first};    ///< sums of first values
+inline constexpr Semiring<std::uint64_t> plus_second{plus, second};  ///< sums of second values
+inline constexpr Semiring<std::uint64_t> min_plus{min, plus};        ///< shortest paths
+inline constexpr Semiring<std::uint64_t> min_times{min, times};      ///< least products
+inline constexpr Semiring<std::uint64_t> min_max{min, max};          ///< least of the largest on a path
+inline constexpr Semiring<std::uint64_t> min_first{min, first};      ///< least first value
+inline constexpr Semiring<std::uint64_t> min_second{min, second};    ///< least second value
+inline constexpr Semiring<std::uint64_t> max_plus{max, plus};        ///< longest paths
+inline constexpr Semiring<std::uint64_t> max_times{max, times};      ///< greatest products
+inline constexpr Semiring<std::uint64_t> max_min{max, min};          ///< widest paths
+inline constexpr Semiring<std::uint64_t> max_first{max, first};      ///< greatest first value
+inline constexpr Semiring<std::uint64_t> max_second{max, second};    ///< greatest second value
+
+/// How an operation reads its mask and its first input. Values are joined by `|`.
+enum class Descriptor : std::uint32_t {
+    none = TrB_DEFAULT,         ///< none of these
+    replace = TrB_REPLACE,      ///< entries of the output outside of the mask are removed
+    comp = TrB_COMP,            ///< inside the mask are the places that it would leave out
+    structure = TrB_STRUCTURE,  ///< inside the mask are the places where it stores an entry, false or 0 too
+    tran = TrB_TRAN,            ///< the first input, a matrix, is read transposed; not for vxm
+};
+
+/// All that either of both says.
+[[nodiscard]] constexpr Descriptor operator|(Descriptor left, Descriptor right) noexcept
+{
+    return static_cast<Descriptor>(static_cast<std::uint32_t>(left) | static_cast<std::uint32_t>(right));
+}
+
+/// How much a wait has done.
+enum class WaitMode {
+    complete = TrB_COMPLETE,        ///< the pending work on one object
+    materialize = TrB_MATERIALIZE,  ///< the pending work on all objects
+};
+
+// ---- Objects -------------------------------------------------------------------------------------------
+
+/// A matrix of a store, by its number. It may be copied, and every pass of the store may use it. It owns
+/// nothing: Pass::free ends the matrix, and its number is refused from then on.
+template <typename T>
+class Matrix {
+    static_assert(detail::is_domain<T>, "values are bool or std::uint64_t");
+
+public:
+    /// The matrix of this number, whose values are of T.
+    constexpr explicit Matrix(std::uint32_t id) noexcept : id_(id) {}
+
+    /// Its number.
+    [[nodiscard]] constexpr std::uint32_t id() const noexcept { return id_; }
+
+private:
+    std::uint32_t id_;
+};
+
+/// A vector of a store, by its number. It may be copied, and every pass of the store may use it. It owns
+/// nothing: Pass::free ends the vector, and its number is refused from then on.
+template <typename T>
+class Vector {
+    static_assert(detail::is_domain<T>, "values are bool or std::uint64_t");
+
+public:
+    /// The vector of this number, whose values are of T.
+    constexpr explicit Vector(std::uint32_t id) noexcept : id_(id) {}
+
+    /// Its number.
+    [[nodiscard]] constexpr std::uint32_t id() const noexcept { return id_; }
+
+private:
+    std::uint32_t id_;
+};
+
+/// Stands for no mask, and for no accumulator.
+inline constexpr std::nullopt_t none = std::nullopt;
+
+/// The mask of an operation on matrices: a matrix of either domain, or `none`.
+class MatrixMask {
+public:
+    /// No mask: all places are inside, or with Descriptor::comp none.
+    constexpr MatrixMask(std::nullopt_t) noexcept {}
+
+    /// This matrix.
+    template <typename T>
+    constexpr MatrixMask(Matrix<T> mask) noexcept : id_(mask.id())
+    {
+    }
+
+    /// Its number; the largest for no mask.
+    [[nodiscard]] constexpr std::uint32_t id() const noexcept { return id_; }
+
+private:
+    std::uint32_t id_ = UINT32_MAX;
+};
+
+/// The mask of an operation on vectors: a vector of either domain, or `none`.
+class VectorMask {
+public:
+    /// No mask: all places are inside, or with Descriptor::comp none.
+    constexpr VectorMask(std::nullopt_t) noexcept {}
+
+    /// This vector.
+    template <typename T>
+    constexpr VectorMask(Vector<T> mask) noexcept : id_(mask.id())
+    {
+    }
+
+    /// Its number; the largest for no mask.
+    [[nodiscard]] constexpr std::uint32_t id() const noexcept { return id_; }
+
+private:
+    std::uint32_t id_ = UINT32_MAX;
+};
+
+/// An accumulator on values of T: an operator that joins the old value and the new one, or `none`.
+template <typename T>
+using Accum = std::optional<BinaryOp<T>>;
+
+/// The dimensions of a matrix.
+struct Size {
+    Index nrows;
+    Index ncols;
+};
+
+/// An entry of a matrix.
+template <typename T>
+struct MatrixEntry {
+    Index row;
+    Index column;
+    T value;
+};
+
+/// An entry of a vector.
+template <typename T>
+struct VectorEntry {
+    Index index;
+    T value;
+};
+
+/// Whether both are at one place and have one value.
+template <typename T>
+[[nodiscard]] constexpr bool operator==(const MatrixEntry<T> &left, const MatrixEntry<T> &right) noexcept
+{
+    return left.row == right.row && left.column == right.column && left.value == right.value;
+}
+
+/// Whether both are at one index and have one value.
+template <typename T>
+[[nodiscard]] constexpr bool operator==(const VectorEntry<T> &left, const VectorEntry<T> &right) noexcept
+{
+    return left.index == right.index && left.value == right.value;
+}
+
+namespace detail {
+
+// An array that the library reads or writes. Its pointer is never null.
+template <typename T>
+class Array {
+public:
+    explicit Array(std::size_t length) : items_(new T[length]), length_(length) {}
+
+    [[nodiscard]] T *data() const noexcept { return items_.get(); }
+    [[nodiscard]] std::size_t size() const noexcept { return length_; }
+    [[nodiscard]] T &operator[](std::size_t k) const noexcept { return items_[k]; }
+
+private:
+    std::unique_ptr<T[]> items_;
+    std::size_t length_;
+};
+
+// The items of a vector as an array that the library reads: those of the vector itself, or a copy where
+// they are no array of T, or the library may not be given the vector, since it has it for another array.
+template <typename T>
+class Items {
+public:
+    Items(const std::vector<T> &items, bool is_taken) : copy_(0), length_(items.size())
+    {
+        if constexpr (!is_bool<T>) {
+            if (!is_taken && !items.empty()) {
+                data_ = items.data();
+                return;
+            }
+        }
+        copy_ = Array<T>(items.size());
+        for (std::size_t k = 0; k < items.size(); k++) {
+            copy_[k] = items[k];
+        }
+        data_ = copy_.data();
+    }
+
+    [[nodiscard]] const T *data() const noexcept { return data_; }
+    [[nodiscard]] std::size_t size() const noexcept { return length_; }
+
+private:
+    Array<T> copy_;
+    std::size_t length_;
+    const T *data_ = nullptr;
+};
+
+// Whether the two are one vector.
+template <typename T, typename U>
+[[nodiscard]] bool are_one(const std::vector<T> &left, const std::vector<U> &right) noexcept
+{
+    return static_cast<const void *>(&left) == static_cast<const void *>(&right);
+}
+
+} // namespace detail
+
+// ---- Passes and stores ---------------------------------------------------------------------------------
+
+/// One thread's view of a store. Each call on the store is a method of a pass. One thread at a time uses it.
+///
+/// A method throws Refusal where its call is refused. What the pass has learnt meanwhile stays.
+///
+/// An operation writes `output<mask> = accum(output, result)`, as trowelheath.h explains at "Operations".
+/// Its parameters stand in the order of GraphBLAS, and mask and accumulator are left out together:
+///
+///     pass.mxm(c, plus_times, a, b);                                              // C = A * B
+///     pass.mxm(c, mask, none, plus_times, a, b, Descriptor::structure);           // C<mask> = A * B
+///     pass.vxm(d, none, min, min_plus, d, a);                                     // d = min(d, d * A)
+class Pass {
+public:
+    /// The pass; the other is none after, and its calls are refused.
+    Pass(Pass &&other) noexcept : number_(std::move(other.number_)), raw_(std::exchange(other.raw_, TrB_Pass{})) {}
+
+    /// The pass, in place of this one, which ends; the other is none after, and its calls are refused.
+    Pass &operator=(Pass &&other) noexcept
+    {
+        if (this != &other) {
+            TrB_free(&raw_);
+            raw_ = std::exchange(other.raw_, TrB_Pass{});
+            number_ = std::move(other.number_);
+        }
+        return *this;
+    }
+
+    Pass(const Pass &) = delete;
+    Pass &operator=(const Pass &) = delete;
+
+    /// Ends the pass. What it entered stays in the store. The store ends with its last pass.
+    ~Pass() { TrB_free(&raw_); }
+
+    /// Whether it is a pass of a store, and was not moved from.
+    [[nodiscard]] bool is_open() const noexcept { return number_ != nullptr; }
+
+    /// Learns all that the other pass knows, as TrB_meet. A pass that meets itself has nothing to learn.
+    void meet(Pass &other)
+    {
+        if (this != &other) {
+            detail::check(TrB_meet(&raw_, &other.raw_));
+        }
+    }
+
+    /// Learns all that the other pass knows, and goes on from what it has evaluated, as TrB_adopt.
+    void adopt(Pass &other)
+    {
+        if (this != &other) {
+            detail::check(TrB_adopt(&raw_, &other.raw_));
+        }
+    }
+
+    /// Evaluates what the pass knows where that is dear, so that others may adopt it. Answers how many of the
+    /// known calls are evaluated then. As TrB_prepare.
+    std::uint32_t prepare()
+    {
+        std::uint32_t evaluated = 0;
+        detail::check(TrB_prepare(&raw_, &evaluated));
+        return evaluated;
+    }
+
+    /// What the pass is and knows, as TrB_facts.
+    [[nodiscard]] Facts facts()
+    {
+        Facts facts{};
+        detail::check(TrB_facts(&raw_, &facts));
+        return facts;
+    }
+
+    // ---- Objects ---------------------------------------------------------------------------------------
+
+    /// A new matrix of nrows rows and ncols columns with no entries, as TrB_Matrix_new.
+    template <typename T>
+    [[nodiscard]] Matrix<T> new_matrix(Index nrows, Index ncols)
+    {
+        std::uint32_t id = 0;
+        detail::check(trb_matrix_new(&raw_, &id, domain<T>(), nrows, ncols));
+        return Matrix<T>(id);
+    }
+
+    /// A new vector of this size with no entries, as TrB_Vector_new.
+    template <typename T>
+    [[nodiscard]] Vector<T> new_vector(Index size)
+    {
+        std::uint32_t id = 0;
+        detail::check(trb_vector_new(&raw_, &id, domain<T>(), size));
+        return Vector<T>(id);
+    }
+
+    /// A new matrix with the dimensions and the entries that `a` has now, as TrB_Matrix_dup.
+    template <typename T>
+    [[nodiscard]] Matrix<T> dup(Matrix<T> a)
+    {
+        std::uint32_t id = 0;
+        detail::check(trb_matrix_dup(&raw_, &id, a.id()));
+        return Matrix<T>(id);
+    }
+
+    /// A new vector with the size and the entries that `u` has now, as TrB_Vector_dup.
+    template <typename T>
+    [[nodiscard]] Vector<T> dup(Vector<T> u)
+    {
+        std::uint32_t id = 0;
+        detail::check(trb_vector_dup(&raw_, &id, u.id()));
+        return Vector<T>(id);
+    }
+
+    /// Ends the matrix, for all passes, as TrB_Matrix_free.
+    template <typename T>
+    void free(Matrix<T> a)
+    {
+        detail::check(trb_matrix_free(&raw_, a.id()));
+    }
+
+    /// Ends the vector, for all passes, as TrB_Vector_free.
+    template <typename T>
+    void free(Vector<T> v)
+    {
+        detail::check(trb_vector_free(&raw_, v.id()));
+    }
+
+    /// Removes all entries of the matrix, as TrB_Matrix_clear.
+    template <typename T>
+    void clear(Matrix<T> a)
+    {
+        detail::check(trb_matrix_clear(&raw_, a.id()));
+    }
+
+    /// Removes all entries of the vector, as TrB_Vector_clear.
+    template <typename T>
+    void clear(Vector<T> v)
+    {
+        detail::check(trb_vector_clear(&raw_, v.id()));
+    }
+
+    /// Gives the matrix new dimensions; entries outside are gone for good, as TrB_Matrix_resize.
+    template <typename T>
+    void resize(Matrix<T> a, Index nrows, Index ncols)
+    {
+        detail::check(trb_matrix_resize(&raw_, a.id(), nrows, ncols));
+    }
+
+    /// Gives the vector a new size; entries outside are gone for good, as TrB_Vector_resize.
+    template <typename T>
+    void resize(Vector<T> v, Index size)
+    {
+        detail::check(trb_vector_resize(&raw_, v.id(), size));
+    }
+
+    /// The rows and columns of the matrix, both at one moment, as TrB_Matrix_size.
+    template <typename T>
+    [[nodiscard]] Size size(Matrix<T> a)
+    {
+        Size size{};
+        detail::check(trb_matrix_size(&raw_, &size.nrows, &size.ncols, a.id()));
+        return size;
+    }
+
+    /// The size of the vector, as TrB_Vector_size.
+    template <typename T>
+    [[nodiscard]] Index size(Vector<T> v)
+    {
+        Index size = 0;
+        detail::check(trb_vector_size(&raw_, &size, v.id()));
+        return size;
+    }
+
+    /// How many entries the matrix stores, as TrB_Matrix_nvals.
+    template <typename T>
+    [[nodiscard]] Index nvals(Matrix<T> a)
+    {
+        Index nvals = 0;
+        detail::check(trb_matrix_nvals(&raw_, &nvals, a.id()));
+        return nvals;
+    }
+
+    /// How many entries the vector stores, as TrB_Vector_nvals.
+    template <typename T>
+    [[nodiscard]] Index nvals(Vector<T> v)
+    {
+        Index nvals = 0;
+        detail::check(trb_vector_nvals(&raw_, &nvals, v.id()));
+        return nvals;
+    }
+
+    /// Finishes the pending work on the matrix, or on all objects, as TrB_Matrix_wait.
+    template <typename T>
+    void wait(Matrix<T> a, WaitMode mode)
+    {
+        detail::check(trb_matrix_wait(&raw_, a.id(), static_cast<std::uint32_t>(mode)));
+    }
+
+    /// Finishes the pending work on the vector, or on all objects, as TrB_Vector_wait.
+    template <typename T>
+    void wait(Vector<T> v, WaitMode mode)
+    {
+        detail::check(trb_vector_wait(&raw_, v.id(), static_cast<std::uint32_t>(mode)));
+    }
+
+    /// The status that the last call of this pass on the matrix left, as TrB_Matrix_error. None before the first.
+    template <typename T>
+    [[nodiscard]] std::optional<Status> last_status(Matrix<T> a)
+    {
+        std::int32_t status = 0;
+        const Status asked = detail::check(trb_matrix_last_info(&raw_, &status, a.id()));
+        return found(asked, static_cast<Status>(status));
+    }
+
+    /// The status that the last call of this pass on the vector left, as TrB_Vector_error. None before the first.
+    template <typename T>
+    [[nodiscard]] std::optional<Status> last_status(Vector<T> v)
+    {
+        std::int32_t status = 0;
+        const Status asked = detail::check(trb_vector_last_info(&raw_, &status, v.id()));
+        return found(asked, static_cast<Status>(status));
+    }
+
+    // ---- Entries ---------------------------------------------------------------------------------------
+
+    /// Stores x at row i and column j, in place of what was stored there, as TrB_Matrix_setElement_UINT64.
+    template <typename T>
+    void set(Matrix<T> c, Index i, Index j, detail::same<T> x)
+    {
+        if constexpr (detail::is_bool<T>) {
+            detail::check(trb_matrix_set_bool(&raw_, c.id(), x, i, j));
+        } else {
+            detail::check(trb_matrix_set_uint64(&raw_, c.id(), x, i, j));
+        }
+    }
+
+    /// Stores x at index i, in place of what was stored there, as TrB_Vector_setElement_UINT64.
+    template <typename T>
+    void set(Vector<T> w, Index i, detail::same<T> x)
+    {
+        if constexpr (detail::is_bool<T>) {
+            detail::check(trb_vector_set_bool(&raw_, w.id(), x, i));
+        } else {
+            detail::check(trb_vector_set_uint64(&raw_, w.id(), x, i));
+        }
+    }
+
+    /// The value stored at row i and column j, if there is one, as TrB_Matrix_extractElement_UINT64.
+    template <typename T>
+    [[nodiscard]] std::optional<T> get(Matrix<T> a, Index i, Index j)
+    {
+        T x{};
+        Status status;
+        if constexpr (detail::is_bool<T>) {
+            status = detail::check(trb_matrix_get_bool(&raw_, &x, a.id(), i, j));
+        } else {
+            status = detail::check(trb_matrix_get_uint64(&raw_, &x, a.id(), i, j));
+        }
+        return found(status, x);
+    }
+
+    /// The value stored at index i, if there is one, as TrB_Vector_extractElement_UINT64.
+    template <typename T>
+    [[nodiscard]] std::optional<T> get(Vector<T> u, Index i)
+    {
+        T x{};
+        Status status;
+        if constexpr (detail::is_bool<T>) {
+            status = detail::check(trb_vector_get_bool(&raw_, &x, u.id(), i));
+        } else {
+            status = detail::check(trb_vector_get_uint64(&raw_, &x, u.id(), i));
+        }
+        return found(status, x);
+    }
+
+    /// Removes the entry at row i and column j, if there is one, as TrB_Matrix_removeElement.
+    template <typename T>
+    void remove(Matrix<T> c, Index i, Index j)
+    {
+        detail::check(trb_matrix_remove(&raw_, c.id(), i, j));
+    }
+
+    /// Removes the entry at index i, if there is one, as TrB_Vector_removeElement.
+    template <typename T>
+    void remove(Vector<T> w, Index i)
+    {
+        detail::check(trb_vector_remove(&raw_, w.id(), i));
+    }
+
+    /// Fills a matrix that stores nothing with these entries, in any order, as TrB_Matrix_build_UINT64. The
+    /// monoid joins values of one place. Takes memory for three arrays besides what the store takes.
+    template <typename T>
+    void build(Matrix<T> c, const std::vector<MatrixEntry<T>> &entries, detail::same<Monoid<T>> dup)
+    {
+        const detail::Array<Index> rows(entries.size()), columns(entries.size());
+        const detail::Array<T> values(entries.size());
+        std::size_t k = 0;
+        for (const MatrixEntry<T> &entry : entries) {
+            rows[k] = entry.row;
+            columns[k] = entry.column;
+            values[k] = entry.value;
+            k++;
+        }
+        build_of(c, rows, columns, values, dup);
+    }
+
+    /// Fills a matrix that stores nothing: values[k] at rows[k] and columns[k], in any order. The monoid joins
+    /// values of one place. Refused with Status::invalid_value where the lengths differ; else as
+    /// TrB_Matrix_build_UINT64. Two of them may be one vector, as for a diagonal; then it is copied.
+    template <typename T>
+    void build(Matrix<T> c, const std::vector<Index> &rows, const std::vector<Index> &columns,
+               const std::vector<T> &values, detail::same<Monoid<T>> dup)
+    {
+        const detail::Items<Index> read_rows(rows, false);
+        const detail::Items<Index> read_columns(columns, detail::are_one(columns, rows));
+        const detail::Items<T> read_values(values, detail::are_one(values, rows) || detail::are_one(values, columns));
+        build_of(c, read_rows, read_columns, read_values, dup);
+    }
+
+    /// Fills a vector that stores nothing with these entries, in any order, as TrB_Vector_build_UINT64. The
+    /// monoid joins values of one index. Takes memory for two arrays besides what the store takes.
+    template <typename T>
+    void build(Vector<T> w, const std::vector<VectorEntry<T>> &entries, detail::same<Monoid<T>> dup)
+    {
+        const detail::Array<Index> indices(entries.size());
+        const detail::Array<T> values(entries.size());
+        std::size_t k = 0;
+        for (const VectorEntry<T> &entry : entries) {
+            indices[k] = entry.index;
+            values[k] = entry.value;
+            k++;
+        }
+        build_of(w, indices, values, dup);
+    }
+
+    /// Fills a vector that stores nothing: values[k] at indices[k], in any order. The monoid joins values of one
+    /// index. Refused with Status::invalid_value where the lengths differ; else as TrB_Vector_build_UINT64. The
+    /// two may be one vector; then it is copied.
+    template <typename T>
+    void build(Vector<T> w, const std::vector<Index> &indices, const std::vector<T> &values,
+               detail::same<Monoid<T>> dup)
+    {
+        const detail::Items<Index> read_indices(indices, false);
+        const detail::Items<T> read_values(values, detail::are_one(values, indices));
+        build_of(w, read_indices, read_values, dup);
+    }
+
+    /// All entries of the matrix as they are at one moment, in rising order of row, then column.
+    template <typename T>
+    [[nodiscard]] std::vector<MatrixEntry<T>> entries(Matrix<T> a)
+    {
+        for (Index count = nvals(a);;) {
+            const std::size_t length = static_cast<std::size_t>(count);
+            const detail::Array<Index> rows(length), columns(length);
+            const detail::Array<T> values(length);
+            if (!read(a, rows, columns, values, count)) {
+                continue; // entries came meanwhile, and count tells how many there are
+            }
+            std::vector<MatrixEntry<T>> entries;
+            entries.reserve(static_cast<std::size_t>(count));
+            for (std::size_t k = 0; k < count; k++) {
+                entries.push_back({rows[k], columns[k], values[k]});
+            }
+            return entries;
+        }
+    }
+
+    /// All entries of the vector as they are at one moment, in rising order of index.
+    template <typename T>
+    [[nodiscard]] std::vector<VectorEntry<T>> entries(Vector<T> u)
+    {
+        for (Index count = nvals(u);;) {
+            const std::size_t length = static_cast<std::size_t>(count);
+            const detail::Array<Index> indices(length);
+            const detail::Array<T> values(length);
+            if (!read(u, indices, values, count)) {
+                continue; // entries came meanwhile, and count tells how many there are
+            }
+            std::vector<VectorEntry<T>> entries;
+            entries.reserve(static_cast<std::size_t>(count));
+            for (std::size_t k = 0; k < count; k++) {
+                entries.push_back({indices[k], values[k]});
+            }
+            return entries;
+        }
+    }
+
+    /// All values of the matrix joined by the monoid; without entries, its identity. As TrB_Matrix_reduce_UINT64.
+    template <typename T>
+    [[nodiscard]] T reduce(detail::same<Monoid<T>> monoid, Matrix<T> a)
+    {
+        T x{};
+        if constexpr (detail::is_bool<T>) {
+            detail::check(trb_matrix_reduce_bool(&raw_, &x, number(monoid), a.id()));
+        } else {
+            detail::check(trb_matrix_reduce_uint64(&raw_, &x, number(monoid), a.id()));
+        }
+        return x;
+    }
+
+    /// All values of the vector joined by the monoid; without entries, its identity. As TrB_Vector_reduce_UINT64.
+    template <typename T>
+    [[nodiscard]] T reduce(detail::same<Monoid<T>> monoid, Vector<T> u)
+    {
+        T x{};
+        if constexpr (detail::is_bool<T>) {
+            detail::check(trb_vector_reduce_bool(&raw_, &x, number(monoid), u.id()));
+        } else {
+            detail::check(trb_vector_reduce_uint64(&raw_, &x, number(monoid), u.id()));
+        }
+        return x;
+    }
+
+    // ---- Operations ------------------------------------------------------------------------------------
+
+    /// C<mask> = accum(C, A * B), as TrB_mxm.
+    template <typename T>
+    void mxm(Matrix<T> c, MatrixMask mask, detail::same<Accum<T>> accum, Semiring<T> semiring, Matrix<T> a,
+             Matrix<T> b, Descriptor desc = Descriptor::none)
+    {
+        detail::check(trb_mxm(&raw_, c.id(), mask.id(), number(accum), number(semiring.add),
+                              number(semiring.multiply), a.id(), b.id(), bits(desc)));
+    }
+
+    /// C = A * B, as TrB_mxm.
+    template <typename T>
+    void mxm(Matrix<T> c, Semiring<T> semiring, Matrix<T> a, Matrix<T> b, Descriptor desc = Descriptor::none)
+    {
+        mxm(c, none, none, semiring, a, b, desc);
+    }
+
+    /// w<mask> = accum(w, A * u), as TrB_mxv.
+    template <typename T>
+    void mxv(Vector<T> w, VectorMask mask, detail::same<Accum<T>> accum, Semiring<T> semiring, Matrix<T> a,
+             Vector<T> u, Descriptor desc = Descriptor::none)
+    {
+        detail::check(trb_mxv(&raw_, w.id(), mask.id(), number(accum), number(semiring.add),
+                              number(semiring.multiply), a.id(), u.id(), bits(desc)));
+    }
+
+    /// w = A * u, as TrB_mxv.
+    template <typename T>
+    void mxv(Vector<T> w, Semiring<T> semiring, Matrix<T> a, Vector<T> u, Descriptor desc = Descriptor::none)
+    {
+        mxv(w, none, none, semiring, a, u, desc);
+    }
+
+    /// w<mask> = accum(w, u * A), as TrB_vxm.
+    template <typename T>
+    void vxm(Vector<T> w, VectorMask mask, detail::same<Accum<T>> accum, Semiring<T> semiring, Vector<T> u,
+             Matrix<T> a, Descriptor desc = Descriptor::none)
+    {
+        detail::check(trb_vxm(&raw_, w.id(), mask.id(), number(accum), number(semiring.add),
+                              number(semiring.multiply), u.id(), a.id(), bits(desc)));
+    }
+
+    /// w = u * A, as TrB_vxm.
+    template <typename T>
+    void vxm(Vector<T> w, Semiring<T> semiring, Vector<T> u, Matrix<T> a, Descriptor desc = Descriptor::none)
+    {
+        vxm(w, none, none, semiring, u, a, desc);
+    }
+
+    /// C<mask> = accum(C, A + B): op where both store a value, and the one value elsewhere. As TrB_Matrix_eWiseAdd.
+    template <typename T>
+    void ewise_add(Matrix<T> c, MatrixMask mask, detail::same<Accum<T>> accum, detail::same<BinaryOp<T>> op,
+                   Matrix<T> a, Matrix<T> b, Descriptor desc = Descriptor::none)
+    {
+        detail::check(trb_matrix_ewise_add(&raw_, c.id(), mask.id(), number(accum), number(op), a.id(), b.id(),
+                                           bits(desc)));
+    }
+
+    /// C = A + B: op where both store a value, and the one value elsewhere. As TrB_Matrix_eWiseAdd.
+    template <typename T>
+    void ewise_add(Matrix<T> c, detail::same<BinaryOp<T>> op, Matrix<T> a, Matrix<T> b,
+                   Descriptor desc = Descriptor::none)
+    {
+        ewise_add(c, none, none, op, a, b, desc);
+    }
+
+    /// w<mask> = accum(w, u + v): op where both store a value, and the one value elsewhere. As TrB_Vector_eWiseAdd.
+    template <typename T>
+    void ewise_add(Vector<T> w, VectorMask mask, detail::same<Accum<T>> accum, detail::same<BinaryOp<T>> op,
+                   Vector<T> u, Vector<T> v, Descriptor desc = Descriptor::none)
+    {
+        detail::check(trb_vector_ewise_add(&raw_, w.id(), mask.id(), number(accum), number(op), u.id(), v.id(),
+                                           bits(desc)));
+    }
+
+    /// w = u + v: op where both store a value, and the one value elsewhere. As TrB_Vector_eWiseAdd.
+    template <typename T>
+    void ewise_add(Vector<T> w, detail::same<BinaryOp<T>> op, Vector<T> u, Vector<T> v,
+                   Descriptor desc = Descriptor::none)
+    {
+        ewise_add(w, none, none, op, u, v, desc);
+    }
+
+    /// C<mask> = accum(C, A .* B): op where both store a value, and nothing elsewhere. As TrB_Matrix_eWiseMult.
+    template <typename T>
+    void ewise_mult(Matrix<T> c, MatrixMask mask, detail::same<Accum<T>> accum, detail::same<BinaryOp<T>> op,
+                    Matrix<T> a, Matrix<T> b, Descriptor desc = Descriptor::none)
+    {
+        detail::check(trb_matrix_ewise_mult(&raw_, c.id(), mask.id(), number(accum), number(op), a.id(), b.id(),
+                                            bits(desc)));
+    }
+
+    /// C = A .* B: op where both store a value, and nothing elsewhere. As TrB_Matrix_eWiseMult.
+    template <typename T>
+    void ewise_mult(Matrix<T> c, detail::same<BinaryOp<T>> op, Matrix<T> a, Matrix<T> b,
+                    Descriptor desc = Descriptor::none)
+    {
+        ewise_mult(c, none, none, op, a, b, desc);
+    }
+
+    /// w<mask> = accum(w, u .* v): op where both store a value, and nothing elsewhere. As TrB_Vector_eWiseMult.
+    template <typename T>
+    void ewise_mult(Vector<T> w, VectorMask mask, detail::same<Accum<T>> accum, detail::same<BinaryOp<T>> op,
+                    Vector<T> u, Vector<T> v, Descriptor desc = Descriptor::none)
+    {
+        detail::check(trb_vector_ewise_mult(&raw_, w.id(), mask.id(), number(accum), number(op), u.id(), v.id(),
+                                            bits(desc)));
+    }
+
+    /// w = u .* v: op where both store a value, and nothing elsewhere. As TrB_Vector_eWiseMult.
+    template <typename T>
+    void ewise_mult(Vector<T> w, detail::same<BinaryOp<T>> op, Vector<T> u, Vector<T> v,
+                    Descriptor desc = Descriptor::none)
+    {
+        ewise_mult(w, none, none, op, u, v, desc);
+    }
+
+    /// w<mask> = accum(w, the rows of A, each joined by the monoid), as TrB_Matrix_reduce.
+    template <typename T>
+    void reduce_rows(Vector<T> w, VectorMask mask, detail::same<Accum<T>> accum, detail::same<Monoid<T>> monoid,
+                     Matrix<T> a, Descriptor desc = Descriptor::none)
+    {
+        detail::check(
+            trb_reduce_rows(&raw_, w.id(), mask.id(), number(accum), number(monoid), a.id(), bits(desc)));
+    }
+
+    /// w = the rows of A, each joined by the monoid, as TrB_Matrix_reduce.
+    template <typename T>
+    void reduce_rows(Vector<T> w, detail::same<Monoid<T>> monoid, Matrix<T> a, Descriptor desc = Descriptor::none)
+    {
+        reduce_rows(w, none, none, monoid, a, desc);
+    }
+
+private:
+    friend class Store;
+
+    Pass(TrB_Pass raw, std::shared_ptr<const char> number) noexcept : number_(std::move(number)), raw_(raw) {}
+
+    template <typename T>
+    [[nodiscard]] static constexpr std::uint32_t domain() noexcept
+    {
+        static_assert(detail::is_domain<T>, "values are bool or std::uint64_t");
+        return detail::is_bool<T> ? TrB_BOOL : TrB_UINT64;
+    }
+
+    template <typename T>
+    [[nodiscard]] static constexpr std::uint32_t number(BinaryOp<T> op) noexcept
+    {
+        return static_cast<std::uint32_t>(op.number());
+    }
+
+    template <typename T>
+    [[nodiscard]] static constexpr std::uint32_t number(const Accum<T> &accum) noexcept
+    {
+        return static_cast<std::uint32_t>(accum ? accum->number() : TrB_NO_ACCUM);
+    }
+
+    [[nodiscard]] static constexpr std::uint32_t bits(Descriptor desc) noexcept
+    {
+        return static_cast<std::uint32_t>(desc);
+    }
+
+    template <typename T>
+    [[nodiscard]] static std::optional<T> found(Status status, T value)
+    {
+        return status == Status::no_value ? std::nullopt : std::optional<T>(value);
+    }
+
+    template <typename T, typename Indices, typename Values>
+    void build_of(Matrix<T> c, const Indices &rows, const Indices &columns, const Values &values, Monoid<T> dup)
+    {
+        if constexpr (detail::is_bool<T>) {
+            detail::check(trb_matrix_build_bool(&raw_, c.id(), rows.data(), rows.size(), columns.data(),
+                                                columns.size(), values.data(), values.size(), number(dup)));
+        } else {
+            detail::check(trb_matrix_build_uint64(&raw_, c.id(), rows.data(), rows.size(), columns.data(),
+                                                  columns.size(), values.data(), values.size(), number(dup)));
+        }
+    }
+
+    template <typename T, typename Indices, typename Values>
+    void build_of(Vector<T> w, const Indices &indices, const Values &values, Monoid<T> dup)
+    {
+        if constexpr (detail::is_bool<T>) {
+            detail::check(trb_vector_build_bool(&raw_, w.id(), indices.data(), indices.size(), values.data(),
+                                                values.size(), number(dup)));
+        } else {
+            detail::check(trb_vector_build_uint64(&raw_, w.id(), indices.data(), indices.size(), values.data(),
+                                                  values.size(), number(dup)));
+        }
+    }
+
+    // Reads all entries into the arrays, and their number into count. False where the arrays are too short.
+    template <typename T>
+    [[nodiscard]] bool read(Matrix<T> a, const detail::Array<Index> &rows, const detail::Array<Index> &columns,
+                            const detail::Array<T> &values, Index &count)
+    {
+        if constexpr (detail::is_bool<T>) {
+            return is_enough(trb_matrix_tuples_bool(&raw_, rows.data(), rows.size(), columns.data(),
+                                                    columns.size(), values.data(), values.size(), &count, a.id()));
+        } else {
+            return is_enough(trb_matrix_tuples_uint64(&raw_, rows.data(), rows.size(), columns.data(),
+                                                      columns.size(), values.data(), values.size(), &count,
+                                                      a.id()));
+        }
+    }
+
+    // Reads all entries into the arrays, and their number into count. False where the arrays are too short.
+    template <typename T>
+    [[nodiscard]] bool read(Vector<T> u, const detail::Array<Index> &indices, const detail::Array<T> &values,
+                            Index &count)
+    {
+        if constexpr (detail::is_bool<T>) {
+            return is_enough(trb_vector_tuples_bool(&raw_, indices.data(), indices.size(), values.data(),
+                                                    values.size(), &count, u.id()));
+        } else {
+            return is_enough(trb_vector_tuples_uint64(&raw_, indices.data(), indices.size(), values.data(),
+                                                      values.size(), &count, u.id()));
+        }
+    }
+
+    [[nodiscard]] static bool is_enough(std::int32_t status)
+    {
+        if (status == TrB_INSUFFICIENT_SPACE) {
+            return false;
+        }
+        detail::check(status);
+        return true;
+    }
+
+    // Its address is the number of the store. It is given back with the last pass, after the store.
+    std::shared_ptr<const char> number_;
+    TrB_Pass raw_;
+};
+
+/// Opens a store, and hands out its passes. The store itself lives as long as one of its passes.
+class Store {
+public:
+    /// Opens a store with room for `room` changes, from 1 to most_room, and this many passes, from 1 to
+    /// most_passes; one times the other is at most 1,048,576. A pass reserves some 200 bytes for each change
+    /// that there is room for. Throws Refusal: Status::invalid_value where a number is out of its range,
+    /// Status::out_of_memory where memory is refused.
+    Store(std::uint32_t room, std::uint32_t passes)
+    {
+        if (passes < 1 || passes > most_passes) {
+            throw Refusal(Status::invalid_value);
+        }
+        auto number = std::make_shared<const char>('\0');
+        std::vector<TrB_Pass> opened(passes);
+        passes_.reserve(passes);
+        const std::int32_t status =
+            trb_open(reinterpret_cast<std::uintptr_t>(number.get()), room, opened.data(), opened.size());
+        for (const TrB_Pass &raw : opened) {
+            passes_.push_back(Pass(raw, number));
+        }
+        detail::check(status);
+    }
+
+    /// The next pass that was not handed out; the first is that of number 0. Throws std::out_of_range where all
+    /// were handed out.
+    [[nodiscard]] Pass take()
+    {
+        if (next_ == passes_.size()) {
+            throw std::out_of_range("all passes of the store were handed out");
+        }
+        return std::move(passes_[next_++]);
+    }
+
+    /// How many passes were not handed out.
+    [[nodiscard]] std::size_t passes_left() const noexcept { return passes_.size() - next_; }
+
+private:
+    std::vector<Pass> passes_;
+    std::size_t next_ = 0;
+};
+
+} // namespace trowelheath
+
+#endif

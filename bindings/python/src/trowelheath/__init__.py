@@ -1,0 +1,68 @@
+"""Trowelheath: sparse matrices and vectors with the operations of GraphBLAS, shared by threads without locks.
+
+    from trowelheath import Store
+
+    with Store(room=4096, passes=4) as store:
+        p = store.main
+        A = p.matrix(3, 3)
+        A.build([0, 1, 2], [1, 2, 0], [5, 6, 7])
+        C = A.mxm(A, "min.plus")
+        C[0, 2]         # 11
+        len(C)          # 3
+
+A `Store` has a `Pass` for each thread. A pass makes each `Matrix` and `Vector`, and `using` gives it by another
+pass. Values are whole numbers from 0 to 2**64 - 1, or truth values. Indices begin at 0. A call that is refused
+does nothing and raises a `Refusal`.
+"""
+
+from __future__ import annotations
+
+from .errors import (
+    DimensionMismatch,
+    DomainMismatch,
+    IndexOutOfBounds,
+    Info,
+    InvalidIndex,
+    InvalidValue,
+    LibraryNotFound,
+    OrderFull,
+    OutOfMemory,
+    OutputNotEmpty,
+    Panic,
+    Refusal,
+    StoreClosed,
+    UninitializedObject,
+)
+from .objects import Matrix, Object, Vector
+from .operators import MONOIDS, OPERATORS
+from .store import MOST_PASSES, MOST_ROOM, MOST_SEATS, Facts, Pass, Store
+
+__version__ = "0.1.0"
+
+__all__ = [
+    "MONOIDS",
+    "MOST_PASSES",
+    "MOST_ROOM",
+    "MOST_SEATS",
+    "OPERATORS",
+    "DimensionMismatch",
+    "DomainMismatch",
+    "Facts",
+    "IndexOutOfBounds",
+    "Info",
+    "InvalidIndex",
+    "InvalidValue",
+    "LibraryNotFound",
+    "Matrix",
+    "Object",
+    "OrderFull",
+    "OutOfMemory",
+    "OutputNotEmpty",
+    "Panic",
+    "Pass",
+    "Refusal",
+    "Store",
+    "StoreClosed",
+    "UninitializedObject",
+    "Vector",
+]

@@ -1,0 +1,137 @@
+"""Domains, operators, monoids, semirings and descriptors, by their names.
+
+| Operator | Domain | Of two values | Monoid, with its identity |
+|---|---|---|---|
+| `lor` | bool | true where one of both is | False |
+| `land` | bool | true where both are | True |
+| `lxor` | bool | true where both differ | False |
+| `lxnor` | bool | true where both are equal | True |
+| `first_bool` | bool | the first | none |
+| `second_bool` | bool | the second | none |
+| `plus` | int | the sum, modulo 2**64 | 0 |
+| `times` | int | the product, modulo 2**64 | 1 |
+| `min` | int | the smaller | 2**64 - 1 |
+| `max` | int | the larger | 0 |
+| `minus` | int | the difference, modulo 2**64 | none |
+| `first` | int | the first | none |
+| `second` | int | the second | none |
+
+A semiring is a monoid and an operator of one domain with a dot between them: `"min.plus"` adds along a path
+and takes the least over all paths.
+"""
+
+from __future__ import annotations
+
+import ctypes
+from types import MappingProxyType
+from typing import Any, Mapping, NamedTuple, Tuple
+
+__all__ = ["MONOIDS", "OPERATORS", "Domain", "domain_of"]
+
+
+class Domain(NamedTuple):
+    """One of the two domains of values: truth values (`bool`) or whole numbers from 0 to 2**64 - 1 (`int`)."""
+
+    dtype: type
+    """The Python type of its values."""
+    code: int
+    """Its number, of `GrB_Type_Code`."""
+    suffix: str
+    """The end of the names of its functions in the library."""
+    ctype: Any
+    """The type of C of one value."""
+    typecode: str
+    """The type code of `array.array` for its values."""
+    monoid: str
+    """The monoid that joins values where none is named."""
+    semiring: str
+    """The semiring of a product where none is named."""
+
+
+BOOL = Domain(bool, 1, "bool", ctypes.c_bool, "B", "lor", "lor.land")
+UINT64 = Domain(int, 9, "uint64", ctypes.c_uint64, "Q", "plus", "plus.times")
+
+OPERATORS: Mapping[str, int] = MappingProxyType(
+    {
+        "lor": 1,
+        "land": 2,
+        "lxor": 3,
+        "lxnor": 4,
+        "first_bool": 5,
+        "second_bool": 6,
+        "plus": 7,
+        "times": 8,
+        "min": 9,
+        "max": 10,
+        "minus": 11,
+        "first": 12,
+        "second": 13,
+    }
+)
+"""The binary operators, each with its number in the library."""
+
+MONOIDS: Mapping[str, int] = MappingProxyType(
+    {name: OPERATORS[name] for name in ("lor", "land", "lxor", "lxnor", "plus", "times", "min", "max")}
+)
+"""The operators that are monoids, each with its number in the library."""
+
+WAIT_MODES: Mapping[str, int] = MappingProxyType({"complete": 0, "materialize": 1})
+
+NO_MASK = 0xFFFF_FFFF
+NO_ACCUM = 0
+
+_REPLACE = 1
+_COMPLEMENT = 2
+_STRUCTURE = 4
+_TRANSPOSE = 8
+
+
+def domain_of(dtype: type) -> Domain:
+    """The domain of a Python type. `TypeError` where it is neither `bool` nor `int`."""
+    for domain in (BOOL, UINT64):
+        if dtype is domain.dtype:
+            return domain
+    raise TypeError(f"the dtype must be bool or int, not {dtype!r}")
+
+
+def _number_of(name: str, numbers: Mapping[str, int], what: str) -> int:
+    try:
+        return numbers[name]
+    except (KeyError, TypeError):
+        raise ValueError(f"{name!r} is no {what}; these are: {', '.join(numbers)}") from None
+
+
+def operator_number(name: str) -> int:
+    """The number of an operator. `ValueError` where there is none of this name."""
+    return _number_of(name, OPERATORS, "operator")
+
+
+def monoid_number(name: str) -> int:
+    """The number of a monoid. `ValueError` where there is none of this name."""
+    return _number_of(name, MONOIDS, "monoid")
+
+
+def wait_mode_number(name: str) -> int:
+    """The number of a wait mode. `ValueError` where there is none of this name."""
+    return _number_of(name, WAIT_MODES, "wait mode")
+
+
+def semiring_numbers(name: str) -> Tuple[int, int]:
+    """The numbers of a semiring's monoid and operator. `ValueError` where it is not written `"MONOID.OPERATOR"`.
+
+    That both are of one domain is for the store to say.
+    """
+    monoid, dot, operator = name.partition(".") if isinstance(name, str) else (name, "", "")
+    if not dot:
+        raise ValueError(f'{name!r} is no semiring: write a monoid, a dot and an operator, as in "plus.times"')
+    return monoid_number(monoid), operator_number(operator)
+
+
+def descriptor(*, replace: bool, complement: bool, structure: bool, transpose: bool = False) -> int:
+    """The bits of a descriptor."""
+    return (
+        (_REPLACE if replace else 0)
+        | (_COMPLEMENT if complement else 0)
+        | (_STRUCTURE if structure else 0)
+        | (_TRANSPOSE if transpose else 0)
+    )

@@ -1,0 +1,112 @@
+"""The operations on dicts, by their definitions: a vector is a dict from indices, a matrix one from pairs."""
+
+from __future__ import annotations
+
+from typing import Any, Callable, Dict, Optional
+
+Entries = Dict[Any, Any]
+Operator = Callable[[Any, Any], Any]
+
+OPERATORS: Dict[str, Operator] = {
+    "lor": lambda a, b: a or b,
+    "land": lambda a, b: a and b,
+    "lxor": lambda a, b: a != b,
+    "lxnor": lambda a, b: a == b,
+    "first_bool": lambda a, b: a,
+    "second_bool": lambda a, b: b,
+    "plus": lambda a, b: (a + b) % 2**64,
+    "times": lambda a, b: a * b % 2**64,
+    "min": min,
+    "max": max,
+    "minus": lambda a, b: (a - b) % 2**64,
+    "first": lambda a, b: a,
+    "second": lambda a, b: b,
+}
+
+IDENTITIES = {
+    "lor": False,
+    "land": True,
+    "lxor": False,
+    "lxnor": True,
+    "plus": 0,
+    "times": 1,
+    "min": 2**64 - 1,
+    "max": 0,
+}
+
+
+def transposed(a: Entries) -> Entries:
+    """The rows as columns."""
+    return {(j, i): x for (i, j), x in a.items()}
+
+
+def union(a: Entries, b: Entries, operator: str) -> Entries:
+    """Where both store a value the operator of the two, and where one does, that value."""
+    both = {place: OPERATORS[operator](a[place], b[place]) for place in a.keys() & b.keys()}
+    return {**a, **b, **both}
+
+
+def intersection(a: Entries, b: Entries, operator: str) -> Entries:
+    """Where both store a value the operator of the two."""
+    return {place: OPERATORS[operator](a[place], b[place]) for place in a.keys() & b.keys()}
+
+
+def joined(pairs: Any, monoid: str) -> Entries:
+    """The values at each place of these pairs of a place and a value, joined."""
+    result: Entries = {}
+    for place, x in pairs:
+        result[place] = OPERATORS[monoid](result[place], x) if place in result else x
+    return result
+
+
+def mxm(a: Entries, b: Entries, semiring: str) -> Entries:
+    """The product of two matrices."""
+    monoid, operator = semiring.split(".")
+    pairs = (((i, j), OPERATORS[operator](x, y)) for (i, k), x in a.items() for (h, j), y in b.items() if k == h)
+    return joined(pairs, monoid)
+
+
+def mxv(a: Entries, u: Entries, semiring: str) -> Entries:
+    """The product of a matrix and a vector."""
+    monoid, operator = semiring.split(".")
+    return joined(((i, OPERATORS[operator](x, u[k])) for (i, k), x in a.items() if k in u), monoid)
+
+
+def vxm(u: Entries, a: Entries, semiring: str) -> Entries:
+    """The product of a vector and a matrix."""
+    monoid, operator = semiring.split(".")
+    return joined(((j, OPERATORS[operator](u[k], x)) for (k, j), x in a.items() if k in u), monoid)
+
+
+def reduce_rows(a: Entries, monoid: str) -> Entries:
+    """The values of each row, joined."""
+    return joined(((i, x) for (i, _), x in a.items()), monoid)
+
+
+def total(a: Entries, monoid: str) -> Any:
+    """All values, joined."""
+    result = IDENTITIES[monoid]
+    for x in a.values():
+        result = OPERATORS[monoid](result, x)
+    return result
+
+
+def written(
+    old: Entries,
+    computed: Entries,
+    accum: Optional[str],
+    mask: Optional[Entries],
+    structure: bool,
+    complement: bool,
+    replace: bool,
+) -> Entries:
+    """The output after what was computed has been written into it."""
+
+    def is_inside(place: Any) -> bool:
+        selected = mask is None or (place in mask if structure else bool(mask.get(place, False)))
+        return selected != complement
+
+    new = computed if accum is None else union(old, computed, accum)
+    inside = {place: x for place, x in new.items() if is_inside(place)}
+    outside = {} if replace else {place: x for place, x in old.items() if not is_inside(place)}
+    return {**inside, **outside}

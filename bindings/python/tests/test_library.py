@@ -1,0 +1,67 @@
+"""Where the shared library is looked for."""
+
+from __future__ import annotations
+
+import os
+import subprocess
+import sys
+import tempfile
+import unittest
+from pathlib import Path
+from unittest import mock
+
+from trowelheath import LibraryNotFound, _library
+
+SOURCE = Path(_library.__file__).resolve().parent.parent
+
+
+class Finding(unittest.TestCase):
+    def test_the_environment_names_the_file(self) -> None:
+        with mock.patch.dict(os.environ, {_library.ENVIRONMENT_VARIABLE: "some/lib.so"}):
+            self.assertEqual(_library._places(), [os.path.abspath("some/lib.so")])
+
+    def test_without_it_the_loader_looks(self) -> None:
+        with mock.patch.dict(os.environ):
+            os.environ.pop(_library.ENVIRONMENT_VARIABLE, None)
+            self.assertEqual(_library._places()[-2:], ["libtrowelheath.so", "libgrb_c.so"])
+
+    def test_a_file_beside_the_package_comes_first(self) -> None:
+        with tempfile.TemporaryDirectory() as folder, mock.patch.dict(os.environ):
+            os.environ.pop(_library.ENVIRONMENT_VARIABLE, None)
+            beside = Path(folder).resolve() / "libtrowelheath.so"
+            beside.write_bytes(b"")
+            with mock.patch.object(_library, "__file__", str(Path(folder) / "_library.py")):
+                self.assertEqual(_library._places()[0], str(beside))
+
+    def test_a_file_that_is_not_there_is_told(self) -> None:
+        with self.assertRaises(LibraryNotFound) as caught:
+            _library._open_first(["/no/such/lib.so"])
+        self.assertIn("/no/such/lib.so", str(caught.exception))
+        self.assertIn("TROWELHEATH_LIBRARY", str(caught.exception))
+        self.assertIsInstance(caught.exception, OSError)
+
+    def test_a_library_without_the_functions_is_told(self) -> None:
+        with mock.patch.object(_library, "_places", return_value=[None]):
+            with self.assertRaisesRegex(LibraryNotFound, "has no function trb_open"):
+                _library.load.__wrapped__()
+
+    def test_the_package_can_be_imported_without_it(self) -> None:
+        program = (
+            "import trowelheath\n"
+            "try:\n"
+            "    trowelheath.Store()\n"
+            "except trowelheath.LibraryNotFound as fault:\n"
+            "    print('/no/such/lib.so' in str(fault))\n"
+        )
+        environment = {**os.environ, _library.ENVIRONMENT_VARIABLE: "/no/such/lib.so", "PYTHONPATH": str(SOURCE)}
+        ran = subprocess.run([sys.executable, "-c", program], env=environment, stdout=subprocess.PIPE, check=True)
+        self.assertEqual(ran.stdout, b"True\n")
+
+    def test_the_handle_is_as_c_has_it(self) -> None:
+        self.assertEqual(_library.ctypes.sizeof(_library.PassHandle), 16)
+        self.assertEqual(_library.ctypes.alignment(_library.PassHandle), 8)
+        self.assertEqual(_library.ctypes.sizeof(_library.FactsRecord), 28)
+
+
+if __name__ == "__main__":
+    unittest.main()

@@ -1,0 +1,171 @@
+"""Stores, passes and objects end in any order, in this process and in one that is forked from it."""
+
+from __future__ import annotations
+
+import gc
+import itertools
+import os
+import subprocess
+import sys
+import unittest
+import weakref
+from pathlib import Path
+from typing import Any, Dict, List
+from unittest import mock
+
+import trowelheath
+from trowelheath import Store, StoreClosed
+from trowelheath import store as store_module
+
+SOURCE = Path(trowelheath.__file__).resolve().parent.parent
+
+
+class Collected(unittest.TestCase):
+    def count_ends(self) -> List[int]:
+        """A list that gets the number of passes of each store that ends by itself from now on."""
+        ends: List[int] = []
+        end_all = store_module._end_all
+
+        def counted(library: Any, handles: Any) -> None:
+            ends.append(len(handles))
+            end_all(library, handles)
+
+        patch = mock.patch.object(store_module, "_end_all", counted)
+        patch.start()
+        self.addCleanup(patch.stop)
+        return ends
+
+    def test_a_store_lives_as_long_as_an_object_of_it(self) -> None:
+        ends = self.count_ends()
+        v = Store(room=10, passes=3).main.vector(3)
+        gc.collect()
+        self.assertEqual(ends, [])
+        v[0] = 5
+        self.assertEqual(v.using(v.store.passes[2])[0], 5)
+        del v
+        gc.collect()
+        self.assertEqual(ends, [3])
+
+    def test_a_closed_store_does_not_end_again(self) -> None:
+        ends = self.count_ends()
+        with Store(room=10):
+            pass
+        gc.collect()
+        self.assertEqual(ends, [])
+
+    def test_names_may_go_in_any_order(self) -> None:
+        for order in itertools.permutations(["store", "p", "q", "a", "v"]):
+            store = Store(room=10, passes=2)
+            p, q = store.passes
+            a, v = p.matrix(2, 2), q.vector(2)
+            a[0, 0] = 1
+            names: Dict[str, Any] = {"store": store, "p": p, "q": q, "a": a, "v": v}
+            gone = weakref.ref(store)
+            del store, p, q, a, v
+            for name in order:
+                del names[name]
+                if len(names) == 2:
+                    gc.collect()
+            gc.collect()
+            self.assertIsNone(gone())
+
+    def test_what_is_collected_with_its_store_may_still_make_calls(self) -> None:
+        told: List[str] = []
+
+        class Last:
+            """It frees a vector when it is collected."""
+
+            def __init__(self, vector: Any) -> None:
+                self.vector = vector
+                self.myself = self
+
+            def __del__(self) -> None:
+                try:
+                    self.vector.free()
+                    told.append("freed")
+                except Exception as fault:
+                    told.append(type(fault).__name__)
+
+        last = Last(Store(room=10).main.vector(3))
+        del last
+        gc.collect()
+        self.assertEqual(len(told), 1)
+
+    def test_numbers_of_stores_are_never_used_again(self) -> None:
+        numbers = [id(number) for number in store_module._numbers]
+        for _ in range(5):
+            Store(room=1).close()
+        gc.collect()
+        after = [id(number) for number in store_module._numbers]
+        self.assertEqual(after[: len(numbers)], numbers)
+        self.assertEqual(len(set(after)), len(numbers) + 5)
+
+    def test_a_process_may_end_with_an_open_store(self) -> None:
+        programs = {
+            "an open store": "store = Store(); v = store.main.vector(3); v[0] = 1",
+            "a cycle": "store = Store(); cycle = [store.main.vector(3)]; cycle.append(cycle)",
+            "a thread that goes on": (
+                "import threading\n"
+                "store = Store(room=65536); v = store.main.vector(3); started = threading.Event()\n"
+                "def work():\n"
+                "    while True:\n"
+                "        v.get(0); started.set()\n"
+                "threading.Thread(target=work, daemon=True).start(); started.wait()"
+            ),
+        }
+        for name, program in programs.items():
+            with self.subTest(name=name):
+                ran = subprocess.run(
+                    [sys.executable, "-c", f"from trowelheath import Store\n{program}"],
+                    env={**os.environ, "PYTHONPATH": str(SOURCE)},
+                    stderr=subprocess.PIPE,
+                    timeout=60,
+                )
+                self.assertEqual((ran.returncode, ran.stderr), (0, b""))
+
+
+@unittest.skipUnless(hasattr(os, "fork"), "the system has no fork")
+class Forked(unittest.TestCase):
+    def in_child(self, work: Any) -> int:
+        """The exit status of a child that does this work: 0 where it raised nothing."""
+        child = os.fork()
+        if child == 0:
+            try:
+                work()
+            except BaseException:
+                os._exit(1)
+            os._exit(0)
+        return os.waitstatus_to_exitcode(os.waitpid(child, 0)[1])
+
+    def test_a_store_belongs_to_the_process_that_opened_it(self) -> None:
+        with Store(room=10, passes=2) as store:
+            v = store.main.vector(3)
+            v[0] = 5
+
+            def work() -> None:
+                for call in lambda: v[0], store.main.facts, v.free, lambda: store.main.meet(store.passes[1]):
+                    with self.assertRaisesRegex(StoreClosed, "forked"):
+                        call()
+                store.close()
+                gc.collect()
+
+            self.assertEqual(self.in_child(work), 0)
+            self.assertEqual(v[0], 5)
+
+    def test_a_child_opens_a_store_of_its_own(self) -> None:
+        with Store(room=10) as store:
+            v = store.main.vector(3)
+            v[0] = 5
+
+            def work() -> None:
+                with Store(room=10) as own:
+                    w = own.main.vector(3)
+                    w[0] = 6
+                    self.assertEqual(w[0], 6)
+
+            self.assertEqual(self.in_child(work), 0)
+            self.assertEqual(v[0], 5)
+
+
+if __name__ == "__main__":
+    unittest.main()

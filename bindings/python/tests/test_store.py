@@ -1,0 +1,230 @@
+"""Opening and closing stores, and passes that meet."""
+
+from __future__ import annotations
+
+import unittest
+
+from support import StoreCase
+from trowelheath import (
+    MOST_PASSES,
+    MOST_ROOM,
+    MOST_SEATS,
+    Facts,
+    InvalidValue,
+    Matrix,
+    Pass,
+    Store,
+    StoreClosed,
+    Vector,
+)
+
+
+class Opening(unittest.TestCase):
+    def test_a_store_has_its_passes_in_order(self) -> None:
+        with Store(room=10, passes=3) as store:
+            self.assertEqual([pass_.number for pass_ in store.passes], [0, 1, 2])
+            self.assertTrue(all(isinstance(pass_, Pass) and pass_.store is store for pass_ in store.passes))
+            self.assertIs(store.main, store.passes[0])
+            self.assertEqual(store.room, 10)
+
+    def test_by_default_there_is_room_for_4096_calls_and_one_pass(self) -> None:
+        with Store() as store:
+            self.assertEqual((store.room, len(store.passes)), (4096, 1))
+
+    def test_the_smallest_and_the_largest_stores_open(self) -> None:
+        largest = MOST_SEATS // MOST_PASSES
+        for room, passes in (1, 1), (MOST_ROOM, 1), (1, MOST_PASSES), (largest, MOST_PASSES):
+            with self.subTest(room=room, passes=passes), Store(room, passes) as store:
+                self.assertEqual(store.main.facts().room_left, room)
+
+    def test_ranges_are_refused_outside(self) -> None:
+        cases = (0, 1), (1, 0), (-1, 1), (1, -1), (MOST_ROOM + 1, 1), (1, MOST_PASSES + 1), (4097, 256), (2**64, 1)
+        for room, passes in cases:
+            with self.subTest(room=room, passes=passes):
+                with self.assertRaisesRegex(InvalidValue, "a room from 1 to 65,536"):
+                    Store(room, passes)
+
+    def test_ranges_are_whole_numbers(self) -> None:
+        for room, passes in (1.0, 1), ("1", 1), (1, None):
+            with self.subTest(room=room, passes=passes), self.assertRaises(TypeError):
+                Store(room, passes)
+
+    def test_it_says_what_it_is(self) -> None:
+        with Store(room=10, passes=2) as store:
+            self.assertEqual(repr(store), "<Store of room 10, 2 passes>")
+            self.assertEqual(repr(store.passes[1]), "<Pass 1 of <Store of room 10, 2 passes>>")
+        self.assertEqual(repr(store), "<Store of room 10, 2 passes, closed>")
+        with Store(room=10) as one:
+            self.assertEqual(repr(one), "<Store of room 10, 1 pass>")
+
+    def test_stores_stand_apart(self) -> None:
+        with Store(room=10) as one, Store(room=10) as other:
+            mine, theirs = one.main.vector(3), other.main.vector(4)
+            mine[0] = 5
+            theirs[0] = 6
+            self.assertEqual((mine.number, theirs.number), (0, 0))
+            self.assertEqual((mine[0], theirs[0], mine.size, theirs.size), (5, 6, 3, 4))
+
+
+class Closing(unittest.TestCase):
+    def test_a_with_statement_closes_the_store_whatever_happens(self) -> None:
+        with self.assertRaises(ZeroDivisionError):
+            with Store(room=10) as store:
+                self.assertFalse(store.closed)
+                raise ZeroDivisionError
+        self.assertTrue(store.closed)
+
+    def test_a_store_may_be_closed_again(self) -> None:
+        store = Store(room=10)
+        store.close()
+        store.close()
+        self.assertTrue(store.closed)
+
+    def test_every_call_after_that_says_so(self) -> None:
+        with Store(room=20, passes=2) as store:
+            p, q = store.passes
+            a, v = p.matrix(2, 2), p.vector(2)
+            other = Store(room=10)
+            self.addCleanup(other.close)
+        calls = [
+            lambda: p.matrix(2, 2),
+            lambda: p.vector(2),
+            lambda: p.meet(q),
+            lambda: p.meet(p),
+            lambda: p.adopt(q),
+            lambda: other.main.meet(p),
+            lambda: p.meet(other.main),
+            p.prepare,
+            p.facts,
+            lambda: a.nvals,
+            lambda: a.shape,
+            lambda: a[0, 0],
+            lambda: a.get(0, 0),
+            lambda: a.__setitem__((0, 0), 1),
+            lambda: a.__delitem__((0, 0)),
+            lambda: a.build([0], [0], [1]),
+            lambda: a.to_lists(),
+            lambda: a.mxm(a),
+            lambda: a.mxv(v, out=v),
+            lambda: a.reduce("plus"),
+            lambda: a.last_info,
+            a.dup,
+            a.clear,
+            a.free,
+            a.wait,
+            lambda: v.size,
+            lambda: v[0],
+            lambda: len(v),
+            lambda: list(v),
+        ]
+        for place, call in enumerate(calls):
+            with self.subTest(place=place), self.assertRaisesRegex(StoreClosed, "the store is closed"):
+                call()
+        self.assertEqual(repr(a), "<Matrix 0: the store is closed>")
+
+
+class Passes(StoreCase):
+    passes = 3
+
+    def test_a_pass_makes_objects_of_either_sort_and_domain(self) -> None:
+        a, b = self.p.matrix(2, 3), self.p.matrix(4, 5, bool)
+        v, w = self.p.vector(6), self.p.vector(7, dtype=bool)
+        self.assertTrue(isinstance(a, Matrix) and isinstance(b, Matrix))
+        self.assertTrue(isinstance(v, Vector) and isinstance(w, Vector))
+        self.assertEqual([x.dtype for x in (a, b, v, w)], [int, bool, int, bool])
+        self.assertEqual([x.shape for x in (a, b, v, w)], [(2, 3), (4, 5), (6,), (7,)])
+        self.assertEqual([x.number for x in (a, b, v, w)], [0, 1, 0, 1])
+        self.assertEqual({x.pass_ for x in (a, b, v, w)}, {self.p})
+        self.assertEqual({x.store for x in (a, b, v, w)}, {self.store})
+
+    def test_another_dtype_is_refused(self) -> None:
+        for dtype in float, str, "int", None:
+            with self.subTest(dtype=dtype):
+                with self.assertRaises(TypeError):
+                    self.p.matrix(2, 2, dtype)
+                with self.assertRaises(TypeError):
+                    self.p.vector(2, dtype)
+
+    def test_an_object_is_the_same_by_every_pass(self) -> None:
+        a, v = self.p.matrix(2, 2), self.p.vector(2, bool)
+        a[0, 1] = 5
+        v[1] = True
+        for pass_ in self.store.passes:
+            self.assertEqual(a.using(pass_)[0, 1], 5)
+            self.assertIs(v.using(pass_)[1], True)
+            self.assertIs(a.using(pass_).pass_, pass_)
+            self.assertEqual((a.using(pass_).number, a.using(pass_).dtype), (a.number, int))
+        a.using(self.q)[1, 1] = 6
+        self.assertEqual(a[1, 1], 6)
+
+    def test_an_object_is_not_used_by_a_pass_of_another_store(self) -> None:
+        with Store(room=10) as other:
+            with self.assertRaisesRegex(ValueError, "of another store"):
+                self.p.matrix(2, 2).using(other.main)
+
+    def test_a_pass_that_meets_another_knows_what_that_knows(self) -> None:
+        v = self.p.vector(5)
+        for i in range(5):
+            v[i] = i
+        self.assertEqual(self.p.facts().known, 6)
+        self.q.meet(self.p)
+        self.assertEqual(self.q.facts().known, 6)
+        self.store.passes[1].adopt(self.p)
+        self.assertEqual(self.store.passes[1].facts().known, 6)
+        self.assertEqual(v.using(self.q).to_dict(), {i: i for i in range(5)})
+
+    def test_a_pass_that_meets_itself_learns_nothing(self) -> None:
+        before = self.p.facts()
+        self.p.meet(self.p)
+        self.p.adopt(self.p)
+        self.assertEqual(self.p.facts().known, before.known)
+
+    def test_passes_of_two_stores_do_not_meet(self) -> None:
+        with Store(room=10) as other:
+            for meet in self.p.meet, self.p.adopt:
+                with self.assertRaisesRegex(InvalidValue, "two passes of one store"):
+                    meet(other.main)
+
+    def test_a_pass_meets_passes_alone(self) -> None:
+        for other in None, self.store, 1:
+            with self.subTest(other=other), self.assertRaises(TypeError):
+                self.p.meet(other)
+
+    def test_prepare_tells_how_many_calls_are_evaluated(self) -> None:
+        v = self.p.vector(5)
+        v[0] = 1
+        self.assertLessEqual(self.p.prepare(), 2)
+        self.assertEqual(v[0], 1)
+
+    def test_facts_tell_what_the_pass_knows(self) -> None:
+        facts = self.q.facts()
+        self.assertIsInstance(facts, Facts)
+        self.assertEqual((facts.number, facts.known, facts.settled), (2, 0, 0))
+        self.assertEqual(facts.room_left, self.room)
+        v = self.q.vector(5)
+        v[0] = 1
+        v.wait("materialize")
+        facts = self.q.facts()
+        self.assertEqual((facts.known, facts.settled, facts.room_left), (2, 2, self.room - 2))
+
+    def test_reads_take_no_room(self) -> None:
+        v = self.p.vector(5)
+        left = self.p.facts().room_left
+        reads = [
+            lambda: v.get(0),
+            lambda: v.nvals,
+            lambda: v.size,
+            lambda: v.reduce("plus"),
+            lambda: v.last_info,
+            lambda: list(v),
+            lambda: repr(v),
+            v.to_lists,
+            v.wait,
+        ]
+        for read in reads:
+            read()
+        self.assertEqual(self.p.facts().room_left, left)
+
+
+if __name__ == "__main__":
+    unittest.main()

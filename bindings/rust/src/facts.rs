@@ -1,0 +1,22 @@
+//! What a pass tells of itself.
+
+/// What a pass tells of itself, as of its last call. [`Pass::facts`](crate::Pass::facts) answers them.
+#[derive(Clone, Copy, Debug, Default, PartialEq, Eq, Hash)]
+#[repr(C)]
+pub struct Facts {
+    /// The number of the pass in its store, from 0.
+    pub number: u32,
+    /// How many calls of the history it knows.
+    pub known: u32,
+    /// How many places of the history it has learnt. It is the number of known calls, or more where a record was not shown.
+    pub words: u32,
+    /// How many calls it knew at its last wait with [`Wait::Materialize`](crate::Wait::Materialize) that was done; 0 before the first. As long as
+    /// it knows no more, none of its reads is refused for lack of memory.
+    pub settled: u32,
+    /// How many more changes the store takes, as far as the pass has learnt.
+    pub room_left: u32,
+    /// How many atomic steps its last call, or its last meeting, made on the history.
+    pub steps: u32,
+    /// How many calls of the history its last call made to answer, so what a read cost. 0 after a change that is no build.
+    pub made: u32,
+}

@@ -1,0 +1,177 @@
+//! A pass: one thread's way into a store, and what it tells another.
+
+use crate::descriptor::Descriptor;
+use crate::error::{done, Error};
+use crate::facts::Facts;
+use crate::object::Object;
+use crate::store::Store;
+use crate::sys::{self, TrbPass};
+use std::fmt;
+use std::sync::Arc;
+
+/// One thread's way into a store: all calls are made by a pass.
+///
+/// A pass may go to another thread. One thread at a time uses it, since each method borrows it mutably. Where it is dropped the pass
+/// ends; what it entered stays, and with the last pass of a store the store's memory is given back. No method waits for another thread.
+///
+/// Each call takes effect at one moment between its start and its return, in one history that all passes share: the store is linearizable.
+/// A pass sees its own calls at once, and those of other passes as soon as they are entered.
+///
+/// # Changes
+///
+/// A call that changes the store enters its history and takes one of the calls that there is room for. It does none of its work: that
+/// is done by the first read that needs it, or by a [`wait`](Pass::wait). Beside its own refusals, each change can be refused for
+///
+/// - [`Error::OrderFull`]: the room is used up. A store that is full stays so, and reads go on. Open another store and carry the objects
+///   over: read their entries, and build them anew.
+/// - [`Error::OutOfMemory`]: memory was refused to the call's record. Nothing has changed.
+/// - [`Error::Panic`]: the call's record could not be kept, or an earlier one of another pass was not shown. Make the call again; if it
+///   comes again, stop using the store.
+///
+/// # Reads
+///
+/// A read takes no room. It does the work that its answer depends on and that is not done. Beside its own refusals, it can be refused
+/// for
+///
+/// - [`Error::OutOfMemory`]: memory was refused to that work. Nothing is lost.
+/// - [`Error::Panic`]: the record of an earlier call of another pass was not shown. Make the call again.
+///
+/// # Objects of other stores
+///
+/// A handle of another store's object is refused by [`Error::ForeignObject`], whatever the call. Its number would mean another object here.
+///
+/// # Not in two threads at once
+///
+/// A pass is `Send`, and not `Sync`. This does not compile:
+///
+/// ```compile_fail
+/// fn shared<T: Sync>() {}
+/// shared::<trowelheath::Pass>();
+/// ```
+///
+/// No call may be made in a signal handler, or in the child of a fork of a process with threads. Safe Rust does neither.
+pub struct Pass {
+    pub(crate) raw: TrbPass,
+    store: Store,
+    // Its address is the number under which the library knows the store, so it is kept until the pass has ended.
+    _byte: Arc<u8>,
+}
+
+// SAFETY: what the library keeps of a pass is bound to no thread. It has to be handed on by something that orders memory, and so is every
+// move of a value to another thread in safe Rust, as by a spawn, a join, a channel or a lock.
+unsafe impl Send for Pass {}
+
+impl Drop for Pass {
+    fn drop(&mut self) {
+        // SAFETY: the pass is borrowed mutably, so this call alone has it. Its byte is dropped after this.
+        unsafe { sys::trb_free(&mut self.raw) }
+    }
+}
+
+impl fmt::Debug for Pass {
+    fn fmt(&self, f: &mut fmt::Formatter<'_>) -> fmt::Result {
+        f.debug_struct("Pass")
+            .field("store", &self.store)
+            .finish_non_exhaustive()
+    }
+}
+
+impl Pass {
+    /// A pass that the library has handed out, or none.
+    pub(crate) fn of(raw: TrbPass, store: Store, byte: Arc<u8>) -> Pass {
+        Pass {
+            raw,
+            store,
+            _byte: byte,
+        }
+    }
+
+    /// The store that the pass is of.
+    pub fn store(&self) -> Store {
+        self.store
+    }
+
+    /// `ForeignObject` where the object is of another store.
+    pub(crate) fn check(&self, object: impl Object) -> Result<(), Error> {
+        self.check_store(Some(object.store()))
+    }
+
+    /// `ForeignObject` where the mask of the descriptor is of another store.
+    pub(crate) fn check_mask<O: Object>(&self, descriptor: &Descriptor<O>) -> Result<(), Error> {
+        self.check_store(descriptor.mask_store())
+    }
+
+    fn check_store(&self, of: Option<Store>) -> Result<(), Error> {
+        match of {
+            Some(store) if store != self.store => Err(Error::ForeignObject),
+            _ => Ok(()),
+        }
+    }
+
+    /// Lets the pass learn all that the other knows, without a call. Each call looks for news by itself, so this is for a moment that suits
+    /// you, as the end of a phase.
+    ///
+    /// # Errors
+    ///
+    /// - [`Error::ForeignPass`]: the passes are of two stores.
+    /// - [`Error::Panic`]: the record of a call was not shown. Ask again.
+    pub fn meet(&mut self, other: &mut Pass) -> Result<(), Error> {
+        self.check_pass(other)?;
+        // SAFETY: both passes are borrowed mutably, so they are two, and this call alone has them.
+        done(unsafe { sys::trb_meet(&mut self.raw, &mut other.raw) })
+    }
+
+    /// Lets the pass learn all that the other knows, and go on from what the other has evaluated: its next answer does the work that is left.
+    /// Both share the objects until one of them changes one. Where memory is refused for that, the pass evaluates for itself.
+    ///
+    /// # Errors
+    ///
+    /// As of [`meet`](Pass::meet).
+    ///
+    /// ```no_run
+    /// # use trowelheath::{Error, Pass};
+    /// # fn begin(loading: &mut Pass, serving: &mut Pass) -> Result<(), Error> {
+    /// loading.prepare()?;
+    /// serving.adopt(loading)?;
+    /// # Ok(())
+    /// # }
+    /// ```
+    pub fn adopt(&mut self, other: &mut Pass) -> Result<(), Error> {
+        self.check_pass(other)?;
+        // SAFETY: both passes are borrowed mutably, so they are two, and this call alone has them.
+        done(unsafe { sys::trb_adopt(&mut self.raw, &mut other.raw) })
+    }
+
+    fn check_pass(&self, other: &Pass) -> Result<(), Error> {
+        if self.store == other.store {
+            Ok(())
+        } else {
+            Err(Error::ForeignPass)
+        }
+    }
+
+    /// Evaluates what the pass knows, where that is dear, so that others may [`adopt`](Pass::adopt) it. It changes no answer. It answers how
+    /// many of the calls that the pass knows are evaluated then; where memory is refused, fewer are.
+    ///
+    /// # Errors
+    ///
+    /// The library refuses only a pass that has ended, and this one has not.
+    pub fn prepare(&mut self) -> Result<u32, Error> {
+        let mut evaluated = 0;
+        // SAFETY: the pass is borrowed mutably, so this call alone has it, and the place of the answer is a local variable.
+        done(unsafe { sys::trb_prepare(&mut self.raw, &mut evaluated) })?;
+        Ok(evaluated)
+    }
+
+    /// What the pass tells of itself, as of its last call. It learns nothing by this.
+    ///
+    /// # Errors
+    ///
+    /// The library refuses only a pass that has ended, and this one has not.
+    pub fn facts(&mut self) -> Result<Facts, Error> {
+        let mut facts = Facts::default();
+        // SAFETY: the pass is borrowed mutably, so this call alone has it, and the place of the answer is a local variable.
+        done(unsafe { sys::trb_facts(&mut self.raw, &mut facts) })?;
+        Ok(facts)
+    }
+}

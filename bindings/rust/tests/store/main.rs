@@ -1,0 +1,44 @@
+//! Tests of each method and of each refusal, on the library that is linked.
+
+mod lists;
+mod masks;
+mod objects;
+mod operations;
+mod passes;
+mod refusals;
+mod threads;
+
+use trowelheath::{Element, Matrix, Object, Pass, Store, Vector};
+
+/// The one pass of a store with room enough for a test.
+fn open() -> Pass {
+    let [pass] = Store::open_array(1_000).unwrap();
+    pass
+}
+
+/// A matrix that stores these entries.
+fn matrix<T: Element>(
+    pass: &mut Pass,
+    (nrows, ncols): (u64, u64),
+    entries: &[(u64, u64, T)],
+) -> Matrix<T> {
+    let a = pass.new_matrix(nrows, ncols).unwrap();
+    for &(i, j, value) in entries {
+        pass.set(a, (i, j), value).unwrap();
+    }
+    a
+}
+
+/// A vector that stores these entries.
+fn vector<T: Element>(pass: &mut Pass, size: u64, entries: &[(u64, T)]) -> Vector<T> {
+    let v = pass.new_vector(size).unwrap();
+    for &(i, value) in entries {
+        pass.set(v, i, value).unwrap();
+    }
+    v
+}
+
+/// What an object stores, in order.
+fn stored<O: Object>(pass: &mut Pass, object: O) -> Vec<O::Entry> {
+    pass.entries(object).unwrap().into_iter().collect()
+}

@@ -1,0 +1,163 @@
+//! Opening a store, its passes, and what they tell each other.
+
+use crate::open;
+use std::thread;
+use trowelheath::{Error, Monoid, Object, Store, Wait};
+
+#[test]
+fn a_store_is_opened_within_its_limits() {
+    for (room, passes) in [(1, 1), (65_536, 16), (4_096, 256)] {
+        let opened = Store::open(room, passes).unwrap();
+        assert_eq!(opened.len(), passes, "room {room}");
+    }
+    for (room, passes) in [
+        (0, 1),
+        (65_537, 1),
+        (1, 0),
+        (1, 257),
+        (65_536, 17),
+        (4_097, 256),
+        (u32::MAX, usize::MAX),
+    ] {
+        assert_eq!(
+            Store::open(room, passes).map(|_| ()),
+            Err(Error::InvalidValue),
+            "room {room}, passes {passes}"
+        );
+    }
+    assert_eq!(
+        Store::open_array::<0>(1).map(|_| ()),
+        Err(Error::InvalidValue)
+    );
+}
+
+#[test]
+fn passes_are_numbered_from_0() {
+    let mut passes = Store::open(10, 5).unwrap();
+    for (number, pass) in (0..).zip(&mut passes) {
+        let facts = pass.facts().unwrap();
+        assert_eq!(facts.number, number);
+        assert_eq!(facts.known, 0);
+        assert_eq!(facts.settled, 0);
+        assert_eq!(facts.room_left, 10);
+    }
+}
+
+#[test]
+fn changes_take_room_and_reads_take_none() {
+    let [mut pass] = Store::open_array(10).unwrap();
+    let v = pass.new_vector::<u64>(3).unwrap();
+    pass.set(v, 0, 1).unwrap();
+    assert_eq!(pass.facts().unwrap().room_left, 8);
+    for _ in 0..20 {
+        assert_eq!(pass.get(v, 0), Ok(Some(1)));
+        assert_eq!(pass.nvals(v), Ok(1));
+        assert_eq!(pass.size(v), Ok(3));
+        assert_eq!(pass.reduce(v, Monoid::PLUS), Ok(1));
+        assert_eq!(pass.entries(v).unwrap().len(), 1);
+        pass.wait(v, Wait::Complete).unwrap();
+    }
+    let facts = pass.facts().unwrap();
+    assert_eq!(facts.room_left, 8);
+    assert_eq!(facts.known, 2);
+    assert!(facts.words >= facts.known);
+}
+
+#[test]
+fn a_refused_call_takes_no_room() {
+    let [mut pass] = Store::open_array(10).unwrap();
+    let v = pass.new_vector::<u64>(3).unwrap();
+    assert_eq!(pass.set(v, 3, 1), Err(Error::InvalidIndex));
+    assert_eq!(pass.facts().unwrap().room_left, 9);
+}
+
+#[test]
+fn a_pass_that_meets_another_knows_what_it_knows() {
+    let [mut first, mut second] = Store::open_array(10).unwrap();
+    let v = first.new_vector::<u64>(3).unwrap();
+    first.set(v, 1, 7).unwrap();
+    assert_eq!(second.facts().unwrap().known, 0);
+    second.meet(&mut first).unwrap();
+    assert_eq!(second.facts().unwrap().known, 2);
+    assert_eq!(first.facts().unwrap().known, 2);
+    assert_eq!(second.get(v, 1), Ok(Some(7)));
+}
+
+#[test]
+fn a_pass_that_adopts_another_knows_what_it_knows() {
+    let [mut first, mut second] = Store::open_array(10).unwrap();
+    let v = first.new_vector::<u64>(3).unwrap();
+    first.set(v, 1, 7).unwrap();
+    let evaluated = first.prepare().unwrap();
+    assert!(evaluated <= first.facts().unwrap().known);
+    second.adopt(&mut first).unwrap();
+    assert_eq!(second.facts().unwrap().known, 2);
+    assert_eq!(second.get(v, 1), Ok(Some(7)));
+    second.set(v, 1, 8).unwrap();
+    assert_eq!(first.get(v, 1), Ok(Some(8)));
+}
+
+#[test]
+fn a_call_learns_what_others_entered_before() {
+    let [mut first, mut second] = Store::open_array(10).unwrap();
+    let v = first.new_vector::<u64>(3).unwrap();
+    second.set(v, 2, 5).unwrap();
+    assert_eq!(first.get(v, 2), Ok(Some(5)));
+}
+
+#[test]
+fn a_wait_for_all_settles_what_is_known() {
+    let mut pass = open();
+    let v = pass.new_vector::<u64>(3).unwrap();
+    pass.set(v, 2, 5).unwrap();
+    assert_eq!(pass.facts().unwrap().settled, 0);
+    pass.wait(v, Wait::Materialize).unwrap();
+    assert_eq!(pass.facts().unwrap().settled, 2);
+}
+
+#[test]
+fn what_a_pass_entered_outlives_it() {
+    let [mut first, mut second] = Store::open_array(10).unwrap();
+    let v = first.new_vector::<u64>(3).unwrap();
+    first.set(v, 0, 9).unwrap();
+    drop(first);
+    assert_eq!(second.get(v, 0), Ok(Some(9)));
+    second.set(v, 1, 1).unwrap();
+    assert_eq!(second.nvals(v), Ok(2));
+}
+
+#[test]
+fn a_pass_goes_to_a_thread_and_comes_back() {
+    let mut pass = open();
+    let v = pass.new_vector::<u64>(3).unwrap();
+    let mut pass = thread::spawn(move || {
+        pass.set(v, 0, 4).unwrap();
+        pass
+    })
+    .join()
+    .unwrap();
+    assert_eq!(pass.get(v, 0), Ok(Some(4)));
+}
+
+#[test]
+fn no_two_stores_have_one_name() {
+    let gone = {
+        let mut pass = open();
+        let v = pass.new_vector::<u64>(3).unwrap();
+        assert_eq!(v.store(), pass.store());
+        v
+    };
+    for _ in 0..100 {
+        let mut pass = open();
+        let v = pass.new_vector::<u64>(3).unwrap();
+        assert_ne!(pass.store(), gone.store());
+        assert_ne!(v, gone);
+        assert_eq!(pass.nvals(gone), Err(Error::ForeignObject));
+    }
+}
+
+#[test]
+fn a_pass_is_printed_without_its_contents() {
+    let text = format!("{:?}", open());
+    assert!(text.starts_with("Pass { store: Store"), "{text}");
+}

@@ -1,0 +1,87 @@
+//! Passes that are used at the same time.
+
+use std::thread;
+use trowelheath::{Matrix, Monoid, Pass, Store};
+
+const THREADS: u64 = 4;
+const EACH: u64 = 200;
+
+/// Adds the entries of one thread's rows.
+fn fill(pass: &mut Pass, a: Matrix<u64>, thread: u64) {
+    for k in 0..EACH {
+        let at = (16 * thread + k % 16, k / 16);
+        let value = 1_000 * thread + k;
+        pass.set(a, at, value).unwrap();
+        assert_eq!(pass.get(a, at), Ok(Some(value)));
+        assert!(pass.nvals(a).unwrap() > k);
+    }
+}
+
+#[test]
+fn all_passes_see_what_all_threads_did() {
+    let mut passes = Store::open(1_000, THREADS as usize).unwrap();
+    let a = passes[0].new_matrix(64, 64).unwrap();
+    thread::scope(|scope| {
+        for (thread, pass) in (0..).zip(&mut passes) {
+            scope.spawn(move || fill(pass, a, thread));
+        }
+    });
+    let values = (0..THREADS).flat_map(|thread| (0..EACH).map(move |k| 1_000 * thread + k));
+    let sum = values.sum::<u64>();
+    let all = passes[0].entries(a).unwrap();
+    for pass in &mut passes {
+        assert_eq!(pass.nvals(a), Ok(THREADS * EACH));
+        assert_eq!(pass.reduce(a, Monoid::PLUS), Ok(sum));
+        assert_eq!(pass.entries(a).unwrap(), all);
+    }
+}
+
+#[test]
+fn entries_are_of_one_moment_while_others_are_added() {
+    const ENTRIES: u64 = 2_000;
+    let [mut adding, mut reading] = Store::open_array(10_000).unwrap();
+    let v = adding.new_vector::<u64>(ENTRIES).unwrap();
+    thread::scope(|scope| {
+        scope.spawn(move || {
+            for k in 0..ENTRIES {
+                adding.set(v, k, k).unwrap();
+            }
+        });
+        let mut before = 0;
+        while before < ENTRIES as usize {
+            let entries = reading.entries(v).unwrap();
+            assert!(entries.len() >= before);
+            before = entries.len();
+            // They were added from the lowest index up, so no index is left out.
+            for (k, entry) in (0..).zip(entries) {
+                assert_eq!(entry, (k, k));
+            }
+        }
+    });
+}
+
+#[test]
+fn one_room_is_shared_by_all_threads() {
+    const ROOM: u32 = 100;
+    let mut passes = Store::open(ROOM, 4).unwrap();
+    let v = passes[0].new_vector::<u64>(1_000).unwrap();
+    let taken: u64 = thread::scope(|scope| {
+        let threads: Vec<_> = (0..)
+            .zip(&mut passes)
+            .map(|(thread, pass)| {
+                scope.spawn(move || {
+                    let own = (0..250).map(|k| 250 * thread + k);
+                    own.map(|i| pass.set(v, i, 1)).filter(Result::is_ok).count() as u64
+                })
+            })
+            .collect();
+        threads
+            .into_iter()
+            .map(|thread| thread.join().unwrap())
+            .sum()
+    });
+    assert_eq!(taken, u64::from(ROOM) - 1);
+    for pass in &mut passes {
+        assert_eq!(pass.nvals(v), Ok(taken));
+    }
+}

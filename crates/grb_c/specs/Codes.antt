@@ -1,0 +1,218 @@
+-- believed: What the numbers of the C interface stand for: GraphBLAS C API 2.0, "Error model", for the statuses, of which OrderFull is
+-- own, and its header for domains, modes and three of the descriptor's bits; the bit of a transposed input and the numbers of operators
+-- and monoids are own.
+use Rattle.std.specs.Prelude.{ℕ, ◌/◌, ◌%◌, ◌<◌, nat_lt, ℤ, pos, negsuc, Bool, true, false, ◌==◌, if◌then◌else◌, Option, Some, None, Result, Ok, Err}
+use Rattle.std.specs.Option.{option_map}
+use Rattle.grb_core.specs.declared.domain.Domain.{Domain}
+use Rattle.grb_core.specs.declared.domain.Domain.TheVariants as domain
+use Rattle.grb_core.specs.declared.operator.BinaryOp.{BinaryOp}
+use Rattle.grb_core.specs.declared.operator.BinaryOp.TheVariants as op
+use Rattle.grb_core.specs.declared.monoid.Monoid.{Monoid}
+use Rattle.grb_core.specs.declared.monoid.Monoid.TheVariants as monoid
+use Rattle.grb_core.specs.declared.refusal.Refusal.{Refusal}
+use Rattle.grb_core.specs.declared.refusal.Refusal.TheVariants as refusal
+use Rattle.grb_core.specs.declared.refusal.Info.{Info}
+use Rattle.grb_core.specs.declared.refusal.Info.TheVariants as info
+use Rattle.grb_core.specs.declared.value.Value.{Value}
+use Rattle.grb_core.specs.declared.value.Value.TheVariants as value
+use Rattle.grb_core.specs.Semiring.{SemiringParts}
+use Rattle.grb_core.specs.Operator.{op_domain}
+use Rattle.grb_core.specs.Monoid.{monoid_domain}
+use Rattle.grb_call.specs.declared.descriptor.Descriptor.{Descriptor}
+use Rattle.grb_call.specs.declared.descriptor.WaitMode.{WaitMode}
+use Rattle.grb_call.specs.declared.descriptor.WaitMode.TheVariants as mode
+use Rattle.grb_call.specs.declared.ids.MatrixId.{MatrixId}
+use Rattle.grb_call.specs.declared.ids.VectorId.{VectorId}
+use Rattle.grb_call.specs.declared.reply.Reply.{Reply}
+use Rattle.grb_call.specs.declared.reply.Reply.TheVariants as reply
+use Rattle.grb_context.specs.Explains.{Answer}
+
+abbrev pub success : ℤ
+success = pos 0
+
+abbrev pub no_value : ℤ
+no_value = pos 1
+
+abbrev pub uninitialized_object : ℤ
+uninitialized_object = negsuc 0
+
+abbrev pub invalid_value : ℤ
+invalid_value = negsuc 2
+
+abbrev pub domain_mismatch : ℤ
+domain_mismatch = negsuc 4
+
+abbrev pub panic : ℤ
+panic = negsuc 100
+
+abbrev pub out_of_memory : ℤ
+out_of_memory = negsuc 101
+
+abbrev pub insufficient_space : ℤ
+insufficient_space = negsuc 102
+
+-- the status of a refusal
+abbrev pub refusal_code : Refusal → ℤ
+refusal_code refusal.UninitializedObject = negsuc 0
+refusal_code refusal.InvalidValue = negsuc 2
+refusal_code refusal.InvalidIndex = negsuc 3
+refusal_code refusal.DomainMismatch = negsuc 4
+refusal_code refusal.DimensionMismatch = negsuc 5
+refusal_code refusal.OutputNotEmpty = negsuc 6
+refusal_code refusal.IndexOutOfBounds = negsuc 104
+refusal_code refusal.OrderFull = negsuc 1000
+refusal_code refusal.OutOfMemory = negsuc 101
+refusal_code refusal.Panic = negsuc 100
+
+-- the status of an answer that puts nothing out
+abbrev pub done_code : Answer → ℤ
+done_code (Ok reply) = success
+done_code (Err r) = refusal_code r
+
+-- the status of an answer with a number, and the number that it puts out
+abbrev pub number_code : Answer → ℤ
+number_code (Ok (reply.Value (value.Uint64 x))) = success
+number_code (Ok (reply.Value (value.Bool x))) = domain_mismatch
+number_code (Ok (reply.Count n)) = success
+number_code (Ok (reply.Size n)) = success
+number_code (Ok reply.NoValue) = no_value
+number_code (Ok reply.Done) = panic
+number_code (Ok (reply.MadeMatrix a)) = panic
+number_code (Ok (reply.MadeVector v)) = panic
+number_code (Ok (reply.Dims nrows ncols)) = panic
+number_code (Err r) = refusal_code r
+
+abbrev pub number_out : Answer → ℕ → ℕ
+number_out (Ok (reply.Value (value.Uint64 x))) before = x
+number_out (Ok (reply.Count n)) before = n
+number_out (Ok (reply.Size n)) before = n
+number_out _ before = before
+
+-- of an answer with a truth value
+abbrev pub bool_code : Answer → ℤ
+bool_code (Ok (reply.Value (value.Bool x))) = success
+bool_code (Ok (reply.Value (value.Uint64 x))) = domain_mismatch
+bool_code (Ok reply.NoValue) = no_value
+bool_code (Ok (reply.Count n)) = panic
+bool_code (Ok (reply.Size n)) = panic
+bool_code (Ok reply.Done) = panic
+bool_code (Ok (reply.MadeMatrix a)) = panic
+bool_code (Ok (reply.MadeVector v)) = panic
+bool_code (Ok (reply.Dims nrows ncols)) = panic
+bool_code (Err r) = refusal_code r
+
+abbrev pub bool_out : Answer → Bool → Bool
+bool_out (Ok (reply.Value (value.Bool x))) before = x
+bool_out _ before = before
+
+-- of an answer with the number of an object
+abbrev pub object_code : Answer → ℤ
+object_code (Ok (reply.MadeMatrix a)) = success
+object_code (Ok (reply.MadeVector v)) = success
+object_code (Ok reply.Done) = panic
+object_code (Ok (reply.Value x)) = panic
+object_code (Ok reply.NoValue) = panic
+object_code (Ok (reply.Count n)) = panic
+object_code (Ok (reply.Size n)) = panic
+object_code (Ok (reply.Dims nrows ncols)) = panic
+object_code (Err r) = refusal_code r
+
+abbrev pub object_out : Answer → ℕ → ℕ
+object_out (Ok (reply.MadeMatrix a)) before = a.0
+object_out (Ok (reply.MadeVector v)) before = v.0
+object_out _ before = before
+
+-- of an answer with dimensions
+abbrev pub dims_code : Answer → ℤ
+dims_code (Ok (reply.Dims nrows ncols)) = success
+dims_code (Ok (reply.MadeMatrix a)) = panic
+dims_code (Ok (reply.MadeVector v)) = panic
+dims_code (Ok reply.Done) = panic
+dims_code (Ok (reply.Value x)) = panic
+dims_code (Ok reply.NoValue) = panic
+dims_code (Ok (reply.Count n)) = panic
+dims_code (Ok (reply.Size n)) = panic
+dims_code (Err r) = refusal_code r
+
+abbrev pub dims_out : Answer → ℕ × ℕ → ℕ × ℕ
+dims_out (Ok (reply.Dims nrows ncols)) before = (nrows, ncols)
+dims_out _ before = before
+
+-- what is done with a decoded number, or the status where it stands for nothing
+abbrev pub with_code : {X Y : Type 0} → Option X → (X → Result Y ℤ) → Result Y ℤ
+with_code (Some x) f = f x
+with_code None f = Err invalid_value
+
+abbrev pub domain_at : ℕ → Option Domain
+domain_at n =
+    if n == 1 then Some domain.Bool
+    else (if n == 9 then Some domain.Uint64 else None)
+
+abbrev pub op_at : ℕ → Option BinaryOp
+op_at n =
+    if n == 1 then Some op.Lor
+    else (if n == 2 then Some op.Land
+    else (if n == 3 then Some op.Lxor
+    else (if n == 4 then Some op.Lxnor
+    else (if n == 5 then Some op.FirstBool
+    else (if n == 6 then Some op.SecondBool
+    else (if n == 7 then Some op.Plus
+    else (if n == 8 then Some op.Times
+    else (if n == 9 then Some op.Min
+    else (if n == 10 then Some op.Max
+    else (if n == 11 then Some op.Minus
+    else (if n == 12 then Some op.First
+    else (if n == 13 then Some op.Second else None))))))))))))
+
+-- an accumulator, of which 0 is none
+abbrev pub accum_at : ℕ → Option (Option BinaryOp)
+accum_at n = if n == 0 then Some None else option_map (λ (o : BinaryOp). Some o) (op_at n)
+
+abbrev pub monoid_at : ℕ → Option Monoid
+monoid_at n =
+    if n == 1 then Some monoid.Lor
+    else (if n == 2 then Some monoid.Land
+    else (if n == 3 then Some monoid.Lxor
+    else (if n == 4 then Some monoid.Lxnor
+    else (if n == 7 then Some monoid.Plus
+    else (if n == 8 then Some monoid.Times
+    else (if n == 9 then Some monoid.Min
+    else (if n == 10 then Some monoid.Max else None)))))))
+
+-- both domains are the same
+abbrev pub is_one_domain : Domain → Domain → Bool
+is_one_domain domain.Bool domain.Bool = true
+is_one_domain domain.Uint64 domain.Uint64 = true
+is_one_domain domain.Bool domain.Uint64 = false
+is_one_domain domain.Uint64 domain.Bool = false
+
+abbrev pub semiring_of : Monoid → BinaryOp → Result SemiringParts ℤ
+semiring_of m o = if is_one_domain (monoid_domain m) (op_domain o) then Ok (record { monoid = m; op = o }) else Err domain_mismatch
+
+-- the mask of a number, of which the largest is none
+abbrev pub matrix_mask_at : ℕ → Option MatrixId
+matrix_mask_at n = if n == 4294967295 then None else Some (record { 0 = n })
+
+abbrev pub vector_mask_at : ℕ → Option VectorId
+vector_mask_at n = if n == 4294967295 then None else Some (record { 0 = n })
+
+-- the bits from the lowest: replace, complement, structure, first input transposed
+abbrev pub descriptor_at : ℕ → Option Descriptor
+descriptor_at n =
+    if nat_lt n 16 then Some (record { structure = (n / 4) % 2 == 1; comp = (n / 2) % 2 == 1; replace = n % 2 == 1; tran = (n / 8) % 2 == 1 }) else None
+
+abbrev pub mode_at : ℕ → Option WaitMode
+mode_at n =
+    if n == 0 then Some mode.Complete
+    else (if n == 1 then Some mode.Materialize else None)
+
+-- the status of a meeting
+abbrev pub met_code : Result (Unit {0}) Refusal → ℤ
+met_code (Ok done) = success
+met_code (Err r) = refusal_code r
+
+-- the status of an object
+abbrev pub info_code : Info → ℤ
+info_code info.Success = success
+info_code info.NoValue = no_value
+info_code (info.Refused r) = refusal_code r

@@ -1,0 +1,160 @@
+//! Builds from arrays.
+ghost use Rattle.std.specs.Prelude.{◌≡◌, ◌⊎◌, IfOk, Err, length};
+ghost use Rattle.grb_core.specs.declared.value.Value.TheVariants.{Bool, Uint64};
+ghost use Rattle.grb_c.specs.Codes.{out_of_memory};
+ghost use Rattle.grb_c.specs.Tuples.{Builds, build_matrix, build_vector, cells_of_arrays, indices_of_arrays};
+
+use crate::codes::{INVALID_VALUE, OUT_OF_MEMORY, monoid_at};
+use crate::handle::TrbPass;
+use crate::item::Item;
+use grb_call::{Call, MatrixId, MatrixTuples, VectorId, VectorTuples};
+use std::alloc::{AllocError, Global};
+
+/// The list of these arrays, made once with its room reserved.
+fn matrix_cells<T: Item>(
+    alloc: Global,
+    rows: &[u64],
+    columns: &[u64],
+    values: &[T],
+) -> Result<MatrixTuples, AllocError>
+    requires rows { length rows.now ≡ length values.now }
+    requires columns { length columns.now ≡ length values.now }
+    ensures { IfOk result (λ tuples. tuples ≡ cells_of_arrays T.value rows.now columns.now values.now) }
+{
+    let mut cells = Vec::with_capacity(alloc, values.len())?;
+    'cells: for at in 0..values.len() {
+        cells.push_reserved((rows[at], columns[at], values[at].value()));
+    }
+    MatrixTuples::from_vec(cells)
+}
+
+/// The list of these arrays, made once with its room reserved.
+fn vector_cells<T: Item>(
+    alloc: Global,
+    indices: &[u64],
+    values: &[T],
+) -> Result<VectorTuples, AllocError>
+    requires { length indices.now ≡ length values.now }
+    ensures { IfOk result (λ tuples. tuples ≡ indices_of_arrays T.value indices.now values.now) }
+{
+    let mut cells = Vec::with_capacity(alloc, values.len())?;
+    'cells: for at in 0..values.len() {
+        cells.push_reserved((indices[at], values[at].value()));
+    }
+    VectorTuples::from_vec(cells)
+}
+
+/// The build of a matrix from these arrays.
+fn matrix_build<T: Item>(
+    alloc: Global,
+    a: u32,
+    rows: &[u64],
+    columns: &[u64],
+    values: &[T],
+    dup: u32,
+) -> Result<Call, i32>
+    ensures { (result ≡ Err out_of_memory) ⊎ (result ≡ build_matrix T.value a rows.now columns.now values.now dup) }
+{
+    let Some(dup) = monoid_at(dup) else {
+        return Err(INVALID_VALUE);
+    };
+    if rows.len() != values.len() || columns.len() != values.len() {
+        return Err(INVALID_VALUE);
+    }
+    match matrix_cells(alloc, rows, columns, values) {
+        Ok(tuples) => Ok(Call::BuildMatrix {
+            a: MatrixId(a),
+            tuples,
+            dup,
+        }),
+        Err(_refused) => Err(OUT_OF_MEMORY),
+    }
+}
+
+/// The build of a vector from these arrays.
+fn vector_build<T: Item>(
+    alloc: Global,
+    v: u32,
+    indices: &[u64],
+    values: &[T],
+    dup: u32,
+) -> Result<Call, i32>
+    ensures { (result ≡ Err out_of_memory) ⊎ (result ≡ build_vector T.value v indices.now values.now dup) }
+{
+    let Some(dup) = monoid_at(dup) else {
+        return Err(INVALID_VALUE);
+    };
+    if indices.len() != values.len() {
+        return Err(INVALID_VALUE);
+    }
+    match vector_cells(alloc, indices, values) {
+        Ok(tuples) => Ok(Call::BuildVector {
+            v: VectorId(v),
+            tuples,
+            dup,
+        }),
+        Err(_refused) => Err(OUT_OF_MEMORY),
+    }
+}
+
+/// Fills a matrix of numbers that stores nothing from three arrays of one length.
+#[unsafe(no_mangle)]
+pub extern "C" fn trb_matrix_build_uint64(
+    alloc: Global,
+    pass: &mut TrbPass,
+    a: u32,
+    rows: &[u64],
+    columns: &[u64],
+    values: &[u64],
+    dup: u32,
+) -> i32
+    ensures { Builds pass.old.raw.session pass.new.raw.session (build_matrix Uint64 a rows.now columns.now values.now dup) result }
+{
+    pass.done(alloc, matrix_build(alloc, a, rows, columns, values, dup))
+}
+
+/// Fills a vector of numbers that stores nothing from two arrays of one length.
+#[unsafe(no_mangle)]
+pub extern "C" fn trb_vector_build_uint64(
+    alloc: Global,
+    pass: &mut TrbPass,
+    v: u32,
+    indices: &[u64],
+    values: &[u64],
+    dup: u32,
+) -> i32
+    ensures { Builds pass.old.raw.session pass.new.raw.session (build_vector Uint64 v indices.now values.now dup) result }
+{
+    pass.done(alloc, vector_build(alloc, v, indices, values, dup))
+}
+
+/// Fills a matrix of truth values that stores nothing from three arrays of one length.
+#[unsafe(no_mangle)]
+pub extern "C" fn trb_matrix_build_bool(
+    alloc: Global,
+    pass: &mut TrbPass,
+    a: u32,
+    rows: &[u64],
+    columns: &[u64],
+    values: &[bool],
+    dup: u32,
+) -> i32
+    ensures { Builds pass.old.raw.session pass.new.raw.session (build_matrix Bool a rows.now columns.now values.now dup) result }
+{
+    pass.done(alloc, matrix_build(alloc, a, rows, columns, values, dup))
+}
+
+/// Fills a vector of truth values that stores nothing from two arrays of one length.
+#[unsafe(no_mangle)]
+pub extern "C" fn trb_vector_build_bool(
+    alloc: Global,
+    pass: &mut TrbPass,
+    v: u32,
+    indices: &[u64],
+    values: &[bool],
+    dup: u32,
+) -> i32
+    ensures { Builds pass.old.raw.session pass.new.raw.session (build_vector Bool v indices.now values.now dup) result }
+{
+    pass.done(alloc, vector_build(alloc, v, indices, values, dup))
+}

@@ -1,0 +1,255 @@
+//! What the numbers of the C interface stand for.
+ghost use Rattle.std.specs.Prelude.{◌≡◌};
+ghost use Rattle.grb_c.specs.Codes.{accum_at, bool_code, bool_out, descriptor_at, dims_code, dims_out, domain_at, done_code, matrix_mask_at, met_code, mode_at, monoid_at, number_code, number_out, object_code, object_out, op_at, refusal_code, semiring_of, vector_mask_at};
+
+use grb_call::{Descriptor, MatrixId, Reply, VectorId, WaitMode};
+use grb_core::{BinaryOp, Domain, Monoid, Refusal, Semiring, Value};
+
+/// The call was answered.
+pub(crate) const SUCCESS: i32 = 0;
+
+/// Nothing is stored where a get asks.
+pub(crate) const NO_VALUE: i32 = 1;
+
+/// The handle has no pass.
+pub(crate) const UNINITIALIZED_OBJECT: i32 = -1;
+
+/// A number stands for nothing, or lengths differ.
+pub(crate) const INVALID_VALUE: i32 = -3;
+
+/// The value is of the other domain.
+pub(crate) const DOMAIN_MISMATCH: i32 = -5;
+
+/// An answer of another kind than the call has.
+pub(crate) const PANIC: i32 = -101;
+
+/// Memory was refused.
+pub(crate) const OUT_OF_MEMORY: i32 = -102;
+
+/// The caller's arrays are too short.
+pub(crate) const INSUFFICIENT_SPACE: i32 = -103;
+
+/// The status of a refusal: that of the standard, or our own.
+pub(crate) fn refusal_code(refusal: Refusal) -> i32
+    ensures { result ≡ refusal_code refusal }
+{
+    match refusal {
+        Refusal::UninitializedObject => -1,
+        Refusal::InvalidValue => -3,
+        Refusal::InvalidIndex => -4,
+        Refusal::DomainMismatch => -5,
+        Refusal::DimensionMismatch => -6,
+        Refusal::OutputNotEmpty => -7,
+        Refusal::IndexOutOfBounds => -105,
+        Refusal::OrderFull => -1001,
+        Refusal::OutOfMemory => -102,
+        Refusal::Panic => -101,
+    }
+}
+
+/// The status of an answer that puts nothing out.
+pub(crate) fn done_code(answer: Result<Reply, Refusal>) -> i32
+    ensures { result ≡ done_code answer }
+{
+    match answer {
+        Ok(_) => SUCCESS,
+        Err(refusal) => refusal_code(refusal),
+    }
+}
+
+/// The status of a meeting.
+pub(crate) fn met_code(answer: Result<(), Refusal>) -> i32
+    ensures { result ≡ met_code answer }
+{
+    match answer {
+        Ok(()) => SUCCESS,
+        Err(refusal) => refusal_code(refusal),
+    }
+}
+
+/// Puts the number out that an answer has: a value, a count or a size.
+pub(crate) fn put_number(answer: Result<Reply, Refusal>, out: &mut u64) -> i32
+    ensures code { result ≡ number_code answer }
+    ensures out { out.new ≡ number_out answer out.old }
+{
+    match answer {
+        Ok(Reply::Value(Value::Uint64(x)) | Reply::Count(x) | Reply::Size(x)) => {
+            *out = x;
+            SUCCESS
+        }
+        Ok(Reply::Value(Value::Bool(_))) => DOMAIN_MISMATCH,
+        Ok(Reply::NoValue) => NO_VALUE,
+        Ok(_) => PANIC,
+        Err(refusal) => refusal_code(refusal),
+    }
+}
+
+/// Puts the truth value out that an answer has.
+pub(crate) fn put_bool(answer: Result<Reply, Refusal>, out: &mut bool) -> i32
+    ensures code { result ≡ bool_code answer }
+    ensures out { out.new ≡ bool_out answer out.old }
+{
+    match answer {
+        Ok(Reply::Value(Value::Bool(x))) => {
+            *out = x;
+            SUCCESS
+        }
+        Ok(Reply::Value(Value::Uint64(_))) => DOMAIN_MISMATCH,
+        Ok(Reply::NoValue) => NO_VALUE,
+        Ok(_) => PANIC,
+        Err(refusal) => refusal_code(refusal),
+    }
+}
+
+/// Puts the number out of the object that was made.
+pub(crate) fn put_object(answer: Result<Reply, Refusal>, out: &mut u32) -> i32
+    ensures code { result ≡ object_code answer }
+    ensures out { out.new ≡ object_out answer out.old }
+{
+    match answer {
+        Ok(Reply::MadeMatrix(MatrixId(n)) | Reply::MadeVector(VectorId(n))) => {
+            *out = n;
+            SUCCESS
+        }
+        Ok(_) => PANIC,
+        Err(refusal) => refusal_code(refusal),
+    }
+}
+
+/// Puts the dimensions out that an answer has.
+pub(crate) fn put_dims(answer: Result<Reply, Refusal>, nrows: &mut u64, ncols: &mut u64) -> i32
+    ensures code { result ≡ dims_code answer }
+    ensures out { (nrows.new, ncols.new) ≡ dims_out answer (nrows.old, ncols.old) }
+{
+    match answer {
+        Ok(Reply::Dims(rows, columns)) => {
+            *nrows = rows;
+            *ncols = columns;
+            SUCCESS
+        }
+        Ok(_) => PANIC,
+        Err(refusal) => refusal_code(refusal),
+    }
+}
+
+/// The domain of a number, which is that of GrB_Type_Code.
+pub(crate) fn domain_at(n: u32) -> Option<Domain>
+    ensures { result ≡ domain_at n }
+{
+    match n {
+        1 => Some(Domain::Bool),
+        9 => Some(Domain::Uint64),
+        _ => None,
+    }
+}
+
+/// The operator of a number.
+pub(crate) fn op_at(n: u32) -> Option<BinaryOp>
+    ensures { result ≡ op_at n }
+{
+    match n {
+        1 => Some(BinaryOp::Lor),
+        2 => Some(BinaryOp::Land),
+        3 => Some(BinaryOp::Lxor),
+        4 => Some(BinaryOp::Lxnor),
+        5 => Some(BinaryOp::FirstBool),
+        6 => Some(BinaryOp::SecondBool),
+        7 => Some(BinaryOp::Plus),
+        8 => Some(BinaryOp::Times),
+        9 => Some(BinaryOp::Min),
+        10 => Some(BinaryOp::Max),
+        11 => Some(BinaryOp::Minus),
+        12 => Some(BinaryOp::First),
+        13 => Some(BinaryOp::Second),
+        _ => None,
+    }
+}
+
+/// The accumulator of a number, of which 0 is none.
+pub(crate) fn accum_at(n: u32) -> Option<Option<BinaryOp>>
+    ensures { result ≡ accum_at n }
+{
+    if n == 0 {
+        return Some(None);
+    }
+    match op_at(n) {
+        Some(op) => Some(Some(op)),
+        None => None,
+    }
+}
+
+/// The monoid of a number, which is that of its operator.
+pub(crate) fn monoid_at(n: u32) -> Option<Monoid>
+    ensures { result ≡ monoid_at n }
+{
+    match n {
+        1 => Some(Monoid::Lor),
+        2 => Some(Monoid::Land),
+        3 => Some(Monoid::Lxor),
+        4 => Some(Monoid::Lxnor),
+        7 => Some(Monoid::Plus),
+        8 => Some(Monoid::Times),
+        9 => Some(Monoid::Min),
+        10 => Some(Monoid::Max),
+        _ => None,
+    }
+}
+
+/// The semiring of both, or the status that refuses them.
+pub(crate) fn semiring_of(monoid: Monoid, op: BinaryOp) -> Result<Semiring, i32>
+    ensures { result ≡ semiring_of monoid op }
+{
+    match Semiring::new(monoid, op) {
+        Ok(semiring) => Ok(semiring),
+        Err(_) => Err(DOMAIN_MISMATCH),
+    }
+}
+
+/// The mask of a number, of which the largest is none.
+pub(crate) fn matrix_mask_at(n: u32) -> Option<MatrixId>
+    ensures { result ≡ matrix_mask_at n }
+{
+    if n == 4294967295 {
+        None
+    } else {
+        Some(MatrixId(n))
+    }
+}
+
+/// The mask of a number, of which the largest is none.
+pub(crate) fn vector_mask_at(n: u32) -> Option<VectorId>
+    ensures { result ≡ vector_mask_at n }
+{
+    if n == 4294967295 {
+        None
+    } else {
+        Some(VectorId(n))
+    }
+}
+
+/// The descriptor of four bits, from the lowest: replace, complement, structure, and the first input transposed.
+pub(crate) fn descriptor_at(n: u32) -> Option<Descriptor>
+    ensures { result ≡ descriptor_at n }
+{
+    if n < 16 {
+        Some(Descriptor {
+            structure: (n / 4) % 2 == 1,
+            comp: (n / 2) % 2 == 1,
+            replace: n % 2 == 1,
+            tran: (n / 8) % 2 == 1,
+        })
+    } else {
+        None
+    }
+}
+
+/// The mode of a number.
+pub(crate) fn mode_at(n: u32) -> Option<WaitMode>
+    ensures { result ≡ mode_at n }
+{
+    match n {
+        0 => Some(WaitMode::Complete),
+        1 => Some(WaitMode::Materialize),
+        _ => None,
+    }
+}

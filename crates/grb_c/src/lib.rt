@@ -1,0 +1,23 @@
+//! The store for programs in C and in other languages that call C.
+#![tactic(auto)]
+
+mod builds;
+mod codes;
+mod decode;
+mod entries;
+mod facts;
+mod handle;
+mod item;
+mod objects;
+mod open;
+mod operations;
+mod parts;
+mod raw;
+mod session;
+mod tuples;
+
+pub use facts::TrbFacts;
+pub use handle::TrbPass;
+pub use parts::Parts;
+pub use raw::Raw;
+pub use session::Session;

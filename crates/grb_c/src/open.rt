@@ -1,0 +1,164 @@
+//! Opening a store, ending its passes, and what one pass tells another.
+ghost use Rattle.std.specs.Prelude.{◌≡◌, ◌++◌, ◌∷◌, [], All, None, Some, IfSome, MatchOption, length, map};
+ghost use Rattle.grb_order.specs.Order.{room_of};
+ghost use Rattle.grb_context.specs.Known.{AreNew, IsPassOf};
+ghost use Rattle.grb_c.specs.Codes.{success};
+ghost use Rattle.grb_c.specs.Opening.{AreOpened, HoldFrom};
+ghost use Rattle.grb_c.specs.Sessions.{AreApart, Meets, Prepares};
+
+use crate::codes::{INVALID_VALUE, OUT_OF_MEMORY, PANIC, SUCCESS, UNINITIALIZED_OBJECT, met_code};
+use crate::handle::TrbPass;
+use crate::session::Session;
+use grb_context::{Context, MOST_PASSES, MOST_ROOM, MOST_SEATS, Pass};
+use std::alloc::Global;
+use std::sync::Arc;
+
+/// One pass of the context into a handle.
+fn hand_out(
+    alloc: Global,
+    store: u64,
+    context: &Arc<Context>,
+    pass: Pass,
+    slot: &mut TrbPass,
+) -> i32
+    requires pass { IsPassOf context.now.value pass }
+    ensures { result ≡ success → slot.new.raw.session ≡ Some (record { context = context.now.value; pass = pass; store = store }) }
+{
+    let Ok(context) = context.clone() else {
+        return OUT_OF_MEMORY;
+    };
+    let Ok(session) = Box::new(alloc, Session::new(context, pass, store)) else {
+        return OUT_OF_MEMORY;
+    };
+    slot.put(session);
+    SUCCESS
+}
+
+/// Takes the last pass out of these.
+fn last_pass(context: &Arc<Context>, passes: &mut Vec<Pass>) -> Option<Pass>
+    requires { All (IsPassOf context.now.value) passes.old.items }
+    ensures pass { IfSome result (IsPassOf context.now.value) }
+    ensures rest { All (IsPassOf context.now.value) passes.new.items }
+    ensures last { IfSome result (λ pass. passes.old.items ≡ passes.new.items ++ pass ∷ []) }
+{
+    passes.pop()
+}
+
+/// Hands the passes out, the last first.
+fn hand_out_all(
+    alloc: Global,
+    store: u64,
+    context: &Arc<Context>,
+    opened: Vec<Pass>,
+    passes: &mut [TrbPass],
+) -> i32
+    requires passes { All (IsPassOf context.now.value) opened.items }
+    requires fresh { AreNew context.now.value.order (length passes.old) opened.items (length passes.old) }
+    ensures hold { result ≡ success → HoldFrom 0 context.now.value store (length passes.old) (map (λ h. h.raw.session) passes.new) }
+    ensures count { length passes.new ≡ length passes.old }
+{
+    let mut opened = opened;
+    let n = passes.len();
+    for at in 0..n {
+        let Some(pass) = last_pass(context, &mut opened) else {
+            return PANIC;
+        };
+        let code = hand_out(alloc, store, context, pass, &mut passes[n - 1 - at]);
+        if code != SUCCESS {
+            return code;
+        }
+    }
+    SUCCESS
+}
+
+/// A context with room for so many calls, and a pass of it in each handle. The number is that of this store alone, among those that are
+/// open: a meeting goes by it.
+#[unsafe(no_mangle)]
+pub extern "C" fn trb_open(alloc: Global, store: u64, room: u32, passes: &mut [TrbPass]) -> i32
+    ensures { result ≡ success → AreOpened store room (map (λ h. h.raw.session) passes.new) }
+{
+    let n = passes.len();
+    if room == 0 || room > MOST_ROOM || n == 0 || n > MOST_PASSES as usize {
+        return INVALID_VALUE;
+    }
+    if u64::from(room) * n as u64 > u64::from(MOST_SEATS) {
+        return INVALID_VALUE;
+    }
+    let Ok((context, opened)) = Context::open(alloc, room, n as u32) else {
+        return OUT_OF_MEMORY;
+    };
+    let Ok(context) = Arc::new(alloc, context) else {
+        return OUT_OF_MEMORY;
+    };
+    hand_out_all(alloc, store, &context, opened, passes)
+}
+
+/// Frees the pass, and with the last of a context the context. The handle has none after.
+#[unsafe(no_mangle)]
+pub extern "C" fn trb_free(alloc: Global, pass: &mut TrbPass)
+    ensures { pass.new.raw.session ≡ None }
+{
+    let _session = pass.take(alloc);
+}
+
+/// Lets the pass learn all that the other knows. Two stores' passes are refused.
+#[unsafe(no_mangle)]
+pub extern "C" fn trb_meet(alloc: Global, pass: &mut TrbPass, other: &mut TrbPass) -> i32
+    requires apart { AreApart pass.old.raw.session other.old.raw.session }
+    ensures meets { Meets pass.old.raw.session pass.new.raw.session other.old.raw.session result }
+    ensures other { other.new.raw.session ≡ other.old.raw.session }
+{
+    let Some(mut session) = pass.take(alloc) else {
+        return UNINITIALIZED_OBJECT;
+    };
+    let Some(mut second) = other.take(alloc) else {
+        pass.put(session);
+        return UNINITIALIZED_OBJECT;
+    };
+    let code = if session.store() == second.store() {
+        met_code(session.meet(&mut second))
+    } else {
+        INVALID_VALUE
+    };
+    pass.put(session);
+    other.put(second);
+    code
+}
+
+/// Lets the pass learn all that the other knows, and go on from what that has evaluated. Two stores' passes are refused.
+#[unsafe(no_mangle)]
+pub extern "C" fn trb_adopt(alloc: Global, pass: &mut TrbPass, other: &mut TrbPass) -> i32
+    requires apart { AreApart pass.old.raw.session other.old.raw.session }
+    ensures meets { Meets pass.old.raw.session pass.new.raw.session other.old.raw.session result }
+    ensures other { other.new.raw.session ≡ other.old.raw.session }
+{
+    let Some(mut session) = pass.take(alloc) else {
+        return UNINITIALIZED_OBJECT;
+    };
+    let Some(mut second) = other.take(alloc) else {
+        pass.put(session);
+        return UNINITIALIZED_OBJECT;
+    };
+    let code = if session.store() == second.store() {
+        met_code(session.adopt(&mut second))
+    } else {
+        INVALID_VALUE
+    };
+    pass.put(session);
+    other.put(second);
+    code
+}
+
+/// Evaluates what the pass knows where that is dear, so that others may adopt it, and tells how many of the calls that it knows are evaluated
+/// then.
+#[unsafe(no_mangle)]
+pub extern "C" fn trb_prepare(alloc: Global, pass: &mut TrbPass, out: &mut u32) -> i32
+    ensures { Prepares pass.old.raw.session pass.new.raw.session result out.old out.new }
+{
+    let Some(mut session) = pass.take(alloc) else {
+        return UNINITIALIZED_OBJECT;
+    };
+    *out = session.prepare();
+    pass.put(session);
+    SUCCESS
+}

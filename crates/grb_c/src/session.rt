@@ -1,0 +1,108 @@
+//! A pass with the context that it is of.
+ghost use Rattle.std.specs.Prelude.{◌≡◌, ◌≤◌, length};
+ghost use Rattle.grb_context.specs.Known.{IsPassOf, known};
+ghost use Rattle.grb_context.specs.Answered.{Answered};
+ghost use Rattle.grb_context.specs.Meeting.{Met};
+
+use grb_call::{Call, Reply};
+use grb_context::{Context, Pass};
+use grb_core::Refusal;
+use std::marker::Model;
+use std::sync::Arc;
+
+/// A pass with the context that it is of.
+#[derive(Drop)]
+pub struct Session {
+    pub(crate) context: Arc<Context>,
+    pub(crate) pass: Pass,
+    // The number of the store.
+    store: u64,
+}
+
+impl Model for Session {
+    ghost use Rattle.grb_context.specs.Known.{IsPassOf};
+    ghost use Rattle.grb_c.specs.Sessions.{Opened};
+
+    ghost Value = { Opened };
+
+    ghost view = { λ s. record { context = s.context.value; pass = s.pass; store = s.store } };
+
+    ghost invariant = { λ s. IsPassOf s.context.value s.pass };
+}
+
+impl Session {
+    /// The pass and its context together.
+    pub fn new(context: Arc<Context>, pass: Pass, store: u64) -> Session
+        requires pass { IsPassOf context.value pass }
+        ensures { result ≡ record { context = context.value; pass = pass; store = store } }
+    {
+        Session {
+            context,
+            pass,
+            store,
+        }
+    }
+
+    /// Makes one call.
+    pub fn call(&mut self, call: Call) -> Result<Reply, Refusal>
+        ensures context { self.new.context ≡ self.old.context }
+        ensures store { self.new.store ≡ self.old.store }
+        ensures answered { Answered self.old.context self.old.pass self.new.pass call result }
+    {
+        self.context.call(&mut self.pass, call)
+    }
+
+    /// Learns what the other knows.
+    pub fn meet(&mut self, other: &mut Session) -> Result<(), Refusal>
+        requires context { self.old.context ≡ other.old.context }
+        ensures met { Met self.old.context self.old.pass self.new.pass other.old.pass result }
+        ensures context { self.new.context ≡ self.old.context }
+        ensures store { self.new.store ≡ self.old.store }
+        ensures other { other.new ≡ other.old }
+    {
+        self.context.meet(&mut self.pass, &mut other.pass)
+    }
+
+    /// Learns what the other knows, and goes on from what it has evaluated.
+    pub fn adopt(&mut self, other: &mut Session) -> Result<(), Refusal>
+        requires context { self.old.context ≡ other.old.context }
+        ensures met { Met self.old.context self.old.pass self.new.pass other.old.pass result }
+        ensures context { self.new.context ≡ self.old.context }
+        ensures store { self.new.store ≡ self.old.store }
+        ensures other { other.new ≡ other.old }
+    {
+        self.context.adopt(&mut self.pass, &mut other.pass)
+    }
+
+    /// Evaluates what the pass knows, where that is dear; how many of the calls that it knows are evaluated then.
+    pub fn prepare(&mut self) -> u32
+        ensures context { self.new.context ≡ self.old.context }
+        ensures store { self.new.store ≡ self.old.store }
+        ensures same { self.new.pass ≡ record self.old.pass { made = self.new.pass.made } }
+        ensures count { result ≤ length (known self.new.pass) }
+    {
+        self.context.prepare(&mut self.pass)
+    }
+
+    /// The number of the store.
+    pub fn store(&self) -> u64
+        ensures { result ≡ self.now.store }
+    {
+        self.store
+    }
+
+    /// The pass.
+    pub fn pass(&self) -> &Pass
+        ensures { result.now ≡ self.now.pass }
+    {
+        &self.pass
+    }
+}
+
+/// What may go to another thread.
+fn may_cross<T: Send>(_value: &T) {}
+
+/// A session in its box may go to another thread.
+pub fn session_may_cross(session: &Box<Session>) {
+    may_cross(session);
+}

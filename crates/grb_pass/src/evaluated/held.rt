@@ -1,0 +1,79 @@
+//! An object as it is after all known calls, for those who share it: where it lies, with no change left that waits.
+ghost use Rattle.std.specs.Prelude.{◌≡◌, ◌<◌, is_some, length, true, MatchOption};
+ghost use Rattle.grb_call.specs.History.{store_of};
+ghost use Rattle.grb_call.specs.Store.{matrix_at, vector_at};
+ghost use Rattle.grb_state.specs.StoredIn.{IsMatrixOf, IsVectorOf};
+ghost use Rattle.grb_pass.specs.Evaluated.{IsEvaluatedFor};
+ghost use Rattle.grb_pass.specs.Known.{known};
+
+use super::Evaluated;
+use crate::reader::Reader;
+use grb_call::{MatrixId, Object, VectorId};
+use grb_sparse::{SparseMatrix, SparseVector};
+use std::sync::Arc;
+
+impl Evaluated {
+    /// The matrix as it is after all known calls, from the store: where that has gone over them, does not lack the matrix,
+    /// and no change waits in it.
+    fn matrix_in_store(&self, reader: &Reader, a: MatrixId) -> Option<&Arc<SparseMatrix>>
+        requires evaluated { IsEvaluatedFor reader.now self.now }
+        ensures { MatchOption result (is_some (matrix_at (store_of (known reader.now)) a) ≡ true → reader.now.settled < length (known reader.now)) (λ matrix. IsMatrixOf (store_of (known reader.now)) a matrix.now.value) }
+    {
+        if !self.holds(reader, Object::Matrix(a)) {
+            return None;
+        }
+        match self.reached.state().held_matrix(a) {
+            Some(matrix) => {
+                if matrix.is_assembled() {
+                    Some(matrix)
+                } else {
+                    None
+                }
+            }
+            None => None,
+        }
+    }
+
+    /// The vector as it is after all known calls, from the store, as [`Evaluated::matrix_in_store`] gives a matrix.
+    fn vector_in_store(&self, reader: &Reader, v: VectorId) -> Option<&Arc<SparseVector>>
+        requires evaluated { IsEvaluatedFor reader.now self.now }
+        ensures { MatchOption result (is_some (vector_at (store_of (known reader.now)) v) ≡ true → reader.now.settled < length (known reader.now)) (λ vector. IsVectorOf (store_of (known reader.now)) v vector.now.value) }
+    {
+        if !self.holds(reader, Object::Vector(v)) {
+            return None;
+        }
+        match self.reached.state().held_vector(v) {
+            Some(vector) => {
+                if vector.is_assembled() {
+                    Some(vector)
+                } else {
+                    None
+                }
+            }
+            None => None,
+        }
+    }
+
+    /// The matrix as all share it that hold it, as it is after all known calls: from where it was read, or from the store.
+    /// None where it was evaluated in neither, or a change waits in it. Evaluates nothing, and takes no memory.
+    pub(crate) fn held_matrix(&self, reader: &Reader, a: MatrixId) -> Option<&Arc<SparseMatrix>>
+        requires evaluated { IsEvaluatedFor reader.now self.now }
+        ensures { MatchOption result (is_some (matrix_at (store_of (known reader.now)) a) ≡ true → reader.now.settled < length (known reader.now)) (λ matrix. IsMatrixOf (store_of (known reader.now)) a matrix.now.value) }
+    {
+        match self.objects.held_matrix(reader.known() as usize, a) {
+            Some(matrix) => Some(matrix),
+            None => self.matrix_in_store(reader, a),
+        }
+    }
+
+    /// The vector as all share it that hold it, as [`Evaluated::held_matrix`] gives a matrix.
+    pub(crate) fn held_vector(&self, reader: &Reader, v: VectorId) -> Option<&Arc<SparseVector>>
+        requires evaluated { IsEvaluatedFor reader.now self.now }
+        ensures { MatchOption result (is_some (vector_at (store_of (known reader.now)) v) ≡ true → reader.now.settled < length (known reader.now)) (λ vector. IsVectorOf (store_of (known reader.now)) v vector.now.value) }
+    {
+        match self.objects.held_vector(reader.known() as usize, v) {
+            Some(vector) => Some(vector),
+            None => self.vector_in_store(reader, v),
+        }
+    }
+}
