@@ -1,6 +1,7 @@
 #!/usr/bin/env bash
 # Builds the library, and builds, links and runs each program of the bindings on it.
-#   bindings/run.sh
+#   bindings/run.sh [--after-ci]
+# With --after-ci the library is built over what `rt ci` has left in this checkout, as bindings/library.sh tells.
 # What a program writes is compared with its file in `expected`. What cannot run for want of something is named. The last line is
 # 'N passed, M failed', and the status is 1 where one failed. KIT is the folder of the toolchain, CC, CXX, RUSTC and PYTHON are the
 # programs to use; where they are not given, those of the path.
@@ -56,9 +57,9 @@ has() {
     command -v "$1" >/dev/null
 }
 
-if [ ! -e "$crate/out/libgrb_c.a" ]; then
-    echo "the library is proved and built first"
-    (cd "$crate" && rt lib) || exit 1
+if [ $# -gt 0 ] || [ ! -e "$crate/out/libgrb_c.a" ]; then
+    echo "the library is built first"
+    ./library.sh "$@" || exit 1
 fi
 library=$(realpath "$crate/out/libgrb_c.a")
 link=("$library" "$heap" -lpthread)
@@ -70,7 +71,7 @@ else
 fi
 
 if has "$CC"; then
-    for name in first triangles bfs paths threads refusals beside; do
+    for name in first triangles bfs paths threads succeed refusals beside; do
         if "$CC" -std=c11 -O2 -Wall -Wextra -Werror -Ic "c/$name.c" "${link[@]}" -o "$work/c_$name" 2>"$work/said"; then
             compare "c/$name" "c/expected/$name.txt" "$work/c_$name"
         else
@@ -83,8 +84,8 @@ if has "$CC"; then
         if [ -e "$folder/GraphBLAS.h" ]; then suitesparse=(-DTRB_SUITESPARSE -I"$folder" -lgraphblas); fi
     done
     if [ ${#suitesparse[@]} -eq 0 ]; then left_out 'times beside SuiteSparse' GraphBLAS.h; fi
-    if "$CC" -std=c11 -O2 -Wall -Wextra -Ic c/bench.c "${link[@]}" "${suitesparse[@]}" -o "$work/bench" 2>"$work/said"; then
-        compare 'c/bench, a small graph' c/expected/bench.txt "$work/bench" 8
+    if "$CC" -std=c11 -O2 -Wall -Wextra -Ic c/bench.c c/bench_by_hand.c c/bench_suitesparse.c "${link[@]}" "${suitesparse[@]}" -o "$work/bench" 2>"$work/said"; then
+        compare 'c/bench, small graphs' c/expected/bench.txt "$work/bench" 8
     else
         tell 'c/bench' 1
     fi
@@ -93,7 +94,7 @@ else
 fi
 
 if has "$CXX"; then
-    for name in triangles bfs paths threads; do
+    for name in triangles bfs paths threads succeed; do
         if "$CXX" -std=c++17 -O2 -Wall -Wextra -Werror -Ic -Icpp "cpp/$name.cpp" "${link[@]}" -o "$work/cpp_$name" 2>"$work/said"; then
             compare "cpp/$name" "cpp/expected/$name.txt" "$work/cpp_$name"
         else
@@ -107,7 +108,7 @@ fi
 if has "$RUSTC"; then
     if "$RUSTC" --edition 2021 -O --crate-type rlib --crate-name trowelheath rust/src/lib.rs --out-dir "$work" 2>"$work/said"; then
         tell 'rust' 0
-        for name in first triangles bfs paths threads; do
+        for name in first triangles bfs paths threads succeed; do
             if "$RUSTC" --edition 2021 -O "rust/examples/$name.rs" --extern "trowelheath=$work/libtrowelheath.rlib" -L native="$(dirname "$library")" -L native="$KIT/c" -o "$work/rust_$name" 2>"$work/said"; then
                 compare "rust/$name" "rust/expected/$name.txt" "$work/rust_$name"
             else
@@ -129,7 +130,7 @@ fi
 if has "$PYTHON" && has "$CC"; then
     "$CC" -shared -o "$work/libtrowelheath.so" -Wl,--whole-archive "$library" -Wl,--no-whole-archive "$heap" -lpthread
     export TROWELHEATH_LIBRARY=$work/libtrowelheath.so PYTHONPATH=python/src PYTHONDONTWRITEBYTECODE=1
-    for name in first triangles bfs paths threads networkx_scipy; do
+    for name in first triangles bfs paths threads succeed networkx_scipy; do
         compare "python/$name" "python/expected/$name.txt" "$PYTHON" "python/examples/$name.py"
     done
     step 'python, its tests' "$PYTHON" -m unittest discover -s python/tests

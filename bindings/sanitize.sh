@@ -28,18 +28,18 @@ compare() {
 }
 
 for kind in address,undefined thread; do
-    for name in first triangles bfs paths threads refusals; do
+    for name in first triangles bfs paths threads succeed refusals; do
         "$CC" -std=c11 -g -O1 -fsanitize="$kind" -fno-sanitize-recover=all -Ic "c/$name.c" "${link[@]}" -o "$work/program" || exit 1
         compare "c/$name, $kind" "c/expected/$name.txt" "$work/program"
     done
-    for name in triangles bfs paths threads; do
+    for name in triangles bfs paths threads succeed; do
         "$CXX" -std=c++17 -g -O1 -fsanitize="$kind" -fno-sanitize-recover=all -Ic -Icpp "cpp/$name.cpp" "${link[@]}" -o "$work/program" || exit 1
         compare "cpp/$name, $kind" "cpp/expected/$name.txt" "$work/program"
     done
 done
 
 "$RUSTC" --edition 2021 -O -g --crate-type rlib --crate-name trowelheath rust/src/lib.rs --out-dir "$work" || exit 1
-for name in first triangles bfs paths threads; do
+for name in first triangles bfs paths threads succeed; do
     "$CC" -std=c11 -g -O1 -Ic "c/$name.c" "${link[@]}" -o "$work/program" || exit 1
     compare "c/$name, valgrind" "c/expected/$name.txt" valgrind -q --leak-check=full --errors-for-leak-kinds=definite,indirect,possible --error-exitcode=1 "$work/program"
     "$RUSTC" --edition 2021 -O -g "rust/examples/$name.rs" --extern "trowelheath=$work/libtrowelheath.rlib" -L native="$(dirname "$library")" -L native="$KIT/c" -o "$work/program" || exit 1

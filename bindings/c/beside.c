@@ -1,5 +1,5 @@
 /* Times the store next to another case of the same: work beside a product that nobody reads, sets with waits
- * between them, and a product that several passes read.
+ * between them, a product that several passes read, and a successor next to the builds of its objects.
  *
  *     beside
  *
@@ -29,7 +29,9 @@ enum {
     VERTICES = 256,  /* rows and columns of the matrix that is squared */
     EDGES = 8000,
     BATCHES = 30,
-    BATCH = 100      /* sets before each square is read */
+    BATCH = 100,     /* sets before each square is read */
+    VECTORS = 64,    /* vectors of a store that is succeeded */
+    EACH = 15625     /* entries of each */
 };
 
 /* One round: what it leaves, to be compared. It answers the seconds of the part that is timed. */
@@ -199,6 +201,41 @@ static double squares(uint64_t readers, uint64_t *left)
     return seconds;
 }
 
+/* Vectors of a million entries in all: the time of their builds (0), of a successor with four passes (1), or of the
+ * first read of one of these (2). */
+static double successor(uint64_t which, uint64_t *left)
+{
+    TrB_Pass pass = TRB_PASS_INIT, next[4] = {TRB_PASS_INIT};
+    TrB_Vector vectors[VECTORS];
+    TrB_Index *indices = space(EACH), nvals;
+    uint64_t *values = space(EACH), needed = 0;
+    for (uint64_t k = 0; k < EACH; k++) {
+        indices[k] = 2 * k;
+        values[k] = mix(k);
+    }
+    OK(TrB_open(4096, &pass, 1));
+    double start = now(), seconds;
+    for (size_t v = 0; v < VECTORS; v++) {
+        OK(TrB_Vector_new(&pass, &vectors[v], TrB_UINT64, 2 * EACH));
+        OK(TrB_Vector_build_UINT64(&pass, vectors[v], indices, values, EACH, TrB_PLUS));
+        OK(TrB_Vector_nvals(&pass, &nvals, vectors[v]));
+    }
+    double built = now();
+    OK(TrB_succeed(&pass, &needed, 4096, next, 4));
+    double succeeded = now();
+    OK(TrB_Vector_extractElement_UINT64(&next[3], left, vectors[VECTORS - 1], 2));
+    double read = now();
+    HOLDS(nvals == EACH && *left == values[1]);
+    seconds = which == 0 ? built - start : which == 1 ? succeeded - built : read - succeeded;
+    for (size_t k = 0; k < 4; k++) {
+        TrB_free(&next[k]);
+    }
+    TrB_free(&pass);
+    free(indices);
+    free(values);
+    return seconds;
+}
+
 /* Times a case and another in turn, which leave the same, and tells the least time of each. */
 static void pair(const char *name, Round *round, uint64_t first, uint64_t second)
 {
@@ -225,5 +262,7 @@ int main(void)
     pair("sets by one of two, a wait after each 300", sets_by_one_of_two, 300, SETS);
     pair("sets by one of two, a wait after each 64", sets_by_one_of_two, 64, SETS);
     pair("squares that three passes read", squares, 3, 0);
+    pair("a successor of 64 vectors, their builds", successor, 1, 0);
+    pair("a first read of its last pass, the successor", successor, 2, 1);
     return EXIT_SUCCESS;
 }

@@ -6,8 +6,8 @@
  *                     memory ends the list.
  *
  * Whatever is refused: no call answers anything but TrB_OUT_OF_MEMORY or what it answers where memory is
- * there, and when the passes are freed, all that was allocated has been given back, but for the number
- * of the store that TrB_open tells of.
+ * there, and when the passes are freed, all that was allocated has been given back, but for the numbers
+ * of the two stores that TrB_open tells of.
  *
  * Ends with status 0 where the list was made with no allocation refused, 2 where one was refused and all
  * was as it should be, and 1 where something was not. fail.sh goes through all K.
@@ -212,12 +212,32 @@ static bool serve(TrB_Pass *passes, TrB_Matrix a)
     return true;
 }
 
-static bool make_all(TrB_Pass *passes, long *stores)
+/* A successor, whose second pass goes on with the matrix. What one of the two stores changes is not in the other. */
+static bool go_on(TrB_Pass *passes, TrB_Pass *next, TrB_Matrix a, long *stores)
+{
+    uint64_t needed = 0;
+    TrB_Index nvals;
+    ANSWERS(TrB_succeed(&passes[0], &needed, 1, next, PASSES), TrB_INSUFFICIENT_SPACE);
+    HOLDS(needed > 1);
+    OK(TrB_succeed(&passes[0], &needed, ROOM, next, PASSES));
+    *stores += 1;
+    OK(TrB_Matrix_setElement_UINT64(&next[1], a, 1, 0, SIZE - 1));
+    OK(TrB_Matrix_nvals(&next[0], &nvals, a));
+    HOLDS(nvals == (SIZE - 1) + SIZE + 1);
+    OK(TrB_Matrix_clear(&passes[1], a));
+    OK(TrB_Matrix_nvals(&passes[0], &nvals, a));
+    HOLDS(nvals == 0);
+    OK(TrB_Matrix_nvals(&next[1], &nvals, a));
+    HOLDS(nvals == (SIZE - 1) + SIZE + 1);
+    return true;
+}
+
+static bool make_all(TrB_Pass *passes, TrB_Pass *next, long *stores)
 {
     TrB_Matrix a;
     OK(TrB_open(ROOM, passes, PASSES));
     *stores = 1;
-    return make_matrices(&passes[0], &a) && make_vectors(&passes[1], a) && serve(passes, a);
+    return make_matrices(&passes[0], &a) && make_vectors(&passes[1], a) && serve(passes, a) && go_on(passes, next, a, stores);
 }
 
 int main(int argc, char **argv)
@@ -227,18 +247,19 @@ int main(int argc, char **argv)
         return FAILED;
     }
     draw_chain();
-    TrB_Pass passes[PASSES] = {TRB_PASS_INIT};
+    TrB_Pass passes[PASSES] = {TRB_PASS_INIT}, next[PASSES] = {TRB_PASS_INIT};
     long before = blocks, stores = 0;
     allocations = 0;
     refused_at = strtoul(argv[1], NULL, 10);
     refuses_on = strcmp(argv[2], "on") == 0;
 
-    bool is_whole = make_all(passes, &stores);
+    bool is_whole = make_all(passes, next, &stores);
     for (size_t t = 0; t < PASSES; t++) {
         TrB_free(&passes[t]);
+        TrB_free(&next[t]);
     }
 
-    /* The number of the store is what is left. */
+    /* The numbers of the stores are what is left. */
     HOLDS(blocks == before + stores);
     HOLDS(refusals <= 1);
     HOLDS(is_whole || refusals == 1);

@@ -103,6 +103,26 @@ static void of_openings(void)
     HOLDS(nvals == UNTOUCHED);
 }
 
+static void of_successors(void)
+{
+    static TrB_Pass next[MOST_PASSES + 1] = {TRB_PASS_INIT};
+    TrB_Pass none = TRB_PASS_INIT;
+    uint64_t needed = UNTOUCHED;
+    UNCHANGED(TrB_INVALID_VALUE, "a successor with a room of 0", TrB_succeed(&passes[0], &needed, 0, next, 1));
+    UNCHANGED(TrB_INVALID_VALUE, "a successor with 257 passes",
+            TrB_succeed(&passes[0], &needed, 1, next, MOST_PASSES + 1));
+    UNCHANGED(TrB_UNINITIALIZED_OBJECT, "a successor of no pass", TrB_succeed(&none, &needed, ROOM, next, 1));
+    HOLDS(needed == UNTOUCHED);
+    UNCHANGED(TrB_INSUFFICIENT_SPACE, "a successor with room for 9 of 10 changes",
+            TrB_succeed(&passes[0], &needed, 9, next, 1));
+    HOLDS(needed == 10);
+
+    /* None of these was opened. */
+    bool full = true;
+    UNCHANGED(TrB_UNINITIALIZED_OBJECT, "whether no pass is full", TrB_is_full(&next[0], &full));
+    HOLDS(full);
+}
+
 static void of_meetings(void)
 {
     TrB_Pass other = TRB_PASS_INIT, none = TRB_PASS_INIT;
@@ -252,12 +272,17 @@ static void of_room(void)
     OK(TrB_Matrix_extractElement_UINT64(&passes[1], &x, b, 0, 1));
     HOLDS(x == ROOM - 11);
     printf("reads go on\n");
+
+    bool full = false;
+    OK(TrB_is_full(&passes[1], &full));
+    HOLDS(full);
 }
 
 int main(void)
 {
     fill();
     of_openings();
+    of_successors();
     of_meetings();
     of_numbers();
     of_objects();

@@ -55,8 +55,8 @@
  *   Each pass evaluates for itself. Load by one pass, prepare it, and let the others adopt it before
  *   they serve reads. While the store changes, wait with TrB_MATERIALIZE by one pass after each few
  *   hundred changes: the others go on from what that leaves. The history keeps every change, the
- *   arrays of builds too, as long as the store is open. When the room is used up, open another store,
- *   read all entries here, and build the objects there.
+ *   arrays of builds too, as long as the store is open. When the room is used up, TrB_succeed opens a
+ *   store that goes on from there.
  *
  * What the caller owes, since nothing checks it
  *
@@ -67,9 +67,9 @@
  *   - A pointer leads to live, aligned memory of its type, writable where it is not const, of as many
  *     items as the call says. No two pointers of one call lead to memory that overlaps, so not to one
  *     array either: for a diagonal, copy the rows to columns. A bool in memory is 0 or 1.
- *   - An object is used with passes of its own store. In another store its number names another
- *     object, or none.
- *   - Two stores that are open were opened with two numbers. TrB_open sees to it.
+ *   - An object is used with passes of its own store, and of those that succeed it. In another store its
+ *     number names another object, or none.
+ *   - Two stores that are open were opened with two numbers. TrB_open and TrB_succeed see to it.
  *   - malloc, realloc and free are of one allocator.
  *   - No call is made in a signal handler, or in the child of a fork of a process with threads.
  */
@@ -101,7 +101,7 @@ typedef enum {
     TrB_ORDER_FULL = -1001,         /* own: the room is used up */
     TrB_OUT_OF_MEMORY = -102,       /* memory was refused */
     TrB_PANIC = -101,               /* the record of a call was not taken or not shown */
-    TrB_INSUFFICIENT_SPACE = -103   /* an array is too short for all entries; their count is told */
+    TrB_INSUFFICIENT_SPACE = -103   /* an array or a room is too small; how much is needed is told */
 } TrB_Info;
 
 /* The domain of an object: what its values are. The numbers are those of GrB_Type_Code. */
@@ -238,9 +238,11 @@ _Static_assert(sizeof(TrB_Pass) == 16 && sizeof(bool) == 1, "the library is for 
 /* The functions of libgrb_c.a as they are. Objects are bare numbers here, a mask of UINT32_MAX is
  * none, and each array has a length of its own: arrays of one call whose lengths differ are refused
  * with TrB_INVALID_VALUE by a build, and the shortest counts for a read of all entries. The typed
- * functions below call them; what they say holds here too. trb_open takes the number of the store,
- * which no other open store of the process may have. */
+ * functions below call them; what they say holds here too. trb_open and trb_succeed take the number of
+ * the store that they open, which no other open store of the process may have. */
 int32_t trb_open(uint64_t store, uint32_t room, TrB_Pass *passes, size_t npasses);
+int32_t trb_succeed(uint64_t store, uint32_t room, TrB_Pass *pass, uint64_t *needed, TrB_Pass *passes, size_t npasses);
+int32_t trb_is_full(TrB_Pass *pass, bool *out);
 void trb_free(TrB_Pass *pass);
 int32_t trb_meet(TrB_Pass *pass, TrB_Pass *other);
 int32_t trb_adopt(TrB_Pass *pass, TrB_Pass *other);
@@ -301,6 +303,22 @@ int32_t trb_vector_wait(TrB_Pass *pass, uint32_t v, uint32_t mode);
 
 /* ---- Stores and passes ------------------------------------------------------------------------- */
 
+/* For TrB_open and TrB_succeed: ends the opening of a store with this number, of which this is the status.
+ * Where it was refused, every pass is none, and the number is given back. */
+static inline TrB_Info trb_end_opening(void **number, int32_t status, TrB_Pass *passes, size_t npasses)
+{
+    static void **latest = NULL; /* leads to the numbers of all stores, each to the one before */
+    if (status != TrB_SUCCESS) {
+        for (size_t k = 0; k < npasses; k++) {
+            trb_free(&passes[k]);
+        }
+        free(number);
+        return (TrB_Info)status;
+    }
+    *number = __atomic_exchange_n(&latest, number, __ATOMIC_RELAXED);
+    return TrB_SUCCESS;
+}
+
 /* Opens a store with room for `room` changes, and gives its passes: passes[k] has the number k. Each
  * of them is none before. The room is from 1 to 65,536, npasses from 1 to 256, and one times the other
  * at most 1,048,576. A pass reserves some 200 bytes for each change that there is room for; they are
@@ -313,21 +331,54 @@ int32_t trb_vector_wait(TrB_Pass *pass, uint32_t v, uint32_t mode);
  * Refused: TrB_INVALID_VALUE where room or npasses is out of its range. */
 static inline TrB_Info TrB_open(uint32_t room, TrB_Pass *passes, size_t npasses)
 {
-    static void **latest = NULL; /* leads to the numbers of all stores, each to the one before */
     void **number = (void **)malloc(sizeof *number);
     if (number == NULL) {
         return TrB_OUT_OF_MEMORY;
     }
-    TrB_Info info = (TrB_Info)trb_open((uint64_t)(uintptr_t)number, room, passes, npasses);
-    if (info != TrB_SUCCESS) {
-        for (size_t k = 0; k < npasses; k++) {
-            trb_free(&passes[k]);
-        }
-        free(number);
-        return info;
+    int32_t status = trb_open((uint64_t)(uintptr_t)number, room, passes, npasses);
+    return trb_end_opening(number, status, passes, npasses);
+}
+
+/* Tells in *full whether the room is used up and `pass` knows every change. Then no pass of the store
+ * will ever know another one. It learns nothing new: let `pass` meet the others before. Takes no room. */
+static inline TrB_Info TrB_is_full(TrB_Pass *pass, bool *full)
+{
+    return (TrB_Info)trb_is_full(pass, full);
+}
+
+/* Opens the successor of a store: a store of its own that begins with what `pass` knows of this one. Its
+ * passes are given as by TrB_open, with the same ranges of room and npasses.
+ *
+ *   goes over   Every object: its number means the same object in both stores, with the domain, the
+ *               dimensions and the entries that `pass` knows. A freed number stays freed, and the next
+ *               object is given the next number.
+ *   anew        The history begins with the changes that make these objects, one or two for each number
+ *               that was ever given; they take room. The new passes know them, and share what is
+ *               evaluated of them. No object has a status, and nothing is settled.
+ *   stays       The old store: its passes are valid, and are freed by their owner. Objects are shared
+ *               with it until one of the two changes one.
+ *
+ * Where TrB_is_full holds of `pass`, nothing is lost. Called earlier it makes a branch: what is changed
+ * here later is not there, and the number of an object that is made here later may mean another object
+ * there. `pass`, the old passes and the new ones are different memory:
+ *
+ *     TrB_meet(&old[0], &old[1]);                           // when the thread that had old[1] has ended
+ *     info = TrB_succeed(&old[0], &needed, 1000, next, 2);  // room for 1,000 changes, two passes
+ *     TrB_free(&old[0]);                                    // the old store ends with its last pass
+ *     TrB_free(&old[1]);
+ *
+ * Refused: TrB_INVALID_VALUE where room or npasses is out of its range; TrB_INSUFFICIENT_SPACE where the
+ * changes that make the objects need more room, and *needed tells how many they are. It is not written
+ * else. Where it is refused, each of `passes` is none, and the old store is as before. */
+static inline TrB_Info TrB_succeed(TrB_Pass *pass, uint64_t *needed, uint32_t room, TrB_Pass *passes,
+                                   size_t npasses)
+{
+    void **number = (void **)malloc(sizeof *number);
+    if (number == NULL) {
+        return TrB_OUT_OF_MEMORY;
     }
-    *number = __atomic_exchange_n(&latest, number, __ATOMIC_RELAXED);
-    return info;
+    int32_t status = trb_succeed((uint64_t)(uintptr_t)number, room, pass, needed, passes, npasses);
+    return trb_end_opening(number, status, passes, npasses);
 }
 
 /* Ends the pass, which is none after. What it entered stays in the store. With the last pass of a
@@ -900,7 +951,7 @@ static inline const char *TrB_hint(TrB_Info info)
     case TrB_ORDER_FULL: return "Open a store with more room; this one still answers reads.";
     case TrB_OUT_OF_MEMORY: return "Nothing has changed: free memory, and make the call again.";
     case TrB_PANIC: return "The call did nothing: make it again.";
-    case TrB_INSUFFICIENT_SPACE: return "Give arrays with a place for each entry; the count is told.";
+    case TrB_INSUFFICIENT_SPACE: return "Give arrays with a place for each entry, or more room; the count is told.";
     }
     return "Link the library that this header is of.";
 }

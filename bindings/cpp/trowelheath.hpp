@@ -16,8 +16,8 @@
 //   - Objects and operators have the type of their values, bool or std::uint64_t, so domains are not mixed.
 //   - One thread at a time uses a given pass. A pass goes to another thread by something that orders
 //     memory, as a lock, the start of a thread or its join.
-//   - An object is used with passes of its own store. In another store its number names another object,
-//     or none.
+//   - An object is used with passes of its own store, and of those that succeed it. In another store its
+//     number names another object, or none.
 //   - No call is made in a signal handler, or in the child of a fork of a process with threads.
 #ifndef TROWELHEATH_HPP
 #define TROWELHEATH_HPP
@@ -66,7 +66,7 @@ enum class Status : std::int32_t {
     order_full = TrB_ORDER_FULL,                      ///< the room is used up
     out_of_memory = TrB_OUT_OF_MEMORY,                ///< memory was refused
     panic = TrB_PANIC,                                ///< the record of a call was not taken or not shown
-    insufficient_space = TrB_INSUFFICIENT_SPACE,      ///< arrays are too short; entries() sees to it
+    insufficient_space = TrB_INSUFFICIENT_SPACE,      ///< arrays are too short: entries() sees to it; or RoomTooSmall
 };
 
 /// A refused call: it did nothing, and took no room. Each method names a function of trowelheath.h, whose
@@ -95,6 +95,19 @@ public:
 private:
     Status code_;
     std::array<char, 128> text_{};
+};
+
+/// The refusal of a successor whose room is too small, with Status::insufficient_space.
+class RoomTooSmall : public Refusal {
+public:
+    /// The refusal where so many changes make the objects. Takes no memory.
+    explicit RoomTooSmall(std::uint64_t needed) noexcept : Refusal(Status::insufficient_space), needed_(needed) {}
+
+    /// How many changes make the objects, which is the least room of a successor.
+    [[nodiscard]] std::uint64_t needed() const noexcept { return needed_; }
+
+private:
+    std::uint64_t needed_;
 };
 
 namespace detail {
@@ -392,6 +405,8 @@ template <typename T, typename U>
 
 // ---- Passes and stores ---------------------------------------------------------------------------------
 
+class Store;
+
 /// One thread's view of a store. Each call on the store is a method of a pass. One thread at a time uses it.
 ///
 /// A method throws Refusal where its call is refused. What the pass has learnt meanwhile stays.
@@ -459,6 +474,19 @@ public:
         detail::check(TrB_facts(&raw_, &facts));
         return facts;
     }
+
+    /// Whether the room is used up and the pass knows every change, as TrB_is_full.
+    [[nodiscard]] bool is_full()
+    {
+        bool full = false;
+        detail::check(TrB_is_full(&raw_, &full));
+        return full;
+    }
+
+    /// Opens the successor of the store, which begins with what this pass knows: each object of this store means
+    /// the same there. As TrB_succeed, with room and passes as of Store. Throws RoomTooSmall where the changes
+    /// that make the objects need more room.
+    [[nodiscard]] Store succeed(std::uint32_t room, std::uint32_t passes);
 
     // ---- Objects ---------------------------------------------------------------------------------------
 
@@ -1043,18 +1071,9 @@ public:
     /// Status::out_of_memory where memory is refused.
     Store(std::uint32_t room, std::uint32_t passes)
     {
-        if (passes < 1 || passes > most_passes) {
-            throw Refusal(Status::invalid_value);
-        }
-        auto number = std::make_shared<const char>('\0');
-        std::vector<TrB_Pass> opened(passes);
-        passes_.reserve(passes);
-        const std::int32_t status =
-            trb_open(reinterpret_cast<std::uintptr_t>(number.get()), room, opened.data(), opened.size());
-        for (const TrB_Pass &raw : opened) {
-            passes_.push_back(Pass(raw, number));
-        }
-        detail::check(status);
+        detail::check(open(passes, [room](std::uint64_t number, TrB_Pass *opened, std::size_t count) {
+            return trb_open(number, room, opened, count);
+        }));
     }
 
     /// The next pass that was not handed out; the first is that of number 0. Throws std::out_of_range where all
@@ -1071,9 +1090,46 @@ public:
     [[nodiscard]] std::size_t passes_left() const noexcept { return passes_.size() - next_; }
 
 private:
+    friend class Pass;
+
+    Store() = default;
+
+    // Has so many passes opened under a number that no other open store has. Answers the status of that.
+    template <typename Opening>
+    [[nodiscard]] std::int32_t open(std::uint32_t passes, Opening opening)
+    {
+        if (passes < 1 || passes > most_passes) {
+            throw Refusal(Status::invalid_value);
+        }
+        auto number = std::make_shared<const char>('\0');
+        std::vector<TrB_Pass> opened(passes);
+        passes_.reserve(passes);
+        const std::int32_t status =
+            opening(reinterpret_cast<std::uintptr_t>(number.get()), opened.data(), opened.size());
+        for (const TrB_Pass &raw : opened) {
+            passes_.push_back(Pass(raw, number));
+        }
+        return status;
+    }
+
     std::vector<Pass> passes_;
     std::size_t next_ = 0;
 };
+
+inline Store Pass::succeed(std::uint32_t room, std::uint32_t passes)
+{
+    Store next;
+    std::uint64_t needed = 0;
+    const std::int32_t status =
+        next.open(passes, [this, room, &needed](std::uint64_t number, TrB_Pass *opened, std::size_t count) {
+            return trb_succeed(number, room, &raw_, &needed, opened, count);
+        });
+    if (status == TrB_INSUFFICIENT_SPACE) {
+        throw RoomTooSmall(needed);
+    }
+    detail::check(status);
+    return next;
+}
 
 } // namespace trowelheath
 

@@ -19,7 +19,7 @@ from trowelheath import (
     Refusal,
     UninitializedObject,
 )
-from trowelheath.errors import InsufficientSpace, refusal_of
+from trowelheath.errors import InsufficientSpace, RoomTooSmall, refusal_of
 
 KINDS = {
     -1: (UninitializedObject, Exception, "GrB_UNINITIALIZED_OBJECT"),
@@ -65,7 +65,7 @@ class Refusals(unittest.TestCase):
         self.assertIn("-77", str(fault))
 
     def test_a_refusal_is_the_same_after_pickling(self) -> None:
-        for refusal in refusal_of(-4), refusal_of(-3, "Give a room."), refusal_of(-102):
+        for refusal in refusal_of(-4), refusal_of(-3, "Give a room."), refusal_of(-102), RoomTooSmall(7):
             back = pickle.loads(pickle.dumps(refusal))
             self.assertIs(type(back), type(refusal))
             self.assertEqual(str(back), str(refusal))

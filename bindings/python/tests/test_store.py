@@ -12,9 +12,12 @@ from trowelheath import (
     Facts,
     InvalidValue,
     Matrix,
+    OrderFull,
     Pass,
+    RoomTooSmall,
     Store,
     StoreClosed,
+    UninitializedObject,
     Vector,
 )
 
@@ -96,6 +99,8 @@ class Closing(unittest.TestCase):
             lambda: p.meet(other.main),
             p.prepare,
             p.facts,
+            p.is_full,
+            lambda: p.succeed(20, 2),
             lambda: a.nvals,
             lambda: a.shape,
             lambda: a[0, 0],
@@ -224,6 +229,77 @@ class Passes(StoreCase):
         for read in reads:
             read()
         self.assertEqual(self.p.facts().room_left, left)
+
+
+class Succession(StoreCase):
+    room = 4
+
+    def succeed(self, room: int = 10, passes: int = 1) -> Store:
+        """A successor by the first pass, which is closed behind the test."""
+        store = self.p.succeed(room, passes)
+        self.addCleanup(store.close)
+        return store
+
+    def test_a_full_store_has_a_successor(self) -> None:
+        v, gone = self.p.vector(3), self.p.vector(3, bool)
+        gone.free()
+        v.using(self.q)[0] = 5
+        self.assertFalse(self.p.is_full())
+        self.p.meet(self.q)
+        self.assertTrue(self.p.is_full())
+        with self.assertRaises(OrderFull):
+            v[1] = 6
+
+        store = self.succeed(room=10, passes=3)
+        self.assertEqual(repr(store), "<Store of room 10, 3 passes>")
+        for number, pass_ in enumerate(store.passes):
+            facts = pass_.facts()
+            self.assertEqual((facts.number, facts.known, facts.room_left, facts.settled), (number, 4, 6, 0))
+            self.assertFalse(pass_.is_full())
+        w = v.using(store.main)
+        self.assertEqual((w.number, w.dtype, w.size), (v.number, int, 3))
+        self.assertIs(w.store, store)
+        self.assertIsNone(v.using(store.passes[1]).last_info)
+        w.using(store.passes[2])[1] = 6
+        self.assertEqual((w.to_dict(), v.to_dict()), ({0: 5, 1: 6}, {0: 5}))
+        with self.assertRaises(UninitializedObject):
+            gone.using(store.main).size
+        self.assertEqual(store.main.vector(2).number, 2)
+
+        # The new store outlives the old one.
+        self.store.close()
+        self.assertEqual(len(w), 2)
+
+    def test_before_the_end_it_is_a_branch(self) -> None:
+        v = self.p.vector(3)
+        store = self.succeed()
+        v[0] = 5
+        self.assertEqual((v.to_dict(), v.using(store.main).to_dict()), ({0: 5}, {}))
+
+    def test_too_little_room_is_refused_with_what_is_needed(self) -> None:
+        v = self.p.vector(3)
+        v[0] = 5
+        with self.assertRaisesRegex(RoomTooSmall, "Give room for the 2 calls") as caught:
+            self.p.succeed(1)
+        self.assertEqual(caught.exception.needed, 2)
+        self.assertEqual(self.succeed(2).main.facts().room_left, 0)
+
+    def test_ranges_are_refused_outside(self) -> None:
+        for room, passes in (0, 1), (1, 0), (MOST_ROOM + 1, 1), (1, MOST_PASSES + 1), (4097, 256):
+            with self.subTest(room=room, passes=passes):
+                with self.assertRaisesRegex(InvalidValue, "a room from 1 to 65,536"):
+                    self.p.succeed(room, passes)
+
+    def test_an_object_is_used_in_the_next_store_alone(self) -> None:
+        v = self.p.vector(3)
+        store = self.succeed()
+        w = v.using(store.main)
+        last = store.main.succeed(10)
+        self.addCleanup(last.close)
+        self.assertEqual(w.using(last.main).number, v.number)
+        for vector, pass_ in (v, last.main), (w, self.p):
+            with self.assertRaisesRegex(ValueError, "of another store"):
+                vector.using(pass_)
 
 
 if __name__ == "__main__":

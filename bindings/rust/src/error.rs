@@ -35,6 +35,11 @@ pub enum Error {
     /// Arrays are too short for the entries of an object (`GrB_INSUFFICIENT_SPACE`). [`Pass::entries`](crate::Pass::entries) makes longer ones, so
     /// it does not answer this.
     InsufficientSpace,
+    /// The room of a successor is below the number of calls that make the objects, of which so many are needed (`GrB_INSUFFICIENT_SPACE`).
+    RoomTooSmall {
+        /// The least room of a successor.
+        needed: u64,
+    },
     /// An object of the call, its mask too, is of another store than the pass. It would be taken for the object of the same number.
     ForeignObject,
     /// The two passes that should meet are of two stores.
@@ -73,7 +78,7 @@ impl Error {
             Error::OutputNotEmpty => Some(-7),
             Error::Panic => Some(-101),
             Error::OutOfMemory => Some(-102),
-            Error::InsufficientSpace => Some(-103),
+            Error::InsufficientSpace | Error::RoomTooSmall { .. } => Some(-103),
             Error::IndexOutOfBounds => Some(-105),
             Error::OrderFull => Some(-1001),
             Error::Unknown(status) => Some(status),
@@ -94,7 +99,7 @@ impl Error {
             Error::OrderFull => "OrderFull",
             Error::OutOfMemory => "GrB_OUT_OF_MEMORY",
             Error::Panic => "GrB_PANIC",
-            Error::InsufficientSpace => "GrB_INSUFFICIENT_SPACE",
+            Error::InsufficientSpace | Error::RoomTooSmall { .. } => "GrB_INSUFFICIENT_SPACE",
             Error::ForeignObject => "ForeignObject",
             Error::ForeignPass => "ForeignPass",
             Error::Unknown(_) => "Unknown",
@@ -117,6 +122,7 @@ impl Error {
             Error::OutOfMemory => "Nothing has changed: free memory, and make the call again.",
             Error::Panic => "The call did nothing: make it again.",
             Error::InsufficientSpace => "Give arrays with a place for each entry.",
+            Error::RoomTooSmall { .. } => "Give room for the calls that make the objects.",
             Error::ForeignObject => "Give objects of the store that the pass is of.",
             Error::ForeignPass => "Give two passes of one store.",
             Error::Unknown(_) => "Link the library of this crate's version.",
@@ -129,6 +135,9 @@ impl fmt::Display for Error {
     fn fmt(&self, f: &mut fmt::Formatter<'_>) -> fmt::Result {
         match self {
             Error::Unknown(status) => write!(f, "{} ({status}): {}", self.name(), self.hint()),
+            Error::RoomTooSmall { needed } => {
+                write!(f, "{}: {} They are {needed}.", self.name(), self.hint())
+            }
             _ => write!(f, "{}: {}", self.name(), self.hint()),
         }
     }

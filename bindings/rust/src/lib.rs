@@ -64,7 +64,7 @@
 //! # Limits
 //!
 //! - A store takes at most 65,536 calls that change it, in its whole life. A build or an operation is one call. When the store is full,
-//!   reads go on.
+//!   reads go on, and [`Pass::succeed`] opens a store that goes on from there.
 //! - At most 256 passes share it. Calls times passes are at most 1,048,576.
 //! - Values are truth values and whole numbers below 2^64. Sums, differences and products of numbers are modulo 2^64.
 //!

@@ -22,8 +22,8 @@ use std::sync::Arc;
 /// A call that changes the store enters its history and takes one of the calls that there is room for. It does none of its work: that
 /// is done by the first read that needs it, or by a [`wait`](Pass::wait). Beside its own refusals, each change can be refused for
 ///
-/// - [`Error::OrderFull`]: the room is used up. A store that is full stays so, and reads go on. Open another store and carry the objects
-///   over: read their entries, and build them anew.
+/// - [`Error::OrderFull`]: the room is used up. A store that is full stays so, and reads go on. Go on in its successor, which
+///   [`succeed`](Pass::succeed) opens.
 /// - [`Error::OutOfMemory`]: memory was refused to the call's record. Nothing has changed.
 /// - [`Error::Panic`]: the call's record could not be kept, or an earlier one of another pass was not shown. Make the call again; if it
 ///   comes again, stop using the store.
@@ -39,6 +39,7 @@ use std::sync::Arc;
 /// # Objects of other stores
 ///
 /// A handle of another store's object is refused by [`Error::ForeignObject`], whatever the call. Its number would mean another object here.
+/// In the successor of a store, [`inherited`](Pass::inherited) gives the handle of what the object became.
 ///
 /// # Not in two threads at once
 ///
@@ -53,6 +54,8 @@ use std::sync::Arc;
 pub struct Pass {
     pub(crate) raw: TrbPass,
     store: Store,
+    // The store that this one succeeds.
+    before: Option<Store>,
     // Its address is the number under which the library knows the store, so it is kept until the pass has ended.
     _byte: Arc<u8>,
 }
@@ -78,10 +81,11 @@ impl fmt::Debug for Pass {
 
 impl Pass {
     /// A pass that the library has handed out, or none.
-    pub(crate) fn of(raw: TrbPass, store: Store, byte: Arc<u8>) -> Pass {
+    pub(crate) fn of(raw: TrbPass, store: Store, before: Option<Store>, byte: Arc<u8>) -> Pass {
         Pass {
             raw,
             store,
+            before,
             _byte: byte,
         }
     }
@@ -173,5 +177,85 @@ impl Pass {
         // SAFETY: the pass is borrowed mutably, so this call alone has it, and the place of the answer is a local variable.
         done(unsafe { sys::trb_facts(&mut self.raw, &mut facts) })?;
         Ok(facts)
+    }
+
+    /// Whether the room is used up and the pass knows every change. Then no pass of the store will ever know another one. It learns nothing
+    /// by this: let it [`meet`](Pass::meet) the others before.
+    ///
+    /// # Errors
+    ///
+    /// The library refuses only a pass that has ended, and this one has not.
+    pub fn is_full(&mut self) -> Result<bool, Error> {
+        let mut is_full = false;
+        // SAFETY: the pass is borrowed mutably, so this call alone has it, and the place of the answer is a local variable.
+        done(unsafe { sys::trb_is_full(&mut self.raw, &mut is_full) })?;
+        Ok(is_full)
+    }
+
+    /// Opens the successor of the store, and hands out its passes: a store of its own that begins with what this pass knows. Room and passes are
+    /// as of [`Store::open`].
+    ///
+    /// Every object goes over, with its number, and [`inherited`](Pass::inherited) gives its handle there. A freed number stays freed, and the
+    /// next object is given the next number. The history begins with the calls that make these objects, one or two for each number that
+    /// was ever given; they take room. The new passes know them, and share what is evaluated of them. No object has a status, and nothing
+    /// is settled. This store stays as it is, and ends with its last pass; objects are shared until one of the two changes one.
+    ///
+    /// Where [`is_full`](Pass::is_full) holds, nothing is lost. Called earlier it makes a branch: what is changed here later is not there.
+    ///
+    /// # Errors
+    ///
+    /// - [`Error::InvalidValue`]: as of [`Store::open`].
+    /// - [`Error::RoomTooSmall`]: the calls that make the objects need more room.
+    /// - [`Error::OutOfMemory`]: memory was refused.
+    /// - [`Error::Panic`]: the record of a call was not shown. Ask again.
+    ///
+    /// ```no_run
+    /// # use trowelheath::{Error, Matrix, Pass};
+    /// # fn go_on(mut passes: Vec<Pass>, graph: Matrix<u64>) -> Result<(), Error> {
+    /// let (own, others) = passes.split_first_mut().expect("a store has a pass");
+    /// for other in others {
+    ///     own.meet(other)?;
+    /// }
+    /// assert!(own.is_full()?);
+    /// let next = own.succeed(4096, 8)?;
+    /// let graph = next[0].inherited(graph)?;
+    /// # Ok(())
+    /// # }
+    /// ```
+    pub fn succeed(&mut self, room: u32, passes: usize) -> Result<Vec<Pass>, Error> {
+        let before = Some(self.store);
+        Store::open_by(room, passes, before, |number, opened| {
+            let mut needed = 0;
+            // SAFETY: the pass is borrowed mutably, so this call alone has it; each item of the slice is none yet, and the slice goes with
+            // its own length; the place of the count is a local variable. No open store has the number.
+            let status = unsafe {
+                sys::trb_succeed(
+                    number,
+                    room,
+                    &mut self.raw,
+                    &mut needed,
+                    opened.as_mut_ptr(),
+                    opened.len(),
+                )
+            };
+            done(status).map_err(|refusal| match refusal {
+                Error::InsufficientSpace => Error::RoomTooSmall { needed },
+                other => other,
+            })
+        })
+    }
+
+    /// The handle of what an object became in this store, which is the successor of the object's store. An object that was made there after
+    /// this store was opened became none: its handle is that of another object, or of none.
+    ///
+    /// # Errors
+    ///
+    /// - [`Error::ForeignObject`]: this store was not opened by a pass of the object's store.
+    pub fn inherited<O: Object>(&self, object: O) -> Result<O, Error> {
+        if Some(object.store()) == self.before {
+            Ok(O::of(self.store, object.number()))
+        } else {
+            Err(Error::ForeignObject)
+        }
     }
 }

@@ -14,8 +14,8 @@ use std::sync::Arc;
 /// # Limits
 ///
 /// A store is opened with its room, the number of calls that may change it in its whole life, and with all its passes. Choose the room for
-/// the whole life of the store, since it does not grow. Reads take no room. Each pass reserves some 200 bytes for each call that there
-/// is room for; these are addresses at first, and memory is used when calls come.
+/// the whole life of the store, since it does not grow; [`Pass::succeed`] opens a store that goes on from there. Reads take no room. Each
+/// pass reserves some 200 bytes for each call that there is room for; these are addresses at first, and memory is used when calls come.
 ///
 /// # Other languages in the process
 ///
@@ -57,6 +57,20 @@ impl Store {
     /// # }
     /// ```
     pub fn open(room: u32, passes: usize) -> Result<Vec<Pass>, Error> {
+        Store::open_by(room, passes, None, |number, opened| {
+            // SAFETY: each item of the slice is none yet, and the slice goes with its own length. No open store has the number.
+            done(unsafe { sys::trb_open(number, room, opened.as_mut_ptr(), opened.len()) })
+        })
+    }
+
+    /// Has a store opened, which succeeds that of `before`, and hands its passes out. What opens it is given a number that no other open
+    /// store has, and a place for each pass, which is none yet.
+    pub(crate) fn open_by(
+        room: u32,
+        passes: usize,
+        before: Option<Store>,
+        opening: impl FnOnce(u64, &mut [TrbPass]) -> Result<(), Error>,
+    ) -> Result<Vec<Pass>, Error> {
         if !is_within_limits(room, passes) {
             return Err(Error::InvalidValue);
         }
@@ -69,14 +83,13 @@ impl Store {
         let byte: Arc<u8> = Arc::new(0);
         let address = Arc::as_ptr(&byte) as usize as u64;
         let mut opened: Vec<TrbPass> = (0..passes).map(|_| TrbPass::none()).collect();
-        // SAFETY: each item of the list is none yet, and the list goes with its own length. No open store has the address for its number.
-        let status = unsafe { sys::trb_open(address, room, opened.as_mut_ptr(), opened.len()) };
+        let answer = opening(address, &mut opened);
         // Where the opening was refused, this ends the passes that were handed out before.
         let passes = opened
             .into_iter()
-            .map(|pass| Pass::of(pass, store, Arc::clone(&byte)))
+            .map(|pass| Pass::of(pass, store, before, Arc::clone(&byte)))
             .collect();
-        done(status).map(|()| passes)
+        answer.map(|()| passes)
     }
 
     /// Opens a store as [`Store::open`] does, and hands its passes out in an array.

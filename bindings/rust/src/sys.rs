@@ -54,6 +54,15 @@ pub const NO_ACCUM: u32 = 0;
 #[link(name = "grb_c", kind = "static", modifiers = "-bundle")]
 extern "C" {
     pub fn trb_open(store: u64, room: u32, passes: *mut TrbPass, npasses: usize) -> i32;
+    pub fn trb_succeed(
+        store: u64,
+        room: u32,
+        pass: *mut TrbPass,
+        needed: *mut u64,
+        passes: *mut TrbPass,
+        npasses: usize,
+    ) -> i32;
+    pub fn trb_is_full(pass: *mut TrbPass, out: *mut bool) -> i32;
     pub fn trb_free(pass: *mut TrbPass);
     pub fn trb_meet(pass: *mut TrbPass, other: *mut TrbPass) -> i32;
     pub fn trb_adopt(pass: *mut TrbPass, other: *mut TrbPass) -> i32;

@@ -1,9 +1,6 @@
--- A place that is written, and all behind it; and the last of new passes.
-use Rattle.std.proofs.Common.{◌≡◌, ℕ, zero, suc, ◌<◌, ◌≤◌, List, [], ◌∷◌, ◌++◌, length, refl, sym, ap, ◌∙◌, subst, arith, length-append, Option, Some}
+-- A place that is written, and all behind it; and the last of a list.
+use Rattle.std.proofs.Common.{◌≡◌, ℕ, zero, suc, ◌<◌, ◌≤◌, List, [], ◌∷◌, ◌++◌, length, refl, arith, Some}
 use Rattle.std.specs.Prelude.{map, slice_get, slice_index_or, slice_set}
-use Rattle.grb_order.specs.Holding.{TableId}
-use Rattle.grb_context.specs.Known.{AreNew, Knowing}
-use Rattle.grb_c.specs.Opening.{new_pass}
 
 pub at_set : {X Y : Type 0} (P : ℕ → Y → Type 0) (f : X → Y) (xs : List X) (j : ℕ) (y : X) (d : Y) → P j (f y) →
     ((k : ℕ) → suc j ≤ k → k < length (map f xs) → P k (slice_index_or (map f xs) k d)) →
@@ -15,29 +12,11 @@ at_set P f (x ∷ xs) (suc j) y d p rest zero from within = absurd (omega (arith
 at_set P f (x ∷ xs) (suc j) y d p rest (suc k) from within =
     at_set (λ (n : ℕ). P (suc n)) f xs j y d p (λ l a b. rest (suc l) (omega (arith, a)) (omega (arith, b))) k (omega (arith, from)) (omega (arith, within))
 
-get_left : {X : Type 0} (xs ys : List X) (k : ℕ) → k < length xs → slice_get (xs ++ ys) k ≡ slice_get xs k
+pub get_left : {X : Type 0} (xs ys : List X) (k : ℕ) → k < length xs → slice_get (xs ++ ys) k ≡ slice_get xs k
 get_left [] ys k lt = absurd (omega (arith, lt))
 get_left (x ∷ xs) ys zero lt = refl
 get_left (x ∷ xs) ys (suc k) lt = get_left xs ys k (omega (arith, lt))
 
-get_last : {X : Type 0} (xs : List X) (x : X) → slice_get (xs ++ x ∷ []) (length xs) ≡ Some x
+pub get_last : {X : Type 0} (xs : List X) (x : X) → slice_get (xs ++ x ∷ []) (length xs) ≡ Some x
 get_last [] x = refl
 get_last (y ∷ xs) x = get_last xs x
-
-same_some : {X : Type 0} (x y : X) → Some x ≡ Some y → x ≡ y
-same_some x y e = cc
-
--- of new passes the last has the highest number, and the others are new
-module _ (order : TableId) (passes m : ℕ) (all rest : List Knowing) (p : Knowing) (new : AreNew order passes all (suc m)) (split : all ≡ rest ++ p ∷ []) where
-  rest_count : length rest ≡ m
-  rest_count = omega (arith, new.count, ap length split, length-append rest (p ∷ []))
-
-  pub last_new : p ≡ new_pass order passes m
-  last_new = same_some p (new_pass order passes m)
-      (sym (get_last rest p) ∙ ap (λ (k : ℕ). slice_get (rest ++ p ∷ []) k) rest_count ∙ ap (λ (l : List Knowing). slice_get l m) (sym split) ∙ new.each m (omega arith))
-
-  pub rest_new : AreNew order passes rest m
-  rest_new = record {
-    count = rest_count;
-    each = λ k lt. sym (get_left rest (p ∷ []) k (omega (arith, lt, rest_count))) ∙ ap (λ (l : List Knowing). slice_get l k) (sym split) ∙ new.each k (omega (arith, lt));
-  }

@@ -76,6 +76,12 @@ Meets (Some old) new None code = (code ≡ uninitialized_object) × (new ≡ Som
 Meets (Some old) None (Some other) code = ⊥
 Meets (Some old) (Some new) (Some other) code = MeetsWhere (old.store == other.store) old new other code
 
+-- the handle is as it was, but for how many calls its pass made to answer
+abbrev pub IsSameButMade : Option Opened → Option Opened → Type 0
+IsSameButMade None new = new ≡ None
+IsSameButMade (Some old) (Some new) = new ≡ record old { pass = record old.pass { made = new.pass.made } }
+IsSameButMade (Some old) None = ⊥
+
 -- a pass evaluates what it knows, and tells how many of the calls that it knows are evaluated then; or there is none
 abbrev pub Prepares : Option Opened → Option Opened → ℤ → ℕ → ℕ → Type 0
 Prepares None None code before after = (code ≡ uninitialized_object) × (after ≡ before)

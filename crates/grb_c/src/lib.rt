@@ -14,6 +14,7 @@ mod operations;
 mod parts;
 mod raw;
 mod session;
+mod succession;
 mod tuples;
 
 pub use facts::TrbFacts;

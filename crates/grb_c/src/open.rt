@@ -1,9 +1,9 @@
 //! Opening a store, ending its passes, and what one pass tells another.
-ghost use Rattle.std.specs.Prelude.{◌≡◌, ◌++◌, ◌∷◌, [], All, None, Some, IfSome, MatchOption, length, map};
+ghost use Rattle.std.specs.Prelude.{◌≡◌, ◌⊎◌, ◌++◌, ◌∷◌, [], true, false, All, None, Some, IfSome, MatchOption, length, map, slice_get};
 ghost use Rattle.grb_order.specs.Order.{room_of};
-ghost use Rattle.grb_context.specs.Known.{AreNew, IsPassOf};
-ghost use Rattle.grb_c.specs.Codes.{success};
-ghost use Rattle.grb_c.specs.Opening.{AreOpened, HoldFrom};
+ghost use Rattle.grb_context.specs.Known.{IsPassOf};
+ghost use Rattle.grb_c.specs.Codes.{invalid_value, out_of_memory, panic, success};
+ghost use Rattle.grb_c.specs.Opening.{AreOpened, HoldFrom, IsWithin};
 ghost use Rattle.grb_c.specs.Sessions.{AreApart, Meets, Prepares};
 
 use crate::codes::{INVALID_VALUE, OUT_OF_MEMORY, PANIC, SUCCESS, UNINITIALIZED_OBJECT, met_code};
@@ -12,6 +12,18 @@ use crate::session::Session;
 use grb_context::{Context, MOST_PASSES, MOST_ROOM, MOST_SEATS, Pass};
 use std::alloc::Global;
 use std::sync::Arc;
+
+/// Whether a store may have so much room and so many passes.
+pub(crate) fn is_within(room: u32, passes: usize) -> bool
+    ensures within { result ≡ true → IsWithin room passes }
+    ensures outside { result ≡ false → IsWithin room passes → ⊥ }
+{
+    0 < room
+        && room <= MOST_ROOM
+        && 0 < passes
+        && passes <= MOST_PASSES as usize
+        && room as usize * passes <= MOST_SEATS as usize
+}
 
 /// One pass of the context into a handle.
 fn hand_out(
@@ -22,7 +34,8 @@ fn hand_out(
     slot: &mut TrbPass,
 ) -> i32
     requires pass { IsPassOf context.now.value pass }
-    ensures { result ≡ success → slot.new.raw.session ≡ Some (record { context = context.now.value; pass = pass; store = store }) }
+    ensures holds { result ≡ success → slot.new.raw.session ≡ Some (record { context = context.now.value; pass = pass; store = store }) }
+    ensures code { (result ≡ success) ⊎ (result ≡ out_of_memory) }
 {
     let Ok(context) = context.clone() else {
         return OUT_OF_MEMORY;
@@ -44,7 +57,7 @@ fn last_pass(context: &Arc<Context>, passes: &mut Vec<Pass>) -> Option<Pass>
     passes.pop()
 }
 
-/// Hands the passes out, the last first.
+/// Hands the passes out, the last first. The one at index k is for the handle at index k.
 fn hand_out_all(
     alloc: Global,
     store: u64,
@@ -53,14 +66,15 @@ fn hand_out_all(
     passes: &mut [TrbPass],
 ) -> i32
     requires passes { All (IsPassOf context.now.value) opened.items }
-    requires fresh { AreNew context.now.value.order (length passes.old) opened.items (length passes.old) }
-    ensures hold { result ≡ success → HoldFrom 0 context.now.value store (length passes.old) (map (λ h. h.raw.session) passes.new) }
+    requires count { length opened.items ≡ length passes.old }
+    ensures hold { result ≡ success → HoldFrom 0 context.now.value store (λ k p. slice_get opened.items k ≡ Some p) (map (λ h. h.raw.session) passes.new) }
     ensures count { length passes.new ≡ length passes.old }
+    ensures code { (result ≡ success) ⊎ ((result ≡ out_of_memory) ⊎ (result ≡ panic)) }
 {
-    let mut opened = opened;
+    let mut rest = opened;
     let n = passes.len();
     for at in 0..n {
-        let Some(pass) = last_pass(context, &mut opened) else {
+        let Some(pass) = last_pass(context, &mut rest) else {
             return PANIC;
         };
         let code = hand_out(alloc, store, context, pass, &mut passes[n - 1 - at]);
@@ -71,26 +85,40 @@ fn hand_out_all(
     SUCCESS
 }
 
-/// A context with room for so many calls, and a pass of it in each handle. The number is that of this store alone, among those that are
-/// open: a meeting goes by it.
-#[unsafe(no_mangle)]
-pub extern "C" fn trb_open(alloc: Global, store: u64, room: u32, passes: &mut [TrbPass]) -> i32
-    ensures { result ≡ success → AreOpened store room (map (λ h. h.raw.session) passes.new) }
+/// Hands the passes of this context out.
+pub(crate) fn hand_out_context(
+    alloc: Global,
+    store: u64,
+    context: Context,
+    opened: Vec<Pass>,
+    passes: &mut [TrbPass],
+) -> i32
+    requires passes { All (IsPassOf context) opened.items }
+    requires count { length opened.items ≡ length passes.old }
+    ensures hold { result ≡ success → HoldFrom 0 context store (λ k p. slice_get opened.items k ≡ Some p) (map (λ h. h.raw.session) passes.new) }
+    ensures count { length passes.new ≡ length passes.old }
+    ensures code { (result ≡ success) ⊎ ((result ≡ out_of_memory) ⊎ (result ≡ panic)) }
 {
-    let n = passes.len();
-    if room == 0 || room > MOST_ROOM || n == 0 || n > MOST_PASSES as usize {
-        return INVALID_VALUE;
-    }
-    if u64::from(room) * n as u64 > u64::from(MOST_SEATS) {
-        return INVALID_VALUE;
-    }
-    let Ok((context, opened)) = Context::open(alloc, room, n as u32) else {
-        return OUT_OF_MEMORY;
-    };
     let Ok(context) = Arc::new(alloc, context) else {
         return OUT_OF_MEMORY;
     };
     hand_out_all(alloc, store, &context, opened, passes)
+}
+
+/// A context with room for so many calls, and a pass of it in each handle. The number is that of this store alone, among those that are
+/// open: a meeting goes by it.
+#[unsafe(no_mangle)]
+pub extern "C" fn trb_open(alloc: Global, store: u64, room: u32, passes: &mut [TrbPass]) -> i32
+    ensures opened { result ≡ success → AreOpened store room (map (λ h. h.raw.session) passes.new) }
+    ensures outside { (IsWithin room (length passes.old) → ⊥) → result ≡ invalid_value }
+{
+    if !is_within(room, passes.len()) {
+        return INVALID_VALUE;
+    }
+    let Ok((context, opened)) = Context::open(alloc, room, passes.len() as u32) else {
+        return OUT_OF_MEMORY;
+    };
+    hand_out_context(alloc, store, context, opened, passes)
 }
 
 /// Frees the pass, and with the last of a context the context. The handle has none after.

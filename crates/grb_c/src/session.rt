@@ -1,12 +1,18 @@
 //! A pass with the context that it is of.
-ghost use Rattle.std.specs.Prelude.{◌≡◌, ◌≤◌, length};
+ghost use Rattle.std.specs.Prelude.{◌≡◌, ◌<◌, ◌≤◌, ◌*◌, All, IfErr, IfOk, length};
+ghost use Rattle.grb_order.specs.declared.limits.TheConstants.{MOST_PASSES, MOST_ROOM, MOST_SEATS};
+ghost use Rattle.grb_order.specs.Order.{room_of};
+ghost use Rattle.grb_call.specs.History.{store_of};
 ghost use Rattle.grb_context.specs.Known.{IsPassOf, known};
 ghost use Rattle.grb_context.specs.Answered.{Answered};
 ghost use Rattle.grb_context.specs.Meeting.{Met};
+ghost use Rattle.grb_context.specs.Rebuilding.{IsNoSuccessor};
+ghost use Rattle.grb_context.specs.Succeeding.{AreBegun};
 
 use grb_call::{Call, Reply};
-use grb_context::{Context, Pass};
+use grb_context::{Context, NoSuccessor, Pass};
 use grb_core::Refusal;
+use std::alloc::Global;
 use std::marker::Model;
 use std::sync::Arc;
 
@@ -82,6 +88,27 @@ impl Session {
         ensures count { result ≤ length (known self.new.pass) }
     {
         self.context.prepare(&mut self.pass)
+    }
+
+    /// A context that goes on where the pass ends, and its passes, as [`Context::succeed`] has them.
+    pub fn succeed(
+        &mut self,
+        alloc: Global,
+        room: u32,
+        passes: u32,
+    ) -> Result<(Context, Vec<Pass>), NoSuccessor>
+        requires room { (0 < room) × (room ≤ MOST_ROOM) }
+        requires passes { (0 < passes) × (passes ≤ MOST_PASSES) }
+        requires seats { room * passes ≤ MOST_SEATS }
+        ensures context { self.new.context ≡ self.old.context }
+        ensures store { self.new.store ≡ self.old.store }
+        ensures same { self.new.pass ≡ record self.old.pass { made = self.new.pass.made } }
+        ensures room { IfOk result (λ opened. room_of opened.0.order ≡ room) }
+        ensures begun { IfOk result (λ opened. AreBegun opened.0 (store_of (known self.old.pass)) passes opened.1.items) }
+        ensures ours { IfOk result (λ opened. All (IsPassOf opened.0) opened.1.items) }
+        ensures refused { IfErr result (IsNoSuccessor room (store_of (known self.old.pass))) }
+    {
+        self.context.succeed(alloc, &mut self.pass, room, passes)
     }
 
     /// The number of the store.

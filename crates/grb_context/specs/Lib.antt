@@ -1,3 +1,4 @@
+pub mod Full
 pub mod Ran
 pub mod Snapshot
 pub use Rattle.grb_pass.specs.Answered
@@ -8,6 +9,11 @@ pub use Rattle.grb_pass.specs.Laws
 pub use Rattle.grb_pass.specs.Learning
 pub use Rattle.grb_pass.specs.Meeting
 pub use Rattle.grb_pass.specs.Point
+pub use Rattle.grb_pass.specs.Live
+pub use Rattle.grb_pass.specs.Rebuilding
+pub use Rattle.grb_pass.specs.Rebuilt
+pub use Rattle.grb_pass.specs.Renumbered
 pub use Rattle.grb_pass.specs.Settled
 pub use Rattle.grb_pass.specs.Statuses
 pub use Rattle.grb_pass.specs.StoredIn
+pub use Rattle.grb_pass.specs.Succeeding

@@ -5,7 +5,7 @@ use Rattle.std.proofs.lemmas.Option.{slice_get_within}
 use Rattle.grb_core.specs.declared.refusal.Refusal.{Refusal}
 use Rattle.grb_call.specs.declared.call.Call.{Call}
 use Rattle.grb_order.specs.Word.{index_of, order_word, StartsWith}
-use Rattle.grb_order.specs.View.{learns, enters_word}
+use Rattle.grb_order.specs.View.{learns}
 use Rattle.grb_order.specs.declared.view.View.{View}
 use Rattle.grb_records.specs.Token.{Shown}
 use Rattle.grb_pass.specs.Evaluated.{EvaluatedView}

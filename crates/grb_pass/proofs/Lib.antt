@@ -17,3 +17,4 @@ mod Readers
 mod Rising
 mod Settling
 mod Spelling
+mod Succeeding

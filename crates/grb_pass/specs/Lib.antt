@@ -13,5 +13,10 @@ pub mod Point
 pub mod Putting
 pub mod Reading
 pub mod Settled
+pub mod Succeeding
 pub use Rattle.grb_call.specs.Statuses
+pub use Rattle.grb_rebuild.specs.Rebuilding
+pub use Rattle.grb_rebuild.specs.Rebuilt
+pub use Rattle.grb_rebuild.specs.Renumbered
+pub use Rattle.grb_state.specs.Live
 pub use Rattle.grb_state.specs.StoredIn

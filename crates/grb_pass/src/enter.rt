@@ -47,7 +47,7 @@ impl Shared {
     /// Enters the record of a token, whose call is not refused after all that the pass knows. After a lost try the call is checked again,
     /// with the words learnt since.
     #[inline(always)]
-    fn enter_token(&self, pass: &mut Pass, token: Token) -> Result<Reply, Refusal>
+    pub(crate) fn enter_token(&self, pass: &mut Pass, token: Token) -> Result<Reply, Refusal>
         requires pass { IsPassOf self.now pass.old }
         requires steady { IsSteady pass.old }
         requires of { IsOf self.now.records token }

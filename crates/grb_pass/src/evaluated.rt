@@ -18,6 +18,7 @@ mod answers;
 mod exchange;
 mod held;
 mod making;
+mod succeeding;
 
 use crate::reader::Reader;
 use grb_call::{Call, Reply, WaitMode};

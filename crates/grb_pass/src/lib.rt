@@ -18,6 +18,8 @@ mod reader;
 mod row;
 mod shared;
 mod sharing;
+mod succeed;
 
+pub use grb_rebuild::{NoSuccessor, Renumbered};
 pub use pass::Pass;
 pub use shared::Shared;

@@ -1,5 +1,5 @@
 //! A pass: one thread's way into the history, with what it knows, has evaluated and was answered.
-ghost use Rattle.std.specs.Prelude.{◌≡◌, ℕ, ◌<◌, ◌≤◌, ◌+◌, ◌^◌, ◌⊎◌, false, true, None, Some, [], if◌then◌else◌, is_some, length, All, IfOk, IfErr, IfSome, MatchOption, OnOk, OnErr};
+ghost use Rattle.std.specs.Prelude.{◌≡◌, ℕ, ◌<◌, ◌≤◌, ◌+◌, ◌^◌, ◌==◌, ◌⊎◌, false, true, None, Some, [], if◌then◌else◌, is_some, length, All, IfOk, IfErr, IfSome, MatchOption, OnOk, OnErr};
 ghost use Rattle.std.specs.Option.{option_or};
 ghost use Rattle.grb_order.specs.declared.limits.TheConstants.{MOST_ROOM};
 ghost use Rattle.grb_order.specs.View.{fresh, LookedLast};
@@ -12,7 +12,11 @@ ghost use Rattle.grb_call.specs.After.{refused, reply_of};
 ghost use Rattle.grb_call.specs.History.{store_of};
 ghost use Rattle.grb_call.specs.Status.{info_of, made_by, object_of, with_status};
 ghost use Rattle.grb_call.specs.Statuses.{no_rows, status_at};
+ghost use Rattle.grb_state.specs.Live.{live_store};
 ghost use Rattle.grb_state.specs.StoredIn.{IsMatrixOf, IsVectorOf};
+ghost use Rattle.grb_rebuild.specs.Rebuilding.{IsNoSuccessor, IsRebuild};
+ghost use Rattle.grb_rebuild.specs.Renumbered.{AreRenumbered};
+ghost use Rattle.grb_pass.specs.Evaluated.{IsAssembled};
 ghost use Rattle.grb_pass.specs.Known.{known};
 ghost use Rattle.grb_pass.specs.Counting.{Counts};
 ghost use Rattle.grb_pass.specs.Laws.{Begins};
@@ -28,9 +32,11 @@ use crate::row::RecordRow;
 use grb_call::{Call, Kind, MatrixId, Object, Reply, VectorId, WaitMode};
 use grb_core::{Info, Refusal};
 use grb_order::{Order, Place};
+use grb_rebuild::{NoSuccessor, Rebuild, Renumbered};
 use grb_records::{Records, Token};
 use grb_replay::Versions;
 use grb_sparse::{SparseMatrix, SparseVector};
+use grb_state::State;
 use std::alloc::{AllocError, Global};
 use std::marker::Model;
 use std::sync::Arc;
@@ -223,6 +229,70 @@ impl Pass {
         ensures { result + length self.now.view.words ≡ room_of self.now.order }
     {
         self.reader.room_left()
+    }
+
+    /// Whether the history is full and the pass knows all of it. It will never know more, and each other pass of the context knows, now and
+    /// at any time, a beginning of that: that is the law `full_knows_all` of the context. Takes no memory (own).
+    pub fn is_at_end(&self) -> bool
+        ensures { result ≡ (length (known self.now) == room_of self.now.order) }
+    {
+        self.reader.known() == self.reader.room()
+    }
+
+    /// The store that all known calls leave, with the calls that make it anew, as [`grb_rebuild::rebuild_all`] has them. It evaluates what is not
+    /// evaluated.
+    pub(crate) fn rebuild(
+        &mut self,
+        alloc: Global,
+        records: &Records,
+        room: u32,
+    ) -> Result<Rebuild, NoSuccessor>
+        requires records { All (IsOf records.now) self.old.shown }
+        requires room { room ≤ MOST_ROOM }
+        ensures same { self.new ≡ record self.old { made = self.new.made } }
+        ensures rebuild { IfOk result (λ r. IsRebuild room r.calls.items r.state) }
+        ensures store { IfOk result (λ r. r.state.store ≡ store_of (known self.old)) }
+        ensures refused { IfErr result (IsNoSuccessor room (store_of (known self.old))) }
+    {
+        self.evaluated.begin();
+        let rebuild = self
+            .evaluated
+            .rebuild(alloc, records, &mut self.reader, room);
+        self.reader.note_made(self.evaluated.made());
+        rebuild
+    }
+
+    /// The same of the objects that are there alone, as [`grb_rebuild::rebuild_live`] has it.
+    pub(crate) fn rebuild_live(
+        &mut self,
+        alloc: Global,
+        records: &Records,
+        room: u32,
+    ) -> Result<(Rebuild, Renumbered), NoSuccessor>
+        requires records { All (IsOf records.now) self.old.shown }
+        requires room { room ≤ MOST_ROOM }
+        ensures same { self.new ≡ record self.old { made = self.new.made } }
+        ensures rebuild { IfOk result (λ r. IsRebuild room r.0.calls.items r.0.state) }
+        ensures store { IfOk result (λ r. r.0.state.store ≡ live_store (store_of (known self.old))) }
+        ensures numbers { IfOk result (λ r. AreRenumbered (store_of (known self.old)) r.1) }
+        ensures refused { IfErr result (IsNoSuccessor room (live_store (store_of (known self.old)))) }
+    {
+        self.evaluated.begin();
+        let rebuild = self
+            .evaluated
+            .rebuild_live(alloc, records, &mut self.reader, room);
+        self.reader.note_made(self.evaluated.made());
+        rebuild
+    }
+
+    /// Takes this store, which the known calls leave, for what was evaluated. Takes no memory.
+    pub(crate) fn begin_with(&mut self, state: State)
+        requires store { state.store ≡ store_of (known self.old) }
+        requires room { room_of self.old.order ≤ state.room + length (known self.old) }
+        requires assembled { IsAssembled state }
+        ensures { self.new ≡ self.old }
+    {
+        self.evaluated.begin_with(&self.reader, state);
     }
 
     /// Puts the call as the next record of the pass, as [`RecordRow::put`] does. It is none that a word of the pass names.

@@ -120,6 +120,21 @@ impl Reached {
         })
     }
 
+    /// A state that so many calls leave, of so much work, all of which were made: it lacks no object. Takes no memory.
+    pub fn whole(alloc: Global, state: State, count: usize, amount: Amount) -> Reached
+        ensures state { result.state ≡ state }
+        ensures count { result.count ≡ count }
+        ensures whole { IsWhole result }
+    {
+        Reached {
+            alloc,
+            state,
+            lacking: Wanted::new(alloc),
+            count,
+            amount,
+        }
+    }
+
     /// The same, with room for so many further calls. No entry is copied. `AllocError` where memory is refused.
     pub fn try_clone(&self, room: u32) -> Result<Reached, AllocError>
         requires matrices { length self.now.state.store.matrices + room < 2 ^ 32 }

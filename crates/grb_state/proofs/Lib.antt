@@ -5,6 +5,7 @@ mod Dispatched
 mod Folded
 mod Lent
 mod LentProducts
+pub mod Living
 pub mod Numbered
 mod Objects
 mod Premises

@@ -1,5 +1,6 @@
 pub mod Evaluated
 pub mod Fits
+pub mod Live
 pub mod Operation
 pub mod Places
 pub mod Settled

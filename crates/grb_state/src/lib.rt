@@ -8,6 +8,7 @@
 
 mod copies;
 mod fold;
+mod live;
 mod matrices;
 mod matrix_operations;
 mod operations;

@@ -58,7 +58,9 @@ impl<T> SharedObject<T> {
 
 /// The object of a place for one more store, if it has one; nothing of it is copied, and no memory is taken. `AllocError` where 2^63 - 1
 /// hold it.
-fn share_place<T>(place: &Option<SharedObject<T>>) -> Result<Option<SharedObject<T>>, AllocError>
+pub(crate) fn share_place<T>(
+    place: &Option<SharedObject<T>>,
+) -> Result<Option<SharedObject<T>>, AllocError>
     ensures { IfOk result (λ shared. shared ≡ place.now) }
 {
     match place {

@@ -30,6 +30,7 @@ from .errors import (
     OutputNotEmpty,
     Panic,
     Refusal,
+    RoomTooSmall,
     StoreClosed,
     UninitializedObject,
 )
@@ -61,6 +62,7 @@ __all__ = [
     "Panic",
     "Pass",
     "Refusal",
+    "RoomTooSmall",
     "Store",
     "StoreClosed",
     "UninitializedObject",

@@ -54,6 +54,8 @@ _ARRAY = (ctypes.c_void_p, ctypes.c_size_t)
 _PARAMETERS: Dict[str, Tuple[Any, ...]] = {
     # Stores and passes.
     "trb_open": (_U64, _U32, _PASS, ctypes.c_size_t),
+    "trb_succeed": (_U64, _U32, _PASS, _U64_OUT, _PASS, ctypes.c_size_t),
+    "trb_is_full": (_PASS, _BOOL_OUT),
     "trb_free": (_PASS,),
     "trb_meet": (_PASS, _PASS),
     "trb_adopt": (_PASS, _PASS),

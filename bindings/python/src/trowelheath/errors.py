@@ -12,6 +12,7 @@ the first seven apply to a call, the first of them is raised:
 - `OutputNotEmpty`: a build found an entry in its object.
 - `IndexOutOfBounds`, an `IndexError`: an index in a build's list is not below the dimension.
 - `OrderFull`: the room of the store is used up, and the call was refused for nothing else.
+- `RoomTooSmall`, a `ValueError`: the calls that make the objects of a successor need more room.
 - `OutOfMemory`, a `MemoryError`: memory was refused.
 - `Panic`, a `RuntimeError`: the record of a call was not taken or not shown.
 """
@@ -35,6 +36,7 @@ __all__ = [
     "OutputNotEmpty",
     "Panic",
     "Refusal",
+    "RoomTooSmall",
     "StoreClosed",
     "UninitializedObject",
 ]
@@ -173,6 +175,25 @@ class InsufficientSpace(Refusal):
     code = Info.INSUFFICIENT_SPACE
     name = "GrB_INSUFFICIENT_SPACE"
     hint = "Give arrays as long as the object has entries."
+
+
+class RoomTooSmall(Refusal, ValueError):
+    """The room of a successor is below the number of calls that make its objects.
+
+    Attributes:
+        needed: how many calls make the objects, which is the least room of a successor.
+    """
+
+    code = Info.INSUFFICIENT_SPACE
+    name = "GrB_INSUFFICIENT_SPACE"
+    hint = "Give room for the calls that make the objects."
+    needed: int
+
+    def __init__(self, needed: int) -> None:
+        """The refusal where so many calls make the objects."""
+        super().__init__(f"Give room for the {needed:,} calls that make the objects.")
+        self.args = (needed,)
+        self.needed = needed
 
 
 class StoreClosed(RuntimeError):

@@ -154,12 +154,15 @@ class Object:
         return Info(out.value)
 
     def using(self: AnyObject, pass_: Pass) -> AnyObject:
-        """The same object by another pass of its store.
+        """The same object by another pass of its store, or what it became by a pass of the store's successor.
+
+        An object that was made after the successor was opened became none: its number is that of another object
+        there, or of none.
 
         Raises:
             ValueError: the pass is of another store.
         """
-        if pass_.store is not self.store:
+        if not pass_.store._has_objects_of(self.store):
             raise ValueError("the pass is of another store")
         return type(self)(pass_, self._number, self._domain)
 
@@ -224,8 +227,8 @@ class Object:
     def copy_to(self: AnyObject, pass_: Pass) -> AnyObject:
         """A new object of the same domain, dimensions and entries by another pass, of this store or of another one.
 
-        So objects are carried over from a store whose room is used up. It takes two calls of the other store's
-        room. Nobody may resize the object meanwhile.
+        It takes two calls of the other store's room. Nobody may resize the object meanwhile. `Pass.succeed` opens
+        a store with all objects.
 
         Raises:
             IndexOutOfBounds: the object was resized meanwhile.

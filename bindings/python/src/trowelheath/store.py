@@ -7,11 +7,11 @@ import operator
 import os
 import threading
 import weakref
-from typing import Any, List, NamedTuple, Optional, SupportsIndex, Tuple
+from typing import Any, Callable, List, NamedTuple, Optional, SupportsIndex, Tuple
 
 from . import convert
 from ._library import FactsRecord, PassHandle, load
-from .errors import InvalidValue, StoreClosed, refusal_of
+from .errors import InsufficientSpace, InvalidValue, RoomTooSmall, StoreClosed, refusal_of
 from .objects import Matrix, Vector
 from .operators import domain_of
 
@@ -25,6 +25,14 @@ MOST_PASSES = 256
 
 MOST_SEATS = 1_048_576
 """The largest product of room and passes of a store."""
+
+_RANGES = (
+    f"Give a room from 1 to {MOST_ROOM:,}, passes from 1 to {MOST_PASSES}, "
+    f"and a product of both up to {MOST_SEATS:,}."
+)
+
+# What opens a store: it is given a number, and a handle for each pass, and answers the status.
+_Opening = Callable[[int, "ctypes.Array[PassHandle]"], int]
 
 # A store has the address of one of these as its number. They are kept as long as the process runs, so no two
 # stores have the same number.
@@ -171,6 +179,57 @@ class Pass:
         self._call("trb_facts", ctypes.byref(record))
         return Facts(*(getattr(record, name) for name in Facts._fields))
 
+    def is_full(self) -> bool:
+        """Whether the room is used up and the pass knows every change.
+
+        Then no pass of the store will ever know another one. It looks for no news: let it `meet` the others before.
+
+        Raises:
+            StoreClosed: the store is closed.
+        """
+        out = ctypes.c_bool()
+        self._call("trb_is_full", ctypes.byref(out))
+        return out.value
+
+    def succeed(self, room: SupportsIndex = 4096, passes: SupportsIndex = 1) -> Store:
+        """Opens the successor of the store: a store of its own that begins with what this pass knows.
+
+        Every object goes over, with its number: `A.using(pass_)` gives it by a pass of the successor. A freed number
+        stays freed, and the next object is given the next number. The history begins with the calls that make these
+        objects, one or two for each number that was ever given; they take room. The new passes know them, and share
+        what is evaluated of them. No object has a `last_info`, and nothing is settled. This store stays as it is,
+        and is closed by its owner; objects are shared until one of the two stores changes one.
+
+        Where `is_full` holds, nothing is lost. Called earlier it makes a branch: what is changed here later is not
+        there.
+
+        Args:
+            room: how many calls that change it the successor takes, as of `Store`.
+            passes: how many passes it has, as of `Store`.
+
+        Raises:
+            InvalidValue: the room or the number of passes is out of its range, or their product is too large.
+            RoomTooSmall: the calls that make the objects need more room.
+            OutOfMemory: memory was refused.
+            Panic: the record of a call was not shown; call again.
+            StoreClosed: the store is closed.
+        """
+        calls, count = _within_ranges(room, passes)
+        needed = ctypes.c_uint64()
+
+        def opening(number: int, handles: ctypes.Array[PassHandle]) -> int:
+            with self._lock:
+                self._require_open()
+                status: int = self._library.trb_succeed(
+                    number, calls, self._handle, ctypes.byref(needed), handles, count
+                )
+            return status
+
+        try:
+            return Store._opened(calls, count, opening, self._store)
+        except InsufficientSpace:
+            raise RoomTooSmall(needed.value) from None
+
     def _call(self, name: str, *arguments: Any, invalid: Optional[str] = None) -> int:
         """Makes a call of the library by this pass, and returns its status. Other threads run meanwhile.
 
@@ -248,22 +307,34 @@ class Store:
             OutOfMemory: memory was refused.
             LibraryNotFound: the shared library was not found.
         """
-        ranges = (
-            f"Give a room from 1 to {MOST_ROOM:,}, passes from 1 to {MOST_PASSES}, "
-            f"and a product of both up to {MOST_SEATS:,}."
-        )
-        calls, count = operator.index(room), operator.index(passes)
-        if not (1 <= calls <= MOST_ROOM and 1 <= count <= MOST_PASSES and calls * count <= MOST_SEATS):
-            raise InvalidValue(ranges)
+        calls, count = _within_ranges(room, passes)
+        self._open(calls, count, lambda number, handles: load().trb_open(number, calls, handles, count), None)
+
+    @classmethod
+    def _opened(cls, room: int, count: int, opening: _Opening, before: Store) -> Store:
+        """A store that `opening` opens, as the successor of another one."""
+        store = cls.__new__(cls)
+        store._open(room, count, opening, before)
+        return store
+
+    def _open(self, room: int, count: int, opening: _Opening, before: Optional[Store]) -> None:
+        """Has the store opened, under a number that no other store has. `before` is the one that it succeeds."""
         library = load()
         number = ctypes.c_uint64()
         _numbers.append(number)
         handles = (PassHandle * count)()
-        status = library.trb_open(ctypes.addressof(number), calls, handles, count)
+        self._number = ctypes.addressof(number)
+        # Its number alone is kept: the store itself may end.
+        self._before = None if before is None else before._number
+        try:
+            status = opening(self._number, handles)
+        except BaseException:
+            _end_all(library, handles)
+            raise
         if status != 0:
             _end_all(library, handles)
-            raise refusal_of(status, ranges)
-        self._room = calls
+            raise refusal_of(status, _RANGES)
+        self._room = room
         self._passes = tuple(Pass(self, place, library, handles[place]) for place in range(count))
         self._closed = False
         # It runs when nothing can make a call by a pass any more. At the end of the process it need not.
@@ -311,12 +382,24 @@ class Store:
         passes = "1 pass" if len(self._passes) == 1 else f"{len(self._passes)} passes"
         return f"<Store of room {self._room}, {passes}{', closed' if self._closed else ''}>"
 
+    def _has_objects_of(self, other: Store) -> bool:
+        """Whether the numbers of the other store's objects mean the same here: it is this one, or the one before."""
+        return other is self or other._number == self._before
+
     def _leave_to_parent(self) -> None:
         """In the child of a fork: the store is the parent's, and is not ended here."""
         self._closed = True
         self._finalizer.detach()
         for pass_ in self._passes:
             pass_._leave_to_parent()
+
+
+def _within_ranges(room: SupportsIndex, passes: SupportsIndex) -> Tuple[int, int]:
+    """The room and the number of passes of a store. `InvalidValue` where it may not have so much."""
+    calls, count = operator.index(room), operator.index(passes)
+    if not (1 <= calls <= MOST_ROOM and 1 <= count <= MOST_PASSES and calls * count <= MOST_SEATS):
+        raise InvalidValue(_RANGES)
+    return calls, count
 
 
 # The stores of this process, for what is to be done after a fork.

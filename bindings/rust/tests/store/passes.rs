@@ -116,6 +116,90 @@ fn a_wait_for_all_settles_what_is_known() {
 }
 
 #[test]
+fn a_full_store_has_a_successor() {
+    let [mut first, mut second] = Store::open_array(4).unwrap();
+    let v = first.new_vector::<u64>(3).unwrap();
+    let gone = first.new_vector::<bool>(3).unwrap();
+    first.free(gone).unwrap();
+    second.set(v, 0, 5).unwrap();
+    assert_eq!(first.is_full(), Ok(false));
+    first.meet(&mut second).unwrap();
+    assert_eq!(first.is_full(), Ok(true));
+    assert_eq!(first.set(v, 1, 6), Err(Error::OrderFull));
+
+    let mut next = first.succeed(10, 3).unwrap();
+    assert_eq!(next.len(), 3);
+    for (number, pass) in (0..).zip(&mut next) {
+        let facts = pass.facts().unwrap();
+        assert_eq!((facts.number, facts.known), (number, 4));
+        assert_eq!((facts.room_left, facts.settled), (6, 0));
+        assert_eq!(pass.is_full(), Ok(false));
+    }
+    let (w, lost) = (
+        next[1].inherited(v).unwrap(),
+        next[1].inherited(gone).unwrap(),
+    );
+    assert_eq!(w.store(), next[1].store());
+    assert_eq!(next[1].last_info(w), Ok(None));
+    assert_eq!(next[1].get(w, 0), Ok(Some(5)));
+    assert_eq!(next[1].nvals(lost), Err(Error::UninitializedObject));
+    next[2].set(w, 1, 6).unwrap();
+    assert_eq!(next[0].get(w, 1), Ok(Some(6)));
+
+    // The old store stays as it was, and the new one outlives it.
+    assert_eq!(second.get(v, 1), Ok(None));
+    drop((first, second));
+    assert_eq!(next[0].nvals(w), Ok(2));
+}
+
+#[test]
+fn a_successor_before_the_end_is_a_branch() {
+    let mut pass = open();
+    let v = pass.new_vector::<u64>(3).unwrap();
+    let mut next = pass.succeed(10, 1).unwrap();
+    pass.set(v, 0, 5).unwrap();
+    let w = next[0].inherited(v).unwrap();
+    assert_eq!(next[0].nvals(w), Ok(0));
+    assert_eq!(pass.nvals(v), Ok(1));
+}
+
+#[test]
+fn a_successor_is_refused_with_its_reason() {
+    let mut pass = open();
+    let v = pass.new_vector::<u64>(3).unwrap();
+    pass.set(v, 0, 5).unwrap();
+    let refusal = pass.succeed(1, 1).map(|_| ()).unwrap_err();
+    assert_eq!(refusal, Error::RoomTooSmall { needed: 2 });
+    assert_eq!(refusal.status(), Some(-103));
+    assert!(refusal.to_string().ends_with("They are 2."), "{refusal}");
+    for (room, passes) in [(0, 1), (65_537, 1), (2, 0), (2, 257), (65_536, 17)] {
+        let answer = pass.succeed(room, passes).map(|_| ());
+        assert_eq!(
+            answer,
+            Err(Error::InvalidValue),
+            "room {room}, passes {passes}"
+        );
+    }
+    assert_eq!(pass.succeed(2, 1).map(|passes| passes.len()), Ok(1));
+}
+
+#[test]
+fn a_handle_is_inherited_from_the_store_before_alone() {
+    let (mut pass, mut other) = (open(), open());
+    let v = pass.new_vector::<u64>(3).unwrap();
+    let u = other.new_vector::<u64>(3).unwrap();
+    let mut next = pass.succeed(10, 1).unwrap();
+    assert_eq!(pass.inherited(v), Err(Error::ForeignObject));
+    assert_eq!(next[0].inherited(u), Err(Error::ForeignObject));
+    let w = next[0].inherited(v).unwrap();
+    assert_eq!(next[0].nvals(v), Err(Error::ForeignObject));
+    assert_eq!(pass.nvals(w), Err(Error::ForeignObject));
+    let last = next[0].succeed(10, 1).unwrap();
+    assert_eq!(last[0].inherited(v), Err(Error::ForeignObject));
+    assert!(last[0].inherited(w).is_ok());
+}
+
+#[test]
 fn what_a_pass_entered_outlives_it() {
     let [mut first, mut second] = Store::open_array(10).unwrap();
     let v = first.new_vector::<u64>(3).unwrap();

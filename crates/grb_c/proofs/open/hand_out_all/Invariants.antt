@@ -1,13 +1,15 @@
-use Rattle.std.proofs.Common.{◌≡◌, ◌-◌, All, length, map}
-use Rattle.grb_context.specs.Known.{AreNew, IsPassOf}
+use Rattle.std.proofs.Common.{◌≡◌, ◌-◌, ◌<◌, ℕ, All, Some, length, map}
+use Rattle.std.specs.Prelude.{slice_get}
+use Rattle.grb_context.specs.Known.{IsPassOf}
 use Rattle.grb_c.specs.Opening.{HoldFrom}
 use Rattle.grb_c.proofs.open.hand_out_all.Given as goal
 
--- the last handles, so many, have passes
+-- the first passes are left, and the last handles, so many, have the others
 abbrev pub invariant-loop-at : goal.invariant-loop-at
 invariant-loop-at l = record {
-  passes : All (IsPassOf l.context.value) l.opened.items;
+  passes : All (IsPassOf l.context.value) l.rest.items;
   count : length l.passes ≡ l.n;
-  fresh : AreNew l.context.value.order l.n l.opened.items (l.n - l.at);
-  hold : HoldFrom (l.n - l.at) l.context.value l.store l.n (map (λ h. h.raw.session) l.passes);
+  left : length l.rest.items ≡ l.n - l.at;
+  first : (k : ℕ) → k < l.n - l.at → slice_get l.rest.items k ≡ slice_get l.fn.opened.items k;
+  hold : HoldFrom (l.n - l.at) l.context.value l.store (λ k p. slice_get l.fn.opened.items k ≡ Some p) (map (λ h. h.raw.session) l.passes);
 }

@@ -1,5 +1,5 @@
 use Prim.{search}
-use Rattle.std.proofs.Common.{rules, ◌<◌, ◌^◌, IfOk, subst, arith}
+use Rattle.std.proofs.Common.{rules, subst, arith}
 use Rattle.grb_pass.specs.Cells.{OwnBelow}
 use Rattle.grb_pass.specs.Known.{Knowing}
 use Rattle.grb_pass.proofs.Cells.{fresh_put, own_wider, small_put}

@@ -1,0 +1,45 @@
+-- believed: What a handle's successor is (own): a store of its own that begins as the pass leaves the old one, or the reason why there is none.
+use Rattle.std.specs.Prelude.{◌≡◌, ◌⊎◌, ℕ, ℤ, List, Option, Some, None}
+use Rattle.grb_call.specs.Store.{Store}
+use Rattle.grb_call.specs.History.{store_of}
+use Rattle.grb_rebuild.specs.declared.rebuild.NoSuccessor.{NoSuccessor}
+use Rattle.grb_rebuild.specs.declared.rebuild.NoSuccessor.TheVariants as no
+use Rattle.grb_context.specs.Known.{known}
+use Rattle.grb_context.specs.Rebuilding.{IsNoSuccessor}
+use Rattle.grb_context.specs.Succeeding.{BeginsWith}
+use Rattle.grb_c.specs.Codes.{insufficient_space, out_of_memory, panic, success, uninitialized_object}
+use Rattle.grb_c.specs.Opening.{AreHandedOut}
+use Rattle.grb_c.specs.Sessions.{Opened}
+
+-- the status where there is no successor
+abbrev pub no_successor_code : NoSuccessor → ℤ
+no_successor_code (no.RoomTooSmall needed) = insufficient_space
+no_successor_code no.OutOfMemory = out_of_memory
+no_successor_code no.Panic = panic
+
+-- how many calls are needed, where the room is too small
+abbrev pub needed_out : NoSuccessor → ℕ → ℕ
+needed_out (no.RoomTooSmall needed) before = needed
+needed_out _ before = before
+
+-- all handles have passes that begin with this store, each of its own number
+pub record IsSucceeded (store room : ℕ) (s : Store) (code : ℤ) (before after : ℕ) (hs : List (Option Opened)) : Type 0 where
+  pub code_is : code ≡ success
+  pub needed_is : after ≡ before
+  pub passes : AreHandedOut (λ context. BeginsWith context s) store room hs
+
+-- there is no successor, for this reason
+pub record IsNotSucceeded (room : ℕ) (s : Store) (code : ℤ) (before after : ℕ) : Type 0 where
+  pub why : NoSuccessor
+  pub holds : IsNoSuccessor room s why
+  pub code_is : code ≡ no_successor_code why
+  pub needed_is : after ≡ needed_out why before
+
+-- the one or the other
+abbrev pub GoesOn : ℕ → ℕ → Store → ℤ → ℕ → ℕ → List (Option Opened) → Type 0
+GoesOn store room s code before after hs = IsSucceeded store room s code before after hs ⊎ IsNotSucceeded room s code before after
+
+-- the same of the store that all calls leave which the pass of a handle knows; or there is no pass
+abbrev pub Succeeds : ℕ → ℕ → Option Opened → ℤ → ℕ → ℕ → List (Option Opened) → Type 0
+Succeeds store room (Some s) code before after hs = GoesOn store room (store_of (known s.pass)) code before after hs
+Succeeds store room None code before after hs = (code ≡ uninitialized_object) × (after ≡ before)

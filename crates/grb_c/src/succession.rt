@@ -1,0 +1,94 @@
+//! A store that goes on where another is full.
+ghost use Rattle.std.specs.Prelude.{◌≡◌, ◌==◌, MatchOption, length, map};
+ghost use Rattle.grb_order.specs.Order.{room_of};
+ghost use Rattle.grb_call.specs.History.{store_of};
+ghost use Rattle.grb_context.specs.Known.{known};
+ghost use Rattle.grb_c.specs.Codes.{invalid_value};
+ghost use Rattle.grb_c.specs.Opening.{IsWithin};
+ghost use Rattle.grb_c.specs.Sessions.{IsSameButMade, facts_code};
+ghost use Rattle.grb_c.specs.Succession.{GoesOn, Succeeds, needed_out, no_successor_code};
+
+use crate::codes::{
+    INSUFFICIENT_SPACE, INVALID_VALUE, OUT_OF_MEMORY, PANIC, SUCCESS, UNINITIALIZED_OBJECT,
+};
+use crate::handle::TrbPass;
+use crate::open::{hand_out_context, is_within};
+use crate::session::Session;
+use grb_context::NoSuccessor;
+use std::alloc::Global;
+
+/// Why there is no successor, and how many calls are needed, where the room is too small.
+fn put_needed(why: NoSuccessor, needed: &mut u64) -> i32
+    ensures code { result ≡ no_successor_code why }
+    ensures needed { needed.new ≡ needed_out why needed.old }
+{
+    match why {
+        NoSuccessor::OutOfMemory => OUT_OF_MEMORY,
+        NoSuccessor::RoomTooSmall { needed: calls } => {
+            *needed = calls;
+            INSUFFICIENT_SPACE
+        }
+        NoSuccessor::Panic => PANIC,
+    }
+}
+
+/// Opens a successor of what the pass of the session knows, and hands its passes out.
+fn go_on(
+    alloc: Global,
+    store: u64,
+    room: u32,
+    session: &mut Session,
+    needed: &mut u64,
+    passes: &mut [TrbPass],
+) -> i32
+    requires within { IsWithin room (length passes.old) }
+    ensures same { session.new ≡ record session.old { pass = record session.old.pass { made = session.new.pass.made } } }
+    ensures goes_on { GoesOn store room (store_of (known session.old.pass)) result needed.old needed.new (map (λ h. h.raw.session) passes.new) }
+{
+    match session.succeed(alloc, room, passes.len() as u32) {
+        Ok((context, opened)) => hand_out_context(alloc, store, context, opened, passes),
+        Err(why) => put_needed(why, needed),
+    }
+}
+
+/// A new context that goes on where the pass ends, and a pass of it in each handle: its history takes `room` calls, and begins with those that
+/// make just the store that all calls leave which the pass knows. The number is that of the new store alone, among those that are open. Where
+/// the room is too small, tells how many calls are needed.
+#[unsafe(no_mangle)]
+pub extern "C" fn trb_succeed(
+    alloc: Global,
+    store: u64,
+    room: u32,
+    pass: &mut TrbPass,
+    needed: &mut u64,
+    passes: &mut [TrbPass],
+) -> i32
+    ensures same { IsSameButMade pass.old.raw.session pass.new.raw.session }
+    ensures succeeds { IsWithin room (length passes.old) → Succeeds store room pass.old.raw.session result needed.old needed.new (map (λ h. h.raw.session) passes.new) }
+    ensures outside { (IsWithin room (length passes.old) → ⊥) → (result ≡ invalid_value) × (needed.new ≡ needed.old) }
+{
+    if !is_within(room, passes.len()) {
+        return INVALID_VALUE;
+    }
+    let Some(mut session) = pass.take(alloc) else {
+        return UNINITIALIZED_OBJECT;
+    };
+    let code = go_on(alloc, store, room, &mut session, needed, passes);
+    pass.put(session);
+    code
+}
+
+/// Tells whether the history is full and the pass knows all of it.
+#[unsafe(no_mangle)]
+pub extern "C" fn trb_is_full(alloc: Global, pass: &mut TrbPass, out: &mut bool) -> i32
+    ensures same { pass.new.raw.session ≡ pass.old.raw.session }
+    ensures code { result ≡ facts_code pass.old.raw.session }
+    ensures full { MatchOption pass.old.raw.session (out.new ≡ out.old) (λ s. out.new ≡ (length (known s.pass) == room_of s.pass.order)) }
+{
+    let Some(session) = pass.take(alloc) else {
+        return UNINITIALIZED_OBJECT;
+    };
+    *out = session.pass().is_at_end();
+    pass.put(session);
+    SUCCESS
+}

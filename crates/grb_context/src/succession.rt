@@ -1,0 +1,78 @@
+//! A context that goes on where another ends.
+ghost use Rattle.std.specs.Prelude.{◌≡◌, ◌<◌, ◌≤◌, ◌*◌, All, IfErr, IfOk};
+ghost use Rattle.grb_order.specs.declared.limits.TheConstants.{MOST_PASSES, MOST_ROOM, MOST_SEATS};
+ghost use Rattle.grb_order.specs.Order.{room_of};
+ghost use Rattle.grb_records.specs.Token.{HasRows};
+ghost use Rattle.grb_call.specs.History.{store_of};
+ghost use Rattle.grb_context.specs.Known.{IsPassOf, known};
+ghost use Rattle.grb_context.specs.Live.{live_store};
+ghost use Rattle.grb_context.specs.Rebuilding.{IsNoSuccessor};
+ghost use Rattle.grb_context.specs.Renumbered.{AreRenumbered};
+ghost use Rattle.grb_context.specs.Succeeding.{AreBegun};
+
+use crate::context::Context;
+use grb_pass::{NoSuccessor, Pass, Renumbered};
+use std::alloc::Global;
+
+impl Context {
+    /// A context that goes on where this one ends, and its passes: its history takes `room` calls and begins with calls of its pass 0 that
+    /// make just the store that all calls leave which this pass knows. So each number means the same object, freed numbers stay freed, and
+    /// the next object is given the next number. Each new pass knows just these calls, shares what is evaluated of them, has no status, and
+    /// settled no call; the one at index k has the number k. This context and its passes are as before, but for what the pass has evaluated.
+    ///
+    /// Where [`Pass::is_at_end`] holds of the pass, nothing is lost by going on. Called earlier it makes a branch: what is entered here
+    /// later is not there.
+    ///
+    /// Objects are shared with this context until one of the two changes one; each entry is copied once, as a tuple of the build that makes
+    /// it. `RoomTooSmall` tells how many calls are needed, two at most for each number; then nothing was copied. `OutOfMemory` where memory
+    /// is refused, and `Panic` where a record of the new context is not taken. In each case no context is made (own).
+    pub fn succeed(
+        &self,
+        alloc: Global,
+        pass: &mut Pass,
+        room: u32,
+        passes: u32,
+    ) -> Result<(Context, Vec<Pass>), NoSuccessor>
+        requires pass { IsPassOf self.now pass.old }
+        requires room { (0 < room) × (room ≤ MOST_ROOM) }
+        requires passes { (0 < passes) × (passes ≤ MOST_PASSES) }
+        requires seats { room * passes ≤ MOST_SEATS }
+        ensures pass { IsPassOf self.now pass.new }
+        ensures same { pass.new ≡ record pass.old { made = pass.new.made } }
+        ensures room { IfOk result (λ opened. room_of opened.0.order ≡ room) }
+        ensures records { IfOk result (λ opened. HasRows passes room opened.0.records) }
+        ensures begun { IfOk result (λ opened. AreBegun opened.0 (store_of (known pass.old)) passes opened.1.items) }
+        ensures ours { IfOk result (λ opened. All (IsPassOf opened.0) opened.1.items) }
+        ensures refused { IfErr result (IsNoSuccessor room (store_of (known pass.old))) }
+    {
+        let (shared, opened) = self.shared.succeed(alloc, pass, room, passes)?;
+        Ok((Context { shared, alloc }, opened))
+    }
+
+    /// The same without the numbers of freed objects: the matrices that are there have the numbers 0, 1, 2 .. in their order, and so have
+    /// the vectors. Beside it stands which number became which. A service that makes objects for each request goes on so for as long as
+    /// what it keeps fits into `room` (own).
+    pub fn succeed_live(
+        &self,
+        alloc: Global,
+        pass: &mut Pass,
+        room: u32,
+        passes: u32,
+    ) -> Result<(Context, Vec<Pass>, Renumbered), NoSuccessor>
+        requires pass { IsPassOf self.now pass.old }
+        requires room { (0 < room) × (room ≤ MOST_ROOM) }
+        requires passes { (0 < passes) × (passes ≤ MOST_PASSES) }
+        requires seats { room * passes ≤ MOST_SEATS }
+        ensures pass { IsPassOf self.now pass.new }
+        ensures same { pass.new ≡ record pass.old { made = pass.new.made } }
+        ensures room { IfOk result (λ opened. room_of opened.0.order ≡ room) }
+        ensures records { IfOk result (λ opened. HasRows passes room opened.0.records) }
+        ensures begun { IfOk result (λ opened. AreBegun opened.0 (live_store (store_of (known pass.old))) passes opened.1.items) }
+        ensures ours { IfOk result (λ opened. All (IsPassOf opened.0) opened.1.items) }
+        ensures numbers { IfOk result (λ opened. AreRenumbered (store_of (known pass.old)) opened.2) }
+        ensures refused { IfErr result (IsNoSuccessor room (live_store (store_of (known pass.old)))) }
+    {
+        let (shared, opened, numbers) = self.shared.succeed_live(alloc, pass, room, passes)?;
+        Ok((Context { shared, alloc }, opened, numbers))
+    }
+}

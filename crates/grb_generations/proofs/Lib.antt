@@ -1,0 +1,3 @@
+mod Chained
+mod Moving
+mod Opening

@@ -1,0 +1,4 @@
+pub mod Attempts
+pub mod Chain
+pub mod Lossless
+pub mod Seated

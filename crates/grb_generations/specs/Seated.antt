@@ -1,0 +1,75 @@
+-- believed: What a contract sees of a member of a chain of stores, and what stands behind its move to a later generation (own).
+use Rattle.std.specs.Prelude.{◌≡◌, ℕ, ◌<◌, false, [], length}
+use Rattle.grb_order.specs.Order.{room_of}
+use Rattle.grb_call.specs.declared.call.Call.{Call}
+use Rattle.grb_call.specs.History.{store_of}
+use Rattle.grb_context.specs.Known.{Shared, Knowing, known}
+use Rattle.grb_context.specs.Explains.{Answer, is_entered}
+use Rattle.grb_context.specs.Answered.{Answered}
+use Rattle.grb_context.specs.Succeeding.{BeginsWith}
+use Rattle.grb_generations.specs.Chain.{Chain}
+
+-- where a member sits: the chain, the store of the generation, its pass of that store, and the generation's number
+pub record Seated : Type 0 where
+  pub chain : Chain
+  pub context : Shared
+  pub pass : Knowing
+  pub generation : ℕ
+
+-- a seat that no one has taken: the store, a pass of it, and the number of the generation
+pub record Vacant : Type 0 where
+  pub context : Shared
+  pub pass : Knowing
+  pub generation : ℕ
+
+-- the pass knows as many calls as its history takes
+abbrev pub IsAtEnd : Knowing → Type 0
+IsAtEnd p = length (known p) ≡ room_of p.order
+
+-- The pass goes on where one ends that was at its end: it is one of this context, and knows the calls that make a store anew, and no others;
+-- and that store is the one which all calls leave that the last one knew
+pub record GoesOn (context : Shared) (p : Knowing) : Type 0 where
+  pub last : Knowing
+  pub at_end : IsAtEnd last
+  pub begins : BeginsWith context (store_of (known last)) p.view.number p
+
+-- a member of this chain that sits in the first generation and knows no call
+pub record IsNewMember (chain : Chain) (m : Seated) : Type 0 where
+  pub chain_is : m.chain ≡ chain
+  pub generation : m.generation ≡ 0
+  pub none : known m.pass ≡ []
+
+-- a member that did not move: it is as before, but for how many calls its pass has made to evaluate
+abbrev pub Stays : Seated → Seated → Type 0
+Stays old new = new ≡ record old { pass = record old.pass { made = new.pass.made } }
+
+-- A member that moved: its generation was full and it knew all of that; it has the pass of its number in a later generation, which goes on
+-- where one ends
+pub record Moves (old new : Seated) : Type 0 where
+  pub end : IsAtEnd old.pass
+  pub later : old.generation < new.generation
+  pub number : new.pass.view.number ≡ old.pass.view.number
+  pub goes_on : GoesOn new.context new.pass
+  pub chain : new.chain ≡ old.chain
+
+-- a member that sits where it sat
+pub record IsThere (old new : Seated) : Type 0 where
+  pub chain : new.chain ≡ old.chain
+  pub context : new.context ≡ old.context
+  pub generation : new.generation ≡ old.generation
+
+-- how a member came from one state to another with no call of its own entered: it stayed, or it moved, or a call where it sits was answered
+-- and not entered; or that and more, one after another
+pub data Comes : Seated → Seated → Type 0 where
+  stayed : {old new : Seated} → Stays old new → Comes old new
+  moved : {old new : Seated} → Moves old new → Comes old new
+  unmade : {old new : Seated} → IsThere old new → (c : Call) (r : Answer) → is_entered c r ≡ false → Answered new.context old.pass new.pass c r → Comes old new
+  next : {old mid new : Seated} → Comes old mid → Comes mid new → Comes old new
+
+-- One call of a member: it came to where it sits with no call of its own entered, and the answer is all that a call by its pass there
+-- promises. So the call is entered there or nowhere
+pub record Calls (old new : Seated) (c : Call) (r : Answer) : Type 0 where
+  pub before : Seated
+  pub came : Comes old before
+  pub there : IsThere before new
+  pub answered : Answered new.context before.pass new.pass c r

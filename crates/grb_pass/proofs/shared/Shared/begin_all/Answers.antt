@@ -1,0 +1,44 @@
+use Rattle.std.proofs.Common.{◌≡◌, ◌+◌, ℕ, ◌∷◌, length, sym, ap, subst, ◌∙◌, arith}
+use Rattle.grb_call.specs.Store.{empty_store}
+use Rattle.grb_call.specs.History.{after_all}
+use Rattle.grb_rebuild.specs.Rebuilt.{AreTaken}
+use Rattle.grb_rebuild.proofs.Rebuilding.{rebuild_leaves_the_store}
+use Rattle.grb_rebuild.proofs.Taken.{rebuild_is_taken}
+use Rattle.grb_pass.specs.Known.{Knowing, known}
+use Rattle.grb_pass.specs.Succeeding.{AreBegun, IsOpened, made_by}
+use Rattle.grb_pass.proofs.Succeeding.{all_begun, are_begun, inserted_first, new_first, new_opened, removed_rest}
+use Rattle.grb_pass.proofs.shared.Shared.begin_all.Goals as goal
+use Rattle.grb_pass.proofs.shared.Shared.begin_all.Goals.{In-Ok}
+
+pub begin_first-requires-clause-taken : goal.begin_first-requires-clause-taken
+begin_first-requires-clause-taken c = subst (AreTaken empty_store) (sym c.requires.rebuild.calls_are) (rebuild_is_taken c.args.rebuild.state.store c.requires.rebuild.whole)
+
+pub begin_first-requires-clause-store : goal.begin_first-requires-clause-store
+begin_first-requires-clause-store c = sym (ap (after_all empty_store) c.requires.rebuild.calls_are ∙ rebuild_leaves_the_store c.args.rebuild.state.store c.requires.rebuild.whole)
+
+pub tell_all-requires-clause-opened : goal.tell_all-requires-clause-opened
+tell_all-requires-clause-opened c = λ n p at.
+    let opened = c.args.opened.items in
+    (new_opened c.args.self.now (length opened) opened (n + 1) p c.requires.opened (sym (removed_rest opened c.remove-first.new.self.items n c.requires.some c.remove-first.ensures.items) ∙ at)).0
+
+begun : (c : In-Ok) → AreBegun c.args.self.now c.args.rebuild.state.store (length c.args.opened.items) c.insert.new.self.items
+begun c =
+    let opened = c.args.opened.items in let context = c.args.self.now in let told = c.in_ok-tell_all.ensures in
+    let first = c.begin_first.new.pass in let others = c.tell_all.new.others.items in
+    let new : IsOpened context 0 c.remove-first.result = new_first context (length opened) opened c.remove-first.result c.requires.opened c.requires.some c.remove-first.ensures.value in
+    let start : IsOpened context 0 first = record {
+      pass = c.in_ok-begin_first.ensures.pass;
+      number_is = c.in_ok-begin_first.ensures.number ∙ new.number_is;
+      statuses = c.in_ok-begin_first.ensures.statuses ∙ new.statuses;
+      settled = c.in_ok-begin_first.ensures.settled ∙ new.settled;
+    } in
+    let knows : known first ≡ made_by 0 c.args.rebuild.calls.items = c.in_ok-begin_first.ensures.known ∙ ap (λ (n : ℕ). made_by n c.args.rebuild.calls.items) new.number_is in
+    are_begun context c.args.rebuild.state.store (length opened) first others c.insert.new.self.items c.requires.rebuild.whole
+    (inserted_first others c.insert.new.self.items c.tell_all.new.first c.in-Ok.ensures.items ∙ ap (λ (f : Knowing). f ∷ others) c.tell_all.ensures.first)
+    (omega (arith, told.count, c.remove-first.ensures.len, c.requires.some)) start (knows ∙ ap (made_by 0) c.requires.rebuild.calls_are) told.opened told.known
+
+pub returns-clause-begun : goal.returns-clause-begun
+returns-clause-begun c = begun c
+
+pub returns-clause-ours : goal.returns-clause-ours
+returns-clause-ours c = all_begun c.args.self.now c.args.rebuild.state.store (length c.args.opened.items) c.insert.new.self.items (begun c)

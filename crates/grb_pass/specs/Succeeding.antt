@@ -1,0 +1,35 @@
+-- believed: What the passes of a successor begin with (own): the calls that make a store anew, all of its first pass, and no others.
+use Rattle.std.specs.Prelude.{◌≡◌, ℕ, List, map, length, Some, slice_get}
+use Rattle.grb_order.specs.Order.{room_of}
+use Rattle.grb_call.specs.declared.call.Call.{Call}
+use Rattle.grb_call.specs.Store.{Store}
+use Rattle.grb_call.specs.History.{History, store_of}
+use Rattle.grb_call.specs.Statuses.{no_rows}
+use Rattle.grb_rebuild.specs.Rebuilt.{rebuilt}
+use Rattle.grb_pass.specs.Known.{Shared, Knowing, IsPassOf, known}
+
+-- the history of these calls, made by one pass
+abbrev pub made_by : ℕ → List Call → History
+made_by number cs = map (λ c. (number, c)) cs
+
+-- the history that a successor with this store begins with
+abbrev pub begun : Store → History
+begun s = made_by 0 (rebuilt s)
+
+-- a pass of the context, with this number, that has no status and settled no call
+pub record IsOpened (context : Shared) (number : ℕ) (p : Knowing) : Type 0 where
+  pub pass : IsPassOf context p
+  pub number_is : p.view.number ≡ number
+  pub statuses : p.statuses ≡ no_rows (room_of context.order)
+  pub settled : p.settled ≡ 0
+
+-- a pass that knows the calls that make this store anew, and no others, and so has this store
+pub record BeginsWith (context : Shared) (s : Store) (number : ℕ) (p : Knowing) : Type 0 where
+  pub opened : IsOpened context number p
+  pub known_is : known p ≡ begun s
+  pub store_is : store_of (known p) ≡ s
+
+-- so many passes, by their numbers, all of which begin with this store
+pub record AreBegun (context : Shared) (s : Store) (passes : ℕ) (opened : List Knowing) : Type 0 where
+  pub count : length opened ≡ passes
+  pub each : (number : ℕ) (p : Knowing) → slice_get opened number ≡ Some p → BeginsWith context s number p

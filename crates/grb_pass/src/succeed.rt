@@ -1,0 +1,265 @@
+//! A new store that begins as an old one ends.
+ghost use Rattle.std.specs.Prelude.{◌≡◌, ◌<◌, ◌≤◌, ◌+◌, ◌^◌, ◌*◌, ◌∷◌, ◌++◌, ◌⊎◌, ℕ, true, [], Some, None, length, slice_get, All, IfOk, IfErr, OnOk};
+ghost use Rattle.grb_order.specs.declared.limits.TheConstants.{MOST_PASSES, MOST_ROOM, MOST_SEATS};
+ghost use Rattle.grb_order.specs.View.{LookedLast};
+ghost use Rattle.grb_order.specs.Order.{room_of};
+ghost use Rattle.grb_records.specs.Token.{HasRows};
+ghost use Rattle.grb_call.specs.Kinds.{enters};
+ghost use Rattle.grb_call.specs.Store.{empty_store};
+ghost use Rattle.grb_call.specs.After.{refused};
+ghost use Rattle.grb_call.specs.History.{after_all, store_of};
+ghost use Rattle.grb_state.specs.Live.{live_store};
+ghost use Rattle.grb_rebuild.specs.Rebuilding.{IsNoSuccessor, IsRebuild};
+ghost use Rattle.grb_rebuild.specs.Rebuilt.{AreTaken};
+ghost use Rattle.grb_rebuild.specs.Renumbered.{AreRenumbered};
+ghost use Rattle.grb_pass.specs.Evaluated.{IsAssembled};
+ghost use Rattle.grb_pass.specs.Known.{AreNew, IsPassOf, Knowing, known};
+ghost use Rattle.grb_pass.specs.Learning.{IsSteady};
+ghost use Rattle.grb_pass.specs.Succeeding.{made_by, AreBegun, IsOpened};
+
+use crate::learn::End;
+use crate::pass::Pass;
+use crate::shared::Shared;
+use grb_call::Call;
+use grb_core::Refusal;
+use grb_rebuild::{NoSuccessor, Rebuild, Renumbered};
+use grb_state::State;
+use std::alloc::Global;
+
+/// What a refusal of a call of the new store says.
+fn why(refusal: Refusal) -> NoSuccessor
+    ensures { (result ≡ NoSuccessor.OutOfMemory) ⊎ (result ≡ NoSuccessor.Panic) }
+{
+    match refusal {
+        Refusal::OutOfMemory => NoSuccessor::OutOfMemory,
+        _ => NoSuccessor::Panic,
+    }
+}
+
+impl Shared {
+    /// Looks once at the word after those that the pass knows. `Panic` where another pass has entered one.
+    fn ready_alone(&self, pass: &mut Pass) -> Result<(), Refusal>
+        requires pass { IsPassOf self.now pass.old }
+        ensures pass { OnOk result (IsPassOf self.now pass.new) }
+        ensures number { OnOk result (pass.new.view.number ≡ pass.old.view.number) }
+        ensures statuses { OnOk result (pass.new.statuses ≡ pass.old.statuses) }
+        ensures settled { OnOk result (pass.new.settled ≡ pass.old.settled) }
+        ensures few { OnOk result (pass.new.steps < 2 ^ 28) }
+        ensures steady { OnOk result (IsSteady pass.new) }
+        ensures known { OnOk result (known pass.new ≡ known pass.old) }
+        ensures all { OnOk result (length pass.new.shown ≡ length pass.new.view.words) }
+        ensures looked { OnOk result (LookedLast pass.new.view) }
+        ensures room_left { OnOk result (length pass.new.view.words < room_of self.now.order) }
+    {
+        pass.begin();
+        let known = pass.known();
+        let end = self.learn(&mut pass.reader)?;
+        if pass.known() != known {
+            return Err(Refusal::Panic);
+        }
+        match end {
+            End::Vacant => Ok(()),
+            End::Full => Err(Refusal::OrderFull),
+        }
+    }
+
+    /// Enters a call that is not refused after all that the pass knows. `Panic` where another pass has entered one meanwhile, or the record
+    /// was not taken. A build is not evaluated before.
+    fn enter_alone(&self, pass: &mut Pass, call: Call) -> Result<(), Refusal>
+        requires pass { IsPassOf self.now pass.old }
+        requires enters { enters call ≡ true }
+        requires accepted { refused (store_of (known pass.old)) call ≡ None }
+        ensures pass { OnOk result (IsPassOf self.now pass.new) }
+        ensures number { OnOk result (pass.new.view.number ≡ pass.old.view.number) }
+        ensures statuses { OnOk result (pass.new.statuses ≡ pass.old.statuses) }
+        ensures settled { OnOk result (pass.new.settled ≡ pass.old.settled) }
+        ensures known { OnOk result (known pass.new ≡ known pass.old ++ (pass.old.view.number, call) ∷ []) }
+    {
+        self.ready_alone(pass)?;
+        let known = pass.known();
+        let token = pass.put(&self.records, call)?;
+        self.enter_token(pass, token)?;
+        if pass.known() != known + 1 {
+            return Err(Refusal::Panic);
+        }
+        Ok(())
+    }
+
+    /// Enters calls of which none is refused where it is made.
+    fn enter_all(&self, pass: &mut Pass, calls: Vec<Call>) -> Result<(), Refusal>
+        requires pass { IsPassOf self.now pass.old }
+        requires none { known pass.old ≡ [] }
+        requires taken { AreTaken empty_store calls.items }
+        ensures pass { OnOk result (IsPassOf self.now pass.new) }
+        ensures number { OnOk result (pass.new.view.number ≡ pass.old.view.number) }
+        ensures statuses { OnOk result (pass.new.statuses ≡ pass.old.statuses) }
+        ensures settled { OnOk result (pass.new.settled ≡ pass.old.settled) }
+        ensures known { OnOk result (known pass.new ≡ made_by pass.old.view.number calls.items) }
+    {
+        'calls: for call in calls {
+            self.enter_alone(pass, call)?;
+        }
+        Ok(())
+    }
+
+    /// Enters these calls, none of which is refused where it is made, and takes the store that they leave for what the pass has evaluated.
+    fn begin_first(
+        &self,
+        pass: &mut Pass,
+        calls: Vec<Call>,
+        state: State,
+    ) -> Result<(), NoSuccessor>
+        requires pass { IsPassOf self.now pass.old }
+        requires none { known pass.old ≡ [] }
+        requires taken { AreTaken empty_store calls.items }
+        requires store { state.store ≡ after_all empty_store calls.items }
+        requires room { room_of self.now.order ≤ state.room + length calls.items }
+        requires assembled { IsAssembled state }
+        ensures pass { OnOk result (IsPassOf self.now pass.new) }
+        ensures number { OnOk result (pass.new.view.number ≡ pass.old.view.number) }
+        ensures statuses { OnOk result (pass.new.statuses ≡ pass.old.statuses) }
+        ensures settled { OnOk result (pass.new.settled ≡ pass.old.settled) }
+        ensures known { OnOk result (known pass.new ≡ made_by pass.old.view.number calls.items) }
+        ensures refused { IfErr result (λ no. (no ≡ NoSuccessor.OutOfMemory) ⊎ (no ≡ NoSuccessor.Panic)) }
+    {
+        if let Err(refusal) = self.enter_all(pass, calls) {
+            return Err(why(refusal));
+        }
+        pass.begin_with(state);
+        Ok(())
+    }
+
+    /// Lets the pass adopt the first, which knows no less. `Panic` where a record is not shown, or the pass knows more.
+    fn tell(&self, first: &mut Pass, other: &mut Pass) -> Result<(), NoSuccessor>
+        requires first { IsPassOf self.now first.old }
+        requires other { IsPassOf self.now other.old }
+        ensures first { first.new ≡ first.old }
+        ensures pass { OnOk result (IsPassOf self.now other.new) }
+        ensures number { OnOk result (other.new.view.number ≡ other.old.view.number) }
+        ensures statuses { OnOk result (other.new.statuses ≡ other.old.statuses) }
+        ensures settled { OnOk result (other.new.settled ≡ other.old.settled) }
+        ensures known { OnOk result (known other.new ≡ known first.old) }
+        ensures refused { IfErr result (λ no. no ≡ NoSuccessor.Panic) }
+    {
+        let Ok(()) = self.adopt(other, first) else {
+            return Err(NoSuccessor::Panic);
+        };
+        if other.known() != first.known() {
+            return Err(NoSuccessor::Panic);
+        }
+        Ok(())
+    }
+
+    /// Lets each of these passes, which are those behind the first, adopt it.
+    fn tell_all(&self, first: &mut Pass, others: &mut Vec<Pass>) -> Result<(), NoSuccessor>
+        requires first { IsPassOf self.now first.old }
+        requires opened { (n : ℕ) (p : Knowing) → slice_get others.old.items n ≡ Some p → IsOpened self.now (n + 1) p }
+        ensures first { first.new ≡ first.old }
+        ensures opened { OnOk result ((n : ℕ) (p : Knowing) → slice_get others.new.items n ≡ Some p → IsOpened self.now (n + 1) p) }
+        ensures count { OnOk result (length others.new.items ≡ length others.old.items) }
+        ensures known { OnOk result ((n : ℕ) (p : Knowing) → slice_get others.new.items n ≡ Some p → known p ≡ known first.old) }
+        ensures refused { IfErr result (λ no. no ≡ NoSuccessor.Panic) }
+    {
+        'others: for at in 0..others.len() {
+            self.tell(first, &mut others[at])?;
+        }
+        Ok(())
+    }
+
+    /// Has the first of new passes enter the calls that make the store anew, and the others adopt it.
+    fn begin_all(&self, opened: Vec<Pass>, rebuild: Rebuild) -> Result<Vec<Pass>, NoSuccessor>
+        requires some { 0 < length opened.items }
+        requires opened { AreNew self.now.order (length opened.items) opened.items (length opened.items) }
+        requires ours { All (IsPassOf self.now) opened.items }
+        requires rebuild { IsRebuild (room_of self.now.order) rebuild.calls.items rebuild.state }
+        ensures begun { IfOk result (λ passes. AreBegun self.now rebuild.state.store (length opened.items) passes.items) }
+        ensures ours { IfOk result (λ passes. All (IsPassOf self.now) passes.items) }
+        ensures refused { IfErr result (λ no. (no ≡ NoSuccessor.OutOfMemory) ⊎ (no ≡ NoSuccessor.Panic)) }
+    {
+        let mut others = opened;
+        let mut first = others.remove(0);
+        self.begin_first(&mut first, rebuild.calls, rebuild.state)?;
+        self.tell_all(&mut first, &mut others)?;
+        let Ok(()) = others.insert(0, first) else {
+            return Err(NoSuccessor::OutOfMemory);
+        };
+        Ok(others)
+    }
+
+    /// A new store with room for so many calls and so many passes, which begins with this one.
+    fn begin(
+        alloc: Global,
+        rebuild: Rebuild,
+        room: u32,
+        passes: u32,
+    ) -> Result<(Shared, Vec<Pass>), NoSuccessor>
+        requires room { (0 < room) × (room ≤ MOST_ROOM) }
+        requires passes { (0 < passes) × (passes ≤ MOST_PASSES) }
+        requires seats { room * passes ≤ MOST_SEATS }
+        requires rebuild { IsRebuild room rebuild.calls.items rebuild.state }
+        ensures room { IfOk result (λ opened. room_of opened.0.order ≡ room) }
+        ensures records { IfOk result (λ opened. HasRows passes room opened.0.records) }
+        ensures begun { IfOk result (λ opened. AreBegun opened.0 rebuild.state.store passes opened.1.items) }
+        ensures ours { IfOk result (λ opened. All (IsPassOf opened.0) opened.1.items) }
+        ensures refused { IfErr result (λ no. (no ≡ NoSuccessor.OutOfMemory) ⊎ (no ≡ NoSuccessor.Panic)) }
+    {
+        let Ok((next, opened)) = Shared::open(alloc, room, passes) else {
+            return Err(NoSuccessor::OutOfMemory);
+        };
+        let begun = next.begin_all(opened, rebuild)?;
+        Ok((next, begun))
+    }
+
+    /// A new store whose history takes `room` calls and which so many passes share: it begins with calls of its first pass that make just the
+    /// store that all calls leave which this pass knows. Objects have their numbers, those that were freed stay freed, and the next one is
+    /// given the next number. All new passes know these calls and share what is evaluated of them. The pass evaluates the calls that it
+    /// knows; nothing else of it or of this store changes. Each entry is copied once. `RoomTooSmall` tells how many calls are needed, before
+    /// any entry was copied; `OutOfMemory` where memory is refused, `Panic` where a record of the new store is not taken.
+    pub fn succeed(
+        &self,
+        alloc: Global,
+        pass: &mut Pass,
+        room: u32,
+        passes: u32,
+    ) -> Result<(Shared, Vec<Pass>), NoSuccessor>
+        requires pass { IsPassOf self.now pass.old }
+        requires room { (0 < room) × (room ≤ MOST_ROOM) }
+        requires passes { (0 < passes) × (passes ≤ MOST_PASSES) }
+        requires seats { room * passes ≤ MOST_SEATS }
+        ensures same { pass.new ≡ record pass.old { made = pass.new.made } }
+        ensures room { IfOk result (λ opened. room_of opened.0.order ≡ room) }
+        ensures records { IfOk result (λ opened. HasRows passes room opened.0.records) }
+        ensures begun { IfOk result (λ opened. AreBegun opened.0 (store_of (known pass.old)) passes opened.1.items) }
+        ensures ours { IfOk result (λ opened. All (IsPassOf opened.0) opened.1.items) }
+        ensures refused { IfErr result (IsNoSuccessor room (store_of (known pass.old))) }
+    {
+        let rebuild = pass.rebuild(alloc, &self.records, room)?;
+        Shared::begin(alloc, rebuild, room, passes)
+    }
+
+    /// The same without the numbers of freed objects: the matrices have the numbers 0, 1, 2 .. in their order, and so have the vectors.
+    /// Beside it stands which number became which.
+    pub fn succeed_live(
+        &self,
+        alloc: Global,
+        pass: &mut Pass,
+        room: u32,
+        passes: u32,
+    ) -> Result<(Shared, Vec<Pass>, Renumbered), NoSuccessor>
+        requires pass { IsPassOf self.now pass.old }
+        requires room { (0 < room) × (room ≤ MOST_ROOM) }
+        requires passes { (0 < passes) × (passes ≤ MOST_PASSES) }
+        requires seats { room * passes ≤ MOST_SEATS }
+        ensures same { pass.new ≡ record pass.old { made = pass.new.made } }
+        ensures room { IfOk result (λ opened. room_of opened.0.order ≡ room) }
+        ensures records { IfOk result (λ opened. HasRows passes room opened.0.records) }
+        ensures begun { IfOk result (λ opened. AreBegun opened.0 (live_store (store_of (known pass.old))) passes opened.1.items) }
+        ensures ours { IfOk result (λ opened. All (IsPassOf opened.0) opened.1.items) }
+        ensures numbers { IfOk result (λ opened. AreRenumbered (store_of (known pass.old)) opened.2) }
+        ensures refused { IfErr result (IsNoSuccessor room (live_store (store_of (known pass.old)))) }
+    {
+        let (rebuild, numbers) = pass.rebuild_live(alloc, &self.records, room)?;
+        let (next, begun) = Shared::begin(alloc, rebuild, room, passes)?;
+        Ok((next, begun, numbers))
+    }
+}

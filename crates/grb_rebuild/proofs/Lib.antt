@@ -1,0 +1,5 @@
+pub mod SortedBuilds
+pub mod Numbers
+pub mod Rebuilding
+pub mod Taken
+pub mod Renumbering

@@ -1,0 +1,3 @@
+pub mod Rebuilding
+pub mod Rebuilt
+pub mod Renumbered

@@ -1,0 +1,157 @@
+//! The calls that make one object anew.
+ghost use Rattle.std.specs.Prelude.{◌≡◌, ◌++◌, true, None, OnOk, IfOk, IfSome};
+ghost use Rattle.std.specs.Option.{option_map};
+ghost use Rattle.grb_core.specs.Contents.{IsMatrix, IsVector};
+ghost use Rattle.grb_rebuild.specs.Rebuilt.{monoid_for, matrix_build, matrix_calls, tuples_of, vector_build, vector_calls};
+
+use grb_call::{Call, MatrixId, MatrixTuples, VectorId, VectorTuples};
+use grb_core::{Domain, Monoid, Value};
+use grb_sparse::{SparseMatrix, SparseVector};
+use std::alloc::{AllocError, Global};
+
+/// A monoid of the domain.
+fn monoid_for(domain: Domain) -> Monoid
+    ensures { result ≡ monoid_for domain }
+{
+    match domain {
+        Domain::Bool => Monoid::Lor,
+        Domain::Uint64 => Monoid::Plus,
+    }
+}
+
+/// The entries as tuples, in their order.
+fn tuples_of(alloc: Global, matrix: &SparseMatrix) -> Result<Vec<(u64, u64, Value)>, AllocError>
+    requires { matrix.now.assembled ≡ true }
+    ensures { IfOk result (λ tuples. tuples.items ≡ tuples_of matrix.now.matrix.entries) }
+{
+    let mut tuples = Vec::with_capacity(alloc, matrix.nvals() as usize)?;
+    'entries: for entry in matrix.entries() {
+        tuples.push((entry.0.0, entry.0.1, entry.1))?;
+    }
+    Ok(tuples)
+}
+
+/// The entries as pairs, in their order.
+fn pairs_of(alloc: Global, vector: &SparseVector) -> Result<Vec<(u64, Value)>, AllocError>
+    requires { vector.now.assembled ≡ true }
+    ensures { IfOk result (λ pairs. pairs.items ≡ vector.now.vector.entries) }
+{
+    let mut pairs = Vec::with_capacity(alloc, vector.nvals() as usize)?;
+    'entries: for entry in vector.entries() {
+        pairs.push(entry)?;
+    }
+    Ok(pairs)
+}
+
+/// Puts the build of the matrix behind the calls, if it stores an entry.
+fn push_matrix_build(
+    alloc: Global,
+    calls: &mut Vec<Call>,
+    a: MatrixId,
+    matrix: &SparseMatrix,
+) -> Result<(), AllocError>
+    requires { matrix.now.assembled ≡ true }
+    ensures { OnOk result (calls.new.items ≡ calls.old.items ++ matrix_build a matrix.now.matrix.domain matrix.now.matrix.entries) }
+{
+    if matrix.nvals() == 0 {
+        return Ok(());
+    }
+    let tuples = MatrixTuples::from_vec(tuples_of(alloc, matrix)?)?;
+    let dup = monoid_for(matrix.domain());
+    calls.push(Call::BuildMatrix { a, tuples, dup })?;
+    Ok(())
+}
+
+/// Puts the build of the vector behind the calls, if it stores an entry.
+fn push_vector_build(
+    alloc: Global,
+    calls: &mut Vec<Call>,
+    v: VectorId,
+    vector: &SparseVector,
+) -> Result<(), AllocError>
+    requires { vector.now.assembled ≡ true }
+    ensures { OnOk result (calls.new.items ≡ calls.old.items ++ vector_build v vector.now.vector.domain vector.now.vector.entries) }
+{
+    if vector.nvals() == 0 {
+        return Ok(());
+    }
+    let tuples = VectorTuples::from_vec(pairs_of(alloc, vector)?)?;
+    let dup = monoid_for(vector.domain());
+    calls.push(Call::BuildVector { v, tuples, dup })?;
+    Ok(())
+}
+
+/// Puts a new matrix, and that it is freed, behind the calls: its number is taken by no later one.
+fn push_freed_matrix(calls: &mut Vec<Call>, a: MatrixId) -> Result<(), AllocError>
+    ensures { OnOk result (calls.new.items ≡ calls.old.items ++ matrix_calls a.0 None) }
+{
+    calls.push(Call::NewMatrix {
+        domain: Domain::Bool,
+        nrows: 1,
+        ncols: 1,
+    })?;
+    calls.push(Call::FreeMatrix { a })?;
+    Ok(())
+}
+
+/// The same of a vector.
+fn push_freed_vector(calls: &mut Vec<Call>, v: VectorId) -> Result<(), AllocError>
+    ensures { OnOk result (calls.new.items ≡ calls.old.items ++ vector_calls v.0 None) }
+{
+    calls.push(Call::NewVector {
+        domain: Domain::Bool,
+        size: 1,
+    })?;
+    calls.push(Call::FreeVector { v })?;
+    Ok(())
+}
+
+/// Puts the calls that make what stands at a matrix's number behind these.
+pub(crate) fn push_matrix(
+    alloc: Global,
+    calls: &mut Vec<Call>,
+    number: u32,
+    matrix: Option<&SparseMatrix>,
+) -> Result<(), AllocError>
+    requires { IfSome matrix (λ m. m.now.assembled ≡ true) }
+    ensures whole { IfSome (option_map (λ m. m.now.matrix) matrix.entry) IsMatrix }
+    ensures calls { OnOk result (calls.new.items ≡ calls.old.items ++ matrix_calls number (option_map (λ m. m.now.matrix) matrix.entry)) }
+{
+    let a = MatrixId(number);
+    match matrix {
+        None => push_freed_matrix(calls, a),
+        Some(matrix) => {
+            let (nrows, ncols) = matrix.dims();
+            let domain = matrix.domain();
+            calls.push(Call::NewMatrix {
+                domain,
+                nrows,
+                ncols,
+            })?;
+            push_matrix_build(alloc, calls, a, matrix)
+        }
+    }
+}
+
+/// Puts the calls that make what stands at a vector's number behind these.
+pub(crate) fn push_vector(
+    alloc: Global,
+    calls: &mut Vec<Call>,
+    number: u32,
+    vector: Option<&SparseVector>,
+) -> Result<(), AllocError>
+    requires { IfSome vector (λ v. v.now.assembled ≡ true) }
+    ensures whole { IfSome (option_map (λ v. v.now.vector) vector.entry) IsVector }
+    ensures calls { OnOk result (calls.new.items ≡ calls.old.items ++ vector_calls number (option_map (λ v. v.now.vector) vector.entry)) }
+{
+    let v = VectorId(number);
+    match vector {
+        None => push_freed_vector(calls, v),
+        Some(vector) => {
+            let size = vector.dims();
+            let domain = vector.domain();
+            calls.push(Call::NewVector { domain, size })?;
+            push_vector_build(alloc, calls, v, vector)
+        }
+    }
+}

@@ -1,0 +1,88 @@
+//! A store to go on with, and the calls that make it anew.
+ghost use Rattle.std.specs.Prelude.{◌≡◌, ◌<◌, ◌≤◌, ◌+◌, ◌^◌, ◌*◌, length, IfOk, IfErr};
+ghost use Rattle.grb_call.specs.Store.{IsStore};
+ghost use Rattle.grb_state.specs.Live.{live_store};
+ghost use Rattle.grb_state.specs.Settled.{AreAllAssembled};
+ghost use Rattle.grb_state.specs.State.{is_assembled};
+ghost use Rattle.grb_rebuild.specs.Rebuilt.{rebuilt};
+ghost use Rattle.grb_rebuild.specs.Rebuilding.{IsRebuild, IsNotRebuilt};
+ghost use Rattle.grb_rebuild.specs.Renumbered.{AreRenumbered};
+
+use crate::renumbered::Renumbered;
+use crate::store::{calls_for, needed};
+use grb_call::Call;
+use grb_state::State;
+use std::alloc::{AllocError, Global};
+
+/// Why there is no successor.
+#[derive(Clone, Copy, Debug, PartialEq, Eq)]
+pub enum NoSuccessor {
+    /// Memory was refused.
+    OutOfMemory,
+    /// The room is too small: so many calls make the store anew.
+    RoomTooSmall { needed: u64 },
+    /// A record could not be put or is not shown.
+    Panic,
+}
+
+/// A store to go on with, and the calls that make it anew.
+#[derive(Drop)]
+pub struct Rebuild {
+    /// The calls, which leave this store behind no others.
+    pub calls: Vec<Call>,
+    /// The store, in which no change waits.
+    pub state: State,
+}
+
+/// The calls that make the store anew, and the store with room for as many more as make up `room`; both stores hold the same objects. Each
+/// entry is copied once. `RoomTooSmall` where there are more calls; then nothing was copied. `OutOfMemory` where memory is refused (own).
+pub fn rebuild_all(alloc: Global, state: &State, room: u32) -> Result<Rebuild, NoSuccessor>
+    requires assembled { AreAllAssembled (is_assembled state.now.matrices state.now.vectors) }
+    requires room { room < 2 ^ 31 }
+    ensures rebuild { IfOk result (λ r. IsRebuild room r.calls.items r.state) }
+    ensures store { IfOk result (λ r. r.state.store ≡ state.now.store) }
+    ensures refused { IfErr result (IsNotRebuilt room state.now.store) }
+{
+    let needed = needed(state);
+    if needed > u64::from(room) {
+        return Err(NoSuccessor::RoomTooSmall { needed });
+    }
+    let Ok(calls) = calls_for(alloc, state) else {
+        return Err(NoSuccessor::OutOfMemory);
+    };
+    let Ok(state) = state.try_clone(room - needed as u32) else {
+        return Err(NoSuccessor::OutOfMemory);
+    };
+    Ok(Rebuild { calls, state })
+}
+
+/// The store of the objects that are there, and which number each has in it. `AllocError` where memory is refused.
+fn renumbered(alloc: Global, state: &State) -> Result<(State, Renumbered), AllocError>
+    ensures store { IfOk result (λ r. r.0.store ≡ live_store state.now.store) }
+    ensures assembled { IfOk result (λ r. AreAllAssembled (is_assembled state.now.matrices state.now.vectors) → AreAllAssembled (is_assembled r.0.matrices r.0.vectors)) }
+    ensures numbers { IfOk result (λ r. AreRenumbered state.now.store r.1) }
+{
+    let live = state.live()?;
+    let numbers = Renumbered::of(alloc, state)?;
+    Ok((live, numbers))
+}
+
+/// The same of the objects that are there alone: the matrices have the numbers 0, 1, 2 .. in their order, and so have the vectors. Beside it
+/// stands which number became which (own).
+pub fn rebuild_live(
+    alloc: Global,
+    state: &State,
+    room: u32,
+) -> Result<(Rebuild, Renumbered), NoSuccessor>
+    requires assembled { AreAllAssembled (is_assembled state.now.matrices state.now.vectors) }
+    requires room { room < 2 ^ 31 }
+    ensures rebuild { IfOk result (λ r. IsRebuild room r.0.calls.items r.0.state) }
+    ensures store { IfOk result (λ r. r.0.state.store ≡ live_store state.now.store) }
+    ensures numbers { IfOk result (λ r. AreRenumbered state.now.store r.1) }
+    ensures refused { IfErr result (IsNotRebuilt room (live_store state.now.store)) }
+{
+    let Ok((live, numbers)) = renumbered(alloc, state) else {
+        return Err(NoSuccessor::OutOfMemory);
+    };
+    Ok((rebuild_all(alloc, &live, room)?, numbers))
+}

@@ -1,0 +1,6 @@
+//! One unit is one test. No contract says that a call is made once over all generations, that a member finds the latest one, or that a call
+//! is answered where there is room.
+mod following;
+mod reading;
+mod same;
+mod workers;

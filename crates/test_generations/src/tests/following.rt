@@ -1,0 +1,189 @@
+//! Members in one thread: who finds what another one left, and what is answered where no further generation fits.
+ghost use Rattle.std.specs.Prelude.{◌<◌};
+
+use crate::tests::same::same;
+use grb_call::{Call, Reply, VectorId};
+use grb_context::NoSuccessor;
+use grb_core::{Domain, Refusal, Value};
+use grb_generations::{Generations, Member};
+use std::alloc::{AllocError, Global};
+use std::process::Abort;
+
+type Answer = Result<Reply, Refusal>;
+
+const FIRST: VectorId = VectorId(0);
+
+const SECOND: VectorId = VectorId(1);
+
+const DONE: Answer = Ok(Reply::Done);
+
+/// Two members of a new chain.
+fn two<R: Abort>(rt: &R, alloc: Global, room: u32) -> Result<(Member, Member), AllocError>
+    requires { (1 < room) × (room < 1000) }
+{
+    let (_generations, mut members) = Generations::open(alloc, room, 2)?;
+    let (Some(second), Some(first)) = (members.pop(), members.pop()) else {
+        panic!(rt; "two members are there")
+    };
+    same(rt, (first.number(), second.number()), (0, 1), "the numbers");
+    Ok((first, second))
+}
+
+fn new_vector(member: &mut Member) -> Answer {
+    member.call(Call::NewVector {
+        domain: Domain::Uint64,
+        size: 10,
+    })
+}
+
+fn set(member: &mut Member, v: VectorId, n: u64) -> Answer {
+    member.call(Call::SetVector {
+        v,
+        i: 3,
+        value: Value::Uint64(n),
+    })
+}
+
+fn get(member: &mut Member, v: VectorId) -> Answer {
+    member.call(Call::GetVector { v, i: 3 })
+}
+
+/// Sets the third entry of the vector so many times, to 0, 1, 2 and so on.
+fn set_often<R: Abort>(rt: &R, member: &mut Member, times: u64) {
+    for n in 0..times {
+        same(rt, set(member, FIRST, n), DONE, n);
+    }
+}
+
+#[test]
+fn a_member_that_was_idle_reads_the_latest_generation(rt: HostRuntime) -> Result<(), AllocError> {
+    let (mut busy, mut idle) = two(&rt, rt.alloc(), 8)?;
+    same(
+        &rt,
+        new_vector(&mut busy),
+        Ok(Reply::MadeVector(FIRST)),
+        "a vector",
+    );
+    // It knows a part of the first generation, and not that it is full.
+    same(&rt, get(&mut idle, FIRST), Ok(Reply::NoValue), "no entry");
+    set_often(&rt, &mut busy, 700);
+    same(&rt, busy.generation() > 100, true, "the generations");
+    same(
+        &rt,
+        (idle.generation(), idle.move_on()),
+        (0, false),
+        "a member that knows no end",
+    );
+    same(
+        &rt,
+        get(&mut idle, FIRST),
+        Ok(Reply::Value(Value::Uint64(699))),
+        "the entry",
+    );
+    same(&rt, idle.generation(), busy.generation(), "the generation");
+    same(&rt, idle.number(), 1, "the number");
+    Ok(())
+}
+
+#[test]
+fn a_change_of_what_a_later_generation_made_is_done(rt: HostRuntime) -> Result<(), AllocError> {
+    let (mut busy, mut idle) = two(&rt, rt.alloc(), 8)?;
+    same(
+        &rt,
+        new_vector(&mut busy),
+        Ok(Reply::MadeVector(FIRST)),
+        "a vector",
+    );
+    set_often(&rt, &mut busy, 100);
+    same(
+        &rt,
+        new_vector(&mut busy),
+        Ok(Reply::MadeVector(SECOND)),
+        "another",
+    );
+    same(
+        &rt,
+        set(&mut idle, SECOND, 5),
+        DONE,
+        "a change by the member that was idle",
+    );
+    same(
+        &rt,
+        get(&mut busy, SECOND),
+        Ok(Reply::Value(Value::Uint64(5))),
+        "the entry",
+    );
+    Ok(())
+}
+
+#[test]
+fn a_member_stays_while_its_generation_takes_calls(rt: HostRuntime) -> Result<(), AllocError> {
+    let (mut busy, _idle) = two(&rt, rt.alloc(), 4)?;
+    same(
+        &rt,
+        new_vector(&mut busy),
+        Ok(Reply::MadeVector(FIRST)),
+        "a vector",
+    );
+    set_often(&rt, &mut busy, 2);
+    same(
+        &rt,
+        (busy.move_on(), busy.go_on()),
+        (false, Ok(false)),
+        "one call is left",
+    );
+    set_often(&rt, &mut busy, 1);
+    // The generation is full, and no other stands.
+    same(
+        &rt,
+        (busy.move_on(), get(&mut busy, FIRST)),
+        (false, Ok(Reply::Value(Value::Uint64(0)))),
+        "full",
+    );
+    same(
+        &rt,
+        (busy.generation(), busy.go_on()),
+        (0, Ok(true)),
+        "the next one",
+    );
+    same(
+        &rt,
+        (busy.generation(), busy.pass().known()),
+        (1, 2),
+        "the next one",
+    );
+    Ok(())
+}
+
+#[test]
+fn a_room_that_takes_no_more_than_the_store_needs_is_full_for_good(
+    rt: HostRuntime,
+) -> Result<(), AllocError> {
+    let (mut one, mut other) = two(&rt, rt.alloc(), 4)?;
+    for n in 0..4u32 {
+        let made = new_vector(&mut one);
+        same(&rt, made, Ok(Reply::MadeVector(VectorId(n))), n);
+    }
+    let none = Err(NoSuccessor::RoomTooSmall { needed: 4 });
+    same(&rt, one.go_on(), none, "no generation");
+    same(
+        &rt,
+        new_vector(&mut one),
+        Err(Refusal::OrderFull),
+        "a change",
+    );
+    same(
+        &rt,
+        set(&mut other, FIRST, 1),
+        Err(Refusal::OrderFull),
+        "a change by the other",
+    );
+    same(&rt, get(&mut other, FIRST), Ok(Reply::NoValue), "a read");
+    same(
+        &rt,
+        (one.generation(), other.generation()),
+        (0, 0),
+        "the generations",
+    );
+    Ok(())
+}
