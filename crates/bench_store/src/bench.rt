@@ -1,9 +1,14 @@
 //! The least time of several runs, and the line that tells it.
-use std::alloc::Global;
+use crate::lines::{Line, entering, time_of};
 use std::io;
 use std::rt::Clock;
+use std::sync::Wait;
 use std::test::Fail;
+use std::thread::Threads;
 use std::time::Instant;
+
+/// The time of a case in nanoseconds; none where it was not as expected.
+pub(crate) type Time = Result<Option<u64>, Fail>;
 
 /// The nanoseconds from `start` to now; the most there can be where the clock does not say.
 pub(crate) fn nanos_since(rt: &impl Clock, start: io::Result<Instant>) -> u64 {
@@ -13,43 +18,17 @@ pub(crate) fn nanos_since(rt: &impl Clock, start: io::Result<Instant>) -> u64 {
     }
 }
 
-/// What an operation made, to be compared with what the loop by hand made.
-pub(crate) trait Made<B> {
-    /// Whether both are the same.
-    fn is_same(&self, alloc: Global, by_hand: &B) -> Result<bool, Fail>;
-}
-
-/// Runs lines, and counts those that were as expected in each run.
+/// Runs lines, each so often.
 #[derive(Drop)]
 pub(crate) struct Bench<'a, R> {
     pub(crate) rt: &'a R,
-    runs: u32,
-    count: usize,
+    pub(crate) runs: u32,
 }
 
-impl<'a, R: Clock + Eprint + AllocGlobal> Bench<'a, R> {
-    /// A bench that runs each line so often.
-    pub(crate) fn new(rt: &'a R, runs: u32) -> Bench<'a, R> {
-        Bench { rt, runs, count: 0 }
-    }
-
-    /// How many lines were as expected since the last time that it was asked.
-    pub(crate) fn take_count(&mut self) -> usize {
-        let count = self.count;
-        self.count = 0;
-        count
-    }
-
-    /// Writes a line, with tenths of a nanosecond and hundredths of a ratio, and counts it if it was as expected.
-    fn end(
-        &mut self,
-        names: [&str; 2],
-        times: [u64; 2],
-        steps: u32,
-        holds: bool,
-    ) -> Result<(), Fail> {
-        self.count = self.count.wrapping_add(usize::from(holds));
-        let ([name, other], [ours, theirs]) = (names, times);
+impl<'a, R: Clock + Threads + Wait + Sync + Eprint + AllocGlobal> Bench<'a, R> {
+    /// Writes the least times of a line, with tenths of a nanosecond and hundredths of a ratio.
+    fn end(&self, line: &Line, ours: u64, theirs: u64) -> Result<(), Fail> {
+        let ([name, other], steps) = (line.names, line.steps);
         let a = ours.saturating_mul(10) / u64::from(steps.max(1));
         let b = theirs.saturating_mul(10) / u64::from(steps.max(1));
         let c = ours.saturating_mul(100) / theirs.max(1);
@@ -64,51 +43,43 @@ impl<'a, R: Clock + Eprint + AllocGlobal> Bench<'a, R> {
         Ok(())
     }
 
-    /// Runs a scene for two cases in turn. A scene answers its time, or none where it was not as expected.
-    pub(crate) fn compare<X: Copy + Drop, F: Fn(X) -> Result<Option<u64>, Fail>>(
-        &mut self,
-        names: [&str; 2],
-        steps: u32,
-        cases: [X; 2],
-        scene: &F,
-    ) -> Result<(), Fail>
-        requires { F.IsAlwaysCallable scene.now }
-    {
-        let [first, second] = cases;
+    /// The times of both cases of a line.
+    fn run_once(&self, line: &Line) -> Result<[Option<u64>; 2], Fail> {
+        let [first, second] = line.cases;
+        let ours = time_of(self.rt, first)?;
+        let theirs = time_of(self.rt, second)?;
+        Ok([ours, theirs])
+    }
+
+    /// Runs both cases of a line in turn. Whether both were as expected in each run.
+    fn run_line(&self, line: &Line) -> Result<bool, Fail> {
         let (mut ours, mut theirs, mut holds) = (u64::MAX, u64::MAX, true);
         for _ in 0..self.runs {
-            let (one, other) = (scene(first)?, scene(second)?);
+            let [one, other] = self.run_once(line)?;
             holds &= one.is_some() && other.is_some();
             ours = ours.min(one.unwrap_or(u64::MAX));
             theirs = theirs.min(other.unwrap_or(u64::MAX));
         }
-        self.end(names, [ours, theirs], steps, holds)
+        self.end(line, ours, theirs)?;
+        Ok(holds)
     }
 
-    /// Runs an operation and the loop by hand in turn; both are expected to make the same.
-    pub(crate) fn operation<A: Made<B> + Drop, B: Drop, F, G>(
-        &mut self,
-        names: [&str; 2],
-        steps: u32,
-        operation: &F,
-        by_hand: &G,
-    ) -> Result<(), Fail>
-    where
-        F: Fn() -> Result<A, Fail>,
-        G: Fn() -> Result<B, Fail>,
-        requires operation { F.IsAlwaysCallable operation.now }
-        requires by_hand { G.IsAlwaysCallable by_hand.now }
-    {
-        let (mut ours, mut theirs, mut holds) = (u64::MAX, u64::MAX, true);
-        for _ in 0..self.runs {
-            let start = Instant::now(self.rt);
-            let made = operation()?;
-            ours = ours.min(nanos_since(self.rt, start));
-            let start = Instant::now(self.rt);
-            let expected = by_hand()?;
-            theirs = theirs.min(nanos_since(self.rt, start));
-            holds &= made.is_same(self.rt.alloc(), &expected)?;
+    /// Runs these lines; how many were as expected in each run.
+    pub(crate) fn run(&self, lines: &[Line]) -> Result<usize, Fail> {
+        let mut count = 0usize;
+        for line in lines {
+            count = count.wrapping_add(usize::from(self.run_line(line)?));
         }
-        self.end(names, [ours, theirs], steps, holds)
+        Ok(count)
+    }
+
+    /// Runs sets by 1, 2 and 4 threads.
+    pub(crate) fn run_entering(&self) -> Result<usize, Fail> {
+        let mut count = 0usize;
+        for threads in [1, 2, 4] {
+            eprintln!(self.rt; "by {threads}:")?;
+            count = count.wrapping_add(self.run(&entering(threads))?);
+        }
+        Ok(count)
     }
 }

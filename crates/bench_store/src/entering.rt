@@ -1,17 +1,20 @@
 //! Entering sets until the order is full: by passes on threads of their own, next to the same sets under one mutex, entered into a store
 //! with one pass or pushed to a list.
+ghost use Rattle.std.specs.Prelude.{◌<◌, All, length};
 ghost use Rattle.grb_context.specs.Known.{IsPassOf};
 
-use crate::bench::{Bench, nanos_since};
-use crate::passes::{ROOM, Store};
+use crate::bench::{Time, nanos_since};
+use crate::passes::{last_pass, make, set};
 use grb_call::VectorId;
 use grb_context::{Context, Pass};
 use grb_core::{Refusal, Value};
 use std::rt::Clock;
 use std::sync::{Barrier, Mutex, Wait};
-use std::test::Fail;
 use std::thread::{Threads, map_indices, map_vec};
 use std::time::Instant;
+
+/// The calls that a store has room for.
+const ROOM: u32 = 4096;
 
 /// The sets of a run; the vector takes the rest of the room.
 pub(crate) const SETS: u32 = ROOM - 1;
@@ -25,13 +28,15 @@ trait Takes: Drop {
 /// A vector and a pass that sets it.
 #[derive(Drop)]
 struct Setting<'a> {
-    store: Store<'a>,
+    context: &'a Context,
+    pass: Pass,
     v: VectorId,
+    ghost ours: { IsPassOf context.now pass },
 }
 
 impl Takes for Setting<'_> {
     fn take(&mut self, i: u64) -> Result<(), Refusal> {
-        self.store.set(self.v, i)
+        set(self.context, &mut self.pass, self.v, i)
     }
 }
 
@@ -125,97 +130,96 @@ fn timed_sets<R: Clock + Wait>(
 ) -> Option<Share>
     requires { IsPassOf context.now pass }
 {
-    let store = Store { context, pass };
-    timed_fill(rt, start, Setting { store, v })
+    timed_fill(rt, start, Setting { context, pass, v })
 }
 
-/// Fills the order by so many passes, each on a thread of its own. The vector is made by one more.
-pub(crate) fn by_passes<R>(rt: &R, threads: u32) -> Result<Option<u64>, Fail>
+/// Fills a store by passes, each on a thread of its own, in entries of this vector.
+fn by_each<R>(rt: &R, context: &Context, passes: Vec<Pass>, v: VectorId) -> Time
+where
+    R: Clock + Threads + Wait + Sync + AllocGlobal,
+    requires { All (IsPassOf context.now) passes.items }
+{
+    let all = &Barrier::new(passes.len());
+    let at = Instant::now(rt)?;
+    let start = Start { at, all };
+    let shares = map_vec(rt, passes, &|pass| timed_sets(rt, &start, context, pass, v))?;
+    Ok(whole_time(&shares))
+}
+
+/// Makes a vector by the pass of the highest number, which is taken out of these.
+fn make_by_last(context: &Context, passes: &mut Vec<Pass>) -> Result<VectorId, Refusal>
+    requires ours { All (IsPassOf context.now) passes.old.items }
+    requires some { 0 < length passes.old.items }
+    ensures { All (IsPassOf context.now) passes.new.items }
+{
+    let mut last = last_pass(context, passes);
+    make(context, &mut last)
+}
+
+/// Fills a store by so many passes. The vector is made by one more.
+fn by_passes<R>(rt: &R, threads: u32) -> Time
 where
     R: Clock + Threads + Wait + Sync + AllocGlobal,
 {
     let threads = threads.clamp(1, 255);
     let (context, mut passes) = Context::open(rt.alloc(), ROOM, threads + 1)?;
-    let v = Store::last(&context, &mut passes).make(u64::from(ROOM))?;
-    let all = Barrier::new(threads as usize);
-    let start = Start {
-        at: Instant::now(rt)?,
-        all: &all,
-    };
-    let shares = map_vec(
-        rt,
-        passes,
-        &|pass| timed_sets(rt, &start, &context, pass, v),
-    )?;
-    Ok(whole_time(&shares))
+    let v = make_by_last(&context, &mut passes)?;
+    by_each(rt, &context, passes, v)
 }
 
 /// Fills this under a mutex by so many threads.
-fn under_mutex<R, T: Takes + Send>(rt: &R, threads: u32, taker: T) -> Result<Option<u64>, Fail>
+fn under_mutex<R, T: Takes + Send>(rt: &R, threads: u32, taker: T) -> Time
 where
     R: Clock + Threads + Wait + Sync + AllocGlobal,
 {
     let inner = &Mutex::new(taker);
-    let all = Barrier::new(threads as usize);
-    let start = Start {
-        at: Instant::now(rt)?,
-        all: &all,
-    };
-    let shares = map_indices(
-        rt,
-        rt.alloc(),
-        threads as usize,
-        &|_| timed_fill(rt, &start, Locked { rt, inner }),
-    )?;
+    let all = &Barrier::new(threads as usize);
+    let at = Instant::now(rt)?;
+    let start = Start { at, all };
+    let share = |_| timed_fill(rt, &start, Locked { rt, inner });
+    let shares = map_indices(rt, rt.alloc(), threads as usize, &share)?;
     Ok(whole_time(&shares))
 }
 
 /// Fills a store with one pass under a mutex.
-fn store_under_mutex<R>(rt: &R, threads: u32) -> Result<Option<u64>, Fail>
+fn store_under_mutex<R>(rt: &R, threads: u32) -> Time
 where
     R: Clock + Threads + Wait + Sync + AllocGlobal,
 {
     let (context, mut passes) = Context::open(rt.alloc(), ROOM, 1)?;
-    let mut store = Store::last(&context, &mut passes);
-    let v = store.make(u64::from(ROOM))?;
-    under_mutex(rt, threads, Setting { store, v })
+    let mut pass = last_pass(&context, &mut passes);
+    let v = make(&context, &mut pass)?;
+    let context = &context;
+    under_mutex(rt, threads, Setting { context, pass, v })
+}
+
+/// Fills a list under a mutex.
+fn list_under_mutex<R>(rt: &R, threads: u32) -> Time
+where
+    R: Clock + Threads + Wait + Sync + AllocGlobal,
+{
+    let list = Vec::with_capacity(rt.alloc(), SETS as usize)?;
+    under_mutex(rt, threads, Pushed(list))
 }
 
 /// What is filled.
 #[derive(Clone, Copy)]
-enum Way {
+pub(crate) enum Way {
+    /// By passes of their own.
     Passes,
-    StoreUnderMutex,
-    ListUnderMutex,
+    /// By the threads in turn, under one mutex.
+    Store,
+    List,
 }
 
-/// Fills it by so many threads.
-fn filled<R>(rt: &R, way: Way, threads: u32) -> Result<Option<u64>, Fail>
+/// The time in which it is filled by so many threads.
+pub(crate) fn time_of_fill<R>(rt: &R, way: Way, threads: u32) -> Time
 where
     R: Clock + Threads + Wait + Sync + AllocGlobal,
 {
     match way {
         Way::Passes => by_passes(rt, threads),
-        Way::StoreUnderMutex => store_under_mutex(rt, threads),
-        Way::ListUnderMutex => {
-            let list = Vec::with_capacity(rt.alloc(), SETS as usize)?;
-            under_mutex(rt, threads, Pushed(list))
-        }
-    }
-}
-
-impl<R: Clock + Threads + Wait + Sync + Eprint + AllocGlobal> Bench<'_, R> {
-    /// Times fills by 1, 2 and 4 passes next to both kinds of fills under a mutex.
-    pub(crate) fn run_entering(&mut self) -> Result<(), Fail> {
-        let rt = self.rt;
-        for threads in [1, 2, 4] {
-            eprintln!(rt; "by {threads}:")?;
-            let scene = |way| filled(rt, way, threads);
-            let cases = [Way::Passes, Way::StoreUnderMutex];
-            self.compare(["enter", "store under a mutex"], SETS, cases, &scene)?;
-            let cases = [Way::Passes, Way::ListUnderMutex];
-            self.compare(["enter", "list under a mutex"], SETS, cases, &scene)?;
-        }
-        Ok(())
+        Way::Store => store_under_mutex(rt, threads),
+        Way::List => list_under_mutex(rt, threads),
     }
 }

@@ -1,5 +1,4 @@
-//! The program `bench_store [RUNS]`: it times the store and the operations, next to loops by hand, to a mutex or to another case of the
-//! same.
+//! The program `bench_store [RUNS]`: it times the store next to a mutex, to a plain loop or to another case of the same.
 //!
 //! Each line is run so often, 3 times where no number is given, with both sides in turn. Standard error has the least times, in
 //! nanoseconds a step, and how many times as long the first side took. Standard output has for each section how many of its lines were
@@ -7,20 +6,15 @@
 #![tactic(auto)]
 
 mod bench;
-mod by_column;
-mod by_hand;
-mod drawn;
 mod entering;
-mod objects;
-mod operations;
+mod lines;
 mod passes;
-mod searches;
+mod scripts;
 mod shared;
-mod sizes;
 mod texts;
-mod turned;
 
 use crate::bench::Bench;
+use crate::lines::{MARKET, PASSES, SECTIONS, SHARED, SIZES};
 use std::env;
 use std::rt::{Clock, Env};
 use std::sync::Wait;
@@ -43,23 +37,13 @@ fn run<R>(rt: &R, runs: u32) -> Result<(), Fail>
 where
     R: Clock + Threads + Wait + Sync + Print + Eprint + AllocGlobal,
 {
-    let mut bench = Bench::new(rt, runs);
-    bench.run_entering()?;
-    println!(rt; "entering: {} until full", bench.take_count())?;
-    bench.run_passes()?;
-    println!(rt; "passes: {} as was set", bench.take_count())?;
-    bench.run_sections()?;
-    println!(rt; "sections: {} as expected", bench.take_count())?;
-    bench.run_shared()?;
-    println!(rt; "shared: {} as in one section", bench.take_count())?;
-    bench.run_sizes()?;
-    println!(rt; "sizes: {} as was set", bench.take_count())?;
-    bench.run_market()?;
-    println!(rt; "market: {} as stated", bench.take_count())?;
-    bench.run_operations()?;
-    println!(rt; "operations: {} as by hand", bench.take_count())?;
-    bench.run_searches()?;
-    println!(rt; "searches: {} as by hand", bench.take_count())?;
+    let bench = Bench { rt, runs };
+    println!(rt; "entering: {} until full", bench.run_entering()?)?;
+    println!(rt; "passes: {} as was set", bench.run(&PASSES)?)?;
+    println!(rt; "sections: {} as expected", bench.run(&SECTIONS)?)?;
+    println!(rt; "shared: {} as stated", bench.run(&SHARED)?)?;
+    println!(rt; "sizes: {} as was set", bench.run(&SIZES)?)?;
+    println!(rt; "market: {} as stated", bench.run(&MARKET)?)?;
     Ok(())
 }
 

@@ -1,144 +1,148 @@
-//! Work that passes share: scripts whose thread sections work on objects of their own, or read one result that main left, each next to a
-//! script that does the same in one section, and writes the same lines.
-use crate::bench::Bench;
-use crate::drawn::Numbers;
-use crate::texts::{Kept, Script};
-use grb_run::{OpenGate, run_script};
+//! Work that passes share: scripts whose thread sections work on objects of their own, or read one result that main left.
+use crate::bench::Time;
+use crate::scripts::written;
 use std::alloc::{AllocError, Global};
 use std::rt::Clock;
 use std::sync::Wait;
-use std::test::Fail;
 use std::thread::Threads;
 
-/// The rows and columns of the matrix.
-const ROWS: u64 = 1000;
+/// What a script does. Its matrix A has 1000 rows and columns, and in each `degree` ones, of which two may be one two. So the total of A is
+/// 1000 times the degree, and that of its product with itself 1000 times the square of the degree.
+#[derive(Clone, Copy)]
+pub(crate) struct Work {
+    degree: u32,
+    /// The products that main adds to a matrix C.
+    products: u32,
+    sections: u32,
+    /// The products that each section adds to a matrix of its own, which it reads after each.
+    own: u32,
+    /// What each section reads that has no products.
+    read: &'static str,
+    /// Its total, or what each product adds to the total.
+    total: u64,
+}
 
-/// The entries that are drawn for a matrix that is multiplied, and for one that is read alone.
-const ENTRIES: (u32, u32) = (8_000, 60_000);
+/// Each section has products of its own.
+pub(crate) const OWN: Work = Work {
+    degree: 8,
+    products: 0,
+    sections: 4,
+    own: 30,
+    read: "",
+    total: 64_000,
+};
 
-/// The thread sections that work on objects of their own, and the products of each.
-const WORKING: (u32, u32) = (4, 30);
+/// Each section reads the products of main.
+pub(crate) const RESULT: Work = Work {
+    degree: 8,
+    products: 100,
+    sections: 32,
+    own: 0,
+    read: "C",
+    total: 6_400_000,
+};
 
-/// The thread sections that read one product, and how many main makes.
-const READING: (u32, u32) = (32, 100);
+/// Each section reads what main has built.
+pub(crate) const LOADED: Work = Work {
+    degree: 60,
+    products: 0,
+    sections: 63,
+    own: 0,
+    read: "A",
+    total: 60_000,
+};
 
-/// The thread sections that read one matrix.
-const LOADING: u32 = 63;
-
-/// Adds a matrix of this name with drawn entries.
-fn add_matrix(text: &mut String, name: &str, entries: u32) -> Result<(), AllocError> {
-    write!(text, "matrix {name} uint64 {ROWS} {ROWS}\n")?;
-    if entries == 0 {
-        return Ok(());
-    }
-    let mut numbers = Numbers::new();
-    write!(text, "build {name} plus")?;
-    for _ in 0..entries {
-        let (i, j) = (numbers.below(ROWS), numbers.below(ROWS));
+/// Adds row `i` of the matrix A.
+fn add_row(text: &mut String, i: u32, degree: u32) -> Result<(), AllocError> {
+    for k in 0..degree {
+        let j = i.wrapping_add(k.wrapping_mul(k.wrapping_mul(17).wrapping_add(131))) % 1000;
         write!(text, " {i} {j} 1")?;
     }
-    text.push_str("\n")?;
     Ok(())
 }
 
-/// Begins a section, if the sections are on threads.
-fn begin(text: &mut String, threads: bool, k: u32) -> Result<(), AllocError> {
-    if threads || k == 1 {
-        write!(text, "thread {k}\n")?;
+/// Adds the making of the matrix A.
+fn add_matrix(text: &mut String, degree: u32) -> Result<(), AllocError> {
+    text.push_str("matrix A uint64 1000 1000\nbuild A plus")?;
+    for i in 0..1000 {
+        add_row(text, i, degree)?;
     }
-    Ok(())
+    text.push_str("\nmatrix C uint64 1000 1000\n")
 }
 
-/// Each section adds products to a matrix of its own, and reads it after each.
-fn working(alloc: Global, threads: bool) -> Result<String, AllocError> {
-    let mut text = String::new(alloc);
-    add_matrix(&mut text, "A", ENTRIES.0)?;
-    for k in 1..=WORKING.0 {
-        write!(text, "matrix C{k} uint64 {ROWS} {ROWS}\n")?;
-    }
-    for k in 1..=WORKING.0 {
-        begin(&mut text, threads, k)?;
-        for _ in 0..WORKING.1 {
-            write!(
-                text,
-                "mxm C{k} A A plus.times accum plus\ntotal C{k} plus\n"
-            )?;
+/// Adds the making of a matrix for each section that has its own products, or the products of main.
+fn add_main(text: &mut String, work: Work) -> Result<(), AllocError> {
+    if work.own > 0 {
+        for k in 0..work.sections {
+            write!(text, "matrix C{k} uint64 1000 1000\n")?;
         }
+        return Ok(());
     }
-    Ok(text)
-}
-
-/// Main adds products to one matrix, and each section reads it.
-fn reading(alloc: Global, threads: bool) -> Result<String, AllocError> {
-    let mut text = String::new(alloc);
-    add_matrix(&mut text, "A", ENTRIES.0)?;
-    add_matrix(&mut text, "C", 0)?;
-    for _ in 0..READING.1 {
+    for _ in 0..work.products {
         text.push_str("mxm C A A plus.times accum plus\n")?;
     }
-    for k in 1..=READING.0 {
-        begin(&mut text, threads, k)?;
-        text.push_str("total C plus\n")?;
-    }
-    Ok(text)
+    Ok(())
 }
 
-/// Main builds one matrix, and each section reads it.
-fn loading(alloc: Global, threads: bool) -> Result<String, AllocError> {
+/// Adds what section `k` does.
+fn add_section(text: &mut String, work: Work, k: u32) -> Result<(), AllocError> {
+    for _ in 0..work.own {
+        write!(
+            text,
+            "mxm C{k} A A plus.times accum plus\ntotal C{k} plus\n"
+        )?;
+    }
+    if work.own == 0 {
+        write!(text, "total {} plus\n", work.read)?;
+    }
+    Ok(())
+}
+
+/// The script of this work, on threads or in one section.
+fn script_of(alloc: Global, work: Work, threads: bool) -> Result<String, AllocError> {
     let mut text = String::new(alloc);
-    add_matrix(&mut text, "A", ENTRIES.1)?;
-    for k in 1..=LOADING {
-        begin(&mut text, threads, k)?;
-        text.push_str("total A plus\n")?;
+    add_matrix(&mut text, work.degree)?;
+    add_main(&mut text, work)?;
+    for k in 0..work.sections {
+        if threads || k == 0 {
+            write!(text, "thread {}\n", k.wrapping_add(1))?;
+        }
+        add_section(&mut text, work, k)?;
     }
     Ok(text)
 }
 
-/// What a script writes.
-fn written<R>(rt: &R, text: &str) -> Result<Kept, Fail>
-where
-    R: AllocGlobal + Threads + Wait + Sync,
-{
-    let mut copy = String::new(rt.alloc());
-    copy.push_str(text)?;
-    let mut source = Script::new(copy);
-    let mut lines = Kept::new(rt.alloc());
-    run_script(rt, rt.alloc(), 4096, &mut source, &mut lines, &OpenGate)?;
+/// Adds the lines that a section writes.
+fn add_lines(lines: &mut String, work: Work) -> Result<(), AllocError> {
+    for k in 0..u64::from(work.own) {
+        write!(
+            lines,
+            "ok\nvalue {}\n",
+            work.total.wrapping_mul(k.wrapping_add(1))
+        )?;
+    }
+    if work.own == 0 {
+        write!(lines, "value {}\n", work.total)?;
+    }
+    Ok(())
+}
+
+/// The lines that the sections write.
+fn lines_of(alloc: Global, work: Work) -> Result<String, AllocError> {
+    let mut lines = String::new(alloc);
+    for _ in 0..work.sections {
+        add_lines(&mut lines, work)?;
+    }
     Ok(lines)
 }
 
-impl<R: Clock + Threads + Wait + Sync + Eprint + AllocGlobal> Bench<'_, R> {
-    /// Times a script on threads next to one in one section.
-    fn compare_scripts(
-        &mut self,
-        name: &str,
-        steps: u32,
-        ours: &str,
-        one: &str,
-    ) -> Result<(), Fail> {
-        let rt = self.rt;
-        self.operation(
-            [name, "in one section"],
-            steps,
-            &|| written(rt, ours),
-            &|| written(rt, one),
-        )
-    }
-
-    /// Times work that is shared.
-    pub(crate) fn run_shared(&mut self) -> Result<(), Fail> {
-        let alloc = self.rt.alloc();
-        let (ours, one) = (working(alloc, true)?, working(alloc, false)?);
-        let pairs = WORKING.0 * WORKING.1;
-        self.compare_scripts(
-            "product and total, in 4 thread sections",
-            pairs,
-            &ours,
-            &one,
-        )?;
-        let (ours, one) = (reading(alloc, true)?, reading(alloc, false)?);
-        self.compare_scripts("100 products, read in 32 thread sections", 1, &ours, &one)?;
-        let (ours, one) = (loading(alloc, true)?, loading(alloc, false)?);
-        self.compare_scripts("a matrix, read in 63 thread sections", 1, &ours, &one)
-    }
+/// The time of such a script; none where the sections write other lines.
+pub(crate) fn time_of_work<R>(rt: &R, work: Work, threads: bool) -> Time
+where
+    R: Clock + AllocGlobal + Threads + Wait + Sync,
+{
+    let script = script_of(rt.alloc(), work, threads)?;
+    let (lines, nanos) = written(rt, script, 4096)?;
+    let expected = lines_of(rt.alloc(), work)?;
+    Ok(lines.ends_with(&expected).then_some(nanos))
 }

@@ -4,15 +4,21 @@
 //!
 //! The graph is a ring of 32 vertices, each of which an edge ties to the hub in the middle; one of the four threads cuts its edges to
 //! the hub again.
+//!
+//! The second part is a service that never stops: four threads change a store that has room for few calls. Where it is full its
+//! successor goes on with what it held, thirteen times, and each change that was answered is in the last store.
 #![tactic(auto)]
 
-ghost use Rattle.std.specs.Prelude.{◌<◌, All, length};
+ghost use Rattle.std.specs.Prelude.{◌≡◌, ◌<◌, ◌++◌, ◌∷◌, [], All, length};
 ghost use Rattle.grb_context.specs.Known.{IsPassOf};
 
+mod changes;
 mod graph;
+mod service;
 mod work;
 
 use crate::graph::{Failure, Graph, HUB, RING};
+use crate::service::{Served, run_service};
 use crate::work::work;
 use grb_context::{Context, Pass};
 use grb_core::Refusal;
@@ -96,6 +102,7 @@ fn last_pass(context: &Context, passes: &mut Vec<Pass>) -> Pass
     requires some { 0 < length passes.old.items }
     ensures pass { IsPassOf context.now result }
     ensures rest { All (IsPassOf context.now) passes.new.items }
+    ensures last { passes.old.items ≡ passes.new.items ++ result ∷ [] }
 {
     passes.pop().unwrap()
 }
@@ -165,6 +172,22 @@ fn write_summary(rt: &impl Print, summary: &Summary, wrong: u32) -> io::Result<(
     println!(rt; "wrong replies meanwhile: {wrong}")
 }
 
+/// Writes a count for each worker.
+fn write_counts(rt: &impl Print, what: &str, counts: &[u64]) -> io::Result<()> {
+    print!(rt; "{what}:")?;
+    for count in counts {
+        print!(rt; " {count}")?;
+    }
+    println!(rt; "")
+}
+
+/// Writes a line for each thing that the service did.
+fn write_served(rt: &impl Print, served: &Served) -> io::Result<()> {
+    println!(rt; "stores of the service: {}", served.stores)?;
+    write_counts(rt, "changes that were answered", &served.done)?;
+    write_counts(rt, "changes in the last store", &served.kept)
+}
+
 fn main(rt: HostRuntime) -> Result<(), Fail> {
     match open_and_serve(&rt) {
         Ok((summary, wrong)) => write_summary(&rt, &summary, wrong)?,
@@ -173,5 +196,6 @@ fn main(rt: HostRuntime) -> Result<(), Fail> {
         }
         Err(Failure::NoNumber) => println!(&rt; "the graph holds no numbers")?,
     }
+    write_served(&rt, &run_service(&rt)?)?;
     Ok(())
 }

@@ -8,4 +8,5 @@ mod same;
 mod scripts;
 mod shown;
 mod stores;
+mod successors;
 mod sweeps;

@@ -43,18 +43,28 @@ fn next_pass(rt: &impl Abort, context: &Context, passes: &mut Vec<Pass>) -> Pass
     pass
 }
 
+/// A context with the two passes that are left of it.
+pub(super) fn with_two(rt: &impl Abort, context: Context, passes: Vec<Pass>) -> Store
+    requires { All (IsPassOf context) passes.items }
+    ensures p { IsPassOf result.context result.p }
+    ensures q { IsPassOf result.context result.q }
+{
+    let mut passes = passes;
+    let q = next_pass(rt, &context, &mut passes);
+    let p = next_pass(rt, &context, &mut passes);
+    Store { context, p, q }
+}
+
 /// A new store with this room.
 pub(super) fn open(rt: &impl Abort, alloc: Global, room: u32) -> Store
     requires { (0 < room) × (room ≤ MOST_ROOM) }
     ensures p { IsPassOf result.context result.p }
     ensures q { IsPassOf result.context result.q }
 {
-    let Ok((context, mut passes)) = Context::open(alloc, room, 2) else {
+    let Ok((context, passes)) = Context::open(alloc, room, 2) else {
         panic!(rt; "no memory for the store")
     };
-    let q = next_pass(rt, &context, &mut passes);
-    let p = next_pass(rt, &context, &mut passes);
-    Store { context, p, q }
+    with_two(rt, context, passes)
 }
 
 /// The answers to these calls, in order.

@@ -1,0 +1,285 @@
+//! A successor with ever more memory, from none on, each time of a store of its own, until it is not refused. No contract says that memory is
+//! refused, or what the old pass and the new ones answer then.
+ghost use Rattle.std.specs.Prelude.{◌<◌, ◌≤◌, IfOk};
+ghost use Rattle.grb_order.specs.declared.limits.TheConstants.{MOST_PASSES, MOST_ROOM, MOST_SEATS};
+ghost use Rattle.grb_context.specs.Known.{IsPassOf};
+
+use crate::tests::calls::calls_in;
+use crate::tests::memory::{STEP, TRIALS, hold_all, leave, leave_ample};
+use crate::tests::same::same;
+use crate::tests::shown::Shown;
+use crate::tests::stores::{Answer, Store, answers_to, make_all, open, with_two};
+use grb_call::{Call, Reply};
+use grb_context::{Context, NoSuccessor, Pass};
+use grb_core::{Refusal, Value};
+use grb_scarcity::{Hoard, SPARE};
+use std::alloc::{AllocError, Global};
+use std::fs::Files;
+use std::process::Abort;
+use std::test::Fail;
+
+/// How many calls the stores take, the successors too.
+const ROOM: u32 = 16;
+
+/// How many spares there are: a trial uses four.
+const SPARES: usize = 4 * TRIALS + 10;
+
+/// How often a successor is refused at least: its two passes hold more than 100 bytes for each call that it has room for.
+const LEAST: usize = 2 * 16 * 100 / STEP;
+
+/// A vector and a matrix of each at a time; the vector that is made first is freed.
+const NUMBERED: &str = "vector f uint64 4
+    matrix A uint64 4 4
+    vector u uint64 4
+    matrix B uint64 4 4
+";
+
+/// The same, numbered as in a successor without the number of what was freed, which no vector has there.
+const LIVE: &str = "vector u uint64 4
+    matrix A uint64 4 4
+    vector f uint64 4
+    matrix B uint64 4 4
+";
+
+/// Changes that nobody has read: builds, with a set and a remove that wait, and a product. After `finally` what is read.
+const CHANGES: &str = "build A plus 0 1 2 1 2 3 2 0 9
+    set A 0 2 4
+    remove A 2 0
+    build u plus 0 5 2 6
+    set u 1 7
+    remove u 0
+    free f
+    mxm B A A plus.times
+    finally
+    nvals A
+    get A 0 2
+    get A 2 0
+    total A plus
+    nvals u
+    get u 0
+    get u 1
+    total u plus
+    nvals B
+    get B 0 2
+    size f
+";
+
+/// What the reads are answered, in the old store and in each successor.
+const ANSWERS: [Answer; 11] = [
+    Ok(Reply::Count(3)),
+    Ok(Reply::Value(Value::Uint64(4))),
+    Ok(Reply::NoValue),
+    Ok(Reply::Value(Value::Uint64(9))),
+    Ok(Reply::Count(2)),
+    Ok(Reply::NoValue),
+    Ok(Reply::Value(Value::Uint64(7))),
+    Ok(Reply::Value(Value::Uint64(13))),
+    Ok(Reply::Count(1)),
+    Ok(Reply::Value(Value::Uint64(6))),
+    Err(Refusal::UninitializedObject),
+];
+
+/// Which numbers a successor has.
+#[derive(Clone, Copy, Debug, PartialEq, Eq)]
+enum Numbers {
+    /// Each object its own.
+    Kept,
+    /// The lowest, without those of freed objects.
+    Lowest,
+}
+
+/// The calls of all trials: those that make the old store, those that read it, and those that read a successor.
+#[derive(Drop)]
+struct Frame {
+    history: Vec<Call>,
+    old: Vec<Call>,
+    new: Vec<Call>,
+}
+
+/// The calls where the objects are numbered so.
+fn numbered<R: Abort>(
+    rt: &R,
+    alloc: Global,
+    objects: &str,
+) -> Result<(Vec<Call>, Vec<Call>), AllocError> {
+    let mut text = String::new(alloc);
+    text.push_str(objects)?;
+    text.push_str(CHANGES)?;
+    calls_in(rt, alloc, &text)
+}
+
+/// The calls for successors with these numbers.
+fn frame_of<R: Abort>(rt: &R, alloc: Global, numbers: Numbers) -> Result<Frame, AllocError> {
+    let (history, old) = numbered(rt, alloc, NUMBERED)?;
+    let objects = match numbers {
+        Numbers::Kept => NUMBERED,
+        Numbers::Lowest => LIVE,
+    };
+    let (_, new) = numbered(rt, alloc, objects)?;
+    Ok(Frame { history, old, new })
+}
+
+/// A successor in which each object keeps its number.
+fn succeed(
+    rt: &impl Abort,
+    alloc: Global,
+    context: &Context,
+    pass: &mut Pass,
+) -> Result<Store, NoSuccessor>
+    requires { IsPassOf context.now pass.old }
+    ensures pass { IsPassOf context.now pass.new }
+    ensures q { IfOk result (λ next. IsPassOf next.context next.q) }
+{
+    let (next, passes) = context.succeed(alloc, pass, ROOM, 2)?;
+    Ok(with_two(rt, next, passes))
+}
+
+/// A successor without the numbers of freed objects.
+fn succeed_live(
+    rt: &impl Abort,
+    alloc: Global,
+    context: &Context,
+    pass: &mut Pass,
+) -> Result<Store, NoSuccessor>
+    requires { IsPassOf context.now pass.old }
+    ensures pass { IsPassOf context.now pass.new }
+    ensures q { IfOk result (λ next. IsPassOf next.context next.q) }
+{
+    let (next, passes, _) = context.succeed_live(alloc, pass, ROOM, 2)?;
+    Ok(with_two(rt, next, passes))
+}
+
+/// The reads are answered as is stated.
+fn expect_answers<R: Abort>(
+    rt: &R,
+    context: &Context,
+    pass: &mut Pass,
+    reads: &[Call],
+    numbers: Numbers,
+)
+    requires { IsPassOf context.now pass.old }
+    ensures { IsPassOf context.now pass.new }
+{
+    let answers = answers_to(rt, context, pass, reads);
+    same(rt, answers.as_slice(), &ANSWERS, numbers);
+}
+
+/// Whether memory was refused to a successor; one that was made answers the reads.
+fn is_refused<R: Abort>(
+    rt: &R,
+    made: Result<Store, NoSuccessor>,
+    reads: &[Call],
+    numbers: Numbers,
+) -> bool
+    requires { IfOk made (λ next. IsPassOf next.context next.q) }
+{
+    match made {
+        Ok(mut next) => {
+            expect_answers(rt, &next.context, &mut next.q, reads, numbers);
+            false
+        }
+        Err(no) => {
+            same(rt, no, NoSuccessor::OutOfMemory, numbers);
+            true
+        }
+    }
+}
+
+/// Whether a successor is refused with so many bytes. The pass then shows of itself what it did before.
+fn is_refused_with<R: Abort>(
+    rt: &R,
+    alloc: Global,
+    hoard: &mut Hoard,
+    context: &Context,
+    pass: &mut Pass,
+    reads: &[Call],
+    numbers: Numbers,
+    bytes: usize,
+) -> bool
+    requires { IsPassOf context.now pass.old }
+    ensures { IsPassOf context.now pass.new }
+{
+    let before = Shown::of(pass);
+    leave(rt, hoard, bytes);
+    let made = match numbers {
+        Numbers::Kept => succeed(rt, alloc, context, pass),
+        Numbers::Lowest => succeed_live(rt, alloc, context, pass),
+    };
+    leave_ample(rt, hoard);
+    same(rt, Shown::of(pass), before, numbers);
+    is_refused(rt, made, reads, numbers)
+}
+
+/// The same of this store, which then answers the reads. Where it was refused, it goes with ample memory.
+fn is_refused_first<R: Abort>(
+    rt: &R,
+    alloc: Global,
+    hoard: &mut Hoard,
+    context: &Context,
+    pass: &mut Pass,
+    frame: &Frame,
+    numbers: Numbers,
+    bytes: usize,
+) -> bool
+    requires { IsPassOf context.now pass.old }
+{
+    let new = &frame.new;
+    make_all(rt, context, pass, &frame.history);
+    let first = is_refused_with(rt, alloc, hoard, context, pass, new, numbers, bytes);
+    expect_answers(rt, context, pass, &frame.old, numbers);
+    let then = is_refused_with(rt, alloc, hoard, context, pass, new, numbers, SPARE);
+    same(rt, then, false, numbers);
+    first
+}
+
+/// The same of a new store.
+fn is_refused_once<R: Abort>(
+    rt: &R,
+    alloc: Global,
+    hoard: &mut Hoard,
+    frame: &Frame,
+    numbers: Numbers,
+    bytes: usize,
+) -> bool {
+    let mut store = open(rt, alloc, ROOM);
+    let (context, pass) = (&store.context, &mut store.p);
+    is_refused_first(rt, alloc, hoard, context, pass, frame, numbers, bytes)
+}
+
+/// How often a successor is refused before it is not.
+fn refusals_of<R: Abort>(
+    rt: &R,
+    alloc: Global,
+    hoard: &mut Hoard,
+    frame: &Frame,
+    numbers: Numbers,
+) -> usize {
+    for refusals in 0..TRIALS {
+        if !is_refused_once(rt, alloc, hoard, frame, numbers, refusals * STEP) {
+            return refusals;
+        }
+    }
+    panic!(rt; "{numbers:?}: refused at each trial")
+}
+
+/// Tries successors with these numbers, with memory held back.
+fn sweep<R: Abort + Files + AllocGlobal + Print>(rt: &R, numbers: Numbers) -> Result<(), Fail> {
+    let frame = frame_of(rt, rt.alloc(), numbers)?;
+    let mut hoard = hold_all(rt, SPARES);
+    leave_ample(rt, &mut hoard);
+    let refusals = refusals_of(rt, rt.alloc(), &mut hoard, &frame, numbers);
+    hoard.release();
+    println!(rt; "{numbers:?}: refused {refusals} times")?;
+    same(rt, refusals > LEAST, true, refusals);
+    Ok(())
+}
+
+#[test]
+fn a_successor_is_refused_in_turn(rt: HostRuntime) -> Result<(), Fail> {
+    sweep(&rt, Numbers::Kept)
+}
+
+#[test]
+fn a_successor_without_freed_numbers_is_refused_in_turn(rt: HostRuntime) -> Result<(), Fail> {
+    sweep(&rt, Numbers::Lowest)
+}

@@ -1,0 +1,144 @@
+//! A store goes on without the numbers of freed objects: the others keep their order, and what is told of their numbers is right.
+ghost use Rattle.grb_context.specs.Known.{IsPassOf};
+
+use crate::tests::asked::Asked::{
+    BuildVector, FreeMatrix, FreeVector, GetMatrix, GetVector, NewMatrix, NewVector, NvalsMatrix,
+    NvalsVector, SetMatrix, SetVector, SizeMatrix, SizeVector, TotalMatrix, TotalVector,
+};
+use crate::tests::chapters::ROOM;
+use crate::tests::same::same;
+use crate::tests::steps::Step::{Asks, Does, Finds, Knows, Misses};
+use crate::tests::steps::{Step, expect_of_next, expect_steps, next_pass};
+use grb_call::Reply::{Count, Dims, MadeMatrix, MadeVector, Size};
+use grb_call::{MatrixId, VectorId};
+use grb_context::{Context, Pass, Renumbered};
+use grb_core::Value::{Bool, Uint64};
+use grb_core::{Domain, Monoid};
+use std::alloc::Global;
+use std::process::Abort;
+
+const A0: MatrixId = MatrixId(0);
+
+const A1: MatrixId = MatrixId(1);
+
+const A2: MatrixId = MatrixId(2);
+
+const A3: MatrixId = MatrixId(3);
+
+const V0: VectorId = VectorId(0);
+
+const V1: VectorId = VectorId(1);
+
+const V2: VectorId = VectorId(2);
+
+const V3: VectorId = VectorId(3);
+
+const V4: VectorId = VectorId(4);
+
+/// Matrix 1 and the vectors 0 and 2 are freed.
+static BEFORE: [Step; 15] = [
+    Asks(NewMatrix(Domain::Uint64, 2, 2), Ok(MadeMatrix(A0))),
+    Does(SetMatrix(A0, 0, 1, Uint64(5))),
+    Asks(NewMatrix(Domain::Uint64, 2, 2), Ok(MadeMatrix(A1))),
+    Does(SetMatrix(A1, 0, 1, Uint64(6))),
+    Asks(NewMatrix(Domain::Bool, 3, 1), Ok(MadeMatrix(A2))),
+    Does(FreeMatrix(A1)),
+    Asks(NewVector(Domain::Bool, 1), Ok(MadeVector(V0))),
+    Does(SetVector(V0, 0, Bool(true))),
+    Does(FreeVector(V0)),
+    Asks(NewVector(Domain::Uint64, 11), Ok(MadeVector(V1))),
+    Does(BuildVector(V1, Monoid::Plus, &[(10, Uint64(7)), (2, Uint64(0))])),
+    Asks(NewVector(Domain::Bool, 2), Ok(MadeVector(V2))),
+    Asks(NewVector(Domain::Bool, 13), Ok(MadeVector(V3))),
+    Does(SetVector(V3, 12, Bool(false))),
+    Does(FreeVector(V2)),
+];
+
+/// The number that each old matrix has in the successor; the last one was never made.
+static MATRICES: [(u32, Option<u32>); 4] = [(0, Some(0)), (1, None), (2, Some(1)), (3, None)];
+
+static VECTORS: [(u32, Option<u32>); 5] = [
+    (0, None),
+    (1, Some(0)),
+    (2, None),
+    (3, Some(1)),
+    (4, None),
+];
+
+static RENUMBERED: [Step; 18] = [
+    Knows(7),
+    Finds(GetMatrix(A0, 0, 1), Uint64(5)),
+    Asks(NvalsMatrix(A0), Ok(Count(1))),
+    Asks(SizeMatrix(A0), Ok(Dims(2, 2))),
+    Asks(SizeMatrix(A1), Ok(Dims(3, 1))),
+    Finds(TotalMatrix(A1, Monoid::Land), Bool(true)),
+    Misses(GetMatrix(A2, 0, 0)),
+    Asks(SizeVector(V0), Ok(Size(11))),
+    Finds(GetVector(V0, 10), Uint64(7)),
+    Finds(GetVector(V0, 2), Uint64(0)),
+    Asks(NvalsVector(V0), Ok(Count(2))),
+    Asks(SizeVector(V1), Ok(Size(13))),
+    Finds(GetVector(V1, 12), Bool(false)),
+    Asks(NvalsVector(V1), Ok(Count(1))),
+    Misses(GetVector(V2, 0)),
+    Asks(NewMatrix(Domain::Bool, 1, 1), Ok(MadeMatrix(A2))),
+    Asks(NewVector(Domain::Bool, 1), Ok(MadeVector(V2))),
+    Does(SetVector(V1, 0, Bool(true))),
+];
+
+static AFTER: [Step; 10] = [
+    Knows(15),
+    Finds(GetMatrix(A0, 0, 1), Uint64(5)),
+    Misses(GetMatrix(A1, 0, 1)),
+    Finds(TotalMatrix(A2, Monoid::Land), Bool(true)),
+    Misses(GetVector(V0, 0)),
+    Finds(TotalVector(V1, Monoid::Plus), Uint64(7)),
+    Asks(NvalsVector(V3), Ok(Count(1))),
+    Finds(GetVector(V3, 12), Bool(false)),
+    Asks(NewMatrix(Domain::Bool, 1, 1), Ok(MadeMatrix(A3))),
+    Asks(NewVector(Domain::Bool, 1), Ok(MadeVector(V4))),
+];
+
+/// What is told of the new numbers is right.
+fn expect_numbers<R: Abort>(rt: &R, numbers: &Renumbered) {
+    for (number, wanted) in &MATRICES {
+        let old = MatrixId(*number);
+        same(rt, numbers.matrix(old), wanted.map(MatrixId), old);
+    }
+    for (number, wanted) in &VECTORS {
+        let old = VectorId(*number);
+        same(rt, numbers.vector(old), wanted.map(VectorId), old);
+    }
+}
+
+fn go_on<R: Abort>(rt: &R, alloc: Global, context: &Context, pass: &mut Pass)
+    requires { IsPassOf context.now pass.old }
+    ensures { IsPassOf context.now pass.new }
+{
+    match context.succeed_live(alloc, pass, ROOM, 1) {
+        Ok((next, mut passes, numbers)) => {
+            expect_numbers(rt, &numbers);
+            expect_of_next(rt, alloc, &next, &mut passes, 0, &RENUMBERED, 1);
+        }
+        Err(none) => panic!(rt; "no successor: {none:?}"),
+    }
+}
+
+fn tell<R: Abort>(rt: &R, alloc: Global, context: &Context, pass: &mut Pass)
+    requires { IsPassOf context.now pass.old }
+{
+    expect_steps(rt, alloc, context, pass, &BEFORE, 0);
+    go_on(rt, alloc, context, pass);
+    expect_steps(rt, alloc, context, pass, &AFTER, 0);
+}
+
+#[test]
+fn objects_that_are_there_get_the_next_numbers(rt: HostRuntime) {
+    match Context::open(rt.alloc(), ROOM, 1) {
+        Ok((context, mut passes)) => {
+            let mut pass = next_pass(&rt, &context, &mut passes);
+            tell(&rt, rt.alloc(), &context, &mut pass);
+        }
+        Err(_) => panic!(&rt; "no memory for a store"),
+    }
+}
