@@ -76,7 +76,7 @@ pub(crate) const PASSES: [Line; 3] = [
         cases: [Case::Act(Act::Read(SOME)), Case::Act(Act::Read(2))],
     },
     Line {
-        names: ["first read by a version", "without"],
+        names: ["first read by an edition", "without"],
         steps: 1,
         cases: [
             Case::Act(Act::FirstRead(true)),

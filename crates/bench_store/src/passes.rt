@@ -1,4 +1,4 @@
-//! What passes do in a store: reads that make only what they need, first reads by a version, meetings, dups, and sets behind many others.
+//! What passes do in a store: reads that make only what they need, first reads by an edition, meetings, dups, and sets behind many others.
 ghost use Rattle.std.specs.Prelude.{◌≡◌, ◌+◌, ◌<◌, All, length};
 ghost use Rattle.grb_context.specs.Known.{IsPassOf};
 
@@ -13,7 +13,7 @@ use std::time::Instant;
 /// The size of a vector.
 const SIZE: u64 = 4_294_967_295;
 
-/// The sets that a first read by a version, or by none, has to do with.
+/// The sets that a first read by an edition, or by none, has to do with.
 const SETS: u32 = 4000;
 
 /// The sets that are timed behind others.
@@ -118,7 +118,7 @@ fn read_behind(rt: &impl Clock, context: &Context, pass: &mut Pass, others: u32)
     timed_read(rt, context, pass, v, i)
 }
 
-/// The time of the first read of a pass, after another has set entries, and has offered a version by a wait for all objects, or has not.
+/// The time of the first read of a pass, after another has set entries, and has offered an edition by a wait for all objects, or has not.
 fn first_read(
     rt: &impl Clock,
     context: &Context,

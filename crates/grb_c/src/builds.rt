@@ -10,7 +10,7 @@ use crate::item::Item;
 use grb_call::{Call, MatrixId, MatrixTuples, VectorId, VectorTuples};
 use std::alloc::{AllocError, Global};
 
-/// The list of these arrays, made once with its room reserved.
+/// The list of these arrays, made once with its room reserved. `AllocError` where memory is refused; then nothing is made.
 fn matrix_cells<T: Item>(
     alloc: Global,
     rows: &[u64],
@@ -28,7 +28,7 @@ fn matrix_cells<T: Item>(
     MatrixTuples::from_vec(cells)
 }
 
-/// The list of these arrays, made once with its room reserved.
+/// The list of these arrays, made once with its room reserved. `AllocError` where memory is refused; then nothing is made.
 fn vector_cells<T: Item>(
     alloc: Global,
     indices: &[u64],

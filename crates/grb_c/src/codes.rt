@@ -8,7 +8,7 @@ use grb_core::{BinaryOp, Domain, Monoid, Refusal, Semiring, Value};
 /// The call was answered.
 pub(crate) const SUCCESS: i32 = 0;
 
-/// Nothing is stored where a get asks.
+/// Nothing is stored at the index of a get.
 pub(crate) const NO_VALUE: i32 = 1;
 
 /// The handle has no pass.

@@ -44,7 +44,8 @@ impl TrbPass {
         self.is_open = true;
     }
 
-    /// Makes a call by the pass. Where there is none, `UninitializedObject`.
+    /// Makes a call by the pass. Where there is none, `UninitializedObject`. Else it is refused as by `Context::call`, by `OutOfMemory`
+    /// too, which changes nothing.
     pub(crate) fn call(&mut self, alloc: Global, call: Call) -> Result<Reply, Refusal>
         ensures { Made self.old.raw.session self.new.raw.session call result }
     {

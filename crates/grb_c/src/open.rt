@@ -177,8 +177,8 @@ pub extern "C" fn trb_adopt(alloc: Global, pass: &mut TrbPass, other: &mut TrbPa
     code
 }
 
-/// Evaluates what the pass knows where that is dear, so that others may adopt it, and tells how many of the calls that it knows are evaluated
-/// then.
+/// Evaluates what the pass knows where that is dear, so that others may adopt it, and tells how many of the calls that it knows are
+/// evaluated then.
 #[unsafe(no_mangle)]
 pub extern "C" fn trb_prepare(alloc: Global, pass: &mut TrbPass, out: &mut u32) -> i32
     ensures { Prepares pass.old.raw.session pass.new.raw.session result out.old out.new }

@@ -49,7 +49,7 @@ impl Session {
         }
     }
 
-    /// Makes one call.
+    /// Makes one call. It is refused as by `Context::call`, by `OutOfMemory` too, which changes nothing.
     pub fn call(&mut self, call: Call) -> Result<Reply, Refusal>
         ensures context { self.new.context ≡ self.old.context }
         ensures store { self.new.store ≡ self.old.store }
@@ -58,7 +58,7 @@ impl Session {
         self.context.call(&mut self.pass, call)
     }
 
-    /// Learns what the other knows.
+    /// Learns what the other knows. `Panic` as of `Context::meet`; it takes no memory.
     pub fn meet(&mut self, other: &mut Session) -> Result<(), Refusal>
         requires context { self.old.context ≡ other.old.context }
         ensures met { Met self.old.context self.old.pass self.new.pass other.old.pass result }
@@ -69,7 +69,8 @@ impl Session {
         self.context.meet(&mut self.pass, &mut other.pass)
     }
 
-    /// Learns what the other knows, and goes on from what it has evaluated.
+    /// Learns what the other knows, and goes on from what it has evaluated. `Panic` as of `Context::adopt`; where memory is refused, it
+    /// goes on from its own.
     pub fn adopt(&mut self, other: &mut Session) -> Result<(), Refusal>
         requires context { self.old.context ≡ other.old.context }
         ensures met { Met self.old.context self.old.pass self.new.pass other.old.pass result }

@@ -51,9 +51,9 @@ fn go_on(
     }
 }
 
-/// A new context that goes on where the pass ends, and a pass of it in each handle: its history takes `room` calls, and begins with those that
-/// make just the store that all calls leave which the pass knows. The number is that of the new store alone, among those that are open. Where
-/// the room is too small, tells how many calls are needed.
+/// A new context that goes on where the pass ends, and a pass of it in each handle: its history takes `room` calls, and begins with those
+/// that make just the store that all calls leave which the pass knows. The number is that of the new store alone, among those that are
+/// open. Where the room is too small, tells how many calls are needed.
 #[unsafe(no_mangle)]
 pub extern "C" fn trb_succeed(
     alloc: Global,

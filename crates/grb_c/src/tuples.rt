@@ -221,8 +221,8 @@ pub extern "C" fn trb_vector_tuples_uint64(
     pass.read_vector(alloc, v, indices, values, count)
 }
 
-/// Reads all entries of a matrix of truth values, as they stand at the point of the call, into three arrays: where one is too short, only their
-/// number is told.
+/// Reads all entries of a matrix of truth values, as they stand at the point of the call, into three arrays: where one is too short, only
+/// their number is told.
 #[unsafe(no_mangle)]
 pub extern "C" fn trb_matrix_tuples_bool(
     alloc: Global,
@@ -238,8 +238,8 @@ pub extern "C" fn trb_matrix_tuples_bool(
     pass.read_matrix(alloc, a, rows, columns, values, count)
 }
 
-/// Reads all entries of a vector of truth values, as they stand at the point of the call, into two arrays: where one is too short, only their
-/// number is told.
+/// Reads all entries of a vector of truth values, as they stand at the point of the call, into two arrays: where one is too short, only
+/// their number is told.
 #[unsafe(no_mangle)]
 pub extern "C" fn trb_vector_tuples_bool(
     alloc: Global,

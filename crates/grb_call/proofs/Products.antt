@@ -14,9 +14,11 @@ use Rattle.grb_core.specs.Written.{AccumulatesIn}
 use Rattle.grb_call.specs.declared.ids.MatrixId.{MatrixId}
 use Rattle.grb_call.specs.declared.ids.VectorId.{VectorId}
 use Rattle.grb_call.specs.declared.ids.Object.TheVariants as object
-use Rattle.grb_call.specs.Operands.{matrix_mask, vector_mask, accum_domains}
+use Rattle.grb_call.specs.Operands.{matrix_mask, vector_mask}
+use Rattle.grb_call.specs.Operation.{accum_domains}
 use Rattle.grb_call.specs.Shapes.{is_live, domain_at}
-use Rattle.grb_call.specs.Refused.{same_domain, is_one_domain, mxv_fits, mxm_fits, reduce_rows_fits, turned_ncols, turned_nrows, vxm_fits}
+use Rattle.grb_call.specs.Refused.{same_domain, is_one_domain, turned_ncols, turned_nrows}
+use Rattle.grb_call.specs.Fits.{mxv_fits, mxm_fits, reduce_rows_fits, vxm_fits}
 use Rattle.grb_call.specs.Store.{Store, shapes_of, matrix_at, vector_at, matrix_shape, vector_shape}
 use Rattle.grb_call.proofs.Passed.{same_domain-true}
 use Rattle.grb_call.proofs.Operations.{there, of_output, given_of, domain_is, nrows-at, ncols-at, matrix_domain-at, size-at, vector_domain-at, IsMatrixAt, IsTurnedAt, IsVectorAt, IsMatrixMask, IsVectorMask, matrix_mask-there, vector_mask-there}

@@ -1,7 +1,7 @@
 -- believed: The object that a call changes, its output, and what the call makes of it: GraphBLAS C API 2.0, the methods of "Matrix
 -- methods" and "Vector methods", and "Operations". Inputs, mask and old output are those of the store before the call, so that one
 -- object may be all of them.
-use Rattle.std.specs.Prelude.{[], Option, Some, None}
+use Rattle.std.specs.Prelude.{[], if◌then◌else◌, Option, Some, None}
 use Rattle.std.specs.Option.{option_map}
 use Rattle.std.specs.Ordering.{nat_cmp}
 use Rattle.std.specs.FinMap.{put}
@@ -17,45 +17,13 @@ use Rattle.grb_call.specs.declared.descriptor.Descriptor.{Descriptor}
 use Rattle.grb_call.specs.declared.ids.MatrixId.{MatrixId}
 use Rattle.grb_call.specs.declared.ids.VectorId.{VectorId}
 use Rattle.grb_call.specs.declared.ids.Object.{Object}
-use Rattle.grb_call.specs.declared.ids.Object.TheVariants as object
+use Rattle.grb_call.specs.Kinds.{enters}
+use Rattle.grb_call.specs.Status.{object_of}
 use Rattle.grb_call.specs.Store.{Store, matrix_entries, vector_entries}
 
 -- the object that the call changes, of those that were made before it
 abbrev pub output_of : Call → Option Object
-output_of (call.NewMatrix domain nrows ncols) = None
-output_of (call.NewVector domain size) = None
-output_of (call.FreeMatrix a) = Some (object.Matrix a)
-output_of (call.FreeVector v) = Some (object.Vector v)
-output_of (call.SetMatrix a i j value) = Some (object.Matrix a)
-output_of (call.SetVector v i value) = Some (object.Vector v)
-output_of (call.RemoveMatrix a i j) = Some (object.Matrix a)
-output_of (call.RemoveVector v i) = Some (object.Vector v)
-output_of (call.GetMatrix a i j) = None
-output_of (call.GetVector v i) = None
-output_of (call.NvalsMatrix a) = None
-output_of (call.NvalsVector v) = None
-output_of (call.SizeMatrix a) = None
-output_of (call.SizeVector v) = None
-output_of (call.ClearMatrix a) = Some (object.Matrix a)
-output_of (call.ClearVector v) = Some (object.Vector v)
-output_of (call.ResizeMatrix a nrows ncols) = Some (object.Matrix a)
-output_of (call.ResizeVector v size) = Some (object.Vector v)
-output_of (call.DupMatrix a) = None
-output_of (call.DupVector v) = None
-output_of (call.BuildMatrix a tuples dup) = Some (object.Matrix a)
-output_of (call.BuildVector v tuples dup) = Some (object.Vector v)
-output_of (call.EwiseAddMatrix c mask accum op a b d) = Some (object.Matrix c)
-output_of (call.EwiseAddVector w mask accum op u v d) = Some (object.Vector w)
-output_of (call.EwiseMultMatrix c mask accum op a b d) = Some (object.Matrix c)
-output_of (call.EwiseMultVector w mask accum op u v d) = Some (object.Vector w)
-output_of (call.Mxv w mask accum semiring a u d) = Some (object.Vector w)
-output_of (call.Vxm w mask accum semiring u a d) = Some (object.Vector w)
-output_of (call.Mxm c mask accum semiring a b d) = Some (object.Matrix c)
-output_of (call.ReduceRows w mask accum monoid a d) = Some (object.Vector w)
-output_of (call.ReduceMatrix a monoid) = None
-output_of (call.ReduceVector v monoid) = None
-output_of (call.WaitMatrix a mode) = None
-output_of (call.WaitVector v mode) = None
+output_of c = if enters c then object_of c else None
 
 -- the entries of each object, and none of one that is not there
 pub record ObjectEntries : Type 0 where

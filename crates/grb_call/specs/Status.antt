@@ -1,7 +1,7 @@
 -- believed: The status that a call leaves on its object: GraphBLAS C API 2.0, "Error model", where an object tells of the last
 -- method that was called on it. Which object that is, and that a pass keeps the statuses of its own calls, are own.
 use Rattle.std.specs.Prelude.{ℕ, ◌==◌, nat_lt, Bool, false, ◌&&◌, if◌then◌else◌, Option, Some, None, Result, Ok, Err}
-use Rattle.std.specs.Option.{option_or}
+use Rattle.std.specs.Option.{option_map, option_or}
 use Rattle.grb_core.specs.declared.refusal.Info.{Info}
 use Rattle.grb_core.specs.declared.refusal.Info.TheVariants as info
 use Rattle.grb_core.specs.declared.refusal.Refusal.{Refusal}
@@ -11,44 +11,15 @@ use Rattle.grb_call.specs.declared.ids.Object.{Object}
 use Rattle.grb_call.specs.declared.ids.Object.TheVariants as object
 use Rattle.grb_call.specs.declared.reply.Reply.{Reply}
 use Rattle.grb_call.specs.declared.reply.Reply.TheVariants as reply
+use Rattle.grb_call.specs.Operation.{operation_of}
+use Rattle.grb_call.specs.Operands.{named}
 
 -- the object that a call is about, of those that were made before it: the one that it changes, reads or has changes done of; of an
 -- operation its output. A new or a dup has none
 abbrev pub object_of : Call → Option Object
-object_of (call.NewMatrix domain nrows ncols) = None
-object_of (call.NewVector domain size) = None
-object_of (call.FreeMatrix a) = Some (object.Matrix a)
-object_of (call.FreeVector v) = Some (object.Vector v)
-object_of (call.SetMatrix a i j value) = Some (object.Matrix a)
-object_of (call.SetVector v i value) = Some (object.Vector v)
-object_of (call.RemoveMatrix a i j) = Some (object.Matrix a)
-object_of (call.RemoveVector v i) = Some (object.Vector v)
-object_of (call.GetMatrix a i j) = Some (object.Matrix a)
-object_of (call.GetVector v i) = Some (object.Vector v)
-object_of (call.NvalsMatrix a) = Some (object.Matrix a)
-object_of (call.NvalsVector v) = Some (object.Vector v)
-object_of (call.SizeMatrix a) = Some (object.Matrix a)
-object_of (call.SizeVector v) = Some (object.Vector v)
-object_of (call.ClearMatrix a) = Some (object.Matrix a)
-object_of (call.ClearVector v) = Some (object.Vector v)
-object_of (call.ResizeMatrix a nrows ncols) = Some (object.Matrix a)
-object_of (call.ResizeVector v size) = Some (object.Vector v)
 object_of (call.DupMatrix a) = None
 object_of (call.DupVector v) = None
-object_of (call.BuildMatrix a tuples dup) = Some (object.Matrix a)
-object_of (call.BuildVector v tuples dup) = Some (object.Vector v)
-object_of (call.EwiseAddMatrix c mask accum op a b d) = Some (object.Matrix c)
-object_of (call.EwiseAddVector w mask accum op u v d) = Some (object.Vector w)
-object_of (call.EwiseMultMatrix c mask accum op a b d) = Some (object.Matrix c)
-object_of (call.EwiseMultVector w mask accum op u v d) = Some (object.Vector w)
-object_of (call.Mxv w mask accum semiring a u d) = Some (object.Vector w)
-object_of (call.Vxm w mask accum semiring u a d) = Some (object.Vector w)
-object_of (call.Mxm c mask accum semiring a b d) = Some (object.Matrix c)
-object_of (call.ReduceRows w mask accum monoid a d) = Some (object.Vector w)
-object_of (call.ReduceMatrix a monoid) = Some (object.Matrix a)
-object_of (call.ReduceVector v monoid) = Some (object.Vector v)
-object_of (call.WaitMatrix a mode) = Some (object.Matrix a)
-object_of (call.WaitVector v mode) = Some (object.Vector v)
+object_of c = option_or (option_map (λ o. o.output) (operation_of c)) (named c)
 
 -- the object that an answer says was made
 abbrev pub made_by : Result Reply Refusal → Option Object

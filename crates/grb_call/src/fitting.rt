@@ -1,36 +1,58 @@
 //! Whether the operands of an operation fit together: that its mask is there, one domain, and dimensions.
-ghost use Rattle.std.specs.Prelude.{◌≡◌, ◌∷◌};
+ghost use Rattle.std.specs.Prelude.{◌≡◌, ◌∷◌, ◌++◌, Some};
 ghost use Rattle.std.specs.List.{list_all};
-ghost use Rattle.grb_core.specs.Operator.{op_domain};
-ghost use Rattle.grb_core.specs.Monoid.{monoid_domain};
-ghost use Rattle.grb_call.specs.Operands.{matrix_mask, vector_mask, accum_domains};
-ghost use Rattle.grb_call.specs.Refused.{same_domain, are_of_domain, is_one_domain, same_dims, same_size, matrix_mask_fits, vector_mask_fits, ewise_matrices_fit, ewise_vectors_fit, mxv_fits, mxm_fits, reduce_rows_fits, has_fitting_dims, turned_dims, turned_ncols, turned_nrows, vxm_fits};
+ghost use Rattle.grb_call.specs.Operation.{if_any, operation_objects, kind_domains, accum_domains, operation_domains};
+ghost use Rattle.grb_call.specs.Refused.{same_domain, are_of_domain, is_one_domain, same_dims, same_size, same_shape, mask_fits, ewise_fits, product_fits, rows_fit, operation_fits, turned_dims, turned_ncols, turned_nrows};
 ghost use Rattle.grb_call.specs.Shapes.{is_live};
 
-use crate::call::Call;
 use crate::ids::{MatrixId, Object, VectorId};
+use crate::operation::{Operation, OperationKind};
 use crate::shapes::Shapes;
-use grb_core::{BinaryOp, Domain, Semiring};
+use grb_core::{BinaryOp, Domain};
 
-/// Whether the mask, if there is one, was made, and not freed.
-pub(crate) fn is_matrix_mask_live(shapes: &Shapes, mask: Option<MatrixId>) -> bool
-    ensures { result ≡ list_all (is_live shapes.now.objects) (matrix_mask mask) }
+/// Whether the object, if there is one, was made, and not freed.
+fn is_live_if_any(shapes: &Shapes, object: Option<Object>) -> bool
+    ensures { result ≡ list_all (is_live shapes.now.objects) (if_any object) }
 {
-    mask.map_or(true, |m| shapes.is_live(Object::Matrix(m)))
+    object.map_or(true, |o| shapes.is_live(o))
 }
 
-/// Whether the mask, if there is one, was made, and not freed.
-pub(crate) fn is_vector_mask_live(shapes: &Shapes, mask: Option<VectorId>) -> bool
-    ensures { result ≡ list_all (is_live shapes.now.objects) (vector_mask mask) }
+/// Whether output, inputs and mask of an operation were made, and not freed.
+pub(crate) fn is_operation_live(shapes: &Shapes, operation: &Operation) -> bool
+    ensures { result ≡ list_all (is_live shapes.now.objects) (operation_objects operation.now ++ if_any operation.now.mask) }
 {
-    mask.map_or(true, |m| shapes.is_live(Object::Vector(m)))
+    shapes.is_live(operation.output)
+        & shapes.is_live(operation.first)
+        & is_live_if_any(shapes, operation.second)
+        & is_live_if_any(shapes, operation.mask)
 }
 
-/// Whether each of these objects that is there is of the domain.
-fn are_of_domain(shapes: &Shapes, domain: Domain, objects: &[Object]) -> bool
-    ensures { result ≡ are_of_domain shapes.now.objects domain objects.now }
+/// Whether the object, if it is there, is of the domain.
+fn is_object_of(shapes: &Shapes, domain: Domain, object: Object) -> bool
+    ensures { result ≡ are_of_domain shapes.now.objects domain (if_any (Some object)) }
 {
-    objects.iter().all(|object| shapes.domain(*object).map_or(true, |d| domain == d))
+    shapes.domain(object).map_or(true, |d| domain == d)
+}
+
+/// Whether the inputs that are there are of the domain.
+fn are_inputs_of(shapes: &Shapes, domain: Domain, first: Object, second: Option<Object>) -> bool
+    ensures { result ≡ are_of_domain shapes.now.objects domain (first ∷ if_any second) }
+{
+    is_object_of(shapes, domain, first)
+        & second.map_or(true, |object| is_object_of(shapes, domain, object))
+}
+
+/// Whether what an operation computes with is of the domain; of a semiring both its parts.
+fn computes_in(domain: Domain, kind: OperationKind) -> bool
+    ensures { result ≡ list_all (same_domain domain) (kind_domains kind) }
+{
+    match kind {
+        OperationKind::EwiseAdd(op) | OperationKind::EwiseMult(op) => domain == op.domain(),
+        OperationKind::Product(semiring) => {
+            (domain == semiring.monoid().domain()) & (domain == semiring.op().domain())
+        }
+        OperationKind::Rows(monoid) => domain == monoid.domain(),
+    }
 }
 
 /// Whether the accumulator, if there is one, is of the domain.
@@ -41,46 +63,20 @@ fn accumulates_in(domain: Domain, accum: Option<BinaryOp>) -> bool
 }
 
 /// Whether the inputs of an operation, what it computes with and its accumulator have the domain of the output.
-pub(crate) fn is_operation_of_one_domain(
-    shapes: &Shapes,
-    output: Object,
-    inputs: &[Object],
-    given: Domain,
-    accum: Option<BinaryOp>,
-) -> bool
-    ensures { result ≡ is_one_domain shapes.now.objects (output ∷ inputs.now) (given ∷ accum_domains accum) }
+pub(crate) fn is_operation_of_one_domain(shapes: &Shapes, operation: &Operation) -> bool
+    ensures { result ≡ is_one_domain shapes.now.objects (operation_objects operation.now) (operation_domains operation.now) }
 {
-    match shapes.domain(output) {
+    match shapes.domain(operation.output) {
         Some(domain) => {
-            are_of_domain(shapes, domain, inputs)
-                & (domain == given)
-                & accumulates_in(domain, accum)
+            are_inputs_of(shapes, domain, operation.first, operation.second)
+                & computes_in(domain, operation.kind)
+                & accumulates_in(domain, operation.accum)
         }
         None => true,
     }
 }
 
-/// Whether the inputs of a product, its semiring and its accumulator have the domain of the output.
-pub(crate) fn is_product_of_one_domain(
-    shapes: &Shapes,
-    output: Object,
-    inputs: &[Object],
-    semiring: Semiring,
-    accum: Option<BinaryOp>,
-) -> bool
-    ensures { result ≡ is_one_domain shapes.now.objects (output ∷ inputs.now) (monoid_domain semiring.monoid ∷ op_domain semiring.op ∷ accum_domains accum) }
-{
-    match shapes.domain(output) {
-        Some(domain) => {
-            are_of_domain(shapes, domain, inputs)
-                & (domain == semiring.monoid().domain())
-                & (domain == semiring.op().domain())
-                & accumulates_in(domain, accum)
-        }
-        None => true,
-    }
-}
-
+/// Whether two matrices have the same dimensions.
 fn same_dims(shapes: &Shapes, a: MatrixId, b: MatrixId) -> bool
     ensures { result ≡ same_dims shapes.now.objects a b }
 {
@@ -109,6 +105,7 @@ fn turned_ncols(shapes: &Shapes, tran: bool, a: MatrixId) -> u64
     }
 }
 
+/// Whether the first matrix, transposed where `tran` says so, has the dimensions of the other.
 fn turned_dims(shapes: &Shapes, tran: bool, a: MatrixId, c: MatrixId) -> bool
     ensures { result ≡ turned_dims shapes.now.objects tran a c }
 {
@@ -116,145 +113,101 @@ fn turned_dims(shapes: &Shapes, tran: bool, a: MatrixId, c: MatrixId) -> bool
         & (turned_ncols(shapes, tran, a) == shapes.ncols(c))
 }
 
+/// Whether two vectors have the same size.
 fn same_size(shapes: &Shapes, u: VectorId, v: VectorId) -> bool
     ensures { result ≡ same_size shapes.now.objects u v }
 {
     shapes.size(u) == shapes.size(v)
 }
 
+/// Whether two objects are of one sort, and of the same dimensions.
+fn same_shape(shapes: &Shapes, first: Object, second: Object) -> bool
+    ensures { result ≡ same_shape shapes.now.objects first second }
+{
+    match (first, second) {
+        (Object::Matrix(a), Object::Matrix(b)) => same_dims(shapes, a, b),
+        (Object::Vector(u), Object::Vector(v)) => same_size(shapes, u, v),
+        (Object::Matrix(_), Object::Vector(_)) | (Object::Vector(_), Object::Matrix(_)) => false,
+    }
+}
+
 /// Whether the mask, if there is one, has the dimensions of the output.
-fn matrix_mask_fits(shapes: &Shapes, mask: Option<MatrixId>, c: MatrixId) -> bool
-    ensures { result ≡ matrix_mask_fits shapes.now.objects mask c }
+fn mask_fits(shapes: &Shapes, mask: Option<Object>, output: Object) -> bool
+    ensures { result ≡ mask_fits shapes.now.objects mask output }
 {
-    mask.map_or(true, |m| same_dims(shapes, m, c))
+    mask.map_or(true, |m| same_shape(shapes, m, output))
 }
 
-/// Whether the mask, if there is one, has the size of the output.
-fn vector_mask_fits(shapes: &Shapes, mask: Option<VectorId>, w: VectorId) -> bool
-    ensures { result ≡ vector_mask_fits shapes.now.objects mask w }
+/// Whether the inputs of an element-wise operation, the first transposed where the descriptor says so, and its mask have the dimensions of
+/// the output.
+fn ewise_fits(shapes: &Shapes, operation: &Operation) -> bool
+    ensures { result ≡ ewise_fits shapes.now.objects operation.now.d.tran operation.now.mask operation.now.output operation.now.first operation.now.second }
 {
-    mask.map_or(true, |m| same_size(shapes, m, w))
+    let mask = operation.mask;
+    match (operation.output, operation.first, operation.second) {
+        (Object::Matrix(c), Object::Matrix(a), Some(Object::Matrix(b))) => {
+            turned_dims(shapes, operation.d.tran, a, c)
+                & same_dims(shapes, b, c)
+                & mask_fits(shapes, mask, Object::Matrix(c))
+        }
+        (Object::Vector(w), Object::Vector(u), Some(Object::Vector(v))) => {
+            same_size(shapes, u, w)
+                & same_size(shapes, v, w)
+                & mask_fits(shapes, mask, Object::Vector(w))
+        }
+        _ => false,
+    }
 }
 
-fn ewise_matrices_fit(
-    shapes: &Shapes,
-    tran: bool,
-    c: MatrixId,
-    mask: Option<MatrixId>,
-    a: MatrixId,
-    b: MatrixId,
-) -> bool
-    ensures { result ≡ ewise_matrices_fit shapes.now.objects tran c mask a b }
+/// Whether the dimensions of a product's inputs, the first transposed where the descriptor says so, and of its mask fit together with those
+/// of the output.
+fn product_fits(shapes: &Shapes, operation: &Operation) -> bool
+    ensures { result ≡ product_fits shapes.now.objects operation.now.d.tran operation.now.mask operation.now.output operation.now.first operation.now.second }
 {
-    turned_dims(shapes, tran, a, c) & same_dims(shapes, b, c) & matrix_mask_fits(shapes, mask, c)
+    let tran = operation.d.tran;
+    let mask = operation.mask;
+    match (operation.output, operation.first, operation.second) {
+        (Object::Matrix(c), Object::Matrix(a), Some(Object::Matrix(b))) => {
+            (turned_nrows(shapes, tran, a) == shapes.nrows(c))
+                & (shapes.ncols(b) == shapes.ncols(c))
+                & (turned_ncols(shapes, tran, a) == shapes.nrows(b))
+                & mask_fits(shapes, mask, Object::Matrix(c))
+        }
+        (Object::Vector(w), Object::Matrix(a), Some(Object::Vector(u))) => {
+            (turned_nrows(shapes, tran, a) == shapes.size(w))
+                & (turned_ncols(shapes, tran, a) == shapes.size(u))
+                & mask_fits(shapes, mask, Object::Vector(w))
+        }
+        (Object::Vector(w), Object::Vector(u), Some(Object::Matrix(a))) => {
+            (shapes.ncols(a) == shapes.size(w))
+                & (shapes.nrows(a) == shapes.size(u))
+                & mask_fits(shapes, mask, Object::Vector(w))
+        }
+        _ => false,
+    }
 }
 
-fn ewise_vectors_fit(
-    shapes: &Shapes,
-    w: VectorId,
-    mask: Option<VectorId>,
-    u: VectorId,
-    v: VectorId,
-) -> bool
-    ensures { result ≡ ewise_vectors_fit shapes.now.objects w mask u v }
+/// Whether a reduction's matrix, transposed where the descriptor says so, has a row for each place of the output, and the mask the output's
+/// size.
+fn rows_fit(shapes: &Shapes, operation: &Operation) -> bool
+    ensures { result ≡ rows_fit shapes.now.objects operation.now.d.tran operation.now.mask operation.now.output operation.now.first operation.now.second }
 {
-    same_size(shapes, u, w) & same_size(shapes, v, w) & vector_mask_fits(shapes, mask, w)
-}
-
-fn mxv_fits(
-    shapes: &Shapes,
-    tran: bool,
-    w: VectorId,
-    mask: Option<VectorId>,
-    a: MatrixId,
-    u: VectorId,
-) -> bool
-    ensures { result ≡ mxv_fits shapes.now.objects tran w mask a u }
-{
-    (turned_nrows(shapes, tran, a) == shapes.size(w))
-        & (turned_ncols(shapes, tran, a) == shapes.size(u))
-        & vector_mask_fits(shapes, mask, w)
-}
-
-fn vxm_fits(shapes: &Shapes, w: VectorId, mask: Option<VectorId>, u: VectorId, a: MatrixId) -> bool
-    ensures { result ≡ vxm_fits shapes.now.objects w mask u a }
-{
-    (shapes.ncols(a) == shapes.size(w))
-        & (shapes.nrows(a) == shapes.size(u))
-        & vector_mask_fits(shapes, mask, w)
-}
-
-fn mxm_fits(
-    shapes: &Shapes,
-    tran: bool,
-    c: MatrixId,
-    mask: Option<MatrixId>,
-    a: MatrixId,
-    b: MatrixId,
-) -> bool
-    ensures { result ≡ mxm_fits shapes.now.objects tran c mask a b }
-{
-    (turned_nrows(shapes, tran, a) == shapes.nrows(c))
-        & (shapes.ncols(b) == shapes.ncols(c))
-        & (turned_ncols(shapes, tran, a) == shapes.nrows(b))
-        & matrix_mask_fits(shapes, mask, c)
-}
-
-fn reduce_rows_fits(
-    shapes: &Shapes,
-    tran: bool,
-    w: VectorId,
-    mask: Option<VectorId>,
-    a: MatrixId,
-) -> bool
-    ensures { result ≡ reduce_rows_fits shapes.now.objects tran w mask a }
-{
-    (turned_nrows(shapes, tran, a) == shapes.size(w)) & vector_mask_fits(shapes, mask, w)
+    match (operation.output, operation.first, operation.second) {
+        (Object::Vector(w), Object::Matrix(a), None) => {
+            (turned_nrows(shapes, operation.d.tran, a) == shapes.size(w))
+                & mask_fits(shapes, operation.mask, Object::Vector(w))
+        }
+        _ => false,
+    }
 }
 
 /// Whether the dimensions of output, inputs and mask fit together.
-pub(crate) fn has_fitting_dims(shapes: &Shapes, call: &Call) -> bool
-    ensures { result ≡ has_fitting_dims shapes.now.objects call.now }
+pub(crate) fn operation_fits(shapes: &Shapes, operation: &Operation) -> bool
+    ensures { result ≡ operation_fits shapes.now.objects operation.now }
 {
-    match call {
-        Call::EwiseAddMatrix {
-            c,
-            mask,
-            a,
-            b,
-            d,
-            ..
-        }
-        | Call::EwiseMultMatrix {
-            c,
-            mask,
-            a,
-            b,
-            d,
-            ..
-        } => { ewise_matrices_fit(shapes, d.tran, *c, *mask, *a, *b) }
-        Call::EwiseAddVector { w, mask, u, v, .. } | Call::EwiseMultVector { w, mask, u, v, .. } =>
-            { ewise_vectors_fit(shapes, *w, *mask, *u, *v) }
-        Call::Mxv {
-            w,
-            mask,
-            a,
-            u,
-            d,
-            ..
-        } => mxv_fits(shapes, d.tran, *w, *mask, *a, *u),
-        Call::Vxm { w, mask, u, a, .. } => vxm_fits(shapes, *w, *mask, *u, *a),
-        Call::Mxm {
-            c,
-            mask,
-            a,
-            b,
-            d,
-            ..
-        } => mxm_fits(shapes, d.tran, *c, *mask, *a, *b),
-        Call::ReduceRows { w, mask, a, d, .. } => {
-            reduce_rows_fits(shapes, d.tran, *w, *mask, *a)
-        }
-        _ => true,
+    match operation.kind {
+        OperationKind::EwiseAdd(_) | OperationKind::EwiseMult(_) => ewise_fits(shapes, operation),
+        OperationKind::Product(_) => product_fits(shapes, operation),
+        OperationKind::Rows(_) => rows_fit(shapes, operation),
     }
 }

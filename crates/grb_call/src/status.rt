@@ -1,32 +1,84 @@
-//! The object whose status a call leaves, and the status that an answer is.
+//! The object that a call is about and whose status it leaves, and the status that an answer is.
 ghost use Rattle.std.specs.Prelude.{◌≡◌};
 ghost use Rattle.std.specs.Option.{option_or};
+ghost use Rattle.grb_call.specs.Operands.{named};
+ghost use Rattle.grb_call.specs.Output.{output_of};
 ghost use Rattle.grb_call.specs.Status.{info_of, made_by, object_of};
 
 use crate::call::Call;
+use crate::class::Class;
 use crate::ids::Object;
 use crate::reply::Reply;
 use grb_core::{Info, Refusal};
 
 impl Call {
+    /// The object that a method on one object names; none of a new object, which was not made before, and of an operation. Takes no
+    /// memory.
+    pub fn named(&self) -> Option<Object>
+        ensures { result ≡ named self.now }
+    {
+        match self {
+            Call::FreeMatrix { a }
+            | Call::SetMatrix { a, .. }
+            | Call::RemoveMatrix { a, .. }
+            | Call::GetMatrix { a, .. }
+            | Call::NvalsMatrix { a }
+            | Call::SizeMatrix { a }
+            | Call::ClearMatrix { a }
+            | Call::ResizeMatrix { a, .. }
+            | Call::DupMatrix { a }
+            | Call::BuildMatrix { a, .. }
+            | Call::ReduceMatrix { a, .. }
+            | Call::WaitMatrix { a, .. } => Some(Object::Matrix(*a)),
+            Call::FreeVector { v }
+            | Call::SetVector { v, .. }
+            | Call::RemoveVector { v, .. }
+            | Call::GetVector { v, .. }
+            | Call::NvalsVector { v }
+            | Call::SizeVector { v }
+            | Call::ClearVector { v }
+            | Call::ResizeVector { v, .. }
+            | Call::DupVector { v }
+            | Call::BuildVector { v, .. }
+            | Call::ReduceVector { v, .. }
+            | Call::WaitVector { v, .. } => Some(Object::Vector(*v)),
+            Call::NewMatrix { .. }
+            | Call::NewVector { .. }
+            | Call::EwiseAddMatrix { .. }
+            | Call::EwiseAddVector { .. }
+            | Call::EwiseMultMatrix { .. }
+            | Call::EwiseMultVector { .. }
+            | Call::Mxv { .. }
+            | Call::Vxm { .. }
+            | Call::Mxm { .. }
+            | Call::ReduceRows { .. } => None,
+        }
+    }
+
     /// The object that the call is about, of those that were made before it: the one that it changes, reads or has changes done of; of
     /// an operation its output. None for a call that makes an object. Takes no memory.
     pub fn object(&self) -> Option<Object>
         ensures { result ≡ object_of self.now }
     {
-        match self {
-            Call::GetMatrix { a, .. }
-            | Call::NvalsMatrix { a }
-            | Call::SizeMatrix { a }
-            | Call::ReduceMatrix { a, .. }
-            | Call::WaitMatrix { a, .. } => Some(Object::Matrix(*a)),
-            Call::GetVector { v, .. }
-            | Call::NvalsVector { v }
-            | Call::SizeVector { v }
-            | Call::ReduceVector { v, .. }
-            | Call::WaitVector { v, .. } => Some(Object::Vector(*v)),
-            _ => self.output(),
+        match self.class() {
+            Class::Makes => None,
+            Class::Operates => match self.operation() {
+                Some(operation) => Some(operation.output),
+                None => None,
+            },
+            Class::Edits | Class::Reads(_) | Class::AsksDimensions => self.named(),
         }
+    }
+
+    /// The object that the call changes, of those that were made before it; none for a call that makes an object or only reads.
+    /// Takes no memory.
+    pub fn output(&self) -> Option<Object>
+        ensures { result ≡ output_of self.now }
+    {
+        if !self.enters() {
+            return None;
+        }
+        self.object()
     }
 }
 

@@ -26,7 +26,7 @@ impl Model for Statuses {
     ghost invariant = { λ s. AreRows s.matrices.items s.vectors.items (length s.matrices.items) };
 }
 
-// Puts the status at its place in a row, if it has one.
+/// Puts the status at its place in a row, if it has one.
 fn put(row: &mut Vec<Option<Info>>, at: u32, status: Info)
     ensures { row.new.items ≡ slice_set row.old.items at (Some status) }
 {
@@ -36,7 +36,7 @@ fn put(row: &mut Vec<Option<Info>>, at: u32, status: Info)
 }
 
 impl Statuses {
-    /// No object has a status. `AllocError` where memory is refused.
+    /// No object has a status. `AllocError` where memory is refused; then nothing is made.
     pub fn open(alloc: Global, room: u32) -> Result<Statuses, AllocError>
         ensures { IfOk result (λ statuses. statuses ≡ record { rows = no_rows room; room = room }) }
     {

@@ -31,9 +31,9 @@ impl Model for Context {
 
 impl Context {
     /// A context whose history takes `room` calls, from 1 to `MOST_ROOM`, and its passes, from 1 to `MOST_PASSES`, which know no call and
-    /// have no status: the one at index k has the number k. `room` times `passes` is at most `MOST_SEATS`. After this memory is taken for the
-    /// records of entered calls, for the evaluation of reads and builds, by reads and waits for what they leave to other passes, by `adopt`
-    /// and `prepare`, and by `run` for its answers. `AllocError` where memory is refused.
+    /// have no status: the one at index k has the number k. `room` times `passes` is at most `MOST_SEATS`. After this memory is taken for
+    /// the records of entered calls, for the evaluation of reads and builds, by reads and waits for what they leave to other passes, by
+    /// `adopt` and `prepare`, and by `run` for its answers. `AllocError` where memory is refused; then nothing is made.
     pub fn open(alloc: Global, room: u32, passes: u32) -> Result<(Context, Vec<Pass>), AllocError>
         requires room { (0 < room) × (room ≤ MOST_ROOM) }
         requires passes { (0 < passes) × (passes ≤ MOST_PASSES) }
@@ -48,11 +48,12 @@ impl Context {
         Ok((Context { shared, alloc }, opened))
     }
 
-    /// Makes one call, by whichever thread has the pass, and does not wait. A refusal says why the call was not made: by shapes (the
-    /// lowest of those that apply, at the end of the history), by a build's object, `OrderFull` where the history has no room for a call
-    /// that would be entered, `OutOfMemory` where the record of an entered call, the evaluation of a read or of a build's object, or what
-    /// a wait for all objects keeps for other passes is refused memory, and `Panic` where a record could not be put, or the record of an earlier call is not shown yet; the next call
-    /// asks for it again. The answer is kept as the status of the call's object, as [`Pass::last_info`] says.
+    /// Makes one call, by whichever thread has the pass, and does not wait. A refusal says why the call was not made: by shapes (the lowest
+    /// of those that apply, at the end of the history), by a build's object, `OrderFull` where the history has no room for a call that
+    /// would be entered, `OutOfMemory` where the record of an entered call, the evaluation of a read or of a build's object, or what a wait
+    /// for all objects keeps for other passes is refused memory, and `Panic` where a record could not be put, or the record of an earlier
+    /// call is not shown yet; the next call asks for it again. The answer is kept as the status of the call's object, as
+    /// [`Pass::last_info`] says.
     ///
     /// Source: GraphBLAS C API 2.0, "Execution modes"; Herlihy, "Wait-free synchronization", 1991.
     #[inline(always)]
@@ -68,9 +69,9 @@ impl Context {
         }
     }
 
-    /// Lets the pass learn all that the other knows: one atomic load of each word that it had not learnt, and three of the first word, which
-    /// are not counted. `Panic` where a record is not shown; the words stay learnt, and the next call or meeting asks for it again. Nothing
-    /// that the other pass knows changes, whatever is answered. Takes no memory and does not wait.
+    /// Lets the pass learn all that the other knows: one atomic load of each word that it had not learnt, and three of the first word,
+    /// which are not counted. `Panic` where a record is not shown; the words stay learnt, and the next call or meeting asks for it again.
+    /// Nothing that the other pass knows changes, whatever is answered. Takes no memory and does not wait.
     pub fn meet(&self, pass: &mut Pass, other: &mut Pass) -> Result<(), Refusal>
         requires pass { IsPassOf self.now pass.old }
         requires other { IsPassOf self.now other.old }

@@ -8,7 +8,8 @@ use grb_core::{Domain, Monoid, Refusal, Value};
 use grb_pass::Pass;
 
 impl Context {
-    /// Makes a matrix with no entries; `nrows` and `ncols` are from 1 to 4,294,967,295. Otherwise `InvalidValue`. (`GrB_Matrix_new`.)
+    /// Makes a matrix with no entries; `nrows` and `ncols` are from 1 to 4,294,967,295. Otherwise `InvalidValue`. `OutOfMemory` where
+    /// memory for its record is refused; then it is not entered. (`GrB_Matrix_new`.)
     pub fn new_matrix(
         &self,
         pass: &mut Pass,
@@ -30,7 +31,8 @@ impl Context {
         )
     }
 
-    /// Makes a vector with no entries; `size` is from 1 to 4,294,967,295. Otherwise `InvalidValue`. (`GrB_Vector_new`.)
+    /// Makes a vector with no entries; `size` is from 1 to 4,294,967,295. Otherwise `InvalidValue`. `OutOfMemory` where memory for its
+    /// record is refused; then it is not entered. (`GrB_Vector_new`.)
     pub fn new_vector(&self, pass: &mut Pass, domain: Domain, size: u64) -> Result<Reply, Refusal>
         requires pass { IsPassOf self.now pass.old }
         ensures pass { IsPassOf self.now pass.new }
@@ -39,7 +41,8 @@ impl Context {
         self.call(pass, Call::NewVector { domain, size })
     }
 
-    /// Ends the matrix; its number is not used again. `UninitializedObject` where there is no such matrix. (`GrB_free`.)
+    /// Ends the matrix; its number is not used again. `UninitializedObject` where there is no such matrix. `OutOfMemory` where memory for
+    /// its record is refused; then it is not entered. (`GrB_free`.)
     pub fn free_matrix(&self, pass: &mut Pass, a: MatrixId) -> Result<Reply, Refusal>
         requires pass { IsPassOf self.now pass.old }
         ensures pass { IsPassOf self.now pass.new }
@@ -48,7 +51,8 @@ impl Context {
         self.call(pass, Call::FreeMatrix { a })
     }
 
-    /// Ends the vector; its number is not used again. `UninitializedObject` where there is no such vector. (`GrB_free`.)
+    /// Ends the vector; its number is not used again. `UninitializedObject` where there is no such vector. `OutOfMemory` where memory for
+    /// its record is refused; then it is not entered. (`GrB_free`.)
     pub fn free_vector(&self, pass: &mut Pass, v: VectorId) -> Result<Reply, Refusal>
         requires pass { IsPassOf self.now pass.old }
         ensures pass { IsPassOf self.now pass.new }
@@ -57,8 +61,9 @@ impl Context {
         self.call(pass, Call::FreeVector { v })
     }
 
-    /// Stores `value` in row `i`, column `j`, in place of what was stored there. `UninitializedObject`, `InvalidIndex` or `DomainMismatch` where
-    /// there is no such matrix, it has no such row or column, or another domain. (`GrB_Matrix_setElement`.)
+    /// Stores `value` in row `i`, column `j`, in place of what was stored there. `UninitializedObject`, `InvalidIndex` or `DomainMismatch`
+    /// where there is no such matrix, it has no such row or column, or another domain. `OutOfMemory` where memory for its record is
+    /// refused; then it is not entered. (`GrB_Matrix_setElement`.)
     pub fn set_matrix(
         &self,
         pass: &mut Pass,
@@ -74,8 +79,9 @@ impl Context {
         self.call(pass, Call::SetMatrix { a, i, j, value })
     }
 
-    /// Stores `value` at `i`, in place of what was stored there. `UninitializedObject`, `InvalidIndex` or `DomainMismatch` where there
-    /// is no such vector, it has no such index or another domain. (`GrB_Vector_setElement`.)
+    /// Stores `value` at `i`, in place of what was stored there. `UninitializedObject`, `InvalidIndex` or `DomainMismatch` where there is
+    /// no such vector, it has no such index or another domain. `OutOfMemory` where memory for its record is refused; then it is not
+    /// entered. (`GrB_Vector_setElement`.)
     pub fn set_vector(
         &self,
         pass: &mut Pass,
@@ -91,7 +97,8 @@ impl Context {
     }
 
     /// Removes the entry in row `i`, column `j`, if there is one. `UninitializedObject` or `InvalidIndex` where there is no such matrix or
-    /// it has no such row or column. (`GrB_Matrix_removeElement`.)
+    /// it has no such row or column. `OutOfMemory` where memory for its record is refused; then it is not entered.
+    /// (`GrB_Matrix_removeElement`.)
     pub fn remove_matrix(
         &self,
         pass: &mut Pass,
@@ -107,7 +114,7 @@ impl Context {
     }
 
     /// Removes the entry at `i`, if there is one. `UninitializedObject` or `InvalidIndex` where there is no such vector or it has no such
-    /// index. (`GrB_Vector_removeElement`.)
+    /// index. `OutOfMemory` where memory for its record is refused; then it is not entered. (`GrB_Vector_removeElement`.)
     pub fn remove_vector(&self, pass: &mut Pass, v: VectorId, i: u64) -> Result<Reply, Refusal>
         requires pass { IsPassOf self.now pass.old }
         ensures pass { IsPassOf self.now pass.new }
@@ -117,7 +124,8 @@ impl Context {
     }
 
     /// The value stored in row `i`, column `j`. `UninitializedObject` or `InvalidIndex` where there is no such matrix or it has no such row
-    /// or column. Does not wait. (`GrB_Matrix_extractElement`.)
+    /// or column. `OutOfMemory` where memory to evaluate calls is refused; then no entry changes. Does not wait.
+    /// (`GrB_Matrix_extractElement`.)
     pub fn get_matrix(&self, pass: &mut Pass, a: MatrixId, i: u64, j: u64) -> Result<Reply, Refusal>
         requires pass { IsPassOf self.now pass.old }
         ensures pass { IsPassOf self.now pass.new }
@@ -126,8 +134,8 @@ impl Context {
         self.shared.read(pass, &Call::GetMatrix { a, i, j })
     }
 
-    /// The value stored at `i`. `UninitializedObject` or `InvalidIndex` where there is no such vector or it has no such index. Does not
-    /// wait. (`GrB_Vector_extractElement`.)
+    /// The value stored at `i`. `UninitializedObject` or `InvalidIndex` where there is no such vector or it has no such index.
+    /// `OutOfMemory` where memory to evaluate calls is refused; then no entry changes. Does not wait. (`GrB_Vector_extractElement`.)
     pub fn get_vector(&self, pass: &mut Pass, v: VectorId, i: u64) -> Result<Reply, Refusal>
         requires pass { IsPassOf self.now pass.old }
         ensures pass { IsPassOf self.now pass.new }
@@ -136,7 +144,8 @@ impl Context {
         self.shared.read(pass, &Call::GetVector { v, i })
     }
 
-    /// The number of stored entries. `UninitializedObject` where there is no such matrix. Does not wait. (`GrB_Matrix_nvals`.)
+    /// The number of stored entries. `UninitializedObject` where there is no such matrix. `OutOfMemory` where memory to evaluate calls is
+    /// refused; then no entry changes. Does not wait. (`GrB_Matrix_nvals`.)
     pub fn nvals_matrix(&self, pass: &mut Pass, a: MatrixId) -> Result<Reply, Refusal>
         requires pass { IsPassOf self.now pass.old }
         ensures pass { IsPassOf self.now pass.new }
@@ -145,7 +154,8 @@ impl Context {
         self.shared.read(pass, &Call::NvalsMatrix { a })
     }
 
-    /// The number of stored entries. `UninitializedObject` where there is no such vector. Does not wait. (`GrB_Vector_nvals`.)
+    /// The number of stored entries. `UninitializedObject` where there is no such vector. `OutOfMemory` where memory to evaluate calls is
+    /// refused; then no entry changes. Does not wait. (`GrB_Vector_nvals`.)
     pub fn nvals_vector(&self, pass: &mut Pass, v: VectorId) -> Result<Reply, Refusal>
         requires pass { IsPassOf self.now pass.old }
         ensures pass { IsPassOf self.now pass.new }
@@ -173,7 +183,8 @@ impl Context {
         self.shared.read(pass, &Call::SizeVector { v })
     }
 
-    /// Removes all entries; the dimensions stay. `UninitializedObject` where there is no such matrix. (`GrB_Matrix_clear`.)
+    /// Removes all entries; the dimensions stay. `UninitializedObject` where there is no such matrix. `OutOfMemory` where memory for its
+    /// record is refused; then it is not entered. (`GrB_Matrix_clear`.)
     pub fn clear_matrix(&self, pass: &mut Pass, a: MatrixId) -> Result<Reply, Refusal>
         requires pass { IsPassOf self.now pass.old }
         ensures pass { IsPassOf self.now pass.new }
@@ -182,7 +193,8 @@ impl Context {
         self.call(pass, Call::ClearMatrix { a })
     }
 
-    /// Removes all entries; the size stays. `UninitializedObject` where there is no such vector. (`GrB_Vector_clear`.)
+    /// Removes all entries; the size stays. `UninitializedObject` where there is no such vector. `OutOfMemory` where memory for its record
+    /// is refused; then it is not entered. (`GrB_Vector_clear`.)
     pub fn clear_vector(&self, pass: &mut Pass, v: VectorId) -> Result<Reply, Refusal>
         requires pass { IsPassOf self.now pass.old }
         ensures pass { IsPassOf self.now pass.new }
@@ -192,7 +204,8 @@ impl Context {
     }
 
     /// Gives new dimensions, each from 1 to 4,294,967,295; entries outside them are gone for good. `UninitializedObject` or `InvalidValue`
-    /// where there is no such matrix or a dimension is out of its range. (`GrB_Matrix_resize`.)
+    /// where there is no such matrix or a dimension is out of its range. `OutOfMemory` where memory for its record is refused; then it is
+    /// not entered. (`GrB_Matrix_resize`.)
     pub fn resize_matrix(
         &self,
         pass: &mut Pass,
@@ -208,7 +221,8 @@ impl Context {
     }
 
     /// Gives a new size, from 1 to 4,294,967,295; entries outside it are gone for good. `UninitializedObject` or `InvalidValue` where there
-    /// is no such vector or the size is out of its range. (`GrB_Vector_resize`.)
+    /// is no such vector or the size is out of its range. `OutOfMemory` where memory for its record is refused; then it is not entered.
+    /// (`GrB_Vector_resize`.)
     pub fn resize_vector(&self, pass: &mut Pass, v: VectorId, size: u64) -> Result<Reply, Refusal>
         requires pass { IsPassOf self.now pass.old }
         ensures pass { IsPassOf self.now pass.new }
@@ -217,7 +231,8 @@ impl Context {
         self.call(pass, Call::ResizeVector { v, size })
     }
 
-    /// Makes a matrix of the same domain, dimensions and entries. `UninitializedObject` where there is no such matrix. (`GrB_Matrix_dup`.)
+    /// Makes a matrix of the same domain, dimensions and entries. `UninitializedObject` where there is no such matrix. `OutOfMemory` where
+    /// memory for its record is refused; then it is not entered. (`GrB_Matrix_dup`.)
     pub fn dup_matrix(&self, pass: &mut Pass, a: MatrixId) -> Result<Reply, Refusal>
         requires pass { IsPassOf self.now pass.old }
         ensures pass { IsPassOf self.now pass.new }
@@ -226,7 +241,8 @@ impl Context {
         self.call(pass, Call::DupMatrix { a })
     }
 
-    /// Makes a vector of the same domain, size and entries. `UninitializedObject` where there is no such vector. (`GrB_Vector_dup`.)
+    /// Makes a vector of the same domain, size and entries. `UninitializedObject` where there is no such vector. `OutOfMemory` where memory
+    /// for its record is refused; then it is not entered. (`GrB_Vector_dup`.)
     pub fn dup_vector(&self, pass: &mut Pass, v: VectorId) -> Result<Reply, Refusal>
         requires pass { IsPassOf self.now pass.old }
         ensures pass { IsPassOf self.now pass.new }
@@ -237,8 +253,8 @@ impl Context {
 
     /// Fills a matrix that stores nothing; values at one place are combined by `dup`. `UninitializedObject` where there is no such matrix,
     /// `DomainMismatch` where `dup` or a value is of another domain, `OutputNotEmpty` where it stores an entry, `IndexOutOfBounds` where a
-    /// row or column of the list is not below the dimensions. Evaluates the known calls, for which memory may be refused.
-    /// (`GrB_Matrix_build`.)
+    /// row or column of the list is not below the dimensions. Evaluates what the matrix stores. `OutOfMemory` where memory for that or for
+    /// its record is refused; then it is not entered. (`GrB_Matrix_build`.)
     pub fn build_matrix(
         &self,
         pass: &mut Pass,
@@ -255,7 +271,8 @@ impl Context {
 
     /// Fills a vector that stores nothing; values at one index are combined by `dup`. `UninitializedObject` where there is no such vector,
     /// `DomainMismatch` where `dup` or a value is of another domain, `OutputNotEmpty` where it stores an entry, `IndexOutOfBounds` where an
-    /// index of the list is not below the size. Evaluates the known calls, for which memory may be refused. (`GrB_Vector_build`.)
+    /// index of the list is not below the size. Evaluates what the vector stores. `OutOfMemory` where memory for that or for its record is
+    /// refused; then it is not entered. (`GrB_Vector_build`.)
     pub fn build_vector(
         &self,
         pass: &mut Pass,

@@ -11,10 +11,22 @@ impl Context {
     /// `w<m> = accum(w, A * u)`: at row `i` the monoid's fold of the products of row `i` of `a` and `u` where both store a value, and
     /// nothing where there is no such place; written into `w`. With `d.tran` the transposed of `a` stands for `a`.
     ///
+    /// - `w`: the output.
+    /// - `mask`: which indices of `w` may be written, read as `d` says; `None` for all, or with `d.comp` for none.
+    /// - `accum`: combines the old value and the computed one where both are there; with `None` the computed one alone is written.
+    /// - `semiring`: its operator multiplies, its monoid adds up the products.
+    /// - `a`: the matrix, which `d.tran` has read transposed; its value comes first in a product.
+    /// - `u`: the vector.
+    /// - `d`: `structure` and `comp` say how the mask is read, `replace` that what lies outside of it is removed, and `tran` that `a` is
+    ///   read transposed.
+    ///
+    /// It is refused by these, and as [`Context::call`] says; then no entry changes:
+    ///
     /// - `UninitializedObject`: an object of the call, the mask too, is not there.
     /// - `DomainMismatch`: output, inputs, semiring and accumulator are not of one domain.
-    /// - `DimensionMismatch`: `a`, as it is turned, has not a row for each index of `w` and a column for each of `u`, or the mask has not the
-    ///   size of `w`.
+    /// - `DimensionMismatch`: `a`, after `d.tran`, has not a row for each index of `w` and a column for each of `u`, or the mask has not
+    ///   the size of `w`.
+    /// - `OutOfMemory`: memory for the record of the call is refused.
     ///
     /// The mask may be of either domain, and one object may be output, input and mask at once. (`GrB_mxv`.)
     pub fn mxv(
@@ -49,9 +61,20 @@ impl Context {
     /// `w<m> = accum(w, u * A)`: at column `j` the monoid's fold of the products of `u` and column `j` of `a` where both store a value, the
     /// value of `u` first, and nothing where there is no such place; written into `w`. `d.tran` is not read.
     ///
+    /// - `w`: the output.
+    /// - `mask`: which indices of `w` may be written, read as `d` says; `None` for all, or with `d.comp` for none.
+    /// - `accum`: combines the old value and the computed one where both are there; with `None` the computed one alone is written.
+    /// - `semiring`: its operator multiplies, its monoid adds up the products.
+    /// - `u`: the vector; its value comes first in a product.
+    /// - `a`: the matrix, never transposed.
+    /// - `d`: `structure` and `comp` say how the mask is read, `replace` that what lies outside of it is removed.
+    ///
+    /// It is refused by these, and as [`Context::call`] says; then no entry changes:
+    ///
     /// - `UninitializedObject`: an object of the call, the mask too, is not there.
     /// - `DomainMismatch`: output, inputs, semiring and accumulator are not of one domain.
     /// - `DimensionMismatch`: `a` has not a row for each index of `u` and a column for each of `w`, or the mask has not the size of `w`.
+    /// - `OutOfMemory`: memory for the record of the call is refused.
     ///
     /// The mask may be of either domain, and one object may be output, input and mask at once. (`GrB_vxm`.)
     pub fn vxm(
@@ -86,10 +109,22 @@ impl Context {
     /// `C<M> = accum(C, A * B)`: at row `i` and column `j` the monoid's fold of the products of row `i` of `a` and column `j` of `b` where
     /// both store a value, and nothing where there is no such place; written into `c`. With `d.tran` the transposed of `a` stands for `a`.
     ///
+    /// - `c`: the output.
+    /// - `mask`: which cells of `c` may be written, read as `d` says; `None` for all, or with `d.comp` for none.
+    /// - `accum`: combines the old value and the computed one where both are there; with `None` the computed one alone is written.
+    /// - `semiring`: its operator multiplies, its monoid adds up the products.
+    /// - `a`: the first input, which `d.tran` has read transposed; its value comes first in a product.
+    /// - `b`: the second input, never transposed.
+    /// - `d`: `structure` and `comp` say how the mask is read, `replace` that what lies outside of it is removed, and `tran` that `a` is
+    ///   read transposed.
+    ///
+    /// It is refused by these, and as [`Context::call`] says; then no entry changes:
+    ///
     /// - `UninitializedObject`: an object of the call, the mask too, is not there.
     /// - `DomainMismatch`: output, inputs, semiring and accumulator are not of one domain.
-    /// - `DimensionMismatch`: `a`, as it is turned, has not the rows of `c`, `b` not its columns, or `a` not as many columns as `b` has rows; or
-    ///   the mask has not the dimensions of `c`.
+    /// - `DimensionMismatch`: `a`, after `d.tran`, has not the rows of `c`, `b` not its columns, or `a` not as many columns as `b` has
+    ///   rows; or the mask has not the dimensions of `c`.
+    /// - `OutOfMemory`: memory for the record of the call is refused.
     ///
     /// The mask may be of either domain, and one object may be output, input and mask at once. (`GrB_mxm`.)
     pub fn mxm(
@@ -124,9 +159,20 @@ impl Context {
     /// `w<m> = accum(w, fold of each row of A)`: the monoid's fold of each row of `a` that stores a value, and nothing for any other row;
     /// written into `w`. With `d.tran` the columns of `a` are folded.
     ///
+    /// - `w`: the output.
+    /// - `mask`: which indices of `w` may be written, read as `d` says; `None` for all, or with `d.comp` for none.
+    /// - `accum`: combines the old value and the computed one where both are there; with `None` the computed one alone is written.
+    /// - `monoid`: combines the values of a row.
+    /// - `a`: the matrix, which `d.tran` has read transposed.
+    /// - `d`: `structure` and `comp` say how the mask is read, `replace` that what lies outside of it is removed, and `tran` that `a` is
+    ///   read transposed.
+    ///
+    /// It is refused by these, and as [`Context::call`] says; then no entry changes:
+    ///
     /// - `UninitializedObject`: an object of the call, the mask too, is not there.
     /// - `DomainMismatch`: output, input, monoid and accumulator are not of one domain.
-    /// - `DimensionMismatch`: `a`, as it is turned, has not a row for each index of `w`, or the mask has not the size of `w`.
+    /// - `DimensionMismatch`: `a`, after `d.tran`, has not a row for each index of `w`, or the mask has not the size of `w`.
+    /// - `OutOfMemory`: memory for the record of the call is refused.
     ///
     /// The mask may be of either domain. (`GrB_reduce`, to a vector.)
     pub fn reduce_rows(
@@ -156,8 +202,9 @@ impl Context {
         )
     }
 
-    /// All values that the matrix stores, combined by the monoid; its identity where none is stored. `UninitializedObject` or
-    /// `DomainMismatch` where there is no such matrix, or the monoid is of the other domain. Does not wait. (`GrB_reduce`, to a scalar.)
+    /// All values that the matrix `a` stores, combined by `monoid`; its identity where none is stored. `UninitializedObject` or
+    /// `DomainMismatch` where there is no such matrix, or the monoid is of the other domain; `OutOfMemory` where memory is refused to
+    /// evaluate calls or to do changes that wait, and then no entry changes. Does not wait. (`GrB_reduce`, to a scalar.)
     pub fn reduce_matrix(
         &self,
         pass: &mut Pass,
@@ -171,8 +218,9 @@ impl Context {
         self.shared.read(pass, &Call::ReduceMatrix { a, monoid })
     }
 
-    /// All values that the vector stores, combined by the monoid; its identity where none is stored. `UninitializedObject` or
-    /// `DomainMismatch` where there is no such vector, or the monoid is of the other domain. Does not wait. (`GrB_reduce`, to a scalar.)
+    /// All values that the vector `v` stores, combined by `monoid`; its identity where none is stored. `UninitializedObject` or
+    /// `DomainMismatch` where there is no such vector, or the monoid is of the other domain; `OutOfMemory` where memory is refused to
+    /// evaluate calls or to do changes that wait, and then no entry changes. Does not wait. (`GrB_reduce`, to a scalar.)
     pub fn reduce_vector(
         &self,
         pass: &mut Pass,

@@ -10,7 +10,7 @@ use grb_core::Refusal;
 use grb_pass::Pass;
 
 impl Context {
-    /// Makes one call that is lent, as `call` does. The copy that is entered shares the list of a build.
+    /// Makes one call that is lent, as `call` does. The copy that is entered shares the list of a build. `OutOfMemory` as of `call`.
     fn call_lent(&self, pass: &mut Pass, call: &Call) -> Result<Reply, Refusal>
         requires pass { IsPassOf self.now pass.old }
         ensures pass { IsPassOf self.now pass.new }

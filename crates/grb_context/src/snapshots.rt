@@ -18,7 +18,7 @@ impl Context {
     /// The matrix as it stands at the point of a wait for its completion, which is made: all its entries, with no change left that waits.
     /// It is shared with the pass and not copied, and stays what it is whatever comes; a pass that changes its matrix while a snapshot is
     /// held changes a copy. Its status, its point, its steps and its memory are those of [`Context::wait_matrix`] with `Complete`; it is
-    /// refused as that is, and `OutOfMemory` also where 2^63 - 1 hold the matrix. Behind the wait nothing is evaluated. Who only reads the
+    /// refused as that is, and `OutOfMemory` also where 2^63 - 1 hold the matrix. After the wait nothing is evaluated. Who only reads the
     /// entries may wait, and borrow them by [`Pass::matrix`] (own).
     pub fn snapshot_matrix(
         &self,
@@ -38,6 +38,7 @@ impl Context {
     }
 
     /// The vector as it stands at the point of a wait for its completion, as [`Context::snapshot_matrix`] gives a matrix (own).
+    /// `OutOfMemory` as of that.
     pub fn snapshot_vector(
         &self,
         pass: &mut Pass,

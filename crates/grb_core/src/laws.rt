@@ -117,9 +117,9 @@ pub fn products_and_reductions_are_whole()
     ensures totals { ReduceMakesValue }
 {}
 
-/// A transposed matrix stores at row j and column i what the matrix stores at row i and column j. Transposed twice it is the matrix, its rows
-/// are the matrix's columns and its columns the rows. The transposed of a product is the product of the transposed in the other order, where
-/// multiply commutes. It is in order, within the exchanged dimensions and of the same domain.
+/// A transposed matrix stores at row j and column i what the matrix stores at row i and column j. Transposed twice it is the matrix, its
+/// rows are the matrix's columns and its columns the rows. The transposed of a product is the product of the transposed in the other order,
+/// where multiply commutes. It is in order, within the exchanged dimensions and of the same domain.
 ///
 /// Source: GraphBLAS C API 2.0, "Descriptors": `GrB_TRAN`.
 pub fn transposed_exchanges_rows_and_columns()
@@ -131,9 +131,9 @@ pub fn transposed_exchanges_rows_and_columns()
     ensures whole { TransposedMakesEntries }
 {}
 
-/// vxm is the product of the transposed matrix and the vector with the arguments of multiply exchanged, so it is mxv of the transposed where
-/// multiply commutes, and a reduction of columns where multiply gives its second argument. What it stores is in order, within the matrix's
-/// columns and of the semiring's domain.
+/// vxm is the product of the transposed matrix and the vector with the arguments of multiply exchanged, so it is mxv of the transposed
+/// where multiply commutes, and a reduction of columns where multiply gives its second argument. What it stores is in order, within the
+/// matrix's columns and of the semiring's domain.
 ///
 /// Source: GraphBLAS C API 2.0, "vxm".
 pub fn vxm_is_a_product_of_the_transposed()

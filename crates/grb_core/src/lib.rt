@@ -1,8 +1,8 @@
 //! The values that matrices and vectors store, their domains, operators, monoids and semirings, the range of their dimensions, and
 //! the names of what a call is refused for.
 //!
-//! The mathematics that every layer speaks in stands in `specs/`: a matrix or a vector is a domain, dimensions and a finite map from
-//! places to values, and each method and operation is an operation on such maps. Nothing here takes memory, and nothing here knows of stores,
+//! The mathematics that every layer speaks in stands in `specs/`: a matrix or a vector is a domain, dimensions and a finite map from places
+//! to values, and each method and operation is an operation on such maps. Nothing here takes memory, and nothing here knows of stores,
 //! calls or threads.
 #![tactic(auto)]
 

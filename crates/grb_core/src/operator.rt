@@ -62,6 +62,7 @@ impl BinaryOp {
     }
 }
 
+/// What an operator of truth values makes of two of them, in this order.
 fn apply_bool(op: BinaryOp, a: bool, b: bool) -> bool
     ensures { result ≡ on_bools op a b }
 {
@@ -75,6 +76,7 @@ fn apply_bool(op: BinaryOp, a: bool, b: bool) -> bool
     }
 }
 
+/// What an operator of numbers makes of two of them, in this order, modulo 2^64.
 fn apply_number(op: BinaryOp, a: u64, b: u64) -> u64
     ensures { result ≡ on_numbers op a b }
 {

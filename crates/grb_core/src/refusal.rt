@@ -92,9 +92,9 @@ impl Refusal {
 /// Source: GraphBLAS C API 2.0, "Error model", where `GrB_SUCCESS` and `GrB_NO_VALUE` are the statuses that are no errors.
 #[derive(Clone, Copy, Debug, PartialEq, Eq)]
 pub enum Info {
-    /// The call was answered, with a value where it asked for one.
+    /// The call was answered, with a value where it reads one.
     Success,
-    /// The call asked for an entry that is not stored.
+    /// The call reads an entry that is not stored.
     NoValue,
     /// The call was refused.
     Refused(Refusal),

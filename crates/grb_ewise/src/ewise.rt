@@ -19,7 +19,8 @@ use grb_kernels::{EntryList, Pairing, pair};
 use grb_sparse::SparseVector;
 use std::alloc::{AllocError, Global};
 
-/// The entries of two vectors, whose values are of the Rust type `T`, combined by an operator.
+/// The entries of two vectors, whose values are of the Rust type `T`, combined by an operator. `AllocError` where memory is refused; then
+/// nothing is made.
 fn pair_typed<T: Stored + Drop>(
     alloc: Global,
     pairing: Pairing,
@@ -40,7 +41,7 @@ fn pair_typed<T: Stored + Drop>(
     Ok(entries)
 }
 
-/// Two vectors combined by an operator of their domain.
+/// Two vectors combined by an operator of their domain. `AllocError` where memory is refused; then nothing is made.
 pub(crate) fn pair_vectors(
     alloc: Global,
     pairing: Pairing,
@@ -72,7 +73,15 @@ pub(crate) fn pair_vectors(
 }
 
 /// eWiseAdd: over the union of the indices of `u` and `v`, what the operator makes of both values, else the one value; written into
-/// `output` by the accumulator, the mask and the descriptor. `AllocError` where memory is refused.
+/// `output` by the accumulator, the mask and the descriptor. `AllocError` where memory is refused; then nothing is made, and `output` is as
+/// before.
+///
+/// - `output`: the old output, which is read.
+/// - `mask`: which indices may be written, read as `descriptor` says; `None` for all, or with `comp` for none.
+/// - `accum`: combines the old value and the computed one where both are there; `None` for the computed one alone.
+/// - `op`: makes one value of that of `u` and that of `v`, in this order.
+/// - `u`, `v`: the first and the second input.
+/// - `descriptor`: how the mask is read, whether what lies outside of it is removed; its `tran` is not read.
 ///
 /// All are of one domain, the mask aside, and of one size. Time and memory are in proportion to the stored entries.
 ///
@@ -98,8 +107,15 @@ pub fn ewise_add_vector(
     write_masked_vector(alloc, output, mask, accum, descriptor, computed)
 }
 
-/// eWiseMult: over the intersection of the indices of `u` and `v`, what the operator makes of both values; written into `output` by
-/// the accumulator, the mask and the descriptor. `AllocError` where memory is refused.
+/// eWiseMult: over the intersection of the indices of `u` and `v`, what the operator makes of both values; written into `output` by the
+/// accumulator, the mask and the descriptor. `AllocError` where memory is refused; then nothing is made, and `output` is as before.
+///
+/// - `output`: the old output, which is read.
+/// - `mask`: which indices may be written, read as `descriptor` says; `None` for all, or with `comp` for none.
+/// - `accum`: combines the old value and the computed one where both are there; `None` for the computed one alone.
+/// - `op`: makes one value of that of `u` and that of `v`, in this order.
+/// - `u`, `v`: the first and the second input.
+/// - `descriptor`: how the mask is read, whether what lies outside of it is removed; its `tran` is not read.
 ///
 /// All are of one domain, the mask aside, and of one size. Time and memory are in proportion to the stored entries.
 ///

@@ -23,7 +23,7 @@ use grb_sparse::{FlatRows, SparseMatrix};
 use std::alloc::{AllocError, Global};
 use std::marker::PhantomData;
 
-/// Two matrices combined by an operator as a type.
+/// Two matrices combined by an operator as a type. `AllocError` where memory is refused; then nothing is made.
 fn pair_rows_with<T: Stored + Drop, O: Operator<T>>(
     alloc: Global,
     pairing: Pairing,
@@ -60,12 +60,13 @@ impl<'a, T: Stored + Drop> ByOperator<T> for TwoMatrices<'a, T> {
 
     ghost Gives = { λ p op result. IfOk result (λ made. IsPairing T.domain p.pairing op p.a.now.lists.now p.b.now.lists.now made) };
 
+    /// The flat lists of both, combined by an operator as a type. `AllocError` where memory is refused; then nothing is made.
     fn by<O: Operator<T>>(self) -> Result<FlatRows, AllocError> {
         pair_rows_with::<T, O>(self.alloc, self.pairing, self.a, self.b)
     }
 }
 
-/// The flat lists of two matrices combined by an operator of the domain.
+/// The flat lists of two matrices combined by an operator of the domain. `AllocError` where memory is refused; then nothing is made.
 pub(crate) fn pair_rows<T: Stored + Drop>(
     alloc: Global,
     pairing: Pairing,
@@ -85,7 +86,8 @@ pub(crate) fn pair_rows<T: Stored + Drop>(
     T::choose(op, made)
 }
 
-/// Two matrices, whose values are of the Rust type `T`, combined by an operator.
+/// Two matrices, whose values are of the Rust type `T`, combined by an operator. `AllocError` where memory is refused; then nothing is
+/// made.
 fn pair_typed<T: Stored + Drop>(
     alloc: Global,
     pairing: Pairing,
@@ -109,7 +111,7 @@ fn pair_typed<T: Stored + Drop>(
     Ok(SparseMatrix::from_lists(alloc, nrows, ncols, lists))
 }
 
-/// Two matrices combined by an operator of their domain.
+/// Two matrices combined by an operator of their domain. `AllocError` where memory is refused; then nothing is made.
 pub(crate) fn pair_matrices(
     alloc: Global,
     pairing: Pairing,
@@ -134,6 +136,7 @@ pub(crate) fn pair_matrices(
 }
 
 /// A matrix, transposed where `tran` says so, and another one combined by an operator of their domain. Where it is not, nothing is copied.
+/// `AllocError` where memory is refused; then nothing is made.
 fn pair_turned(
     alloc: Global,
     pairing: Pairing,
@@ -158,8 +161,15 @@ fn pair_turned(
     pair_matrices(alloc, pairing, op, a, b)
 }
 
-/// eWiseAdd: over the union of the cells of `a` and `b`, what the operator makes of both values, else the one value; written into
-/// `output` by the accumulator, the mask and the descriptor. `AllocError` where memory is refused.
+/// eWiseAdd: over the union of the cells of `a` and `b`, what the operator makes of both values, else the one value; written into `output`
+/// by the accumulator, the mask and the descriptor. `AllocError` where memory is refused; then nothing is made, and `output` is as before.
+///
+/// - `output`: the old output, which is read.
+/// - `mask`: which cells may be written, read as `descriptor` says; `None` for all, or with `comp` for none.
+/// - `accum`: combines the old value and the computed one where both are there; `None` for the computed one alone.
+/// - `op`: makes one value of that of `a` and that of `b`, in this order.
+/// - `a`, `b`: the first and the second input.
+/// - `descriptor`: how the mask is read, whether what lies outside of it is removed, and whether `a` is read transposed.
 ///
 /// All are of one domain, the mask aside, and of the same dimensions, those of `a` exchanged where the descriptor says `tran`: then `a`
 /// stands for its transposed, which is made first, as `transposed` does. Else nothing is copied, and time and memory are in proportion to
@@ -187,8 +197,15 @@ pub fn ewise_add_matrix(
     write_masked_matrix(alloc, output, mask, accum, descriptor, computed)
 }
 
-/// eWiseMult: over the intersection of the cells of `a` and `b`, what the operator makes of both values; written into `output` by
-/// the accumulator, the mask and the descriptor. `AllocError` where memory is refused.
+/// eWiseMult: over the intersection of the cells of `a` and `b`, what the operator makes of both values; written into `output` by the
+/// accumulator, the mask and the descriptor. `AllocError` where memory is refused; then nothing is made, and `output` is as before.
+///
+/// - `output`: the old output, which is read.
+/// - `mask`: which cells may be written, read as `descriptor` says; `None` for all, or with `comp` for none.
+/// - `accum`: combines the old value and the computed one where both are there; `None` for the computed one alone.
+/// - `op`: makes one value of that of `a` and that of `b`, in this order.
+/// - `a`, `b`: the first and the second input.
+/// - `descriptor`: how the mask is read, whether what lies outside of it is removed, and whether `a` is read transposed.
 ///
 /// All are of one domain, the mask aside, and of the same dimensions, those of `a` exchanged where the descriptor says `tran`: then `a`
 /// stands for its transposed, which is made first, as `transposed` does. Else nothing is copied, and time and memory are in proportion to

@@ -31,7 +31,7 @@ pub fn place_of(indices: &[u32], index: u32) -> Option<usize>
     }
 }
 
-/// The numbers of two lists, each once and in rising order. `AllocError` where memory is refused.
+/// The numbers of two lists, each once and in rising order. `AllocError` where memory is refused; then nothing is made.
 ///
 /// Source: own.
 pub fn distinct(alloc: Global, columns: &[u32], others: &[u32]) -> Result<Vec<u32>, AllocError>
@@ -61,7 +61,7 @@ fn rank_of(names: &[u32], column: u32) -> u32
     }
 }
 
-/// The place of each column among names, in which each of them stands. `AllocError` where memory is refused.
+/// The place of each column among names, in which each of them stands. `AllocError` where memory is refused; then nothing is made.
 ///
 /// Source: own.
 pub fn ranks_of(alloc: Global, columns: &[u32], names: &[u32]) -> Result<Vec<u32>, AllocError>

@@ -70,7 +70,7 @@ fn take_row<'a, T: Stored>(
     (nothing, i)
 }
 
-/// Writes what the rule makes of two rows behind the first `k` columns and values. Answers how many entries it has.
+/// Writes what the rule makes of two rows after the first `k` columns and values. Answers how many entries it has.
 fn merge_row<T: Stored, U: Stored, R: Rule<T, U>>(
     rule: &R,
     x: &EntrySlice<T>,
@@ -97,7 +97,7 @@ fn merge_row<T: Stored, U: Stored, R: Rule<T, U>>(
     )
 }
 
-/// Puts a row behind those so far, where it has entries, the first of which is the `start`th of all.
+/// Puts a row after those so far, where it has entries, the first of which is the `start`th of all.
 fn push_row(rows: &mut Vec<u32>, starts: &mut Vec<usize>, row: u32, start: usize, count: usize)
     requires rows_room { vec_len rows.old < vec_capacity rows.old }
     requires starts_room { vec_len starts.old < vec_capacity starts.old }
@@ -158,8 +158,8 @@ fn fill_rows<T: Stored, U: Stored, R: Rule<T, U>>(
     k
 }
 
-/// The map that the rule makes of two matrices. Takes memory for as many entries and rows as both have; none is refused once anything
-/// was written.
+/// The map that the rule makes of two matrices. Takes memory for as many entries and rows as both have; none is refused once anything was
+/// written. `AllocError` where that is refused; then nothing is made.
 pub(crate) fn merge_rows<T: Stored + Drop, U: Stored, R: Rule<T, U>>(
     alloc: Global,
     rule: &R,

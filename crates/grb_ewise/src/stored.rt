@@ -157,7 +157,7 @@ impl Stored for u64 {
     ghost same_clone = { λ x y e. e };
 }
 
-/// The vector of these truth values. They are not copied. `AllocError` where memory is refused.
+/// The vector of these truth values. They are not copied. `AllocError` where memory is refused; then the entries are dropped.
 ///
 /// Source: own.
 pub fn keep_bools(
@@ -171,7 +171,7 @@ pub fn keep_bools(
     SparseVector::from_bools(alloc, size, entries.indices, entries.values)
 }
 
-/// The vector of these numbers. They are not copied. `AllocError` where memory is refused.
+/// The vector of these numbers. They are not copied. `AllocError` where memory is refused; then the entries are dropped.
 ///
 /// Source: own.
 pub fn keep_numbers(

@@ -16,7 +16,8 @@ use grb_kernels::{EntryList, MaskReading, Pairing, write};
 use grb_sparse::SparseVector;
 use std::alloc::{AllocError, Global};
 
-/// What the accumulator makes of the old output and what was computed; without one that is what was computed itself.
+/// What the accumulator makes of the old output and what was computed; without one that is what was computed itself. `AllocError` where
+/// memory is refused; then `computed` is dropped.
 fn accumulate(
     alloc: Global,
     output: &SparseVector,
@@ -39,7 +40,8 @@ fn accumulate(
     }
 }
 
-/// The entries of the new output by a mask, whose values are of the Rust type `M`, and those of the output of `T`.
+/// The entries of the new output by a mask, whose values are of the Rust type `M`, and those of the output of `T`. `AllocError` where
+/// memory is refused; then nothing is made.
 fn write_by<T: Stored + Drop, M: Stored>(
     alloc: Global,
     output: &SparseVector,
@@ -71,7 +73,7 @@ fn write_by<T: Stored + Drop, M: Stored>(
     Ok(entries)
 }
 
-/// The same by a mask of either domain.
+/// The same by a mask of either domain. `AllocError` where memory is refused; then nothing is made.
 fn write_typed<T: Stored + Drop>(
     alloc: Global,
     output: &SparseVector,
@@ -92,7 +94,7 @@ fn write_typed<T: Stored + Drop>(
     }
 }
 
-/// The new output by a mask.
+/// The new output by a mask. `AllocError` where memory is refused; then nothing is made.
 fn write_with_mask(
     alloc: Global,
     output: &SparseVector,
@@ -120,7 +122,8 @@ fn write_with_mask(
     }
 }
 
-/// The new output where there is no mask: all is inside, or with the complement nothing.
+/// The new output where there is no mask: all is inside, or with the complement nothing. `AllocError` where memory is refused; then
+/// `computed` is dropped, and the old output is as before.
 fn write_unmasked(
     alloc: Global,
     output: &SparseVector,
@@ -147,7 +150,14 @@ fn write_unmasked(
 }
 
 /// The new output of an operation that computed `computed`: inside the mask what the accumulator makes of the old output and what was
-/// computed, outside it what the old output has, or with replace nothing. `AllocError` where memory is refused.
+/// computed, outside it what the old output has, or with replace nothing. `AllocError` where memory is refused; then nothing is made, and
+/// `output` is as before.
+///
+/// - `output`: the old output, which is read.
+/// - `mask`: which indices may be written, read as `descriptor` says; `None` for all, or with `comp` for none.
+/// - `accum`: combines the old value and the computed one where both are there; `None` for the computed one alone.
+/// - `descriptor`: how the mask is read, whether what lies outside of it is removed.
+/// - `computed`: what the operation made; it is dropped where memory is refused.
 ///
 /// All are of one domain, the mask aside, and of one size. Without a mask and an accumulator the answer is `computed` itself. Else time
 /// and memory are in proportion to the stored entries of the three.

@@ -22,7 +22,8 @@ use grb_sparse::{FlatRows, SparseMatrix};
 use std::alloc::{AllocError, Global};
 use std::marker::PhantomData;
 
-/// What the accumulator makes of the old output and what was computed; without one that is what was computed itself.
+/// What the accumulator makes of the old output and what was computed; without one that is what was computed itself. `AllocError` where
+/// memory is refused; then `computed` is dropped.
 fn accumulate(
     alloc: Global,
     output: &SparseMatrix,
@@ -45,7 +46,7 @@ fn accumulate(
     }
 }
 
-/// What the mask lets in of flat lists.
+/// What the mask lets in of flat lists. `AllocError` where memory is refused; then nothing is made.
 fn rows_inside<T: Stored + Drop, M: Stored>(
     alloc: Global,
     reading: MaskReading,
@@ -64,6 +65,7 @@ fn rows_inside<T: Stored + Drop, M: Stored>(
 }
 
 /// The flat lists of the new output by a mask: inside it what `made` has, outside what `output` has, or with `replace` nothing.
+/// `AllocError` where memory is refused; then nothing is made.
 fn mask_rows<T: Stored + Drop, M: Stored>(
     alloc: Global,
     reading: MaskReading,
@@ -97,7 +99,7 @@ fn mask_rows<T: Stored + Drop, M: Stored>(
 }
 
 /// The flat lists of the new output by the accumulator, where what lies outside of the mask stays: what is inside of the result alone goes
-/// into the old output, which is read once.
+/// into the old output, which is read once. `AllocError` where memory is refused; then nothing is made.
 fn accumulate_inside<T: Stored + Drop, M: Stored>(
     alloc: Global,
     op: BinaryOp,
@@ -119,7 +121,7 @@ fn accumulate_inside<T: Stored + Drop, M: Stored>(
     Ok(new)
 }
 
-/// The flat lists of the new output by the accumulator and then by a mask.
+/// The flat lists of the new output by the accumulator and then by a mask. `AllocError` where memory is refused; then nothing is made.
 fn write_rows<T: Stored + Drop, M: Stored>(
     alloc: Global,
     accum: Option<BinaryOp>,
@@ -150,7 +152,8 @@ fn write_rows<T: Stored + Drop, M: Stored>(
     }
 }
 
-/// The new output by a mask, whose values are of the Rust type `M`, and those of the output of `T`.
+/// The new output by a mask, whose values are of the Rust type `M`, and those of the output of `T`. `AllocError` where memory is refused;
+/// then nothing is made.
 fn write_by<T: Stored + Drop, M: Stored>(
     alloc: Global,
     output: &SparseMatrix,
@@ -183,7 +186,7 @@ fn write_by<T: Stored + Drop, M: Stored>(
     Ok(SparseMatrix::from_lists(alloc, nrows, ncols, lists))
 }
 
-/// The same by a mask of either domain.
+/// The same by a mask of either domain. `AllocError` where memory is refused; then nothing is made.
 fn write_typed<T: Stored + Drop>(
     alloc: Global,
     output: &SparseMatrix,
@@ -204,7 +207,7 @@ fn write_typed<T: Stored + Drop>(
     }
 }
 
-/// The new output by a mask.
+/// The new output by a mask. `AllocError` where memory is refused; then nothing is made.
 fn write_with_mask(
     alloc: Global,
     output: &SparseMatrix,
@@ -224,7 +227,8 @@ fn write_with_mask(
     }
 }
 
-/// The new output where there is no mask: all is inside, or with the complement nothing.
+/// The new output where there is no mask: all is inside, or with the complement nothing. `AllocError` where memory is refused; then
+/// `computed` is dropped, and the old output is as before.
 fn write_unmasked(
     alloc: Global,
     output: &SparseMatrix,
@@ -251,7 +255,14 @@ fn write_unmasked(
 }
 
 /// The new output of an operation that computed `computed`: inside the mask what the accumulator makes of the old output and what was
-/// computed, outside it what the old output has, or with replace nothing. `AllocError` where memory is refused.
+/// computed, outside it what the old output has, or with replace nothing. `AllocError` where memory is refused; then nothing is made, and
+/// `output` is as before.
+///
+/// - `output`: the old output, which is read.
+/// - `mask`: which cells may be written, read as `descriptor` says; `None` for all, or with `comp` for none.
+/// - `accum`: combines the old value and the computed one where both are there; `None` for the computed one alone.
+/// - `descriptor`: how the mask is read, whether what lies outside of it is removed.
+/// - `computed`: what the operation made; it is dropped where memory is refused.
 ///
 /// All are of one domain, the mask aside, and of the same dimensions. Without a mask and an accumulator the answer is `computed`
 /// itself. Else time and memory are in proportion to the stored entries of the three.

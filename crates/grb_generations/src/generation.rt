@@ -37,7 +37,7 @@ fn seat_with(context: Arc<Context>, pass: Pass, generation: u64) -> Seat
     }
 }
 
-/// A generation behind the first: the seats that no one has taken. The seat of a member is at the member's number.
+/// A generation after the first: the seats that no one has taken. The seat of a member is at the member's number.
 #[derive(Drop)]
 pub(crate) struct Generation {
     seats: Vec<Mutex<Option<Seat>>>,

@@ -39,7 +39,8 @@ impl Model for Generations {
     ghost invariant = { λ g. IsChain g.room g.members };
 }
 
-/// A member for each of the passes, all of which know no call of the first generation.
+/// A member for each of the passes, all of which know no call of the first generation. `AllocError` where memory is refused; then the
+/// passes are dropped.
 fn members_of(
     alloc: Global,
     generations: &Arc<Generations>,
@@ -66,7 +67,7 @@ impl Generations {
     /// `MOST_SEATS`. The room takes the calls that make the store anew, two at most for each number that was ever given, and what is
     /// entered in the generation: one of many times what the store needs makes fewer generations. After this memory is taken for the
     /// records of entered calls, for evaluation, and for each further generation; the one before is freed when its last member has left.
-    /// `AllocError` where memory is refused (own).
+    /// `AllocError` where memory is refused; then nothing is made (own).
     pub fn open(
         alloc: Global,
         room: u32,
@@ -157,8 +158,8 @@ impl Generations {
         true
     }
 
-    /// Shows the generation of this number, whose passes are these, unless another stands by then, or others read the place at each of so many
-    /// tries. `AllocError` where memory is refused.
+    /// Shows the generation of this number, whose passes are these, unless another stands by then, or others read the place at each of so
+    /// many tries. `AllocError` where memory is refused.
     pub(crate) fn show(
         &self,
         number: u64,

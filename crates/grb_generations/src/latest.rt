@@ -112,7 +112,7 @@ impl Latest {
         generation
     }
 
-    /// The latest generation behind the first. None only where each of `MOST_LOOKS` looks came while another thread changed the place, or
+    /// The latest generation after the first. None only where each of `MOST_LOOKS` looks came while another thread changed the place, or
     /// there is none yet. Takes no memory.
     pub(crate) fn get(&self) -> Option<Arc<Generation>> {
         'looks: for _ in 0..MOST_LOOKS {

@@ -10,7 +10,8 @@ pub fn nothing_is_lost()
     full_knows_all();
 }
 
-/// However many generations there were, the store of the last is the one that all calls leave which were entered in any of them, in one order.
+/// However many generations there were, the store of the last is the one that all calls leave which were entered in any of them, in one
+/// order.
 pub fn one_history()
     ensures { OneHistory }
 {}

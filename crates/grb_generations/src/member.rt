@@ -142,6 +142,7 @@ impl Member {
     }
 
     /// The answer to the call at the first attempt of which it counts; none where there is no later generation to be had, or so many were.
+    /// `OutOfMemory` as of `Context::call`.
     fn attempts(&mut self, call: &Call) -> Option<Result<Reply, Refusal>>
         ensures later { self.old.generation ≤ self.new.generation }
         ensures calls { MatchOption result (Comes self.old self.new) (λ answer. Calls self.old self.new call.now answer) }
@@ -156,8 +157,8 @@ impl Member {
         None
     }
 
-    /// Moves on where it can, makes a copy of the call there, and goes on to a later generation where the answer may be of a store that others
-    /// have left, or the call found no room.
+    /// Moves on where it can, makes a copy of the call there, and goes on to a later generation where the answer may be of a store that
+    /// others have left, or the call found no room.
     fn attempt(&mut self, call: &Call) -> Attempt
         ensures later { self.old.generation ≤ self.new.generation }
         ensures attempts { Attempts self.old self.new call.now result }
@@ -173,7 +174,7 @@ impl Member {
         went(self.go_on())
     }
 
-    /// Makes one call in the generation in which the member sits.
+    /// Makes one call in the generation in which the member sits. `OutOfMemory` as of `Context::call`.
     fn call_in_place(&mut self, call: Call) -> Result<Reply, Refusal>
         ensures chain { self.new.chain ≡ self.old.chain }
         ensures context { self.new.context ≡ self.old.context }
@@ -183,8 +184,8 @@ impl Member {
         self.context.call(&mut self.pass, call)
     }
 
-    /// Whether the answer to a call may be of a store that others have left, or the call found no room: the generation is full, and the call
-    /// was not entered there.
+    /// Whether the answer to a call may be of a store that others have left, or the call found no room: the generation is full, and the
+    /// call was not entered there.
     fn is_behind(&self, call: &Call, answer: &Result<Reply, Refusal>) -> bool
         ensures { result ≡ true → is_entered call.now answer.now ≡ false }
     {
@@ -198,10 +199,10 @@ impl Member {
         }
     }
 
-    /// Goes to the latest generation that stands, where the member's own is full and it knows all of that; whether it moved. There it has the
-    /// pass of its number. It never moves before, and makes no generation. Each call begins with it, so a member that only calls needs it
-    /// not; one that does not know yet that its generation is full finds that out by a call. Takes no memory, and waits for no other thread
-    /// without a bound (own).
+    /// Goes to the latest generation that stands, where the member's own is full and it knows all of that; whether it moved. There it has
+    /// the pass of its number. It never moves before, and makes no generation. Each call begins with it, so a member that only calls needs
+    /// it not; one that does not know yet that its generation is full finds that out by a call. Takes no memory, and waits for no other
+    /// thread without a bound (own).
     pub fn move_on(&mut self) -> bool
         ensures moved { result ≡ true → Moves self.old self.new }
         ensures stayed { result ≡ false → self.new ≡ self.old }
@@ -235,8 +236,8 @@ impl Member {
         self.generation = generation;
     }
 
-    /// Goes to a later generation, where the member's own is full and it knows all of that; whether it moved. Where none stands it makes the
-    /// next one of all that it knows, or waits a bounded time for another member that set out to make it.
+    /// Goes to a later generation, where the member's own is full and it knows all of that; whether it moved. Where none stands it makes
+    /// the next one of all that it knows, or waits a bounded time for another member that set out to make it.
     ///
     /// `RoomTooSmall` tells how many calls make the store anew, where the room takes no call beside them; then no entry was copied.
     /// `OutOfMemory` where memory is refused, and `Panic` where a record of the next generation is not taken. The member then sits where it
@@ -260,8 +261,8 @@ impl Member {
         Ok(self.move_on())
     }
 
-    /// Has the next generation made: by another member that set out to make it, in a bounded time, or by this one. Whether it then stands is
-    /// not said.
+    /// Has the next generation made: by another member that set out to make it, in a bounded time, or by this one. Whether it then stands,
+    /// no clause says.
     fn provide_next(&mut self) -> Result<(), NoSuccessor>
         requires end { IsAtEnd self.old.pass }
         ensures stays { Stays self.old self.new }
@@ -276,7 +277,7 @@ impl Member {
         made
     }
 
-    /// Makes the generation behind its own, which has this number, of all that the member knows, and shows it unless another stands by then.
+    /// Makes the generation after its own, which has this number, of all that the member knows, and shows it unless another stands by then.
     fn make(&mut self, number: u64) -> Result<(), NoSuccessor>
         requires end { IsAtEnd self.old.pass }
         ensures stays { Stays self.old self.new }
@@ -289,8 +290,8 @@ impl Member {
             .or(Err(NoSuccessor::OutOfMemory))
     }
 
-    /// Whether the room takes a call beside those that make the store anew. It asks for a successor with room for one call: the refusal tells
-    /// how many are needed, before any entry is copied.
+    /// Whether the room takes a call beside those that make the store anew. It asks for a successor with room for one call: the refusal
+    /// tells how many are needed, before any entry is copied.
     fn ask_room(&mut self) -> Result<(), NoSuccessor>
         ensures stays { Stays self.old self.new }
         ensures refused { IfErr result (IsNoSuccessor (self.old.chain.room - 1) (store_of (known self.old.pass))) }
@@ -312,8 +313,8 @@ impl Member {
         }
     }
 
-    /// The store that goes on where the member's ends, and its passes, which begin with the store that all calls leave which its pass knows.
-    /// That is all that its generation takes, so no call is left out.
+    /// The store that goes on where the member's ends, and its passes, which begin with the store that all calls leave which its pass
+    /// knows. That is all that its generation takes, so no call is left out.
     fn succeed(&mut self) -> Result<(Context, Vec<Pass>), NoSuccessor>
         requires end { IsAtEnd self.old.pass }
         ensures stays { Stays self.old self.new }

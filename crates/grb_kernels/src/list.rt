@@ -9,7 +9,9 @@ use crate::scalar::Scalar;
 /// Entries that are lent: indices in rising order, and a value for each.
 #[derive(Drop)]
 pub struct EntrySlice<'a, T: Scalar> {
+    /// The indices, which rise.
     pub indices: &'a [u32],
+    /// The value at each index.
     pub values: &'a [T],
     ghost same: { length indices.now ≡ length values.now },
     ghost rising: { IsTrue (is_sorted nat_cmp (entries_of T.value indices.now values.now)) },
@@ -18,7 +20,9 @@ pub struct EntrySlice<'a, T: Scalar> {
 /// Entries that are owned: indices in rising order, and a value for each.
 #[derive(Drop)]
 pub struct EntryList<T: Scalar> {
+    /// The indices, which rise.
     pub indices: Vec<u32>,
+    /// The value at each index.
     pub values: Vec<T>,
     ghost same: { length indices.items ≡ length values.items },
     ghost rising: { IsTrue (is_sorted nat_cmp (entries_of T.value indices.items values.items)) },

@@ -41,8 +41,13 @@ pub trait Rule<T: Scalar, U: Scalar> {
     ghost none: { (rule : Self) → gives rule None None ≡ None };
 }
 
-/// Writes an entry at place `k` of a result, if it is to be kept, and answers how many entries there are then. Takes no memory. What
-/// stands at places behind those is any.
+/// Writes an entry at place `k` of a result, if it is to be kept, and answers how many entries there are then. Takes no memory. What stands
+/// at places after those is any.
+///
+/// - `columns`, `values`: the indices and the values of the result.
+/// - `k`: how many entries it has so far.
+/// - `index`, `value`: the entry.
+/// - `keep`: whether it is kept.
 ///
 /// Source: own.
 pub fn emit<T: Scalar>(
@@ -98,7 +103,7 @@ fn advance(p: u32, q: u32) -> usize
     usize::from(p <= q)
 }
 
-/// Writes what the rule keeps of the rest of the first list, from `i` on, behind the first `k` entries of a result.
+/// Writes what the rule keeps of the rest of the first list, from `i` on, after the first `k` entries of a result.
 fn finish_left<T: Scalar, U: Scalar, R: Rule<T, U>>(
     rule: &R,
     ac: &[u32],
@@ -191,6 +196,11 @@ fn finish<T: Scalar, U: Scalar, R: Rule<T, U>>(
 }
 
 /// The map that the rule makes of two others, written to the front of `columns` and `values`. Answers how many entries it has.
+///
+/// - `rule`: what stands at an index, by the values that the two store there.
+/// - `ac`, `av`: the indices and the values of the first map, in rising order of index.
+/// - `bc`, `bv`: those of the second.
+/// - `columns`, `values`: where the result goes; they have places for the entries of both.
 pub fn merge<T: Scalar, U: Scalar, R: Rule<T, U>>(
     rule: &R,
     ac: &[u32],
@@ -224,7 +234,11 @@ pub fn merge<T: Scalar, U: Scalar, R: Rule<T, U>>(
     finish(rule, ac, av, i, bc, bv, j, columns, values, k)
 }
 
-/// The map that the rule makes of two others. Takes memory for as many entries as both have.
+/// The map that the rule makes of two others. Takes memory for as many entries as both have. `AllocError` where that is refused; then
+/// nothing is made.
+///
+/// - `rule`: what stands at an index, by the values that the two store there.
+/// - `a`, `b`: the first and the second map.
 pub fn merged<T: Scalar + Drop, U: Scalar, R: Rule<T, U>>(
     alloc: Global,
     rule: &R,

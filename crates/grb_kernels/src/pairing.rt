@@ -25,7 +25,7 @@ pub enum Pairing {
     Intersection,
 }
 
-/// Two lists combined by an operator as a type.
+/// Two lists combined by an operator as a type. `AllocError` where memory is refused; then nothing is made.
 fn pair_with<T: Scalar + Drop, O: Operator<T>>(
     alloc: Global,
     pairing: Pairing,
@@ -60,12 +60,18 @@ impl<'a, T: Scalar + Drop> ByOperator<T> for TwoLists<'a, T> {
 
     ghost Gives = { λ p op result. IfOk result (λ made. entries_of T.value made.indices.items made.values.items ≡ pointwise nat_cmp (paired p.pairing (value_of_op op)) (entries_of T.value p.a.now.indices.now p.a.now.values.now) (entries_of T.value p.b.now.indices.now p.b.now.values.now)) };
 
+    /// The two lists combined by an operator as a type. `AllocError` where memory is refused; then nothing is made.
     fn by<O: Operator<T>>(self) -> Result<EntryList<T>, AllocError> {
         pair_with::<T, O>(self.alloc, self.pairing, self.a, self.b)
     }
 }
 
-/// Two lists of entries combined by an operator of the domain. Takes memory for as many entries as both have.
+/// Two lists of entries combined by an operator of the domain. Takes memory for as many entries as both have. `AllocError` where that is
+/// refused; then nothing is made.
+///
+/// - `pairing`: whether the union or the intersection of the indices is gone over.
+/// - `op`: makes one value of that of `a` and that of `b`, in this order.
+/// - `a`, `b`: the two lists.
 ///
 /// Source: GraphBLAS C API 2.0, "eWiseAdd" and "eWiseMult".
 pub fn pair<T: Operated + Drop>(

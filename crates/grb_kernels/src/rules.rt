@@ -14,6 +14,7 @@ use std::marker::PhantomData;
 /// The operator's value where both maps store one, else the one value: eWiseAdd, and the accumulator.
 #[derive(Drop)]
 pub struct Either<O> {
+    /// The operator, as a type.
     pub op: PhantomData<O>,
 }
 
@@ -48,6 +49,7 @@ impl<T: Scalar, O: Operator<T>> Rule<T, T> for Either<O> {
 /// The operator's value where both maps store one: eWiseMult.
 #[derive(Drop)]
 pub struct Both<O> {
+    /// The operator, as a type.
     pub op: PhantomData<O>,
 }
 
@@ -110,7 +112,9 @@ impl<T: Scalar> Rule<T, T> for Over {
 /// The first map's values where the second, a mask, lets the index in; or, with `wanted` false, where it does not.
 #[derive(Drop)]
 pub struct ByMask {
+    /// Each stored value of the mask selects its index, and not a true one alone.
     pub structure: bool,
+    /// Whether what the mask selects is kept; with `false` it is what it does not select.
     pub wanted: bool,
 }
 

@@ -25,7 +25,8 @@ pub struct MaskReading {
     pub comp: bool,
 }
 
-/// What the mask lets in of a map. Takes memory in proportion to the entries of both.
+/// What the mask lets in of a map. Takes memory in proportion to the entries of both. `AllocError` where that is refused; then nothing is
+/// made.
 fn inside_of<T: Scalar + Drop, M: Scalar>(
     alloc: Global,
     reading: MaskReading,
@@ -41,8 +42,13 @@ fn inside_of<T: Scalar + Drop, M: Scalar>(
     merged(alloc, &keep_inside, made, mask)
 }
 
-/// The new output by a mask: inside it what `made` has, outside what `output` has, or with `replace` nothing. Takes memory in
-/// proportion to the entries of the three.
+/// The new output by a mask: inside it what `made` has, outside what `output` has, or with `replace` nothing. Takes memory in proportion to
+/// the entries of the three. `AllocError` where that is refused; then nothing is made.
+///
+/// - `reading`, `mask`: the mask, and how it is read.
+/// - `replace`: whether what lies outside of the mask is removed.
+/// - `output`: the old output.
+/// - `made`: what the accumulator made.
 ///
 /// Source: GraphBLAS C API 2.0, "Masks" and "Descriptors".
 pub fn write_masked<T: Scalar + Drop, M: Scalar>(
@@ -69,7 +75,7 @@ pub fn write_masked<T: Scalar + Drop, M: Scalar>(
 }
 
 /// The new output by the accumulator, where what lies outside of the mask stays: what is inside of the result alone goes into the old
-/// output, which is read once.
+/// output, which is read once. `AllocError` where memory is refused; then nothing is made.
 fn accumulate_inside<T: Operated + Drop, M: Scalar>(
     alloc: Global,
     op: BinaryOp,
@@ -86,7 +92,14 @@ fn accumulate_inside<T: Operated + Drop, M: Scalar>(
     Ok(new)
 }
 
-/// The new output by the accumulator and then by a mask. Takes memory in proportion to the entries of the three.
+/// The new output by the accumulator and then by a mask. Takes memory in proportion to the entries of the three. `AllocError` where that is
+/// refused; then nothing is made.
+///
+/// - `accum`: combines the old value and the computed one where both are there; `None` for the computed one alone.
+/// - `reading`, `mask`: the mask, and how it is read.
+/// - `replace`: whether what lies outside of the mask is removed.
+/// - `output`: the old output.
+/// - `computed`: what the operation made.
 ///
 /// Source: GraphBLAS C API 2.0, the accumulator in "eWiseAdd" and in each other operation, "Masks" and "Descriptors".
 pub fn write<T: Operated + Drop, M: Scalar>(

@@ -21,8 +21,8 @@ fn any_entry(head: Head, size: Size, text: &[u8]) -> Option<(Stated, &[u8])>
     Some((entry_of(head, size, line), after))
 }
 
-/// The entry that the first line of a text states, or what is wrong with it by itself, and the text behind the line. `None` where the
-/// text has no line end. A line that is written as most are is read in one walk.
+/// The entry that the first line of a text states, or what is wrong with it by itself, and the text after the line. `None` where the text
+/// has no line end. A line that is written as most are is read in one walk.
 pub(crate) fn next_entry(head: Head, size: Size, text: &[u8]) -> Option<(Stated, &[u8])>
     ensures some { IfSome result (λ p. IsEntryLine head size text.now p.0 p.1.now) }
     ensures none { IfNone result (0 < length text.now → lines_of text.now ≡ unended text.now ∷ []) }

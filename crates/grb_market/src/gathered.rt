@@ -34,7 +34,7 @@ pub(crate) fn is_rising(tuples: &[(u64, u64, Value)]) -> bool
 }
 
 /// Puts the tuples in rising order of their places, and tells whether no two of them have one place. Tuples that rise, which `rising`
-/// tells, take no memory.
+/// tells, take no memory. `AllocError` where memory is refused to the sort of others; in which order these stand then, no clause says.
 pub(crate) fn put_in_order(
     tuples: &mut Vec<(u64, u64, Value)>,
     rising: bool,
@@ -50,7 +50,7 @@ pub(crate) fn put_in_order(
     Ok(is_rising(tuples))
 }
 
-/// Appends an entry.
+/// Appends an entry. `AllocError` where memory is refused; then it is not appended.
 pub(crate) fn append(
     tuples: &mut Vec<(u64, u64, Value)>,
     cell: (u64, u64),
@@ -63,7 +63,7 @@ pub(crate) fn append(
         .map_err(AllocError::from)
 }
 
-/// Whether the tuples rise with this place behind them, where `rising` tells whether they do without it.
+/// Whether the tuples rise with this place after them, where `rising` tells whether they do without it.
 fn is_rising_with(tuples: &[(u64, u64, Value)], rising: bool, cell: (u64, u64)) -> bool
     requires { rising ≡ is_sorted cell_cmp (cells_of tuples.now) }
     ensures { (value : StoredValue) → result ≡ is_sorted cell_cmp (cells_of tuples.now ++ (cell, value) ∷ []) }
@@ -75,7 +75,8 @@ fn is_rising_with(tuples: &[(u64, u64, Value)], rising: bool, cell: (u64, u64)) 
     rising && comes_before((last.0, last.1), cell)
 }
 
-/// Appends an entry to tuples of which `rising` tells whether they rise, and tells whether they still do.
+/// Appends an entry to tuples of which `rising` tells whether they rise, and tells whether they still do. `AllocError` where memory is
+/// refused; then it is not appended.
 pub(crate) fn append_next(
     tuples: &mut Vec<(u64, u64, Value)>,
     rising: bool,
@@ -91,7 +92,8 @@ pub(crate) fn append_next(
     Ok(rising)
 }
 
-/// How many of the tuples come before the first whose place an earlier one has.
+/// How many of the tuples come before the first whose place an earlier one has. `AllocError` where memory is refused to the set of their
+/// places.
 pub(crate) fn count_apart(alloc: Global, tuples: &[(u64, u64, Value)]) -> Result<usize, AllocError>
     ensures { IfOk result (λ count. count ≡ count_apart [] (cells_of tuples.now)) }
 {
@@ -106,7 +108,7 @@ pub(crate) fn count_apart(alloc: Global, tuples: &[(u64, u64, Value)]) -> Result
     Ok(count)
 }
 
-/// Stores an entry, and tells whether its place had one before.
+/// Stores an entry, and tells whether its place had one before. `AllocError` where memory is refused; then it is not stored.
 fn store(
     entries: &mut BTreeMap<(u64, u64), Value>,
     cell: (u64, u64),

@@ -48,6 +48,7 @@ pub(crate) fn head_of(line: &[u8]) -> Option<Head>
     })
 }
 
+/// The size with these three numbers, or what is wrong with them in a file with this head.
 fn size_from(head: Head, nrows: u64, ncols: u64, count: u64) -> Result<Size, FaultKind>
     ensures is { result ≡ size_from head nrows ncols count }
     ensures rows { IfOk result (λ s. IsDimension s.nrows) }
@@ -81,6 +82,7 @@ pub(crate) fn size_of(head: Head, line: &[u8]) -> Result<Size, FaultKind>
     size_from(head, nrows, ncols, count)
 }
 
+/// Whether the number is one of 1 to `most`.
 fn is_in(most: u64, n: u64) -> bool
     ensures { result ≡ is_in most n }
 {

@@ -20,6 +20,7 @@ impl Model for Tuples {
 }
 
 impl Tuples {
+    /// The entries of a file, as a list that is seen without its capacity and its allocator.
     pub(crate) fn from_vec(tuples: Vec<(u64, u64, Value)>) -> Tuples
         ensures { result ≡ tuples.items }
     {

@@ -4,6 +4,7 @@ ghost use Rattle.std.specs.List.{list_all};
 ghost use Rattle.grb_market.specs.Numbers.{is_digit, is_blank, Number, number_of, numbers_of, begins_blank};
 ghost use Rattle.grb_market.specs.Front.{begins_digit, behind, before, has_number, IsNumberFront, IsBlankFront, IsNumberBefore, IsNumberLine};
 
+/// Whether the byte parts two words of a line.
 fn is_blank(b: u8) -> bool
     ensures { result ≡ is_blank b }
 {
@@ -58,7 +59,7 @@ fn first_digits(text: &[u8]) -> (usize, u64)
     (count, number)
 }
 
-/// The number that stands first, and the text behind its digits. A number above 2^64 - 1 is `None`.
+/// The number that stands first, and the text after its digits. A number above 2^64 - 1 is `None`.
 fn front_number(text: &[u8]) -> Option<(Option<u64>, &[u8])>
     ensures some { IfSome result (λ p. IsNumberFront text.now p.0 p.1.now) }
     ensures none { IfNone result (begins_digit text.now ≡ false) }
@@ -75,7 +76,7 @@ fn front_number(text: &[u8]) -> Option<(Option<u64>, &[u8])>
     Some((number, &text[end..]))
 }
 
-/// The number of at most 19 digits that stands first, where this byte is behind it, and the text behind that byte.
+/// The number of at most 19 digits that stands first, where this byte is after it, and the text after that byte.
 fn number_before(text: &[u8], mark: u8) -> Option<(u64, &[u8])>
     ensures { IfSome result (λ p. IsNumberBefore text.now mark p.0 p.1.now) }
 {
@@ -86,7 +87,7 @@ fn number_before(text: &[u8], mark: u8) -> Option<(u64, &[u8])>
     Some((number, &text[end + 1..]))
 }
 
-/// The two numbers of a first line that has these with one space between them, each of at most 19 digits, and the text behind it.
+/// The two numbers of a first line that has these with one space between them, each of at most 19 digits, and the text after it.
 pub(crate) fn two_plain(text: &[u8]) -> Option<(u64, u64, &[u8])>
     ensures { IfSome result (λ p. IsNumberLine text.now (Some p.0 ∷ Some p.1 ∷ []) p.2.now) }
 {
@@ -105,14 +106,14 @@ pub(crate) fn three_plain(text: &[u8]) -> Option<(u64, u64, u64, &[u8])>
     Some((i, j, value, rest))
 }
 
-/// The text behind the blanks that stand first.
+/// The text after the blanks that stand first.
 fn behind_blanks(text: &[u8]) -> &[u8]
     ensures { IsBlankFront text.now result.now }
 {
     &text[blanks(text)..]
 }
 
-/// The first number of a line, and the text behind it.
+/// The first number of a line, and the text after it.
 fn first_number(line: &[u8]) -> Option<(Option<u64>, &[u8])>
     ensures some { IfSome result (λ p. numbers_of line.now ≡ before p.0 (behind p.1.now)) }
     ensures none { IfNone result (has_number (numbers_of line.now) ≡ false) }
@@ -121,7 +122,7 @@ fn first_number(line: &[u8]) -> Option<(Option<u64>, &[u8])>
     Some((number, rest))
 }
 
-/// The next number behind a number, and the text behind it.
+/// The next number after a number, and the text after it.
 fn next_number(text: &[u8]) -> Option<(Option<u64>, &[u8])>
     ensures some { IfSome result (λ p. behind text.now ≡ before p.0 (behind p.1.now)) }
     ensures none { IfNone result (has_number (behind text.now) ≡ false) }
@@ -130,7 +131,7 @@ fn next_number(text: &[u8]) -> Option<(Option<u64>, &[u8])>
     Some((number, rest))
 }
 
-/// The first two numbers of a line, and the text behind them.
+/// The first two numbers of a line, and the text after them.
 fn two_first(line: &[u8]) -> Option<(Option<u64>, Option<u64>, &[u8])>
     ensures some { IfSome result (λ p. numbers_of line.now ≡ before p.0 (before p.1 (behind p.2.now))) }
     ensures none { IfNone result ((i j : Number) (ns : List Number) → numbers_of line.now ≢ Some (i ∷ j ∷ ns)) }

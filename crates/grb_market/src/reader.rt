@@ -26,6 +26,7 @@ use crate::sides::whole;
 use grb_core::Value;
 use std::alloc::{AllocError, Global};
 
+/// The error of a fault on the line of this number.
 fn fault(line: u64, kind: FaultKind) -> ReadError
     ensures { result ≡ read.Fault (fault_at line kind) }
 {
@@ -45,7 +46,7 @@ fn read_size_line(number: u64, head: Head, line: &[u8]) -> Result<Size, ReadErro
     }
 }
 
-/// The size that stands behind the comments, the number of the line behind it, and the text from there.
+/// The size that stands after the comments, the number of the line after it, and the text from there.
 fn read_size<'a>(
     text: &'a [u8],
     head: Head,
@@ -76,8 +77,8 @@ fn read_size<'a>(
     Err(fault(number, FaultKind::SizeLine))
 }
 
-/// The entries of the lines behind the size line, in the order of their lines, up to the first line that is wrong by itself, what is
-/// wrong with it, and whether the entries rise.
+/// The entries of the lines after the size line, in the order of their lines, up to the first line that is wrong by itself, what is wrong
+/// with it, and whether the entries rise. `AllocError` where memory is refused to the list of entries; then it is dropped.
 fn gather(
     alloc: Global,
     head: Head,
@@ -112,6 +113,7 @@ fn gather(
 }
 
 /// The number of the first line whose place an earlier one has. The lines are read again, since what was read of them was put in order.
+/// `AllocError` where memory is refused to the second reading.
 fn repeated_line(
     alloc: Global,
     text: &[u8],
@@ -130,7 +132,8 @@ fn repeated_line(
     Ok(first + count as u64)
 }
 
-/// The entries of the lines behind the size line, as they are stored.
+/// The entries of the lines after the size line, as they are stored. `OutOfMemory` where memory is refused to their list or its order; then
+/// it is dropped.
 fn read_entries(
     alloc: Global,
     text: &[u8],
@@ -156,7 +159,7 @@ fn read_entries(
     }
 }
 
-/// The entries of the whole matrix, in rising order.
+/// The entries of the whole matrix, in rising order. `AllocError` where memory is refused; then the entries of `lower` are dropped.
 fn written_out(
     alloc: Global,
     head: Head,

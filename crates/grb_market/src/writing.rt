@@ -16,6 +16,7 @@ use std::alloc::{AllocError, Global};
 /// So many bytes are put into the sink at once, and a line more at most.
 const PIECE: usize = 65_536;
 
+/// Whether the value is `false`; no number is.
 fn is_false(value: Value) -> bool
     ensures { result ≡ is_false value }
 {
@@ -48,7 +49,7 @@ fn first_line(domain: Domain) -> &'static str
     }
 }
 
-/// The first line and the size line.
+/// The first line and the size line. `AllocError` where memory is refused; then nothing is made.
 fn head_text(alloc: Global, matrix: &SparseMatrix) -> Result<String, AllocError>
     ensures { IfOk result (λ text. string_bytes text ≡ line_text (first_line matrix.now.matrix.domain) ++ line_text (size_text matrix.now.matrix)) }
 {
@@ -60,7 +61,8 @@ fn head_text(alloc: Global, matrix: &SparseMatrix) -> Result<String, AllocError>
     Ok(text)
 }
 
-/// Appends the line of an entry, which counts rows and columns from 1.
+/// Appends the line of an entry, which counts rows and columns from 1. `AllocError` where memory is refused; then a beginning of the line
+/// may stand in the text.
 fn push_entry(text: &mut String, place: (u64, u64), value: Value) -> Result<(), AllocError>
     requires row { place.0 < 2 ^ 32 }
     requires column { place.1 < 2 ^ 32 }
@@ -88,7 +90,8 @@ fn put_piece<W: Sink>(text: &mut String, sink: &mut W) -> Result<(), SinkFault>
     Ok(())
 }
 
-/// Puts this text and a line for each entry.
+/// Puts this text and a line for each entry. `OutOfMemory` where memory is refused to the text of a line; then a beginning of the lines is
+/// put.
 fn write_entries<W: Sink>(
     text: String,
     entries: Entries<'_>,

@@ -32,7 +32,7 @@ fn without(word: u64, t: usize) -> u64
     word & !(1 << t)
 }
 
-/// Writes the sums at the set bits of a word, by rising place, behind the first `k` entries of a result, and puts the identity in place of
+/// Writes the sums at the set bits of a word, by rising place, after the first `k` entries of a result, and puts the identity in place of
 /// each. Bit `t` stands for the place `base + t`, and each sum goes to the column that is its place's name. Answers how many entries there
 /// are then.
 fn take_word<T: Scalar, M: MonoidOver<T>>(
@@ -100,8 +100,8 @@ pub(crate) fn take_words<T: Scalar, M: MonoidOver<T>>(
     k
 }
 
-/// Writes and clears as `take_words` does, and looks at no word but those that are listed, among which is each that has a bit. Sorts the list,
-/// and passes over a number that it has a second time.
+/// Writes and clears as `take_words` does, and looks at no word but those that are listed, among which is each that has a bit. Sorts the
+/// list, and passes over a number that it has a second time.
 pub(crate) fn take_listed<T: Scalar, M: MonoidOver<T>>(
     words: &mut [u64],
     listed: &mut [usize],
@@ -140,8 +140,8 @@ pub(crate) fn take_listed<T: Scalar, M: MonoidOver<T>>(
     k
 }
 
-/// Sets the bit of a place: each list of marks that the words have is marked there. A word that had no bit is put behind the first `count` of
-/// `touched`, if there is room. Answers how many there are then.
+/// Sets the bit of a place: each list of marks that the words have is marked there. A word that had no bit is put after the first `count`
+/// of `touched`, if there is room. Answers how many there are then.
 pub(crate) fn mark(words: &mut [u64], touched: &mut [usize], count: usize, at: usize) -> usize
     requires in_range { at < 64 * length words.old }
     requires listed { AreTouched words.old touched.old count }

@@ -22,8 +22,8 @@ use grb_ewise::Stored;
 use grb_kernels::Operator;
 use grb_products::MonoidOver;
 
-/// Adds a row, times `x`, to the sums: at a place there is a sum where its bit of `words` is set, and elsewhere the identity. The first `count`
-/// of `touched` list the words that have a bit, unless they fill it. Answers how many there are then.
+/// Adds a row, times `x`, to the sums: at a place there is a sum where its bit of `words` is set, and elsewhere the identity. The first
+/// `count` of `touched` list the words that have a bit, unless they fill it. Answers how many there are then.
 fn add_row<T: Stored, M: MonoidOver<T>, O: Operator<T>>(
     x: T,
     places: &[u32],

@@ -46,8 +46,9 @@ fn row_numbered<'a, T: Stored>(
     }
 }
 
-/// The product of two matrices at the cells that a mask selects, with memory to work in. Takes memory for the result. It reads the rows
-/// of the mask, and of the first matrix those alone in which the mask stores something.
+/// The product of two matrices at the cells that a mask selects, with memory to work in. Takes memory for the result. It reads the rows of
+/// the mask, and of the first matrix those alone in which the mask stores something. `AllocError` where that is refused; what the work
+/// arrays hold then, no clause says.
 pub(crate) fn multiply_masked_rows<T: Stored + Drop, M: MonoidOver<T>, O: Operator<T>>(
     alloc: Global,
     a: &MatrixRows<T>,

@@ -35,7 +35,8 @@ pub(crate) struct MaskedFactors<'a, T: Scalar> {
 
 impl<'a, T: Stored + Drop> MaskedFactors<'a, T> {
     /// The product, where the columns of the second and of the mask have these ranks, by this table of the rows of the first, with no place
-    /// allowed and none marked. Takes memory for the sums, some places for each name.
+    /// allowed and none marked. Takes memory for the sums, some places for each name. `AllocError` where that is refused; what `allowed`
+    /// and `marks` hold then, no clause says.
     fn multiply_marked<M: MonoidOver<T>, O: Operator<T>>(
         &self,
         table: &[u32],
@@ -71,7 +72,7 @@ impl<'a, T: Stored + Drop> MaskedFactors<'a, T> {
     }
 
     /// The product, where the columns of the second and of the mask have these ranks. Takes memory to work in, some places for each name,
-    /// and for a table of the rows of the first.
+    /// and for a table of the rows of the first. `AllocError` where that is refused; then nothing is made.
     fn multiply_ranked<M: MonoidOver<T>, O: Operator<T>>(
         &self,
         b: &RankedRows<T>,
@@ -95,7 +96,8 @@ impl<'a, T: Stored + Drop> MaskedFactors<'a, T> {
         )
     }
 
-    /// The same by these ranks and names, and this table of the rows of the second.
+    /// The same by these ranks and names, and this table of the rows of the second. `AllocError` where memory is refused; then nothing is
+    /// made.
     fn multiply_by_names<M: MonoidOver<T>, O: Operator<T>>(
         &self,
         mask_ranks: &[u32],
@@ -127,7 +129,7 @@ impl<'a, T: Stored + Drop> MaskedFactors<'a, T> {
         self.multiply_ranked::<M, O>(&ranked, &rows)
     }
 
-    /// The product, where each column is its own rank.
+    /// The product, where each column is its own rank. `AllocError` where memory is refused; then nothing is made.
     fn multiply_own_columns<M: MonoidOver<T>, O: Operator<T>>(
         &self,
         table: &[u32],
@@ -141,7 +143,8 @@ impl<'a, T: Stored + Drop> MaskedFactors<'a, T> {
         self.multiply_by_names::<M, O>(mask_columns, columns, names.as_slice(), table)
     }
 
-    /// The product, where the columns in which the second or the mask stores something have ranks.
+    /// The product, where the columns in which the second or the mask stores something have ranks. `AllocError` where memory is refused;
+    /// then nothing is made.
     fn multiply_ranked_columns<M: MonoidOver<T>, O: Operator<T>>(
         &self,
         table: &[u32],
@@ -169,7 +172,8 @@ impl<'a, T: Stored + Drop> BySemiring<T> for MaskedFactors<'a, T> {
 
     ghost Gives = { λ f semiring result. IfOk result (λ made. AreRows T.value made.rows.items made.starts.items made.columns.items made.values.items (selected_product semiring f.structure (Some (decoded f.mask.now.entries)) (decoded f.factors.a.lists.now.entries) (decoded f.factors.b.lists.now.entries))) };
 
-    /// The product. The columns of the second and of the mask are their own ranks, or have ranks, as those of `Factors`.
+    /// The product. The columns of the second and of the mask are their own ranks, or have ranks, as those of `Factors`. `AllocError` where
+    /// memory is refused; then nothing is made.
     fn by<M: MonoidOver<T>, O: Operator<T>>(self) -> Result<MadeRows<T>, AllocError> {
         let entries = self.factors.a.lists.len() + self.factors.b.lists.len();
         let table = table_of(self.factors.alloc, self.factors.b.lists.rows(), entries)?;

@@ -26,6 +26,7 @@ use grb_sparse::SparseMatrix;
 use std::alloc::{AllocError, Global};
 
 /// The product of two matrices whose values are of one Rust type, at the cells that a mask selects; at all cells, where there is no mask.
+/// `AllocError` where memory is refused; then nothing is made.
 fn multiply_by<T: Stored + Folded + Drop>(
     alloc: Global,
     semiring: Semiring,
@@ -66,7 +67,8 @@ fn keep_rows<T: Stored>(alloc: Global, nrows: u64, ncols: u64, made: MadeRows<T>
     SparseMatrix::from_lists(alloc, nrows, ncols, lists)
 }
 
-/// The product of two matrices at the cells that a mask selects, as a matrix; at all cells, where there is no mask.
+/// The product of two matrices at the cells that a mask selects, as a matrix; at all cells, where there is no mask. `AllocError` where
+/// memory is refused; then nothing is made.
 fn product(
     alloc: Global,
     semiring: Semiring,
@@ -114,7 +116,7 @@ fn product(
 }
 
 /// The product of two matrices as far as the mask asks for it: at the cells that it selects, or at all, where there is none or its
-/// complement is meant.
+/// complement is meant. `AllocError` where memory is refused; then nothing is made.
 fn wanted_product(
     alloc: Global,
     mask: Option<&SparseMatrix>,
@@ -149,7 +151,8 @@ fn wanted_product(
     }
 }
 
-/// The same with the first matrix transposed, where the descriptor says so. Where it does not, nothing is copied.
+/// The same with the first matrix transposed, where the descriptor says so. Where it does not, nothing is copied. `AllocError` where memory
+/// is refused; then nothing is made.
 fn turned_product(
     alloc: Global,
     mask: Option<&SparseMatrix>,
@@ -175,13 +178,20 @@ fn turned_product(
     wanted_product(alloc, mask, semiring, a, b, descriptor)
 }
 
-/// The product of two matrices: at each row of `a` and each column of `b` the fold, by the semiring's monoid, of what its operator makes
-/// of both values where both are stored, and nothing where there is no such place; written into `output` by the accumulator, the mask
-/// and the descriptor. `AllocError` where memory is refused.
+/// The product of two matrices: at each row of `a` and each column of `b` the fold, by the semiring's monoid, of what its operator makes of
+/// both values where both are stored, and nothing where there is no such place; written into `output` by the accumulator, the mask and the
+/// descriptor. `AllocError` where memory is refused; then nothing is made, and `output` is as before.
+///
+/// - `output`: the old output, which is read.
+/// - `mask`: which cells may be written, read as `descriptor` says; `None` for all, or with `comp` for none.
+/// - `accum`: combines the old value and the computed one where both are there; `None` for the computed one alone.
+/// - `semiring`: its operator multiplies, its monoid adds up the products.
+/// - `a`, `b`: the first and the second input; the value of `a` comes first in a product.
+/// - `descriptor`: how the mask is read, whether what lies outside of it is removed, and whether `a` is read transposed.
 ///
 /// All are of one domain, the mask aside; `b` has one row for each column of `a`, and the output and the mask have the rows of `a` and the
-/// columns of `b`. Where the descriptor says `tran`, `a` stands here for its transposed, which is made first, as `grb_ewise::transposed` does;
-/// else nothing is copied.
+/// columns of `b`. Where the descriptor says `tran`, `a` stands here for its transposed, which is made first, as `grb_ewise::transposed`
+/// does; else nothing is copied.
 ///
 /// A mask that is given and not complemented bounds the work: sums are made at the cells that it selects alone, for the
 /// rows in which it stores something, in time in proportion to the products that are looked at and to the mask's entries. Else time is in

@@ -51,7 +51,8 @@ fn fill_table(rows: &[u32], table: &mut [u32])
     }
 }
 
-/// A table of the rows' places, or an empty one, where it would be longer than 8 times the entries.
+/// A table of the rows' places, or an empty one, where it would be longer than 8 times the entries. `AllocError` where memory is refused;
+/// then nothing is made.
 pub(crate) fn table_of(alloc: Global, rows: &[u32], entries: usize) -> Result<Vec<u32>, AllocError>
     requires rising { Rise rows.now }
     ensures tabled { IfOk result (λ table. 0 < length table.items → IsTable rows.now table.items) }

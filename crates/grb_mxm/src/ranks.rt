@@ -13,7 +13,7 @@ fn fill_numbers(names: &mut [u32])
     }
 }
 
-/// The numbers below `count`.
+/// The numbers below `count`. `AllocError` where memory is refused; then nothing is made.
 pub(crate) fn numbers_below(alloc: Global, count: u32) -> Result<Vec<u32>, AllocError>
     ensures long { IfOk result (λ names. length names.items ≡ count) }
     ensures each { IfOk result (λ names. (p : ℕ) → p < count → slice_index names.items p ≡ p) }

@@ -13,7 +13,8 @@ pub(crate) struct RowRoom<T> {
     pub(crate) values: Vec<T>,
 }
 
-/// Memory for rows of this many places, with any values in the places of the sums.
+/// Memory for rows of this many places, with any values in the places of the sums. `AllocError` where memory is refused; then nothing is
+/// made.
 pub(crate) fn row_room<T: Stored + Drop>(
     alloc: Global,
     count: usize,

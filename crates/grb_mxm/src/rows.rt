@@ -13,8 +13,8 @@ use grb_kernels::Operator;
 use grb_products::{MatrixRows, MonoidOver};
 use std::alloc::{AllocError, Global};
 
-/// Memory is reserved for at most so many entries of the product for each entry of both matrices. Where the product has more, its lists grow
-/// as they are written.
+/// Memory is reserved for at most so many entries of the product for each entry of both matrices. Where the product has more, its lists
+/// grow as they are written.
 const RESERVED_FOR_ONE_ENTRY: usize = 8;
 
 /// The rows that have entries, where each of them begins, and the column and the value of each entry.
@@ -26,7 +26,8 @@ pub(crate) struct MadeRows<T> {
     pub(crate) values: Vec<T>,
 }
 
-/// Puts a row behind those so far, where it has entries.
+/// Puts a row after those so far, where it has entries. `AllocError` where memory is refused; then a part of the row may stand in the
+/// lists.
 pub(crate) fn push_row<T: Stored>(
     rows: &mut Vec<u32>,
     starts: &mut Vec<usize>,
@@ -78,7 +79,8 @@ fn list_with_room<U>(alloc: Global, room: usize) -> Vec<U>
     list
 }
 
-/// The product of two matrices, with memory to work in. Takes memory for the result.
+/// The product of two matrices, with memory to work in. Takes memory for the result. `AllocError` where that is refused; what the work
+/// arrays hold then, no clause says.
 pub(crate) fn multiply_rows<T: Stored + Drop, M: MonoidOver<T>, O: Operator<T>>(
     alloc: Global,
     a: &MatrixRows<T>,

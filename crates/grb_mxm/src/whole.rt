@@ -30,7 +30,8 @@ pub(crate) struct Factors<'a, T: Scalar> {
 }
 
 impl<'a, T: Stored + Drop> Factors<'a, T> {
-    /// The product, where the columns of the second have these ranks. Takes memory to work in, some places for each name.
+    /// The product, where the columns of the second have these ranks. Takes memory to work in, some places for each name. `AllocError`
+    /// where that is refused; then nothing is made.
     fn multiply_ranked<M: MonoidOver<T>, O: Operator<T>>(
         &self,
         b: &RankedRows<T>,
@@ -55,7 +56,8 @@ impl<'a, T: Stored + Drop> Factors<'a, T> {
         )
     }
 
-    /// The product, where the columns of the second have these ranks by these names, and its rows this table.
+    /// The product, where the columns of the second have these ranks by these names, and its rows this table. `AllocError` where memory is
+    /// refused; then nothing is made.
     fn multiply_by_names<M: MonoidOver<T>, O: Operator<T>>(
         &self,
         ranks: &[u32],
@@ -78,7 +80,7 @@ impl<'a, T: Stored + Drop> Factors<'a, T> {
         self.multiply_ranked::<M, O>(&ranked)
     }
 
-    /// The product, where each column of the second is its own rank.
+    /// The product, where each column of the second is its own rank. `AllocError` where memory is refused; then nothing is made.
     fn multiply_own_columns<M: MonoidOver<T>, O: Operator<T>>(
         &self,
         table: &[u32],
@@ -91,7 +93,8 @@ impl<'a, T: Stored + Drop> Factors<'a, T> {
         self.multiply_by_names::<M, O>(columns, names.as_slice(), table)
     }
 
-    /// The product, where the columns of the second that store something have ranks.
+    /// The product, where the columns of the second that store something have ranks. `AllocError` where memory is refused; then nothing is
+    /// made.
     fn multiply_ranked_columns<M: MonoidOver<T>, O: Operator<T>>(
         &self,
         table: &[u32],
@@ -111,8 +114,8 @@ impl<'a, T: Stored + Drop> BySemiring<T> for Factors<'a, T> {
 
     ghost Gives = { λ f semiring result. IfOk result (λ made. AreRows T.value made.rows.items made.starts.items made.columns.items made.values.items (mxm_of semiring (decoded f.a.lists.now.entries) (decoded f.b.lists.now.entries))) };
 
-    /// The product. Where the columns are not many more than the entries, each is its own rank; else those that store something have
-    /// ranks.
+    /// The product. Where the columns are not many more than the entries, each is its own rank; else those that store something have ranks.
+    /// `AllocError` where memory is refused; then nothing is made.
     fn by<M: MonoidOver<T>, O: Operator<T>>(self) -> Result<MadeRows<T>, AllocError> {
         let entries = self.a.lists.len() + self.b.lists.len();
         let table = table_of(self.alloc, self.b.lists.rows(), entries)?;

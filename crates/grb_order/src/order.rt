@@ -32,7 +32,8 @@ impl Model for Order {
 
 type Row = Shared<(), Standing, Size, Rule>;
 
-// Cuts a place for each pass off the dealer, each with room for all words of the row.
+/// Cuts a place for each pass off the dealer, each with room for all words of the row. `AllocError` where memory is refused; then all
+/// places are dropped.
 fn deal(alloc: Global, row: &Row, mut dealer: Seat, size: Size) -> Result<Vec<Place>, AllocError>
     requires row { (row.now.key ≡ size) × (row.now.table_id.words ≡ size.room) × (0 < size.room) }
     requires dealer { (dealer.table_id ≡ row.now.table_id) × (dealer.me ≡ (dealing 0 size.passes, [])) }
@@ -58,8 +59,8 @@ impl Order {
     ghost use Rattle.grb_order.specs.Order.{room_of};
 
     /// An order with `room` vacant words, from 1 to `MOST_ROOM`, and a place for each of `passes` passes, from 1 to `MOST_PASSES`, where
-    /// `room` times `passes` is at most `MOST_SEATS`: the one at index k has the number k and has learnt no word. All memory is taken
-    /// here, the room for each place's words too. `AllocError` where it is refused.
+    /// `room` times `passes` is at most `MOST_SEATS`: the one at index k has the number k and has learnt no word. All memory is taken here,
+    /// the room for each place's words too. `AllocError` where it is refused; then nothing is made.
     pub fn open(alloc: Global, room: u32, passes: u32) -> Result<(Order, Vec<Place>), AllocError>
         requires room { (0 < room) × (room ≤ MOST_ROOM) }
         requires passes { (0 < passes) × (passes ≤ MOST_PASSES) }

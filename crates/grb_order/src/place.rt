@@ -6,6 +6,7 @@ ghost use Rattle.grb_order.specs.Order.{room_of};
 use crate::standing::Standing;
 use std::marker::Model;
 
+/// What the table of the order keeps for one place: no other place can make a step by it.
 pub type Seat = atomic_table::Seat<(), Standing>;
 
 /// One pass's seat at an order, by one thread at a time: from it the order is read and filled.

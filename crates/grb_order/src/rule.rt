@@ -1,7 +1,7 @@
 //! The rule that the table of the order keeps, and the moves that the rule allows.
-
-// The rule of the row, which holds between any two steps of any threads, and the steps that keep it. No value of these types but
-// `Size` is made.
+//!
+//! The rule of the row, which holds between any two steps of any threads, and the steps that keep it. No value of these types but
+//! `Size` is made.
 ghost use Rattle.std.specs.Prelude.{◌+◌};
 ghost use Rattle.grb_order.specs.Rule.{Orderly};
 ghost use Rattle.grb_order.specs.Steps.{dealing, dealt, noted, joined, spent, looked, tried, compared, heard};
@@ -9,13 +9,17 @@ ghost use Rattle.grb_order.specs.Steps.{dealing, dealt, noted, joined, spent, lo
 use crate::standing::Standing;
 use atomic_table::{Join, Play, Split, TableRule};
 
-// How many words the row has, and how many places there are.
+/// How many words the row has, and how many places there are.
 #[derive(Clone, Copy)]
 pub struct Size {
+    /// The number of words.
     pub room: u32,
+    /// The number of places.
     pub passes: u32,
 }
 
+/// The rule of the row, which holds between any two steps of any threads: the words that are not 0 begin the row, and what each place has
+/// learnt begins them.
 pub struct Rule;
 
 impl TableRule<(), Standing, Size> for Rule {
@@ -24,7 +28,7 @@ impl TableRule<(), Standing, Size> for Rule {
     ghost first = { λ size. dealing 0 size.passes };
 }
 
-// Cuts the next place off the dealer.
+/// Cuts the next place off the dealer.
 pub struct Deal;
 
 impl Split<Standing> for Deal {
@@ -33,7 +37,7 @@ impl Split<Standing> for Deal {
     ghost right = { dealt };
 }
 
-// Writes down what a place has learnt.
+/// Writes down what a place has learnt, as a note.
 pub struct Write;
 
 impl Split<Standing> for Write {
@@ -42,7 +46,7 @@ impl Split<Standing> for Write {
     ghost right = { noted };
 }
 
-// Takes a note in.
+/// Takes a note of another place in.
 pub struct Read;
 
 impl Join<Standing> for Read {
@@ -51,28 +55,28 @@ impl Join<Standing> for Read {
     ghost spent = { spent };
 }
 
-// A load of the first word that the place has not learnt.
+/// A load of the first word that the place has not learnt.
 pub struct Looking;
 
 impl Play<(), Standing> for Looking {
     ghost then = { looked };
 }
 
-// A compare-and-swap from 0 there.
+/// A compare-and-swap from 0 of the first word that the place has not learnt.
 pub struct Entering;
 
 impl Play<(), Standing> for Entering {
     ghost then = { tried };
 }
 
-// A load that finds of the words learnt and those of the note that the shorter list begins the longer.
+/// A load of the first word: of what the place has learnt and what the note has, the shorter begins the longer.
 pub struct Comparing;
 
 impl Play<(), Standing> for Comparing {
     ghost then = { compared };
 }
 
-// A load of a word that the note has.
+/// A load of a word that the note has.
 pub struct Hearing;
 
 impl Play<(), Standing> for Hearing {

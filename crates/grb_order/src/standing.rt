@@ -1,27 +1,31 @@
 //! How a pass stands with the order: what it has entered and what it has seen.
-
-// What the rule of the row knows of each seat. No value of these types is made.
+//!
+//! What the rule of the row knows of each seat. No value of these types is made.
 ghost use Rattle.std.specs.Prelude.{ℕ, List};
 ghost use Rattle.std.specs.Borrow.{ftrue};
 
 use crate::view::View;
 use std::marker::Model;
 
+/// What a seat is for.
 pub enum Role {
-    // It deals the places out. Its number is that of the next one.
+    /// It deals the places out. Its number is that of the next one.
     Dealer,
+    /// It is a place of a pass.
     Placed,
-    // It carries the words that a place has learnt to another place.
+    /// It carries the words that a place has learnt to another place.
     Note,
-    // A note that was taken in.
+    /// A note that was taken in.
     Spent,
 }
 
-// What the rule knows of each seat.
+/// What the rule knows of each seat.
 pub struct Standing {
+    /// What it is for.
     pub role: Role,
+    /// What it has entered and seen.
     pub view: View,
-    // The words of the last note that it took in.
+    /// The words of the last note that it took in.
     pub ghost told: { List ℕ },
 }
 

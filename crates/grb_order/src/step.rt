@@ -1,4 +1,18 @@
 //! Looking at the order and entering a call into it: a counted number of steps, whatever other passes do.
+//!
+//! The order is a row of atomic words, of which 0 is vacant. A place keeps the words that it has learnt, which begin the row, and each step
+//! is made at the first word after these. Both kinds of step are sequentially consistent.
+//!
+//! 1. `look` loads that word. Another than 0 was entered by another place, and is learnt. 0 is the end: at this step the order had no word
+//!    but those learnt. Where all words of the row are learnt, none is loaded.
+//! 2. `enter` is made only where the last look of the place found 0 there. It compares the word with 0 and, where it is 0 still, writes the
+//!    own word in its place, in one step. Else nothing is written, and the word that it found is learnt.
+//! 3. `tell` takes a note of the other place's seat, and compares what both have learnt by loads of the first word; then it loads each word
+//!    that the other has learnt and the place has not.
+//!
+//! A word is written once and never changes, so none is loaded again to see whether it is still there. No step waits: `look` and `enter`
+//! make one at most, and `tell` one for each word that it learns. An exchange that fails has found a word of another place, which is
+//! learnt; so a place loses no more tries than the row has words. What any step of any place keeps is the rule of `specs/Rule.antt`.
 ghost use Rattle.std.specs.Prelude.{◌≡◌, ◌^◌, ◌<◌, All, drop, length};
 ghost use Rattle.grb_order.specs.Word.{StartsWith};
 ghost use Rattle.grb_order.specs.View.{is_told, IsOthers, IsSound, LookedLast};

@@ -3,20 +3,21 @@
 use Rattle.std.specs.Prelude.{ℕ, Bool, true, false, if◌then◌else◌, Result, Ok, Err}
 use Rattle.grb_core.specs.declared.refusal.Refusal.{Refusal}
 use Rattle.grb_call.specs.declared.call.Call.{Call}
-use Rattle.grb_call.specs.declared.call.Call.TheVariants as call
-use Rattle.grb_call.specs.declared.descriptor.WaitMode.{WaitMode}
-use Rattle.grb_call.specs.declared.descriptor.WaitMode.TheVariants.{Complete, Materialize}
+use Rattle.grb_call.specs.declared.class.Class.{Class}
+use Rattle.grb_call.specs.declared.class.Class.TheVariants.{Reads}
+use Rattle.grb_call.specs.declared.class.Extent.TheVariants as extent
 use Rattle.grb_call.specs.declared.reply.Reply.{Reply}
+use Rattle.grb_call.specs.Kinds.{class_of}
 
-abbrev pub is_for_all : WaitMode → Bool
-is_for_all Complete = false
-is_for_all Materialize = true
+-- whether a call of this class is about all objects
+abbrev pub reads_all : Class → Bool
+reads_all (Reads extent.Object) = false
+reads_all (Reads extent.All) = true
+reads_all _ = false
 
 -- whether the call waits for all objects
 abbrev pub is_materialize : Call → Bool
-is_materialize (call.WaitMatrix a mode) = is_for_all mode
-is_materialize (call.WaitVector v mode) = is_for_all mode
-is_materialize _ = false
+is_materialize c = reads_all (class_of c)
 
 -- how many calls are settled after a call with this answer, where so many are known after it, and so many were settled before
 abbrev pub settled_after : Call → Result Reply Refusal → ℕ → ℕ → ℕ

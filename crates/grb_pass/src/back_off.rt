@@ -49,6 +49,7 @@ impl BackOff {
         }
     }
 
+    /// Spins for the turns of the wait, and doubles them up to the most.
     #[inline(never)]
     fn hold_back(&mut self)
         ensures { self.new ≡ wait_after true self.old }

@@ -1,4 +1,22 @@
 //! Calls that change an object: checked, kept in a record, and entered into the order.
+//!
+//! A call is entered in this order:
+//!
+//! 1. The order is learnt to its end: each word after those known is loaded, and its record is read, up to a load that finds 0. A word
+//!    whose record is not shown is answered by `Panic`, and the next call reads it again.
+//! 2. The call is checked against the shapes that all known calls leave, a build also by how many entries its object stores; then comes
+//!    `OrderFull`. So far nothing was written.
+//! 3. The call is written into the next cell of the pass's own row of records, where no other pass writes. That is all that takes memory,
+//!    the evaluation for a build aside.
+//! 4. The word that names this record is compared and exchanged with the 0 that step 1 found. Where it is written, the call is entered in
+//!    that step, after just the calls that it was checked against, and nothing can be refused any more.
+//! 5. Where another word is found, the try is lost: that word is learnt, the pass idles for a bounded number of turns, and steps 1 and 2
+//!    are made again, and step 4 with the same record.
+//! 6. The answer is kept as the status of the call's object.
+//!
+//! A record is written before its word, so who finds a word asks for a record that was put. No call waits for another thread: cells are set
+//! once and read without a lock, and each lost try is a word of another call that is then known. So the room of the order bounds the loop,
+//! and the steps of a call are bounded by the calls that came in meanwhile.
 ghost use Rattle.std.specs.Prelude.{◌≡◌, ◌+◌, ◌<◌, ◌≤◌, ◌^◌, length, true, false, OnOk, IfErr};
 ghost use Rattle.grb_order.specs.Order.{room_of};
 ghost use Rattle.grb_records.specs.Token.{IsOf};
@@ -20,7 +38,7 @@ use grb_records::Token;
 
 impl Shared {
     /// Learns the order to its end, and checks there a call that enters. Takes memory for a build alone, whose object is evaluated, and
-    /// does not wait.
+    /// does not wait. `OutOfMemory` where that is refused; then the pass has learnt what it learnt.
     #[inline(always)]
     fn ready(&self, pass: &mut Pass, call: &Call) -> Result<(), Refusal>
         requires pass { IsPassOf self.now pass.old }
@@ -45,7 +63,8 @@ impl Shared {
     }
 
     /// Enters the record of a token, whose call is not refused after all that the pass knows. After a lost try the call is checked again,
-    /// with the words learnt since.
+    /// with the words learnt since. `OutOfMemory` of a build alone, where memory is refused to the evaluation of its object; then its
+    /// record is spent, and nothing is entered.
     #[inline(always)]
     pub(crate) fn enter_token(&self, pass: &mut Pass, token: Token) -> Result<Reply, Refusal>
         requires pass { IsPassOf self.now pass.old }
@@ -78,7 +97,8 @@ impl Shared {
         }
     }
 
-    /// Puts the record of a call and enters it.
+    /// Puts the record of a call and enters it. `OutOfMemory` where memory is refused to the record, or to the evaluation of a build's
+    /// object; then nothing is entered.
     #[inline(always)]
     fn enter_record(&self, pass: &mut Pass, call: Call) -> Result<Reply, Refusal>
         requires pass { IsPassOf self.now pass.old }
@@ -98,7 +118,8 @@ impl Shared {
         self.enter_token(pass, token)
     }
 
-    /// Puts the record of a copy of a call and enters it. The copy is made once the call is found not to be refused.
+    /// Puts the record of a copy of a call and enters it. The copy is made once the call is found not to be refused. `OutOfMemory` as of
+    /// `enter_record`.
     fn enter_record_of_copy(&self, pass: &mut Pass, call: &Call) -> Result<Reply, Refusal>
         requires pass { IsPassOf self.now pass.old }
         requires enters { enters call.now ≡ true }
@@ -121,7 +142,7 @@ impl Shared {
     }
 
     /// Enters a call that changes the store, after all that were entered before it. Takes memory for its record, and for a build for the
-    /// evaluation of its object, and does not wait.
+    /// evaluation of its object, and does not wait. `OutOfMemory` where that is refused; then nothing is entered.
     #[inline(always)]
     pub fn enter(&self, pass: &mut Pass, call: Call) -> Result<Reply, Refusal>
         requires pass { IsPassOf self.now pass.old }
@@ -137,7 +158,7 @@ impl Shared {
     }
 
     /// Enters a copy of a call that changes the store, as `enter` does, and does not wait. The copy takes no memory: it shares the list of
-    /// a build.
+    /// a build. `OutOfMemory` as of `enter`.
     pub fn enter_copy(&self, pass: &mut Pass, call: &Call) -> Result<Reply, Refusal>
         requires pass { IsPassOf self.now pass.old }
         requires enters { enters call.now ≡ true }

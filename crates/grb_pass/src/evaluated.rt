@@ -21,26 +21,27 @@ mod making;
 mod succeeding;
 
 use crate::reader::Reader;
-use grb_call::{Call, Reply, WaitMode};
+use grb_call::{Call, Class, Extent, Reply};
 use grb_records::Records;
-use grb_replay::{Amount, Effort, PartialStores, Reached, Versions};
+use grb_replay::{Amount, Editions, Effort, PartialStores, Reached};
 use std::alloc::{AllocError, Global};
 use std::marker::Model;
 use std::sync::Arc;
 
 /// What a pass has evaluated of the calls that it knows: a store that has gone over the first of them; where it left calls out that no
-/// answer needed, the store that stayed behind before these; and, where not all calls were gone over, the objects that it read, each in a
-/// partial store. It goes on from the versions that passes share, and offers its store where all known calls were evaluated and are settled.
+/// answer needed, the base, which is the store before these; and, where not all calls were gone over, the objects that it read, each in a
+/// partial store. It goes on from the editions that passes share, and offers its store where all known calls were evaluated and are
+/// settled.
 #[derive(Drop)]
 pub(crate) struct Evaluated {
     alloc: Global,
     reached: Reached,
     base: Option<Reached>,
     objects: PartialStores,
-    versions: Arc<Versions>,
+    editions: Arc<Editions>,
     // Whether the context has no other pass.
     alone: bool,
-    // How many calls are known where it asks for a version next.
+    // How many calls are known where it asks for an edition next.
     next: usize,
     // How much work the calls were that were known when it last offered its store.
     offered: Amount,
@@ -60,12 +61,13 @@ impl Model for Evaluated {
 fn is_materialize(call: &Call) -> bool
     ensures { result ≡ is_materialize call.now }
 {
-    match call {
-        Call::WaitMatrix { mode, .. } | Call::WaitVector { mode, .. } => match mode {
-            WaitMode::Complete => false,
-            WaitMode::Materialize => true,
-        },
-        _ => false,
+    match call.class() {
+        Class::Reads(Extent::All) => true,
+        Class::Reads(Extent::Object)
+        | Class::Makes
+        | Class::Edits
+        | Class::Operates
+        | Class::AsksDimensions => false,
     }
 }
 
@@ -74,7 +76,7 @@ impl Evaluated {
     pub(crate) fn open(
         alloc: Global,
         room: u32,
-        versions: Arc<Versions>,
+        editions: Arc<Editions>,
         alone: bool,
     ) -> Result<Evaluated, AllocError>
         ensures store { IfOk result (λ e. e.reached.state.store ≡ empty_store) }
@@ -93,7 +95,7 @@ impl Evaluated {
             reached,
             base: None,
             objects,
-            versions,
+            editions,
             alone,
             next: 0,
             offered: Amount::none(),
@@ -140,7 +142,7 @@ impl Evaluated {
         reader.amount_beyond(self.reached.amount())
     }
 
-    /// Lets the store go that stayed behind, where it is not needed any more.
+    /// Drops the base, where it is not needed any more.
     fn let_base_go(&mut self)
         ensures reached { self.new.reached ≡ self.old.reached }
         ensures objects { self.new.objects ≡ self.old.objects }
@@ -160,8 +162,8 @@ impl Evaluated {
         self.base = None;
     }
 
-    /// Goes on from this store of another pass, where it has evaluated more calls; what that pass knows begins what this one knows. No entry
-    /// is copied. Where memory is refused, it stays as it is.
+    /// Goes on from this store of another pass, where it has evaluated more calls; what that pass knows begins what this one knows. No
+    /// entry is copied. Where memory is refused, it stays as it is.
     fn take(&mut self, reader: &Reader, theirs: &Reader, store: &Reached)
         requires evaluated { IsEvaluatedFor reader.now self.old }
         requires reached { IsReached (calls_of (known theirs.now)) store.now }
@@ -180,8 +182,8 @@ impl Evaluated {
         }
     }
 
-    /// Goes on from what another pass has evaluated, where it has evaluated more calls; what it knows begins what this one knows. No entry is
-    /// copied. Where memory is refused, it stays as it is.
+    /// Goes on from what another pass has evaluated, where it has evaluated more calls; what it knows begins what this one knows. No entry
+    /// is copied. Where memory is refused, it stays as it is.
     pub(crate) fn take_over(&mut self, reader: &Reader, theirs: &Reader, other: &Evaluated)
         requires evaluated { IsEvaluatedFor reader.now self.old }
         requires other { IsEvaluatedFor theirs.now other.now }
@@ -198,7 +200,7 @@ impl Evaluated {
         }
     }
 
-    /// Goes on with the store that stayed behind, if there is one, in place of one that lacks objects.
+    /// Goes back to the base, if there is one, in place of a store that lacks objects.
     fn go_back(&mut self, reader: &Reader)
         requires { IsEvaluatedFor reader.now self.old }
         ensures evaluated { IsEvaluatedFor reader.now self.new }
@@ -212,8 +214,9 @@ impl Evaluated {
         }
     }
 
-    /// Has the changes done that a reading call asks for, where all known calls are evaluated; where these are settled none wait. A call that
-    /// waits for all objects then offers the store to the other passes, and settles them. `AllocError` where memory is refused to any of it.
+    /// Has the changes done that a reading call asks for, where all known calls are evaluated; where these are settled none wait. A call
+    /// that waits for all objects then offers the store to the other passes, and settles them. `AllocError` where memory is refused to any
+    /// of it; no call is settled then, and changes that were done stay done.
     pub(crate) fn settle(
         &mut self,
         records: &Records,

@@ -44,9 +44,9 @@ impl Shared {
         Ok(())
     }
 
-    /// Lets the pass learn all that the other knows: one atomic load of each word that it had not learnt, and three of the first word, which
-    /// are not counted. `Panic` where a record is not shown; the words stay learnt, and the next call or meeting asks for it again. Nothing
-    /// that the other pass knows changes, whatever is answered. Takes no memory and does not wait.
+    /// Lets the pass learn all that the other knows: one atomic load of each word that it had not learnt, and three of the first word,
+    /// which are not counted. `Panic` where a record is not shown; the words stay learnt, and the next call or meeting asks for it again.
+    /// Nothing that the other pass knows changes, whatever is answered. Takes no memory and does not wait.
     pub fn meet(&self, pass: &mut Pass, other: &mut Pass) -> Result<(), Refusal>
         requires pass { IsPassOf self.now pass.old }
         requires other { IsPassOf self.now other.old }
@@ -74,8 +74,8 @@ impl Shared {
     }
 
     /// Evaluates what the pass knows where that is dear, so that passes that adopt it have no work of their own with that, and answers how
-    /// many of the calls that it knows are evaluated then. It learns nothing and changes no answer. Takes memory for the evaluation; where it
-    /// is refused, fewer are evaluated.
+    /// many of the calls that it knows are evaluated then. It learns nothing and changes no answer. Takes memory for the evaluation; where
+    /// it is refused, fewer are evaluated.
     pub fn prepare(&self, pass: &mut Pass) -> u32
         requires { IsPassOf self.now pass.old }
         ensures pass { IsPassOf self.now pass.new }

@@ -29,14 +29,13 @@ use crate::back_off::BackOff;
 use crate::evaluated::Evaluated;
 use crate::reader::Reader;
 use crate::row::RecordRow;
-use grb_call::{Call, Kind, MatrixId, Object, Reply, VectorId, WaitMode};
+use grb_call::{Call, Class, Extent, Kind, MatrixId, Object, Reply, VectorId};
 use grb_core::{Info, Refusal};
 use grb_order::{Order, Place};
 use grb_rebuild::{NoSuccessor, Rebuild, Renumbered};
 use grb_records::{Records, Token};
-use grb_replay::Versions;
+use grb_replay::{Editions, State};
 use grb_sparse::{SparseMatrix, SparseVector};
-use grb_state::State;
 use std::alloc::{AllocError, Global};
 use std::marker::Model;
 use std::sync::Arc;
@@ -81,22 +80,13 @@ fn object_read(call: &Call) -> Option<Object>
     ensures about { IfSome result (λ object. object_of call.now ≡ Some object) }
     ensures no_wait { IfSome result (λ object. is_materialize call.now ≡ false) }
 {
-    match call {
-        Call::GetMatrix { a, .. } | Call::NvalsMatrix { a } | Call::ReduceMatrix { a, .. } => {
-            Some(Object::Matrix(*a))
-        }
-        Call::GetVector { v, .. } | Call::NvalsVector { v } | Call::ReduceVector { v, .. } => {
-            Some(Object::Vector(*v))
-        }
-        Call::WaitMatrix { a, mode } => match mode {
-            WaitMode::Complete => Some(Object::Matrix(*a)),
-            WaitMode::Materialize => None,
-        },
-        Call::WaitVector { v, mode } => match mode {
-            WaitMode::Complete => Some(Object::Vector(*v)),
-            WaitMode::Materialize => None,
-        },
-        _ => None,
+    match call.class() {
+        Class::Reads(Extent::Object) => call.object(),
+        Class::Reads(Extent::All)
+        | Class::Makes
+        | Class::Edits
+        | Class::Operates
+        | Class::AsksDimensions => None,
     }
 }
 
@@ -107,7 +97,7 @@ impl Pass {
         number: u32,
         place: Place,
         room: u32,
-        versions: Arc<Versions>,
+        editions: Arc<Editions>,
         alone: bool,
     ) -> Result<Pass, AllocError>
         requires number { (number ≡ place.view.number) × (number < place.view.passes) }
@@ -116,7 +106,7 @@ impl Pass {
         ensures { IfOk result (λ pass. pass ≡ record { order = place.table_id; view = place.view; shown = []; steps = 0; statuses = no_rows (room_of place.table_id); settled = 0; made = 0 }) }
     {
         let reader = Reader::open(alloc, number, place, room)?;
-        let evaluated = Evaluated::open(alloc, room, versions, alone)?;
+        let evaluated = Evaluated::open(alloc, room, editions, alone)?;
         Ok(Pass {
             reader,
             evaluated,
@@ -139,7 +129,8 @@ impl Pass {
         self.reader.known()
     }
 
-    /// How many words of the order the pass has learnt. Those that it entered itself each name a further record of its row. Takes no memory.
+    /// How many words of the order the pass has learnt. Those that it entered itself each name a further record of its row. Takes no
+    /// memory.
     pub fn words(&self) -> u32
         ensures words { result ≡ length self.now.view.words }
         ensures own { (end : ℕ) × OwnBelow end self.now.view }
@@ -148,28 +139,28 @@ impl Pass {
     }
 
     /// How many atomic steps the pass's last call made on the order, or its last meeting with it as the first pass, if that came later; 0
-    /// before either. A call that learns d words, its own included, makes d + 1, and one more for each try that it loses, where each record is
-    /// shown; one less where it finds the order full or a record is not shown. A meeting that learns d words makes d. Takes no memory.
+    /// before either. A call that learns d words, its own included, makes d + 1, and one more for each try that it loses, where each record
+    /// is shown; one less where it finds the order full or a record is not shown. A meeting that learns d words makes d. Takes no memory.
     pub fn steps(&self) -> u32
         ensures { result ≡ self.now.steps }
     {
         self.reader.steps()
     }
 
-    /// How many calls of the history the pass's last call made to answer: each that it applied to its store, or to the partial stores of the
-    /// objects that it reads. A call that is made twice counts twice, and one that was refused memory counts; those that the pass has of
-    /// another's, as a version or by [`Shared::adopt`](crate::Shared::adopt), do not. 0 before the first call and after a meeting; after
-    /// [`Shared::prepare`](crate::Shared::prepare) what that made, and after a list of calls what its last call made. It is for tests and for
-    /// services that watch what reads cost. It is 0 after a call that enters and is no build, one for dimensions, a read that shapes refuse,
-    /// and a read where all known calls are settled; no contract says more of the number (own). Takes no memory.
+    /// How many calls of the history the pass's last call made to answer: each that it applied to its store, or to the partial stores of
+    /// the objects that it reads. A call that is made twice counts twice, and one that was refused memory counts; those that the pass has
+    /// of another's, as an edition or by [`Shared::adopt`](crate::Shared::adopt), do not. 0 before the first call and after a meeting; after
+    /// [`Shared::prepare`](crate::Shared::prepare) what that made, and after a list of calls what its last call made. It is for tests and
+    /// for services that watch what reads cost. It is 0 after a call that enters and is no build, one for dimensions, a read that shapes
+    /// refuse, and a read where all known calls are settled; no contract says more of the number (own). Takes no memory.
     pub fn made(&self) -> u32
         ensures { result ≡ self.now.made }
     {
         self.reader.made()
     }
 
-    /// How many calls of the history the pass knew at its last wait with `Materialize` that was answered `Done`; 0 before the first. As long
-    /// as it knows no more, none of its reads of entries, totals and waits is refused for want of memory. Takes no memory.
+    /// How many calls of the history the pass knew at its last wait with `Materialize` that was answered `Done`; 0 before the first. As
+    /// long as it knows no more, none of its reads of entries, totals and waits is refused memory. Takes no memory.
     ///
     /// Source: GraphBLAS C API 2.0, `GrB_MATERIALIZE`; the count is own.
     pub fn settled(&self) -> u32
@@ -178,10 +169,10 @@ impl Pass {
         self.reader.settled()
     }
 
-    /// The status of the object: `Success` where the pass's last call on it was answered, `NoValue` where that call asked for an entry that
-    /// is not stored, or its refusal. A call is on the object that it changes, reads or has changes done of, an operation on its output, a
-    /// new or a dup on the object that it makes; one that is refused is on none. `None` before the first call on the object, and for a
-    /// number that is not below the room. Takes no memory.
+    /// The status of the object: `Success` where the pass's last call on it was answered, `NoValue` where that call read an entry that is
+    /// not stored, or its refusal. A call is on the object that it changes, reads or has changes done of, an operation on its output, a new
+    /// or a dup on the object that it makes; one that is refused is on none. `None` before the first call on the object, and for a number
+    /// that is not below the room. Takes no memory.
     ///
     /// Source: GraphBLAS C API 2.0, "Error model"; that each pass has statuses of its own calls is own.
     pub fn last_info(&self, object: Object) -> Option<Info>
@@ -190,10 +181,10 @@ impl Pass {
         self.reader.last_info(object)
     }
 
-    /// The matrix as it is after all calls that the pass knows, where it lies ready, as it does after a wait for it: with no change left that
-    /// waits, and as all share it that hold it. Who clones the `Arc` keeps it as it is, whatever comes, and no entry is copied: a pass that
-    /// changes its matrix while another holds it changes a copy. `None` where there is no such matrix or it does not lie ready; where all
-    /// that the pass knows is settled, each matrix lies ready. Evaluates nothing, learns nothing and takes no memory (own).
+    /// The matrix as it is after all calls that the pass knows, where it lies ready, as it does after a wait for it: with no change left
+    /// that waits, and as all share it that hold it. Who clones the `Arc` keeps it as it is, whatever comes, and no entry is copied: a pass
+    /// that changes its matrix while another holds it changes a copy. `None` where there is no such matrix or it does not lie ready; where
+    /// all that the pass knows is settled, each matrix lies ready. Evaluates nothing, learns nothing and takes no memory (own).
     pub fn matrix(&self, a: MatrixId) -> Option<&Arc<SparseMatrix>>
         ensures { MatchOption result (is_some (matrix_at (store_of (known self.now)) a) ≡ true → self.now.settled < length (known self.now)) (λ matrix. IsMatrixOf (store_of (known self.now)) a matrix.now.value) }
     {
@@ -239,8 +230,8 @@ impl Pass {
         self.reader.known() == self.reader.room()
     }
 
-    /// The store that all known calls leave, with the calls that make it anew, as [`grb_rebuild::rebuild_all`] has them. It evaluates what is not
-    /// evaluated.
+    /// The store that all known calls leave, with the calls that make it anew, as [`grb_rebuild::rebuild_all`] has them. It evaluates what
+    /// is not evaluated.
     pub(crate) fn rebuild(
         &mut self,
         alloc: Global,
@@ -295,7 +286,8 @@ impl Pass {
         self.evaluated.begin_with(&self.reader, state);
     }
 
-    /// Puts the call as the next record of the pass, as [`RecordRow::put`] does. It is none that a word of the pass names.
+    /// Puts the call as the next record of the pass, as [`RecordRow::put`] does. It is none that a word of the pass names. `OutOfMemory`
+    /// where memory for the record is refused, and `Panic` where its cell did not take it; then no record is put.
     #[inline(always)]
     pub(crate) fn put(&mut self, records: &Records, call: Call) -> Result<Token, Refusal>
         ensures same { self.new ≡ self.old }
@@ -319,7 +311,8 @@ impl Pass {
             .take_over(&self.reader, &other.reader, &other.evaluated);
     }
 
-    /// Evaluates what the pass knows where that is dear, so that others can go on from there; how many of the known calls are evaluated then.
+    /// Evaluates what the pass knows where that is dear, so that others can go on from there; how many of the known calls are evaluated
+    /// then.
     pub(crate) fn prepare(&mut self, records: &Records) -> u32
         requires records { All (IsOf records.now) self.old.shown }
         ensures same { self.new ≡ record self.old { made = self.new.made } }
@@ -389,8 +382,8 @@ impl Pass {
         self.reply_of_all(records, call)
     }
 
-    /// How many entries the object of a build stores after all known calls, as far as these are needed to tell. `AllocError` where memory is
-    /// refused.
+    /// How many entries the object of a build stores after all known calls, as far as these are needed to tell. `AllocError` where memory
+    /// is refused; what was made stays made.
     fn count_of_output(&mut self, records: &Records, call: &Call) -> Result<u64, AllocError>
         requires build { is_build call.now ≡ true }
         requires accepted { refused_by_shapes (shapes_of (store_of (known self.old))) call.now ≡ None }
@@ -404,8 +397,8 @@ impl Pass {
         }
     }
 
-    /// Why what is stored after all known calls refuses the build, if it does; it evaluates what its object needs. `OutOfMemory` where memory
-    /// is refused to that.
+    /// Why what is stored after all known calls refuses the build, if it does; it evaluates what its object needs. `OutOfMemory` where
+    /// memory is refused to that.
     fn check_build(
         &mut self,
         records: &Records,
@@ -431,7 +424,8 @@ impl Pass {
         Ok(())
     }
 
-    /// Whether the call is refused after all known ones, and why; a build evaluates what its object needs. `OutOfMemory` where memory is refused to that.
+    /// Whether the call is refused after all known ones, and why; a build evaluates what its object needs. `OutOfMemory` where memory is
+    /// refused to that.
     #[inline(always)]
     pub(crate) fn check(&mut self, records: &Records, call: &Call) -> Result<(), Refusal>
         requires records { All (IsOf records.now) self.old.shown }
@@ -447,7 +441,8 @@ impl Pass {
 
     /// The reply to a call that only reads and is not refused, after all known ones. One for dimensions takes no memory; any other
     /// evaluates the known calls, and a total or a wait has the changes that wait done; where the known calls are settled none of this is
-    /// left, and no memory is taken. A wait for all objects settles them. `AllocError` where memory is refused.
+    /// left, and no memory is taken. A wait for all objects settles them. `AllocError` where memory is refused; what was made stays made,
+    /// and no more calls are settled.
     pub(crate) fn reply(&mut self, records: &Records, call: &Call) -> Result<Reply, AllocError>
         requires reads { enters call.now ≡ false }
         requires accepted { refused (store_of (known self.old)) call.now ≡ None }
@@ -467,8 +462,8 @@ impl Pass {
         }
     }
 
-    /// Enters the record of a call after all known ones, whose shapes do not refuse it, in one atomic step. The token comes back where another pass was first; the
-    /// pass has then held back for a while, so that the other runs on.
+    /// Enters the record of a call after all known ones, whose shapes do not refuse it, in one atomic step. The token comes back where
+    /// another pass was first; the pass has then held back for a while, so that the other runs on.
     pub(crate) fn enter(&mut self, order: &Order, token: Token, call: &Call) -> Option<Token>
         requires order { self.old.order ≡ order.now }
         requires looked { LookedLast self.old.view }

@@ -1,4 +1,20 @@
 //! What a pass knows of the history: its words, the tokens of their records, and the shapes that their calls leave.
+//!
+//! It keeps the words that the pass has learnt and, for the first of them, the tokens of their records, with the targets and the shapes of
+//! the calls in these. None of these lists shrinks. A call is known once its record was shown.
+//!
+//! 1. `look` loads the first word that is not learnt, and learns it where it is not 0. It is one step, which is counted.
+//! 2. `next_unshown` names the first word without a token. Its record is read from the cells of the pass that entered it (`learn.rt`), and
+//!    `admit` takes in its token, its target, its shapes and its work. A record that is not shown leaves the lists as they are; the next
+//!    call begins there.
+//! 3. `check`, `reply` and `size` read the lists alone: no step, and no memory.
+//! 4. `enter` is made where each word has its token and the last look found 0. Where it is won the own word, token and shapes are added at
+//!    once; where it is lost the other's word alone, and the token comes back.
+//! 5. `tell` learns the words of another reader, and `compare` compares two tokens of one record, since two tokens that were compared have
+//!    one call. Both take the other by `&mut`, so a meeting has both passes to itself.
+//!
+//! All lists have places for each word of the order from `open` on. So no step takes memory, and none waits: each makes one step on the
+//! order at most, `tell` one for each word that it learns and three of the first word.
 ghost use Rattle.std.specs.Prelude.{◌≡◌, ◌<◌, ◌≤◌, ◌+◌, ◌^◌, true, [], ◌∷◌, ◌++◌, length, All, None, Some, slice_get, slice_index, MatchOption, IfOk};
 ghost use Rattle.std.specs.Option.{option_or};
 ghost use Rattle.grb_order.specs.declared.limits.TheConstants.{MOST_ROOM};
@@ -31,7 +47,7 @@ use grb_slices::{CallList, Wanted};
 use std::alloc::{AllocError, Global};
 use std::marker::Model;
 
-/// What a pass has read of the order: its words, the records behind the first of them, the targets of their calls and the shapes that they
+/// What a pass has read of the order: its words, the records of the first of them, the targets of their calls and the shapes that they
 /// leave, the status that each object has of the calls of the pass, how many calls it settled, and how many it made to answer.
 #[derive(Drop)]
 pub(crate) struct Reader {
@@ -104,10 +120,12 @@ impl Reader {
         })
     }
 
+    /// The allocator of what the reader keeps.
     pub(crate) fn allocator(&self) -> Global {
         *self.tokens.allocator()
     }
 
+    /// The number of the pass, from 0.
     pub(crate) fn number(&self) -> u32
         ensures { result ≡ self.now.view.number }
     {
@@ -337,7 +355,8 @@ impl Reader {
         }
     }
 
-    /// Enters the record of a call after all known ones, whose shapes do not refuse it, in one atomic step. The token comes back where another pass was first.
+    /// Enters the record of a call after all known ones, whose shapes do not refuse it, in one atomic step. The token comes back where
+    /// another pass was first.
     pub(crate) fn enter(&mut self, order: &Order, token: Token, call: &Call) -> Option<Token>
         requires order { self.old.order ≡ order.now }
         requires looked { LookedLast self.old.view }

@@ -21,10 +21,9 @@ impl RecordRow {
         RecordRow { next: 0 }
     }
 
-    /// Puts the call into the next of the `room` cells of the row, which is the one of this pass. `OutOfMemory` where memory for the record is refused:
-    /// the cell is as before, and is next again. `Panic` where the cell did not take it: that cell is spent, as a cell with a record is; or where
-    /// all are spent.
-    /// Takes memory for the record alone, and does not wait.
+    /// Puts the call into the next of the `room` cells of the row, which is the one of this pass. `OutOfMemory` where memory for the record
+    /// is refused: the cell is as before, and is next again. `Panic` where the cell did not take it: that cell is spent, as a cell with a
+    /// record is; or where all are spent. Takes memory for the record alone, and does not wait.
     #[inline(always)]
     pub(crate) fn put(
         &mut self,
@@ -50,7 +49,7 @@ impl RecordRow {
         put
     }
 
-    /// Goes on behind the cell at this index, unless it is behind it already, as it is after [`RecordRow::put`].
+    /// Goes on after the cell at this index, unless it is past it already, as it is after [`RecordRow::put`].
     pub(crate) fn spend(&mut self, index: u64)
         requires { index < 2 ^ 48 }
         ensures next { self.new.next ≡ max self.old.next (index + 1) }

@@ -8,7 +8,7 @@ ghost use Rattle.grb_pass.specs.Known.{AreNew, HasNoStatus, IsPassOf};
 use crate::pass::Pass;
 use grb_order::{Order, Place};
 use grb_records::Records;
-use grb_replay::Versions;
+use grb_replay::Editions;
 use std::alloc::{AllocError, Global};
 use std::marker::Model;
 use std::sync::Arc;
@@ -29,22 +29,22 @@ impl Model for Shared {
 }
 
 /// Places for the evaluated stores that passes share. `AllocError` where memory is refused.
-fn versions_for(alloc: Global, room: u32) -> Result<Arc<Versions>, AllocError> {
-    let versions = Versions::open(alloc, room)?;
-    match Arc::new(alloc, versions) {
-        Ok(versions) => Ok(versions),
+fn editions_for(alloc: Global, room: u32) -> Result<Arc<Editions>, AllocError> {
+    let editions = Editions::open(alloc, room)?;
+    match Arc::new(alloc, editions) {
+        Ok(editions) => Ok(editions),
         Err(_refused) => Err(AllocError),
     }
 }
 
-// A pass for each of the places.
+/// A pass for each of the places. `AllocError` where memory is refused; then the places are dropped.
 fn passes_of(
     alloc: Global,
     order: &Order,
     places: Vec<Place>,
     room: u32,
     passes: u32,
-    versions: &Arc<Versions>,
+    editions: &Arc<Editions>,
 ) -> Result<Vec<Pass>, AllocError>
     requires room { (room_of order.now ≡ room) × (room ≤ MOST_ROOM) }
     requires passes { passes ≤ MOST_PASSES }
@@ -54,16 +54,16 @@ fn passes_of(
     let mut opened = Vec::with_capacity(alloc, passes as usize)?;
     for place in places {
         let number = opened.len() as u32;
-        let versions = Arc::try_clone(versions)?;
-        opened.push_reserved(Pass::open(alloc, number, place, room, versions, passes == 1)?);
+        let editions = Arc::try_clone(editions)?;
+        opened.push_reserved(Pass::open(alloc, number, place, room, editions, passes == 1)?);
     }
     Ok(opened)
 }
 
 impl Shared {
-    /// What passes share whose history takes `room` calls, from 1 to `MOST_ROOM`, and those passes, from 1 to `MOST_PASSES`, which know
-    /// no call: the one at index k has the number k. `room` times `passes` is at most `MOST_SEATS`. Each pass has `room` cells for its
-    /// records. `AllocError` where memory is refused.
+    /// What passes share whose history takes `room` calls, from 1 to `MOST_ROOM`, and those passes, from 1 to `MOST_PASSES`, which know no
+    /// call: the one at index k has the number k. `room` times `passes` is at most `MOST_SEATS`. Each pass has `room` cells for its
+    /// records. `AllocError` where memory is refused; then nothing is made.
     pub fn open(alloc: Global, room: u32, passes: u32) -> Result<(Shared, Vec<Pass>), AllocError>
         requires room { (0 < room) × (room ≤ MOST_ROOM) }
         requires passes { (0 < passes) × (passes ≤ MOST_PASSES) }
@@ -76,8 +76,8 @@ impl Shared {
     {
         let (order, places) = Order::open(alloc, room, passes)?;
         let records = Records::open(alloc, passes, room)?;
-        let versions = versions_for(alloc, room)?;
-        let opened = passes_of(alloc, &order, places, room, passes, &versions)?;
+        let editions = editions_for(alloc, room)?;
+        let opened = passes_of(alloc, &order, places, room, passes, &editions)?;
         Ok((Shared { order, records }, opened))
     }
 }

@@ -5,19 +5,18 @@ ghost use Rattle.grb_records.specs.Token.{IsOf};
 ghost use Rattle.grb_call.specs.History.{calls_of, store_of};
 ghost use Rattle.grb_state.specs.Settled.{AreAllAssembled};
 ghost use Rattle.grb_state.specs.State.{is_assembled};
-ghost use Rattle.grb_replay.specs.Versions.{IsFold};
+ghost use Rattle.grb_replay.specs.Editions.{IsFold};
 ghost use Rattle.grb_pass.specs.Evaluated.{IsAssembled, IsStoreFor};
 ghost use Rattle.grb_pass.specs.Known.{known};
 
 use crate::reader::Reader;
 use grb_call::{Call, MatrixId, Object, VectorId};
 use grb_records::Records;
-use grb_replay::{Reached, Versions};
+use grb_replay::{Editions, Reached, State};
 use grb_slices::CallList;
-use grb_state::State;
 use std::alloc::AllocError;
 
-/// The known calls, in turn. `AllocError` where memory is refused.
+/// The known calls, in turn. `AllocError` where memory is refused; then none is lent.
 fn lent_calls<'a>(records: &'a Records, reader: &mut Reader) -> Result<Vec<&'a Call>, AllocError>
     requires of { All (IsOf records.now) reader.old.shown }
     ensures calls { IfOk result (λ calls. map (λ c. c.now) calls.items ≡ calls_of (known reader.old)) }
@@ -34,10 +33,10 @@ fn lent_calls<'a>(records: &'a Records, reader: &mut Reader) -> Result<Vec<&'a C
     Ok(calls)
 }
 
-/// Goes on from the longest version that a pass offered of the first known calls, where it has more of them than were gone over. Where
+/// Goes on from the longest edition that a pass offered of the first known calls, where it has more of them than were gone over. Where
 /// memory is refused to that, the store stays as it is.
 pub(crate) fn advance(
-    versions: &Versions,
+    editions: &Editions,
     records: &Records,
     reader: &mut Reader,
     reached: &mut Reached,
@@ -54,12 +53,12 @@ pub(crate) fn advance(
         return;
     };
     let room = reader.room();
-    reached.advance(versions, calls.as_slice(), room);
+    reached.advance(editions, calls.as_slice(), room);
 }
 
-/// What a version is made of: the known calls, and a copy of the store that they leave and in which no change waits. `AllocError` where
-/// memory is refused.
-fn version_of<'a>(
+/// What an edition is made of: the known calls, and a copy of the store that they leave and in which no change waits. `AllocError` where
+/// memory is refused; then nothing is made.
+fn edition_of<'a>(
     records: &'a Records,
     reader: &mut Reader,
     state: &State,
@@ -76,10 +75,10 @@ fn version_of<'a>(
     Ok((calls, copy))
 }
 
-/// Offers the store, in which all known calls are evaluated and no change waits, to the other passes; where a version of so many calls would
-/// not be kept it copies nothing, and takes no memory. `AllocError` where memory is refused; then it has not offered it.
+/// Offers the store, in which all known calls are evaluated and no change waits, to the other passes; where an edition of so many calls
+/// would not be kept it copies nothing, and takes no memory. `AllocError` where memory is refused; then it has not offered it.
 pub(crate) fn offer(
-    versions: &Versions,
+    editions: &Editions,
     records: &Records,
     reader: &mut Reader,
     state: &State,
@@ -89,15 +88,15 @@ pub(crate) fn offer(
     requires assembled { AreAllAssembled (is_assembled state.now.matrices state.now.vectors) }
     ensures same { reader.new ≡ reader.old }
 {
-    if !versions.takes(reader.known() as usize) {
+    if !editions.takes(reader.known() as usize) {
         return Ok(());
     }
-    let (calls, copy) = version_of(records, reader, state)?;
-    versions.offer(calls.as_slice(), copy)
+    let (calls, copy) = edition_of(records, reader, state)?;
+    editions.offer(calls.as_slice(), copy)
 }
 
 /// Has all changes done that wait, where all known calls are evaluated; where these are settled none wait. `AllocError` where memory is
-/// refused.
+/// refused; the entries are as before in any case.
 pub(crate) fn assemble(reader: &Reader, reached: &mut Reached) -> Result<(), AllocError>
     requires store { IsStoreFor reader.now reached.old }
     ensures same { reached.new ≡ record reached.old { state = reached.new.state } }
@@ -123,10 +122,10 @@ pub(crate) fn entries_of(state: &State) -> u64 {
     entries
 }
 
-/// Leaves the store, in which all known calls are evaluated, to the other passes, with no change left that waits, unless there is a version
+/// Leaves the store, in which all known calls are evaluated, to the other passes, with no change left that waits, unless there is an edition
 /// of as many calls. Where memory is refused to that, it is not left.
 pub(crate) fn share(
-    versions: &Versions,
+    editions: &Editions,
     records: &Records,
     reader: &mut Reader,
     reached: &mut Reached,
@@ -140,13 +139,13 @@ pub(crate) fn share(
     ensures store { IsStoreFor reader.new reached.new }
 {
     let known = reader.known() as usize;
-    if known == 0 || versions.has_beyond(known - 1, usize::MAX) {
+    if known == 0 || editions.has_beyond(known - 1, usize::MAX) {
         return;
     }
     if assemble(reader, reached).is_err() {
         return;
     }
-    if let Ok((calls, copy)) = version_of(records, reader, reached.state()) {
-        let _ = versions.leave(calls.as_slice(), copy);
+    if let Ok((calls, copy)) = edition_of(records, reader, reached.state()) {
+        let _ = editions.leave(calls.as_slice(), copy);
     }
 }

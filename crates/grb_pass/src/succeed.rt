@@ -23,7 +23,7 @@ use crate::shared::Shared;
 use grb_call::Call;
 use grb_core::Refusal;
 use grb_rebuild::{NoSuccessor, Rebuild, Renumbered};
-use grb_state::State;
+use grb_replay::State;
 use std::alloc::Global;
 
 /// What a refusal of a call of the new store says.
@@ -64,7 +64,7 @@ impl Shared {
     }
 
     /// Enters a call that is not refused after all that the pass knows. `Panic` where another pass has entered one meanwhile, or the record
-    /// was not taken. A build is not evaluated before.
+    /// was not taken. A build is not evaluated before. `OutOfMemory` where memory for its record is refused.
     fn enter_alone(&self, pass: &mut Pass, call: Call) -> Result<(), Refusal>
         requires pass { IsPassOf self.now pass.old }
         requires enters { enters call ≡ true }
@@ -85,7 +85,8 @@ impl Shared {
         Ok(())
     }
 
-    /// Enters calls of which none is refused where it is made.
+    /// Enters calls of which none is refused where it is made. `OutOfMemory` where memory for a record is refused; those before it stay
+    /// entered.
     fn enter_all(&self, pass: &mut Pass, calls: Vec<Call>) -> Result<(), Refusal>
         requires pass { IsPassOf self.now pass.old }
         requires none { known pass.old ≡ [] }
@@ -150,7 +151,7 @@ impl Shared {
         Ok(())
     }
 
-    /// Lets each of these passes, which are those behind the first, adopt it.
+    /// Lets each of these passes, which are those after the first, adopt it.
     fn tell_all(&self, first: &mut Pass, others: &mut Vec<Pass>) -> Result<(), NoSuccessor>
         requires first { IsPassOf self.now first.old }
         requires opened { (n : ℕ) (p : Knowing) → slice_get others.old.items n ≡ Some p → IsOpened self.now (n + 1) p }
@@ -210,11 +211,11 @@ impl Shared {
         Ok((next, begun))
     }
 
-    /// A new store whose history takes `room` calls and which so many passes share: it begins with calls of its first pass that make just the
-    /// store that all calls leave which this pass knows. Objects have their numbers, those that were freed stay freed, and the next one is
-    /// given the next number. All new passes know these calls and share what is evaluated of them. The pass evaluates the calls that it
-    /// knows; nothing else of it or of this store changes. Each entry is copied once. `RoomTooSmall` tells how many calls are needed, before
-    /// any entry was copied; `OutOfMemory` where memory is refused, `Panic` where a record of the new store is not taken.
+    /// A new store whose history takes `room` calls and which so many passes share: it begins with calls of its first pass that make just
+    /// the store that all calls leave which this pass knows. Objects have their numbers, those that were freed stay freed, and the next one
+    /// is given the next number. All new passes know these calls and share what is evaluated of them. The pass evaluates the calls that it
+    /// knows; nothing else of it or of this store changes. Each entry is copied once. `RoomTooSmall` tells how many calls are needed,
+    /// before any entry was copied; `OutOfMemory` where memory is refused, `Panic` where a record of the new store is not taken.
     pub fn succeed(
         &self,
         alloc: Global,

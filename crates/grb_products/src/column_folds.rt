@@ -28,7 +28,8 @@ impl<T: Scalar> Term<T> for OwnValue {
     }
 }
 
-/// These columns folded by a monoid as a type. Takes memory for as many places as there are columns.
+/// These columns folded by a monoid as a type. Takes memory for as many places as there are columns. `AllocError` where that is refused;
+/// then nothing is made.
 fn fold_these_columns<T: Stored + Drop, M: MonoidOver<T>, C: Columns>(
     alloc: Global,
     columns: &C,
@@ -54,7 +55,8 @@ fn fold_these_columns<T: Stored + Drop, M: MonoidOver<T>, C: Columns>(
 }
 
 /// Each column folded by a monoid as a type, in one pass. Where `ncols` is more than 8 times the entries, the columns that store something
-/// are sorted first, and that of each entry is searched among them. Values behind a terminal one are read too.
+/// are sorted first, and that of each entry is searched among them. Values after a terminal one are read too. `AllocError` where memory is
+/// refused; then nothing is made.
 pub(crate) fn fold_columns<T: Stored + Drop, M: MonoidOver<T>>(
     alloc: Global,
     rows: &MatrixRows<T>,

@@ -18,7 +18,7 @@ pub(crate) trait Columns {
     /// The columns, by their places.
     ghost names: { Self → List ℕ };
 
-    /// Columns below this can be asked for.
+    /// The columns of the matrix are below this.
     ghost below: { Self → ℕ };
 
     /// How many they are.
@@ -111,7 +111,7 @@ pub(crate) struct OpenSums<T> {
     pub(crate) sums: Vec<T>,
 }
 
-/// Sums to which nothing was added. Takes memory for as many places.
+/// Sums to which nothing was added. Takes memory for as many places. `AllocError` where that is refused; then nothing is made.
 pub(crate) fn open_sums<T: Stored + Drop, M: MonoidOver<T>>(
     alloc: Global,
     count: usize,
@@ -151,7 +151,8 @@ pub(crate) fn add_entries<T: Stored, M: MonoidOver<T>, C: Columns, R: Term<T>>(
     }
 }
 
-/// The sums as entries: one at each column to which something was added. Takes memory for as many entries as there are places.
+/// The sums as entries: one at each column to which something was added. Takes memory for as many entries as there are places. `AllocError`
+/// where that is refused; then nothing is made.
 pub(crate) fn close_sums<T: Stored + Drop, C: Columns>(
     alloc: Global,
     columns: &C,

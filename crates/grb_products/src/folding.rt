@@ -8,7 +8,7 @@ use crate::monoids::MonoidOver;
 use grb_core::Monoid;
 use grb_ewise::Stored;
 
-/// The values combined by a monoid as a type; its identity, where there are none. Values behind a terminal one are not read.
+/// The values combined by a monoid as a type; its identity, where there are none. Values after a terminal one are not read.
 pub(crate) fn fold_values<T: Stored, M: MonoidOver<T>>(values: &[T]) -> T
     ensures { T.value result ≡ fold_of M.monoid (map T.value values.now) }
 {

@@ -11,7 +11,7 @@ use grb_kernels::{EntrySlice, Scalar};
 
 /// A vector, however its entries are kept.
 pub(crate) trait Lookup<T: Scalar> {
-    /// Indices below this can be asked for.
+    /// The size of the vector: indices are below it.
     ghost size: { Self → ℕ };
 
     /// What it stores at an index, if anything.

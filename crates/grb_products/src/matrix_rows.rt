@@ -16,8 +16,11 @@ use std::marker::PhantomData;
 /// Source: own.
 #[derive(Drop)]
 pub struct MatrixRows<'a, T: Scalar> {
+    /// The number of columns.
     pub ncols: u64,
+    /// The entries, as compressed rows.
     pub lists: &'a FlatRows,
+    /// The Rust type of the values.
     pub of: PhantomData<T>,
     ghost few: { ncols < 2 ^ 32 },
     ghost domain: { lists.now.domain ≡ T.domain },

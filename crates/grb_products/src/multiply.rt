@@ -32,7 +32,7 @@ use grb_sparse::{SparseMatrix, SparseVector};
 use std::alloc::{AllocError, Global};
 use std::marker::PhantomData;
 
-/// The product of each row with a vector, in whatever form it is read.
+/// The product of each row with a vector, in whatever form it is read. `AllocError` where memory is refused; then nothing is made.
 fn multiply_each_row<T: Stored + Drop, M: MonoidOver<T>, O: Operator<T>, L: Lookup<T>>(
     alloc: Global,
     lists: &FlatRows,
@@ -50,7 +50,7 @@ fn multiply_each_row<T: Stored + Drop, M: MonoidOver<T>, O: Operator<T>, L: Look
 }
 
 /// The product of a matrix and a vector that is laid open first, which takes memory for `ncols` places: no more than 8 times the entries
-/// that are there.
+/// that are there. `AllocError` where that is refused; then nothing is made.
 fn multiply_open<T: Stored + Drop, M: MonoidOver<T>, O: Operator<T>>(
     alloc: Global,
     rows: &MatrixRows<T>,
@@ -74,7 +74,7 @@ fn multiply_open<T: Stored + Drop, M: MonoidOver<T>, O: Operator<T>>(
     Ok(made)
 }
 
-/// The product of a matrix and a vector, by a monoid and an operator as types.
+/// The product of a matrix and a vector, by a monoid and an operator as types. `AllocError` where memory is refused; then nothing is made.
 fn multiply<T: Stored + Drop, M: MonoidOver<T>, O: Operator<T>>(
     alloc: Global,
     rows: &MatrixRows<T>,
@@ -105,12 +105,13 @@ impl<'a, T: Stored + Drop> BySemiring<T> for Factors<'a, T> {
 
     ghost Gives = { λ f semiring result. IfOk result (λ made. entries_of T.value made.indices.items made.values.items ≡ mxv_of semiring (decoded f.rows.lists.now.entries) (entries_of T.value f.u.now.indices.now f.u.now.values.now)) };
 
+    /// The product of matrix and vector, by monoid and operator as types. `AllocError` where memory is refused; then nothing is made.
     fn by<M: MonoidOver<T>, O: Operator<T>>(self) -> Result<EntryList<T>, AllocError> {
         multiply::<T, M, O>(self.alloc, &self.rows, self.u)
     }
 }
 
-/// The product of a matrix and a vector whose values are of one Rust type.
+/// The product of a matrix and a vector whose values are of one Rust type. `AllocError` where memory is refused; then nothing is made.
 fn multiply_by<T: Stored + Folded + Drop>(
     alloc: Global,
     semiring: Semiring,
@@ -126,7 +127,7 @@ fn multiply_by<T: Stored + Folded + Drop>(
     by_semiring(semiring, factors)
 }
 
-/// The product of a matrix and a vector, as a vector.
+/// The product of a matrix and a vector, as a vector. `AllocError` where memory is refused; then nothing is made.
 fn product(
     alloc: Global,
     semiring: Semiring,
@@ -154,7 +155,8 @@ fn product(
     }
 }
 
-/// The product of a matrix, transposed or not, and a vector. Where indices bound it, others may be left out.
+/// The product of a matrix, transposed or not, and a vector. Where indices bound it, others may be left out. `AllocError` where memory is
+/// refused; then nothing is made.
 fn turned_product(
     alloc: Global,
     semiring: Semiring,
@@ -180,9 +182,17 @@ fn turned_product(
     product(alloc, semiring, a, u)
 }
 
-/// The product of a matrix and a vector: at each row the fold, by the semiring's monoid, of what its operator makes of the row's and
-/// the vector's values where both are stored, and nothing where there is no such place; written into `output` by the accumulator, the
-/// mask and the descriptor. `AllocError` where memory is refused.
+/// The product of a matrix and a vector: at each row the fold, by the semiring's monoid, of what its operator makes of the row's and the
+/// vector's values where both are stored, and nothing where there is no such place; written into `output` by the accumulator, the mask and
+/// the descriptor. `AllocError` where memory is refused; then nothing is made, and `output` is as before.
+///
+/// - `output`: the old output, which is read.
+/// - `mask`: which indices may be written, read as `descriptor` says; `None` for all, or with `comp` for none.
+/// - `accum`: combines the old value and the computed one where both are there; `None` for the computed one alone.
+/// - `semiring`: its operator multiplies, its monoid adds up the products.
+/// - `a`: the matrix; its value comes first in a product.
+/// - `u`: the vector.
+/// - `descriptor`: how the mask is read, whether what lies outside of it is removed, and whether `a` is read transposed.
 ///
 /// All are of one domain, the mask aside; `u` has one place for each column of `a`, and the output and the mask one for each row. Time is
 /// in proportion to the stored entries, and so is memory: a work array of one place for each column is made only where it is no longer

@@ -115,7 +115,8 @@ fn pick_into<T: Stored>(
     k
 }
 
-/// The rows that the entries of a vector pick. Takes memory for as many as the vector has entries.
+/// The rows that the entries of a vector pick. Takes memory for as many as the vector has entries. `AllocError` where that is refused; then
+/// nothing is made.
 pub(crate) fn pick_rows<T: Stored + Drop>(
     alloc: Global,
     lists: &FlatRows,

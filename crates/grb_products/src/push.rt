@@ -124,7 +124,8 @@ fn add_rows<T: Stored, M: MonoidOver<T>, O: Operator<T>, S: Side, C: Columns>(
     }
 }
 
-/// The sums of the picked rows at these columns. Takes memory for as many places as there are columns.
+/// The sums of the picked rows at these columns. Takes memory for as many places as there are columns. `AllocError` where that is refused;
+/// then nothing is made.
 fn sum_rows<T: Stored + Drop, M: MonoidOver<T>, O: Operator<T>, S: Side, C: Columns>(
     alloc: Global,
     columns: &C,
@@ -151,7 +152,7 @@ fn sum_rows<T: Stored + Drop, M: MonoidOver<T>, O: Operator<T>, S: Side, C: Colu
     close_sums(alloc, columns, marks.as_slice(), sums.as_slice())
 }
 
-/// The sums of the picked rows, by a place for each of `ncols` columns.
+/// The sums of the picked rows, by a place for each of `ncols` columns. `AllocError` where memory is refused; then nothing is made.
 fn sum_all<T: Stored + Drop, M: MonoidOver<T>, O: Operator<T>, S: Side>(
     alloc: Global,
     ncols: u32,
@@ -169,7 +170,7 @@ fn sum_all<T: Stored + Drop, M: MonoidOver<T>, O: Operator<T>, S: Side>(
 }
 
 /// The products of the picked rows with the values of their picks, row by row, each with its column. Takes memory for `room`, and for more
-/// if they are more.
+/// if they are more. `AllocError` where that is refused; then nothing is made.
 fn picked_products<T: Stored + Drop, O: Operator<T>, S: Side>(
     alloc: Global,
     lists: &FlatRows,
@@ -195,7 +196,8 @@ fn picked_products<T: Stored + Drop, O: Operator<T>, S: Side>(
     Ok(products)
 }
 
-/// The same by the products one after another, sorted by column. The picked rows have `count` entries.
+/// The same by the products one after another, sorted by column. The picked rows have `count` entries. `AllocError` where memory is
+/// refused; then nothing is made.
 fn sum_named<T: Stored + Drop, M: MonoidOver<T>, O: Operator<T>, S: Side>(
     alloc: Global,
     lists: &FlatRows,
@@ -212,7 +214,7 @@ fn sum_named<T: Stored + Drop, M: MonoidOver<T>, O: Operator<T>, S: Side>(
     Ok(made)
 }
 
-/// The sums of the picked rows at these columns alone, which rise.
+/// The sums of the picked rows at these columns alone, which rise. `AllocError` where memory is refused; then nothing is made.
 fn sum_bounded<T: Stored + Drop, M: MonoidOver<T>, O: Operator<T>, S: Side>(
     alloc: Global,
     names: &[u32],
@@ -230,8 +232,8 @@ fn sum_bounded<T: Stored + Drop, M: MonoidOver<T>, O: Operator<T>, S: Side>(
     Ok(made)
 }
 
-/// The sums of the picked rows where no place for each column of the matrix is kept: at the columns that bound the result, if they are
-/// no more than the `count` entries of these rows, and else at those of the rows.
+/// The sums of the picked rows where no place for each column of the matrix is kept: at the columns that bound the result, if they are no
+/// more than the `count` entries of these rows, and else at those of the rows. `AllocError` where memory is refused; then nothing is made.
 fn sum_few<T: Stored + Drop, M: MonoidOver<T>, O: Operator<T>, S: Side>(
     alloc: Global,
     bound: Option<&[u32]>,
@@ -257,7 +259,7 @@ fn sum_few<T: Stored + Drop, M: MonoidOver<T>, O: Operator<T>, S: Side>(
 
 /// The product of a vector and a matrix by a monoid and an operator as types: at each column the fold of the products where both store
 /// something. Where columns bound it, others may be left out. Time and memory are in proportion to the entries of the vector and of the
-/// rows that it picks.
+/// rows that it picks. `AllocError` where memory is refused; then nothing is made.
 pub(crate) fn push<T: Stored + Drop, M: MonoidOver<T>, O: Operator<T>, S: Side>(
     alloc: Global,
     bound: Option<&[u32]>,

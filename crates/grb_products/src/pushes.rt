@@ -43,12 +43,13 @@ impl<'a, T: Stored + Drop, S: Side> BySemiring<T> for Factors<'a, T, S> {
 
     ghost Gives = { λ f semiring result. IfOk result (λ made. IsBounded (option_map (λ names. names.now) f.bound) (pushed_of semiring.monoid (S.makes semiring.op) (entries_of T.value f.u.now.indices.now f.u.now.values.now) (decoded f.rows.lists.now.entries)) (entries_of T.value made.indices.items made.values.items)) };
 
+    /// The product of vector and matrix, by monoid and operator as types. `AllocError` where memory is refused; then nothing is made.
     fn by<M: MonoidOver<T>, O: Operator<T>>(self) -> Result<EntryList<T>, AllocError> {
         push::<T, M, O, S>(self.alloc, self.bound, self.u, &self.rows)
     }
 }
 
-/// The product of a vector and a matrix whose values are of one Rust type.
+/// The product of a vector and a matrix whose values are of one Rust type. `AllocError` where memory is refused; then nothing is made.
 fn push_by<T: Stored + Folded + Drop, S: Side>(
     alloc: Global,
     semiring: Semiring,
@@ -86,7 +87,8 @@ pub(crate) fn bound_of(mask: Option<&SparseVector>, descriptor: Descriptor) -> O
     }
 }
 
-/// The product of a vector and a matrix, as a vector. Where indices bound it, others may be left out.
+/// The product of a vector and a matrix, as a vector. Where indices bound it, others may be left out. `AllocError` where memory is refused;
+/// then nothing is made.
 fn pushed_product<S: Side>(
     alloc: Global,
     semiring: Semiring,
@@ -119,8 +121,8 @@ fn pushed_product<S: Side>(
     }
 }
 
-/// The product of a transposed matrix and a vector, as a vector. The matrix's value comes first. Where indices bound it, others may be
-/// left out.
+/// The product of a transposed matrix and a vector, as a vector. The matrix's value comes first. Where indices bound it, others may be left
+/// out. `AllocError` where memory is refused; then nothing is made.
 pub(crate) fn transposed_product(
     alloc: Global,
     semiring: Semiring,
@@ -142,8 +144,16 @@ pub(crate) fn transposed_product(
 }
 
 /// The product of a vector and a matrix: at each column the fold, by the semiring's monoid, of what its operator makes of the vector's and
-/// the column's values where both are stored, and nothing where there is no such place; written into `output` by the accumulator, the
-/// mask and the descriptor, whose `tran` is not read. `AllocError` where memory is refused.
+/// the column's values where both are stored, and nothing where there is no such place; written into `output` by the accumulator, the mask
+/// and the descriptor, whose `tran` is not read. `AllocError` where memory is refused; then nothing is made, and `output` is as before.
+///
+/// - `output`: the old output, which is read.
+/// - `mask`: which indices may be written, read as `descriptor` says; `None` for all, or with `comp` for none.
+/// - `accum`: combines the old value and the computed one where both are there; `None` for the computed one alone.
+/// - `semiring`: its operator multiplies, its monoid adds up the products.
+/// - `u`: the vector; its value comes first in a product.
+/// - `a`: the matrix.
+/// - `descriptor`: how the mask is read, whether what lies outside of it is removed.
 ///
 /// All are of one domain, the mask aside; `u` has one place for each row of `a`, and the output and the mask one for each column. Only
 /// the rows are read at which `u` stores something. Time is in proportion to their entries, to those of `u` and to what is written, and so

@@ -47,7 +47,8 @@ impl<T: Stored, M: MonoidOver<T>> RowRule<T> for Sum<M> {
     ghost none = { λ rule. refl };
 }
 
-/// Each row folded by a monoid as a type; each column, where `tran` says that the matrix is read transposed.
+/// Each row folded by a monoid as a type; each column, where `tran` says that the matrix is read transposed. `AllocError` where memory is
+/// refused; then nothing is made.
 fn fold_rows<T: Stored + Drop, M: MonoidOver<T>>(
     alloc: Global,
     tran: bool,
@@ -80,12 +81,14 @@ impl<'a, T: Stored + Drop> ByMonoid<T> for Rows<'a, T> {
 
     ghost Gives = { λ r monoid result. IfOk result (λ made. entries_of T.value made.indices.items made.values.items ≡ reduce_rows_of monoid (turned r.tran (decoded r.rows.lists.now.entries))) };
 
+    /// The folds of the rows, by a monoid as a type. `AllocError` where memory is refused; then nothing is made.
     fn by<M: MonoidOver<T>>(self) -> Result<EntryList<T>, AllocError> {
         fold_rows::<T, M>(self.alloc, self.tran, &self.rows)
     }
 }
 
-/// Each row folded by a monoid; each column, where `tran` says that the matrix is read transposed.
+/// Each row folded by a monoid; each column, where `tran` says that the matrix is read transposed. `AllocError` where memory is refused;
+/// then nothing is made.
 fn fold_rows_by<T: Stored + Folded + Drop>(
     alloc: Global,
     monoid: Monoid,
@@ -105,7 +108,8 @@ fn turned_rows(tran: bool, nrows: u64, ncols: u64) -> u64
     if tran { ncols } else { nrows }
 }
 
-/// The folds of the rows of a matrix, which `tran` has read transposed, as a vector.
+/// The folds of the rows of a matrix, which `tran` has read transposed, as a vector. `AllocError` where memory is refused; then nothing is
+/// made.
 fn row_folds(
     alloc: Global,
     monoid: Monoid,
@@ -131,9 +135,16 @@ fn row_folds(
     }
 }
 
-/// Reduction of a matrix to a vector: at each row that stores something its values combined by the monoid, and nothing elsewhere;
-/// written into `output` by the accumulator, the mask and the descriptor. With the descriptor's `tran` the matrix is read transposed, and
-/// so each column is combined. `AllocError` where memory is refused.
+/// Reduction of a matrix to a vector: at each row that stores something its values combined by the monoid, and nothing elsewhere; written
+/// into `output` by the accumulator, the mask and the descriptor. With the descriptor's `tran` the matrix is read transposed, and so each
+/// column is combined. `AllocError` where memory is refused; then nothing is made, and `output` is as before.
+///
+/// - `output`: the old output, which is read.
+/// - `mask`: which indices may be written, read as `descriptor` says; `None` for all, or with `comp` for none.
+/// - `accum`: combines the old value and the computed one where both are there; `None` for the computed one alone.
+/// - `monoid`: combines the values of a row.
+/// - `a`: the matrix.
+/// - `descriptor`: how the mask is read, whether what lies outside of it is removed, and whether `a` is read transposed.
 ///
 /// All are of one domain, the mask aside, and the output and the mask have one place for each row of `a`; for each column, with `tran`.
 /// Time and memory are in proportion to the stored entries. With `tran` they are read once, and there is memory for a sum at each column;

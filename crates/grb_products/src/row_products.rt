@@ -11,7 +11,7 @@ use grb_ewise::Stored;
 use grb_kernels::{Operator, chosen};
 use std::marker::PhantomData;
 
-/// The fold of the products of a row with a vector, and whether there is one. Products behind a terminal one are not made.
+/// The fold of the products of a row with a vector, and whether there is one. Products after a terminal one are not made.
 pub(crate) fn dot<T: Stored, M: MonoidOver<T>, O: Operator<T>, L: Lookup<T>>(
     vector: &L,
     columns: &[u32],

@@ -55,7 +55,8 @@ fn make_rows<T: Stored, R: RowRule<T>>(
     k
 }
 
-/// What the rule makes of each row. Takes memory for as many entries as there are rows that store something.
+/// What the rule makes of each row. Takes memory for as many entries as there are rows that store something. `AllocError` where that is
+/// refused; then nothing is made.
 pub(crate) fn made_rows<T: Stored + Drop, R: RowRule<T>>(
     alloc: Global,
     rule: &R,

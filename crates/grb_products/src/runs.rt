@@ -16,7 +16,7 @@ use grb_ewise::Stored;
 use grb_kernels::EntryList;
 use std::alloc::{AllocError, Global};
 
-/// Puts what the term makes of each value of a row behind other products, with its column. There is room for them.
+/// Puts what the term makes of each value of a row after other products, with its column. There is room for them.
 pub(crate) fn push_row<T: Stored + Drop, R: Term<T>>(
     term: &R,
     columns: &[u32],
@@ -68,8 +68,8 @@ fn ends_with(indices: &[u32], k: usize, column: u32) -> bool
     k > 0 && indices[k - 1] == column
 }
 
-/// Adds a product to the first `k` entries, whose columns are none higher: to the last of them where that is of its column, and else
-/// behind it. Answers how many entries there are then.
+/// Adds a product to the first `k` entries, whose columns are none higher: to the last of them where that is of its column, and else after
+/// it. Answers how many entries there are then.
 fn add_product<T: Stored, M: MonoidOver<T>>(
     indices: &mut [u32],
     values: &mut [T],
@@ -115,7 +115,8 @@ fn fold_runs<T: Stored, M: MonoidOver<T>>(
     k
 }
 
-/// The fold of the products at each column, which come in any order. Takes memory for as many entries as there are products.
+/// The fold of the products at each column, which come in any order. Takes memory for as many entries as there are products. `AllocError`
+/// where that is refused; the products are sorted by column in any case.
 pub(crate) fn folds_of<T: Stored + Drop, M: MonoidOver<T>>(
     alloc: Global,
     products: &mut [(u32, T)],

@@ -8,8 +8,8 @@ use grb_core::{Domain, Monoid, Value};
 use grb_ewise::Stored;
 use grb_sparse::{SparseMatrix, SparseVector};
 
-/// All values that a vector stores, combined by the monoid; the monoid's identity where it stores none. Takes no memory, and time in
-/// proportion to the stored entries.
+/// All values that `vector` stores, combined by `monoid`; its identity where it stores none. Takes no memory, and time in proportion to the
+/// stored entries.
 ///
 /// The vector and the monoid are of one domain.
 ///
@@ -25,8 +25,8 @@ pub fn reduce_vector(vector: &SparseVector, monoid: Monoid) -> Value
     }
 }
 
-/// All values that a matrix stores, combined by the monoid; the monoid's identity where it stores none. Takes no memory, and time in
-/// proportion to the stored entries.
+/// All values that `matrix` stores, combined by `monoid`; its identity where it stores none. Takes no memory, and time in proportion to the
+/// stored entries.
 ///
 /// The matrix and the monoid are of one domain.
 ///

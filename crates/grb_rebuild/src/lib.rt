@@ -1,9 +1,9 @@
 //! A store made anew by calls: those that make, number by number and sort by sort, what a store holds.
 //!
-//! `rebuild_all` has for a store the calls that leave it, in a history that begins with no object, and the store itself with room for more, whose
-//! objects are shared with the old one: nothing is to be evaluated again. `rebuild_live` does the same for the objects that are there, with
-//! new numbers, and tells which became which. Each entry is copied once, as the tuple of a build. Nothing here knows of passes, of an order
-//! or of records: the caller has the calls entered.
+//! `rebuild_all` has for a store the calls that leave it, in a history that begins with no object, and the store itself with room for more,
+//! whose objects are shared with the old one: nothing is to be evaluated again. `rebuild_live` does the same for the objects that are
+//! there, with new numbers, and tells which became which. Each entry is copied once, as the tuple of a build. Nothing here knows of passes,
+//! of an order or of records: the caller has the calls entered.
 #![tactic(auto)]
 
 pub mod laws;

@@ -19,7 +19,7 @@ fn monoid_for(domain: Domain) -> Monoid
     }
 }
 
-/// The entries as tuples, in their order.
+/// The entries as tuples, in their order. `AllocError` where memory is refused; then nothing is made.
 fn tuples_of(alloc: Global, matrix: &SparseMatrix) -> Result<Vec<(u64, u64, Value)>, AllocError>
     requires { matrix.now.assembled ≡ true }
     ensures { IfOk result (λ tuples. tuples.items ≡ tuples_of matrix.now.matrix.entries) }
@@ -31,7 +31,7 @@ fn tuples_of(alloc: Global, matrix: &SparseMatrix) -> Result<Vec<(u64, u64, Valu
     Ok(tuples)
 }
 
-/// The entries as pairs, in their order.
+/// The entries as pairs, in their order. `AllocError` where memory is refused; then nothing is made.
 fn pairs_of(alloc: Global, vector: &SparseVector) -> Result<Vec<(u64, Value)>, AllocError>
     requires { vector.now.assembled ≡ true }
     ensures { IfOk result (λ pairs. pairs.items ≡ vector.now.vector.entries) }
@@ -43,7 +43,7 @@ fn pairs_of(alloc: Global, vector: &SparseVector) -> Result<Vec<(u64, Value)>, A
     Ok(pairs)
 }
 
-/// Puts the build of the matrix behind the calls, if it stores an entry.
+/// Puts the build of the matrix after the calls, if it stores an entry. `AllocError` where memory is refused; then it is not put.
 fn push_matrix_build(
     alloc: Global,
     calls: &mut Vec<Call>,
@@ -62,7 +62,7 @@ fn push_matrix_build(
     Ok(())
 }
 
-/// Puts the build of the vector behind the calls, if it stores an entry.
+/// Puts the build of the vector after the calls, if it stores an entry. `AllocError` where memory is refused; then it is not put.
 fn push_vector_build(
     alloc: Global,
     calls: &mut Vec<Call>,
@@ -81,7 +81,8 @@ fn push_vector_build(
     Ok(())
 }
 
-/// Puts a new matrix, and that it is freed, behind the calls: its number is taken by no later one.
+/// Puts a new matrix, and that it is freed, after the calls: its number is taken by no later one. `AllocError` where memory is refused;
+/// then the first of the two may be there.
 fn push_freed_matrix(calls: &mut Vec<Call>, a: MatrixId) -> Result<(), AllocError>
     ensures { OnOk result (calls.new.items ≡ calls.old.items ++ matrix_calls a.0 None) }
 {
@@ -94,7 +95,7 @@ fn push_freed_matrix(calls: &mut Vec<Call>, a: MatrixId) -> Result<(), AllocErro
     Ok(())
 }
 
-/// The same of a vector.
+/// The same of a vector. `AllocError` where memory is refused; then the first of the two may be there.
 fn push_freed_vector(calls: &mut Vec<Call>, v: VectorId) -> Result<(), AllocError>
     ensures { OnOk result (calls.new.items ≡ calls.old.items ++ vector_calls v.0 None) }
 {
@@ -106,7 +107,8 @@ fn push_freed_vector(calls: &mut Vec<Call>, v: VectorId) -> Result<(), AllocErro
     Ok(())
 }
 
-/// Puts the calls that make what stands at a matrix's number behind these.
+/// Puts the calls that make what stands at a matrix's number after these. `AllocError` where memory is refused; then some of these calls
+/// may be there.
 pub(crate) fn push_matrix(
     alloc: Global,
     calls: &mut Vec<Call>,
@@ -133,7 +135,8 @@ pub(crate) fn push_matrix(
     }
 }
 
-/// Puts the calls that make what stands at a vector's number behind these.
+/// Puts the calls that make what stands at a vector's number after these. `AllocError` where memory is refused; then some of these calls
+/// may be there.
 pub(crate) fn push_vector(
     alloc: Global,
     calls: &mut Vec<Call>,

@@ -28,7 +28,7 @@ pub enum NoSuccessor {
 /// A store to go on with, and the calls that make it anew.
 #[derive(Drop)]
 pub struct Rebuild {
-    /// The calls, which leave this store behind no others.
+    /// The calls, which leave this store where no others come before them.
     pub calls: Vec<Call>,
     /// The store, in which no change waits.
     pub state: State,
@@ -67,8 +67,8 @@ fn renumbered(alloc: Global, state: &State) -> Result<(State, Renumbered), Alloc
     Ok((live, numbers))
 }
 
-/// The same of the objects that are there alone: the matrices have the numbers 0, 1, 2 .. in their order, and so have the vectors. Beside it
-/// stands which number became which (own).
+/// The same of the objects that are there alone: the matrices have the numbers 0, 1, 2 .. in their order, and so have the vectors. Beside
+/// it stands which number became which (own).
 pub fn rebuild_live(
     alloc: Global,
     state: &State,

@@ -26,7 +26,7 @@ impl Model for Row {
 }
 
 impl Row {
-    /// A row of `room` empty cells.
+    /// A row of `room` empty cells. `AllocError` where memory is refused; then nothing is made.
     fn open(alloc: Global, room: u32) -> Result<Row, AllocError>
         ensures { IfOk result (λ row. length row ≡ room) }
     {
@@ -56,7 +56,8 @@ impl Model for Records {
 impl Records {
     ghost use Rattle.grb_records.specs.Token.{cell_at, HasRows, IsOf, IsSameRecord};
 
-    /// No records, and a row of `room` cells for each pass. All memory is taken here; `AllocError` where it is refused.
+    /// No records, and a row of `room` cells for each pass. All memory is taken here; `AllocError` where it is refused; then nothing is
+    /// made.
     pub fn open(alloc: Global, passes: u32, room: u32) -> Result<Records, AllocError>
         ensures { IfOk result (HasRows passes room) }
     {
@@ -67,7 +68,7 @@ impl Records {
         Ok(Records { rows, alloc })
     }
 
-    // The cell at the index in the row of the pass, if there is one.
+    /// The cell at the index in the row of the pass, if there is one.
     fn cell(&self, pass: u32, at: u64) -> Option<&Cell>
         ensures { MatchOption result (cell_at self.now pass at ≡ None) (λ cell. cell_at self.now pass at ≡ Some (cell_name cell.now)) }
     {

@@ -1,4 +1,4 @@
--- inside: no public contract names it. A state that goes on from a version (own).
+-- inside: no public contract names it. A state that goes on from an edition (own).
 use Rattle.std.specs.Prelude.{◌≡◌, ◌+◌, ◌<◌, ◌≤◌, ℕ, List, length}
 use Rattle.grb_call.specs.declared.call.Call.{Call}
 use Rattle.grb_state.specs.Evaluated.{IsEvaluated}

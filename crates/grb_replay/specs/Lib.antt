@@ -3,7 +3,7 @@ pub mod Held
 pub mod Partial
 pub mod Reached
 pub mod Targets
-pub mod Versions
+pub mod Editions
 pub use Rattle.grb_state.specs.Evaluated
 pub use Rattle.grb_state.specs.Settled
 pub use Rattle.grb_state.specs.StoredIn

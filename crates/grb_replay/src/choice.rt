@@ -1,6 +1,7 @@
 //! Which of the calls that are not made yet are made on the way to an answer. No contract says any of it, and no answer depends on it.
 ghost use Rattle.std.specs.Prelude.{◌≡◌, ◌≤◌, drop, length, IfOk};
 
+use crate::effort::{Work, work_of};
 use crate::reached::{Reached, is_free};
 use grb_call::{Call, MatrixId, Object, Shapes, VectorId, objects_read};
 use grb_slices::{CallList, Slice, Wanted, slice_for};
@@ -37,7 +38,7 @@ pub struct Choice {
     allowance: u64,
 }
 
-/// The objects that are there, by their shapes. `AllocError` where memory is refused.
+/// The objects that are there, by their shapes. `AllocError` where memory is refused; then nothing is made.
 pub fn live_objects(alloc: Global, shapes: &Shapes) -> Result<Wanted, AllocError> {
     let mut live = Wanted::new(alloc);
     for number in 0..shapes.matrices() {
@@ -61,39 +62,32 @@ fn is_chosen(chosen: &[bool], from: usize, at: usize) -> bool {
     }
 }
 
+/// How many entries the objects store that the call reads.
+fn entries_read(alloc: Global, reached: &Reached, call: &Call) -> u64 {
+    let mut entries: u64 = 0;
+    for object in objects_read(alloc, call).as_slice() {
+        entries = entries.saturating_add(reached.state().nvals(*object));
+    }
+    entries
+}
+
 /// How many entries the call reads, writes or combines, at most: of a product of two matrices as many as there are pairs.
 fn entries_at(alloc: Global, reached: &Reached, call: &Call) -> u64 {
-    match call {
-        Call::BuildMatrix { tuples, .. } => tuples.as_slice().len() as u64,
-        Call::BuildVector { tuples, .. } => tuples.as_slice().len() as u64,
-        Call::Mxm { a, b, .. } => {
-            let first = reached.state().nvals(Object::Matrix(*a));
-            first.saturating_mul(reached.state().nvals(Object::Matrix(*b)))
-        }
-        _ => {
-            let mut entries: u64 = 0;
-            for object in objects_read(alloc, call).as_slice() {
-                entries = entries.saturating_add(reached.state().nvals(*object));
-            }
-            entries
-        }
+    if let Call::Mxm { a, b, .. } = call {
+        let first = reached.state().nvals(Object::Matrix(*a));
+        return first.saturating_mul(reached.state().nvals(Object::Matrix(*b)));
+    }
+    match work_of(call) {
+        Work::List(entries) => entries as u64,
+        Work::Operation | Work::Step => entries_read(alloc, reached, call),
     }
 }
 
 /// Whether the call is an operation or a build: any other takes little time.
 fn may_be_dear(call: &Call) -> bool {
-    match call {
-        Call::EwiseAddMatrix { .. }
-        | Call::EwiseAddVector { .. }
-        | Call::EwiseMultMatrix { .. }
-        | Call::EwiseMultVector { .. }
-        | Call::Mxv { .. }
-        | Call::Vxm { .. }
-        | Call::Mxm { .. }
-        | Call::ReduceRows { .. }
-        | Call::BuildMatrix { .. }
-        | Call::BuildVector { .. } => true,
-        _ => false,
+    match work_of(call) {
+        Work::Operation | Work::List(_) => true,
+        Work::Step => false,
     }
 }
 
@@ -109,7 +103,7 @@ impl Choice {
     }
 
     /// Of the calls from a place on, the answer needs those that any object depends on which is there after them. `AllocError` where memory
-    /// is refused.
+    /// is refused; then nothing is chosen, and `live` is dropped.
     pub fn for_all<S, C: CallList<S>>(
         alloc: Global,
         calls: &mut C,
@@ -132,7 +126,7 @@ impl Choice {
     }
 
     /// Of the calls from a place on, the answer needs those that the object depends on; others are needed by what is there after them.
-    /// `AllocError` where memory is refused.
+    /// `AllocError` where memory is refused; then nothing is chosen, and `live` is dropped.
     pub fn for_object<S, C: CallList<S>>(
         alloc: Global,
         calls: &mut C,

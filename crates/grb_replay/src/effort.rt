@@ -2,7 +2,7 @@
 ghost use Rattle.std.specs.Prelude.{◌≡◌, ◌+◌, ◌-◌, ◌^◌, ◌<◌, min, OnOk, OnErr};
 ghost use Rattle.grb_call.specs.After.{after};
 
-use grb_call::{Call, objects_read};
+use grb_call::{Call, Class, objects_read};
 use grb_state::State;
 use std::alloc::{AllocError, Global};
 use std::marker::Model;
@@ -13,38 +13,35 @@ const UNKNOWN: u64 = 16;
 /// How many entries an operation reads or leaves in the time of a set, about, and a build takes (own).
 const ENTRIES: u64 = 8;
 
-/// How many calls, or entries of a list, are compared in the time of a set, about, and how many are copied (own).
+/// How many calls, or entries of a list, are compared in the time of a set, about (own).
 const COMPARED: u64 = 8;
 
+/// How many calls, or entries of a list, are copied in the time of a set, about (own).
 const COPIED: u64 = 4;
 
 /// From how many sets on there may be a long list among calls that are no operations (own).
 const LONG: u64 = 4096;
 
 /// What the call changes its object by.
-enum Work {
+pub(crate) enum Work {
     /// An operation on other objects.
     Operation,
     /// A list of so many entries.
     List(usize),
-    /// One entry, or the whole object at once.
+    /// One entry, or the whole object at once; or nothing, as a reading call.
     Step,
 }
 
-/// Of which sort the work of a call is.
-fn work_of(call: &Call) -> Work {
-    match call {
-        Call::EwiseAddMatrix { .. }
-        | Call::EwiseAddVector { .. }
-        | Call::EwiseMultMatrix { .. }
-        | Call::EwiseMultVector { .. }
-        | Call::Mxv { .. }
-        | Call::Vxm { .. }
-        | Call::Mxm { .. }
-        | Call::ReduceRows { .. } => Work::Operation,
-        Call::BuildMatrix { tuples, .. } => Work::List(tuples.as_slice().len()),
-        Call::BuildVector { tuples, .. } => Work::List(tuples.as_slice().len()),
-        _ => Work::Step,
+/// Of which sort the work of a call is. Takes no memory.
+pub(crate) fn work_of(call: &Call) -> Work {
+    match call.class() {
+        Class::Operates => Work::Operation,
+        Class::Edits => match call {
+            Call::BuildMatrix { tuples, .. } => Work::List(tuples.as_slice().len()),
+            Call::BuildVector { tuples, .. } => Work::List(tuples.as_slice().len()),
+            _ => Work::Step,
+        },
+        Class::Makes | Class::Reads(_) | Class::AsksDimensions => Work::Step,
     }
 }
 
@@ -222,7 +219,8 @@ impl Effort {
         }
     }
 
-    /// Makes the call on the state, as [`State::apply`] does, and counts it.
+    /// Makes the call on the state, as [`State::apply`] does, and counts it. `AllocError` where memory is refused; then the store is as
+    /// before, and the call counts among those made.
     pub fn make(&mut self, state: &mut State, call: &Call) -> Result<(), AllocError>
         requires { 0 < state.old.room }
         ensures store { OnOk result (state.new.store ≡ after state.old.store call.now) }

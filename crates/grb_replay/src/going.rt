@@ -1,4 +1,4 @@
-//! A store that goes on over calls to the end of a list, and the whole store that stays behind where it leaves some out.
+//! A store that goes on over calls to the end of a list, and the whole store that stays as its base where it leaves some out.
 ghost use Rattle.std.specs.Prelude.{◌≡◌, ◌+◌, ◌<◌, ◌≤◌, List, length, IfSome, OnOk, OnErr};
 ghost use Rattle.grb_call.specs.declared.call.Call.{Call};
 ghost use Rattle.grb_call.specs.Store.{empty_store, shapes_of};
@@ -12,7 +12,7 @@ use grb_slices::CallList;
 use std::alloc::{AllocError, Global};
 
 /// Before a call is left out: a copy of the store stays at its place, where it lacks no object and none stays yet. No entry is copied.
-/// `AllocError` where memory is refused.
+/// `AllocError` where memory is refused; then the base is as before.
 fn stay(reached: &Reached, base: &mut Option<Reached>, room: u32) -> Result<(), AllocError>
     requires few { reached.now.count ≤ room }
     requires matrices { length reached.now.state.store.matrices ≤ reached.now.count }
@@ -26,7 +26,7 @@ fn stay(reached: &Reached, base: &mut Option<Reached>, room: u32) -> Result<(), 
     Ok(())
 }
 
-/// Leaves the next call out. `AllocError` where memory is refused.
+/// Leaves the next call out. `AllocError` where memory is refused; then no call more is gone over.
 fn leave_out<S, C: CallList<S>>(
     reached: &mut Reached,
     base: &mut Option<Reached>,
@@ -50,7 +50,7 @@ fn leave_out<S, C: CallList<S>>(
     reached.leave(calls, source)
 }
 
-/// Makes the next call, which the answer needs. `AllocError` where memory is refused.
+/// Makes the next call, which the answer needs. `AllocError` where memory is refused; then no call more is gone over.
 fn make_needed<S, C: CallList<S>>(
     reached: &mut Reached,
     calls: &mut C,
@@ -75,7 +75,8 @@ fn make_needed<S, C: CallList<S>>(
     Ok(())
 }
 
-/// Makes the next call, which the answer does not need; where memory is refused to it, it is left out.
+/// Makes the next call, which the answer does not need; where memory is refused to it, it is left out. `AllocError` where memory is refused
+/// to the copy that stays as the base, or to leaving the call out; then no call more is gone over.
 fn try_other<S, C: CallList<S>>(
     reached: &mut Reached,
     base: &mut Option<Reached>,
@@ -105,7 +106,7 @@ fn try_other<S, C: CallList<S>>(
     Ok(())
 }
 
-/// Goes over the next call, as is chosen. `AllocError` where memory is refused to what the answer needs.
+/// Goes over the next call, as is chosen. `AllocError` where memory is refused to what the answer needs; then no call more is gone over.
 fn go_over<S, C: CallList<S>>(
     alloc: Global,
     reached: &mut Reached,
@@ -143,8 +144,8 @@ fn go_over<S, C: CallList<S>>(
 }
 
 /// Goes over all calls of the list that it has not gone over, as is chosen, in a history that takes `room` calls. Where it first leaves one
-/// out, a store that lacks no object stays behind as the base. `AllocError` where memory is refused to what the answer needs; then what it
-/// has gone over stays so.
+/// out, a store that lacks no object stays as the base. `AllocError` where memory is refused to what the answer needs; then what it has
+/// gone over stays so.
 pub fn go_on<S, C: CallList<S>>(
     alloc: Global,
     reached: &mut Reached,

@@ -35,8 +35,8 @@ pub(crate) fn pass_over(state: &mut State, object: Object)
     state.add_place(object);
 }
 
-/// Makes the call at this place on a state where it is chosen, and counts its effort; of one that is not, which is not read, the
-/// object that it would make gets a place, and is not there. `AllocError` where memory is refused.
+/// Makes the call at this place on a state where it is chosen, and counts its effort; of one that is not, which is not read, the object
+/// that it would make gets a place, and is not there. `AllocError` where memory is refused; what the state holds then, no clause says.
 fn make_one<S, C: CallList<S>>(
     state: &mut State,
     target: Option<Object>,
@@ -65,7 +65,8 @@ fn make_one<S, C: CallList<S>>(
 
 /// Makes, of the calls from a place on, which come one after another on a whole store, those that were chosen, on a state that holds of it
 /// what is wanted before them; after them the state holds what is wanted then, as the whole store does after all of them, and no other call
-/// has changed it. The effort of each call that it makes is counted. `AllocError` where memory is refused; what the state holds then is not said.
+/// has changed it. The effort of each call that it makes is counted. `AllocError` where memory is refused; what the state holds then, no
+/// clause says.
 pub(crate) fn make_chosen<S, C: CallList<S>>(
     state: &mut State,
     calls: &mut C,

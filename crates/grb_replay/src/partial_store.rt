@@ -26,7 +26,7 @@ use std::marker::Model;
 use std::sync::Arc;
 
 /// Some objects of a store at one place of a list of calls. They go on to a later place by the calls that they depend on; what the other
-/// objects hold is left behind.
+/// objects hold is not kept.
 #[derive(Drop)]
 pub struct PartialStore {
     state: State,
@@ -97,9 +97,9 @@ impl PartialStore {
         })
     }
 
-    /// Goes on by the calls from a place on, those of the slice alone: it holds the wanted objects then, where it held what is wanted before
-    /// the calls. The effort of each call of the slice is counted. `AllocError` where memory is refused; what it holds then is not said
-    /// (own).
+    /// Goes on by the calls from a place on, those of the slice alone: it holds the wanted objects then, where it held what is wanted
+    /// before the calls. The effort of each call of the slice is counted. `AllocError` where memory is refused; what it holds then, no
+    /// clause says (own).
     pub fn go_on<S, C: CallList<S>>(
         &mut self,
         calls: &mut C,
@@ -184,7 +184,7 @@ impl PartialStore {
     }
 
     /// The answer to a call that only reads the object, as a store answers where the object holds the same. A total and a wait have the
-    /// changes done that wait in it. `AllocError` where memory is refused to that.
+    /// changes done that wait in it. `AllocError` where memory is refused to that; the entries are as before in any case.
     pub fn answer(
         &mut self,
         object: Object,
@@ -202,7 +202,8 @@ impl PartialStore {
     }
 }
 
-/// The answer of the state to a call that only reads the object. A total and a wait have the changes done that wait in it.
+/// The answer of the state to a call that only reads the object. A total and a wait have the changes done that wait in it. `AllocError`
+/// where memory is refused to these; the entries are as before in any case.
 pub(crate) fn answer_of(
     state: &mut State,
     object: Object,

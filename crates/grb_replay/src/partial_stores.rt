@@ -114,7 +114,7 @@ fn make_place(stores: &mut Vec<ReadObject>)
 }
 
 impl PartialStores {
-    /// No object was read; a partial store has room for so many calls in all. `AllocError` where memory is refused.
+    /// No object was read; a partial store has room for so many calls in all. `AllocError` where memory is refused; then nothing is made.
     pub fn open(alloc: Global, room: u32) -> Result<PartialStores, AllocError>
         ensures partial { IfOk result (ArePartial []) }
         ensures room { IfOk result (λ stores. stores.room ≡ room) }
@@ -201,8 +201,8 @@ impl PartialStores {
         self.stores.push_reserved(read);
     }
 
-    /// The object after all calls, from its slice behind its partial store. None where that lacks what is wanted there, or where
-    /// that would take more than may be spent. `AllocError` where memory is refused.
+    /// The object after all calls, from its partial store and the slice of the calls that came later. None where that lacks what is wanted
+    /// there, or where that would take more than may be spent. `AllocError` where memory is refused; then the partial store is dropped.
     fn onward<S, C: CallList<S>>(
         &mut self,
         read: ReadObject,
@@ -248,8 +248,8 @@ impl PartialStores {
         Ok(Some(read))
     }
 
-    /// The object after all calls, from its slice behind the evaluated ones. None where that would take more than may be spent.
-    /// `AllocError` where memory is refused.
+    /// The object after all calls, from the evaluated store and the slice of the calls that are left. None where that would take more than
+    /// may be spent. `AllocError` where memory is refused; then nothing is made.
     fn anew<S, C: CallList<S>>(
         &mut self,
         calls: &mut C,
@@ -293,7 +293,8 @@ impl PartialStores {
         }))
     }
 
-    /// The object after all calls, as far as it can be had so.
+    /// The object after all calls, as far as it can be had so. None as [`PartialStores::reply`] says. `AllocError` where memory is refused;
+    /// then the object has no partial store.
     fn store_of<S, C: CallList<S>>(
         &mut self,
         calls: &mut C,
@@ -328,9 +329,10 @@ impl PartialStores {
         }
     }
 
-    /// The reply to a call that only reads the object and is not refused, after all calls of the list, of which so many are evaluated in the
-    /// state; the others are so much work. The object is kept then, and the effort of the calls that are made is counted. None where it is not to be had so: from a partial store that lacks what new calls read, and which is dropped
-    /// then, or where all calls are to be made. `AllocError` where memory is refused.
+    /// The reply to a call that only reads the object and is not refused, after all calls of the list, of which so many are evaluated in
+    /// the state; the others are so much work. The object is kept then, and the effort of the calls that are made is counted. None where it
+    /// is not to be had so: from a partial store that lacks what new calls read, and which is dropped then, or where all calls are to be
+    /// made. `AllocError` where memory is refused; the object may have no partial store then, and the state is as before.
     pub fn reply<S, C: CallList<S>>(
         &mut self,
         calls: &mut C,

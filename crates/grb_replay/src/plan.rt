@@ -51,7 +51,7 @@ fn cost_of_copies(whole: &State, slice: &Slice, same: &Wanted) -> u64 {
     entries / COPIED
 }
 
-/// The slice of some calls for an object, with what is wanted behind them, and what it takes to make it, as a number of sets.
+/// The slice of some calls for an object, with what is wanted after them, and what it takes to make it, as a number of sets.
 #[derive(Drop)]
 pub(crate) struct Plan {
     pub(crate) slice: Slice,
@@ -74,7 +74,8 @@ fn amount_of<S, C: CallList<S>>(calls: &mut C, source: &S, from: usize, chosen: 
     amount
 }
 
-/// The slice of the calls from a place on for the object and for what they leave the same. `AllocError` where memory is refused.
+/// The slice of the calls from a place on for the object and for what they leave the same. `AllocError` where memory is refused; then
+/// nothing is planned.
 fn plan_for<S, C: CallList<S>>(
     alloc: Global,
     calls: &mut C,
@@ -104,8 +105,8 @@ fn plan_for<S, C: CallList<S>>(
     })
 }
 
-/// The slice for the object of the calls from a place on, behind what a partial store holds. None where it lacks what is wanted before them, or
-/// where the slice takes more than the limit. `AllocError` where memory is refused.
+/// The slice for the object of the calls from a place on, which come after those of a partial store. None where it lacks what is wanted
+/// before them, or where the slice takes more than the limit. `AllocError` where memory is refused; then nothing is planned.
 pub(crate) fn plan_onward<S, C: CallList<S>>(
     alloc: Global,
     store: &PartialStore,
@@ -135,8 +136,9 @@ pub(crate) fn plan_onward<S, C: CallList<S>>(
     Ok(None)
 }
 
-/// The slice for the object of the calls from a place on, behind those that are evaluated in the store. None where it takes more than the
-/// limit, with the places of all objects, which a partial store shares, and the copies of what it changes. `AllocError` where memory is refused.
+/// The slice for the object of the calls from a place on, after those that are evaluated in the store. None where it takes more than the
+/// limit, with the places of all objects, which a partial store shares, and the copies of what it changes. `AllocError` where memory is
+/// refused; then nothing is planned.
 pub(crate) fn plan_anew<S, C: CallList<S>>(
     alloc: Global,
     whole: &State,

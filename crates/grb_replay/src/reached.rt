@@ -16,10 +16,10 @@ ghost use Rattle.grb_slices.specs.Slice.{is_among};
 ghost use Rattle.grb_slices.specs.Wanted.{is_wanted};
 ghost use Rattle.grb_replay.specs.Reached.{IsReached, IsWhole, is_free};
 
+use crate::editions::Editions;
 use crate::effort::{Amount, Effort};
 use crate::making::pass_over;
 use crate::partial_store::answer_of;
-use crate::versions::Versions;
 use grb_call::{Call, Object, Reply, objects_read};
 use grb_core::Refusal;
 use grb_slices::{CallList, Wanted};
@@ -104,7 +104,7 @@ fn amount_of_first(calls: &[&Call], count: usize) -> Amount {
 }
 
 impl Reached {
-    /// The empty store, before all calls, with room for so many. `AllocError` where memory is refused.
+    /// The empty store, before all calls, with room for so many. `AllocError` where memory is refused; then nothing is made.
     pub fn open(alloc: Global, room: u32) -> Result<Reached, AllocError>
         ensures store { IfOk result (λ r. r.state.store ≡ empty_store) }
         ensures room { IfOk result (λ r. r.state.room ≡ room) }
@@ -135,7 +135,7 @@ impl Reached {
         }
     }
 
-    /// The same, with room for so many further calls. No entry is copied. `AllocError` where memory is refused.
+    /// The same, with room for so many further calls. No entry is copied. `AllocError` where memory is refused; then nothing is made.
     pub fn try_clone(&self, room: u32) -> Result<Reached, AllocError>
         requires matrices { length self.now.state.store.matrices + room < 2 ^ 32 }
         requires vectors { length self.now.state.store.vectors + room < 2 ^ 32 }
@@ -267,9 +267,9 @@ impl Reached {
         Ok(())
     }
 
-    /// Goes on from the longest version found that has more calls than were gone over, as [`Versions::advance`] does; then it lacks no
+    /// Goes on from the longest edition found that has more calls than were gone over, as [`Editions::advance`] does; then it lacks no
     /// object. Where there is none, or memory is refused, it stays as it is.
-    pub fn advance(&mut self, versions: &Versions, calls: &[&Call], room: u32)
+    pub fn advance(&mut self, editions: &Editions, calls: &[&Call], room: u32)
         requires few { length calls.now ≤ room }
         requires reached { IsReached (map (λ c. c.now) calls.now) self.old }
         requires room { room ≤ self.old.state.room + self.old.count }
@@ -282,7 +282,7 @@ impl Reached {
         let Ok(mut state) = State::empty(self.alloc).try_clone(room) else {
             return;
         };
-        let count = versions.advance(calls, &mut state, 0, room);
+        let count = editions.advance(calls, &mut state, 0, room);
         if count <= self.count {
             return;
         }
@@ -292,7 +292,8 @@ impl Reached {
         self.count = count;
     }
 
-    /// Has the changes done that the call asks for, as [`State::settle`] does. `AllocError` where memory is refused.
+    /// Has the changes done that the call asks for, as [`State::settle`] does. `AllocError` where memory is refused; the entries are as
+    /// before in any case.
     pub fn settle(&mut self, call: &Call) -> Result<(), AllocError>
         ensures same { self.new ≡ record self.old { state = self.new.state } }
         ensures store { self.new.state.store ≡ self.old.state.store }
@@ -302,7 +303,8 @@ impl Reached {
         self.state.settle(call)
     }
 
-    /// Has all changes done that wait in any object, as [`State::materialize`] does. `AllocError` where memory is refused.
+    /// Has all changes done that wait in any object, as [`State::materialize`] does. `AllocError` where memory is refused; the entries are
+    /// as before in any case.
     pub fn materialize(&mut self) -> Result<(), AllocError>
         ensures same { self.new ≡ record self.old { state = self.new.state } }
         ensures store { self.new.state.store ≡ self.old.state.store }
@@ -313,7 +315,7 @@ impl Reached {
     }
 
     /// The answer to a call that only reads the object, as a store answers where the object holds the same. A total and a wait have the
-    /// changes done that wait in it. `AllocError` where memory is refused to that.
+    /// changes done that wait in it. `AllocError` where memory is refused to that; the entries are as before in any case.
     pub fn answer(
         &mut self,
         object: Object,

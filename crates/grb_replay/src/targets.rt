@@ -12,7 +12,7 @@ use grb_slices::{CallList, target_at, target_of};
 use std::alloc::{AllocError, Global};
 use std::marker::Model;
 
-/// The targets of the first calls of a history, each at its place, none for one that is refused there or only reads, and the shapes behind
+/// The targets of the first calls of a history, each at its place, none for one that is refused there or only reads, and the shapes after
 /// these calls: of one walk over the calls, which goes on where it stopped.
 #[derive(Drop)]
 pub struct Targets {
@@ -32,7 +32,7 @@ impl Model for Targets {
 }
 
 impl Targets {
-    /// Of no calls, with memory for so many. `AllocError` where memory is refused.
+    /// Of no calls, with memory for so many. `AllocError` where memory is refused; then nothing is made.
     pub fn open(alloc: Global, room: u32) -> Result<Targets, AllocError>
         ensures targets { IfOk result (λ t. t.targets ≡ []) }
         ensures shapes { IfOk result (λ t. t.shapes.objects ≡ shapes_of empty_store) }
@@ -44,7 +44,7 @@ impl Targets {
         })
     }
 
-    /// Of no calls yet on objects of these shapes, with memory for so many. `AllocError` where memory is refused.
+    /// Of no calls yet on objects of these shapes, with memory for so many. `AllocError` where memory is refused; then nothing is made.
     pub fn of(alloc: Global, shapes: &Shapes, room: u32) -> Result<Targets, AllocError>
         requires matrices { length shapes.now.objects.matrices + room < 2 ^ 32 }
         requires vectors { length shapes.now.objects.vectors + room < 2 ^ 32 }
@@ -59,7 +59,7 @@ impl Targets {
         })
     }
 
-    /// Takes in the call behind those walked over. Takes no memory.
+    /// Takes in the call after those walked over. Takes no memory.
     pub fn go_over(&mut self, call: &Call)
         requires { 0 < self.old.shapes.room }
         ensures targets { self.new.targets ≡ self.old.targets ++ effective_target self.old.shapes.objects call.now ∷ [] }
@@ -70,7 +70,7 @@ impl Targets {
         self.shapes.absorb(call);
     }
 
-    /// Takes in the call behind those walked over, which the shapes behind these do not refuse: it is not checked again. Takes no memory.
+    /// Takes in the call after those walked over, which the shapes after these do not refuse: it is not checked again. Takes no memory.
     pub fn take_in(&mut self, call: &Call)
         requires room { 0 < self.old.shapes.room }
         requires accepted { refused_by_shapes self.old.shapes.objects call.now ≡ None }
@@ -82,7 +82,7 @@ impl Targets {
         self.shapes.absorb_accepted(call);
     }
 
-    /// Goes on over these calls, which come behind those walked over. Takes no memory.
+    /// Goes on over these calls, which come after those walked over. Takes no memory.
     pub fn go_on(&mut self, calls: &[&Call])
         requires room { length calls.now ≤ self.old.shapes.room }
         ensures walked { (s : Store) (known : List Call) → AreTargetsOf s self.old known → map (λ c. c.now) calls.now ≡ drop (length self.old.targets) known → AreTargetsOf s self.new known × (length self.new.targets ≡ length known) }
@@ -94,7 +94,7 @@ impl Targets {
         }
     }
 
-    /// The shapes behind the calls walked over. Takes no memory.
+    /// The shapes after the calls walked over. Takes no memory.
     pub fn shapes(&self) -> &Shapes
         ensures { result.now ≡ self.now.shapes }
     {
@@ -108,7 +108,7 @@ impl Targets {
         &self.targets
     }
 
-    /// Whether the object is there behind the calls. Takes no memory.
+    /// Whether the object is there after the calls. Takes no memory.
     pub fn contains(&self, object: Object) -> bool
         ensures { result ≡ is_live self.now.shapes.objects object }
     {

@@ -41,7 +41,8 @@ impl Model for Held {
 /// What the object holds after these calls on a store, from only the calls that it depends on: what is held is the store that these calls
 /// alone leave, in which an object that others made is not there. The others are passed over by their shapes, and all are, and nothing is
 /// held, where the object is not there after them. The store stays as it is, and no entry is copied but of objects that these calls change.
-/// It takes memory for a place of each object, for the slice and for what its calls make. `AllocError` where memory is refused.
+/// It takes memory for a place of each object, for the slice and for what its calls make. `AllocError` where memory is refused; then
+/// nothing is made.
 ///
 /// Source: GraphBLAS C API 2.0, "Execution modes": a method may be executed when an answer needs it; the form is own.
 pub fn value_of(

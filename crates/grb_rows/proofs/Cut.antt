@@ -1,10 +1,11 @@
 -- Entries that pass a test, one after the other, and the dimensions of a vector as those of a matrix with one row.
-use Rattle.std.proofs.Common.{◌≡◌, ℕ, ◌+◌, ◌/◌, ◌%◌, ◌<◌, ◌≤◌, Bool, true, false, cond, [], ◌∷◌, ◌++◌, length, get_or, take, nat_lt, refl, sym, ap, subst, ◌∙◌, arith}
+use Rattle.std.proofs.Common.{inl, inr, suc, ◌≡◌, ℕ, ◌+◌, ◌-◌, ◌/◌, ◌%◌, ◌<◌, ◌≤◌, Bool, true, false, cond, [], ◌∷◌, ◌++◌, length, get_or, take, nat_lt, refl, sym, ap, subst, ◌∙◌, arith}
 use lib.Dec.{T}
 use Rattle.std.specs.Prelude.{◌&&◌}
 use Rattle.std.specs.List.{AllByRecursion}
 use Rattle.std.specs.Ordering.{nat_cmp}
 use Rattle.std.specs.FinMap.{is_sorted}
+use Rattle.std.proofs.lemmas.Bool.{cases_eq}
 use Rattle.std.proofs.lemmas.Bool.Decides.{nat_tests}
 use Rattle.std.proofs.lemmas.List.{take_more}
 use Rattle.grb_core.specs.declared.value.Value.{Value}
@@ -41,6 +42,33 @@ module _ (t : ℕ → Bool) where
       sym (restricted-push (take i m) k v)
       ∙ ap (λ (e : ℕ × Value). restricted t (take i m ++ e ∷ [])) here
       ∙ ap (restricted t) (sym (take_more m i d l))
+
+-- where all entries pass, all are left
+pub restricted_all : (t : ℕ → Bool) (m : VectorEntries) → ((q : ℕ) (d : ℕ × Value) → q < length m → t (get_or m q d).0 ≡ true) → restricted t m ≡ m
+restricted_all t [] h = refl
+restricted_all t (e ∷ m) h =
+    ap (λ b. cond b (e ∷ restricted t m) (restricted t m)) (h 0 e (omega arith))
+    ∙ ap (λ (s : VectorEntries). e ∷ s) (restricted_all t m (λ q d l. h (suc q) d (omega arith)))
+
+is_below : (a b : ℕ) → a < b → nat_lt a b ≡ true
+is_below a b l = grind (arith, nat_tests)
+
+-- where the last row and each column are within, all cells are
+pub restricted_whole : (nrows ncols last : ℕ) (m : VectorEntries) → T (is_sorted nat_cmp m) → 0 < length m → ((d : ℕ × Value) → last ≡ (get_or m (length m - 1) d).0) → last / 4294967296 < nrows
+    → ((q : ℕ) (d : ℕ × Value) → q < length m → (get_or m q d).0 % 4294967296 < ncols) → restricted (λ k. is_cell_in nrows ncols (cell_of k)) m ≡ m
+restricted_whole nrows ncols last m h some is rows columns = restricted_all (λ k. is_cell_in nrows ncols (cell_of k)) m (λ q d l.
+    let k = (get_or m q d).0 in
+    let end = is d in
+    let upto : k ≤ last = elim (cases_eq q (length m - 1)) [
+      | inl t ↦ let e = ap (λ x. (get_or m x d).0) t in omega (arith, e, end)
+      | inr t ↦ let r = keys_rise m d h q (length m - 1) (omega (arith, l, t)) (omega (arith, some)) in omega (arith, r, end)
+    ] in
+    let row : k / 4294967296 < nrows = omega (arith, upto, rows) in
+    ap (λ b. b && nat_lt (k % 4294967296) ncols) (is_below (k / 4294967296) nrows row) ∙ is_below (k % 4294967296) ncols (columns q d l))
+
+pub no_entries : (nrows ncols : ℕ) (m : VectorEntries) → length m ≡ 0 → restricted (λ k. is_cell_in nrows ncols (cell_of k)) m ≡ m
+no_entries nrows ncols [] h = refl
+no_entries nrows ncols (e ∷ m) h = absurd (omega (arith, h))
 
 restricted_same : (p q : ℕ → Bool) → ((k : ℕ) → p k ≡ q k) → (m : VectorEntries) → restricted p m ≡ restricted q m
 restricted_same p q h [] = refl

@@ -9,7 +9,6 @@ use Rattle.std.specs.Option.{option_or}
 use Rattle.std.specs.FinMap.{find, put, is_sorted}
 use Rattle.std.specs.FinMap.Entries.{by_order, below_all}
 use Rattle.std.proofs.lemmas.Bool.Decides.{nat_tests}
-use Rattle.std.proofs.lemmas.List.{take_more}
 use Rattle.std.proofs.lemmas.List.Elements.{filter_agree}
 use lib.Dec.{T}
 use Rattle.grb_core.specs.declared.value.Value.{Value}
@@ -204,28 +203,6 @@ keys_kept x [] ds h = tt
 keys_kept x (e ∷ m) [] h = h
 keys_kept x (e ∷ m) (true ∷ ds) h = keys_kept x m ds h.1
 keys_kept x (e ∷ m) (false ∷ ds) h = (h.0, keys_kept x m ds h.1)
-
-kept_suc : (m : VectorEntries) (ds : List Bool) (i : ℕ) (d : ℕ × Value) → i < length m
-    → kept (take (suc i) m) (take (suc i) ds) ≡ cond (get_or ds i false) (kept (take i m) (take i ds)) (kept (take i m) (take i ds) ++ get_or m i d ∷ [])
-kept_suc [] ds i d l = absurd (omega arith)
-kept_suc (e ∷ m) [] zero d l = refl
-kept_suc (e ∷ m) [] (suc i) d l = ap (λ (s : VectorEntries). e ∷ s) (ap (λ k. take k m) (one i) ∙ take_more m i d (omega arith))
-  where
-    one : (i : ℕ) → suc i ≡ i + 1
-    one i = omega arith
-kept_suc (e ∷ m) (true ∷ ds) zero d l = refl
-kept_suc (e ∷ m) (false ∷ ds) zero d l = refl
-kept_suc (e ∷ m) (true ∷ ds) (suc i) d l = kept_suc m ds i d (omega arith)
-kept_suc (e ∷ m) (false ∷ ds) (suc i) d l =
-    ap (λ (s : VectorEntries). e ∷ s) (kept_suc m ds i d (omega arith))
-    ∙ elim (get_or ds i false) as (λ b. e ∷ cond b (kept (take i m) (take i ds)) (kept (take i m) (take i ds) ++ get_or m i d ∷ []) ≡ cond b (e ∷ kept (take i m) (take i ds)) (e ∷ kept (take i m) (take i ds) ++ get_or m i d ∷ [])) [ true ↦ refl | false ↦ refl ]
-
-pub kept_more : (m : VectorEntries) (ds : List Bool) (i : ℕ) (d : ℕ × Value) → i < length m
-    → kept (take (i + 1) m) (take (i + 1) ds) ≡ cond (get_or ds i false) (kept (take i m) (take i ds)) (kept (take i m) (take i ds) ++ get_or m i d ∷ [])
-kept_more m ds i d l = ap (λ k. kept (take k m) (take k ds)) (one i) ∙ kept_suc m ds i d l
-  where
-    one : (i : ℕ) → i + 1 ≡ suc i
-    one i = omega arith
 
 pub not_less : (a b : ℕ) → is_lt (nat_cmp b a) ≡ false → a ≤ b
 not_less a b h = grind (arith, nat_tests)

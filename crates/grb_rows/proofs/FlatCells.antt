@@ -8,10 +8,10 @@ use Rattle.std.proofs.lemmas.List.{length-take, length-drop, get_or-take, get_or
 use Rattle.std.specs.List.Sorted.{IsPartitionPoint, IsNonDecreasingBy}
 use Rattle.grb_rows.specs.Cells.{row_at, coded, codes_of, IsFlat}
 
-le_true : (a b : ℕ) → a ≤ b → nat_le a b ≡ true
+pub le_true : (a b : ℕ) → a ≤ b → nat_le a b ≡ true
 le_true a b l = grind (arith, nat_tests)
 
-le_false : (a b : ℕ) → b < a → nat_le a b ≡ false
+pub le_false : (a b : ℕ) → b < a → nat_le a b ≡ false
 le_false a b l = grind (arith, nat_tests)
 
 -- ---- the row of a place
@@ -31,7 +31,7 @@ row_at-at (x ∷ rows) (s ∷ starts) zero p r n l u h =
 row_at-at (x ∷ rows) (s ∷ starts) (suc k) p r n l u h =
     row_at-at rows starts k p (cond (nat_le s p) x r) (omega arith) (omega arith) u (λ i a b. h (suc i) (omega arith) (omega arith))
 
-row_at-pushed : (rows starts : List ℕ) (p r x s : ℕ) → length starts ≡ length rows → row_at p r (rows ++ x ∷ []) (starts ++ s ∷ []) ≡ cond (nat_le s p) x (row_at p r rows starts)
+pub row_at-pushed : (rows starts : List ℕ) (p r x s : ℕ) → length starts ≡ length rows → row_at p r (rows ++ x ∷ []) (starts ++ s ∷ []) ≡ cond (nat_le s p) x (row_at p r rows starts)
 row_at-pushed [] [] p r x s n = refl
 row_at-pushed [] (t ∷ starts) p r x s n = absurd (omega arith)
 row_at-pushed (y ∷ rows) [] p r x s n = absurd (omega arith)
@@ -80,7 +80,7 @@ last_upto starts p (suc m) l u h =
 below_more : (i n : ℕ) → i < n + 1 → (i ≡ n → ⊥) → i < n
 below_more i n l h = omega (arith, l, h)
 
-pushed_at : (xs : List ℕ) (x i : ℕ) → i ≡ length xs → get_or (xs ++ x ∷ []) i 0 ≡ x
+pub pushed_at : (xs : List ℕ) (x i : ℕ) → i ≡ length xs → get_or (xs ++ x ∷ []) i 0 ≡ x
 pushed_at xs x i e = ap (λ k. get_or (xs ++ x ∷ []) k 0) e ∙ at_end xs x
   where
     at_end : (xs : List ℕ) (x : ℕ) → get_or (xs ++ x ∷ []) (length xs) 0 ≡ x

@@ -1,5 +1,5 @@
 -- Entries as flat lists: indices, values and marks, place by place.
-use Rattle.std.proofs.Common.{◌≡◌, ℕ, zero, suc, ◌<◌, ◌≤◌, Bool, true, false, cond, nat_eq, List, [], ◌∷◌, ◌++◌, length, get_or, set, take, Some, None, Option, refl, sym, ap, subst, ◌∙◌, arith}
+use Rattle.std.proofs.Common.{◌≡◌, ℕ, zero, suc, ◌<◌, ◌≤◌, Bool, true, false, cond, nat_eq, List, [], ◌∷◌, ◌++◌, length, get_or, set, take, drop, Some, None, Option, refl, sym, ap, subst, ◌∙◌, arith}
 use Rattle.std.specs.Prelude.{◌&&◌, map}
 use Rattle.std.specs.List.{AllByRecursion}
 use Rattle.std.specs.declared.cmp.Ordering.TheVariants.{Less, Equal, Greater}
@@ -9,7 +9,7 @@ use Rattle.std.specs.FinMap.{find, is_sorted}
 use Rattle.std.specs.FinMap.Entries.{below_all}
 use Rattle.std.proofs.lemmas.Bool.{cases_lt}
 use Rattle.std.proofs.Common.{inl, inr}
-use Rattle.std.proofs.lemmas.List.{length_push, length-set, length-take}
+use Rattle.std.proofs.lemmas.List.{append-nil, append_assoc, length_push, length-set, length-take, get_or_default}
 use Rattle.std.specs.Prelude.{min}
 use Rattle.std.proofs.lemmas.Bool.Decides.{nat_tests}
 use lib.Dec.{T}
@@ -62,6 +62,16 @@ values-paired [] [] h = refl
 values-paired [] (v ∷ vs) h = absurd (omega arith)
 values-paired (k ∷ ks) [] h = absurd (omega arith)
 values-paired (k ∷ ks) (v ∷ vs) h = ap (λ (s : List Value). v ∷ s) (values-paired ks vs (omega arith))
+
+-- what all come before, each does
+pub below_each : (k : ℕ) (d : ℕ × Value) (x : ℕ) (m : VectorEntries) → AllByRecursion (λ e. e.0 < x) m → k < length m → (get_or m k d).0 < x
+below_each k d x [] h l = absurd (omega arith)
+below_each zero d x (e ∷ m) h l = h.0
+below_each (suc k) d x (e ∷ m) h l = below_each k d x m h.1 (omega arith)
+
+-- the index at a place
+pub key_at : (ks : List ℕ) (vs : List Value) (i : ℕ) (d : ℕ × Value) → length vs ≡ length ks → i < length ks → (get_or (paired ks vs) i d).0 ≡ get_or ks i 0
+key_at ks vs i d h l = ap (λ (e : ℕ × Value). e.0) (get_or-paired ks vs i d.0 d.1 h l) ∙ get_or_default ks i d.0 0 l
 
 -- places rise
 pub rises : (m : VectorEntries) (d : ℕ × Value) → T (is_sorted nat_cmp m) → (i j : ℕ) → i < j → j < length m → (get_or m i d).0 < (get_or m j d).0
@@ -269,7 +279,7 @@ module _ (ks : List ℕ) (vs : List Value) (same : length vs ≡ length ks) wher
 pub not_there : (at k x y : ℕ) → (k < at → y < x) → (at ≤ k → x < y) → y ≡ x → ⊥
 not_there at k x y f g e = elim (cases_lt k at) [ inl l ↦ let s = f l in absurd (omega arith) | inr l ↦ let s = g l in absurd (omega arith) ]
 
-is_sorted-take : (n : ℕ) (m : VectorEntries) → T (is_sorted nat_cmp m) → T (is_sorted nat_cmp (take n m))
+pub is_sorted-take : (n : ℕ) (m : VectorEntries) → T (is_sorted nat_cmp m) → T (is_sorted nat_cmp (take n m))
 is_sorted-take zero m h = tt
 is_sorted-take (suc n) [] h = tt
 is_sorted-take (suc n) (e ∷ m) h = both _ _ (below_take e.0 n m (first _ _ h)) (is_sorted-take n m (second _ _ h))
@@ -278,6 +288,52 @@ is_sorted-take (suc n) (e ∷ m) h = both _ _ (below_take e.0 n m (first _ _ h))
     below_take x zero m h = tt
     below_take x (suc n) [] h = tt
     below_take x (suc n) (e ∷ m) h = both _ _ (first _ _ h) (below_take x n m (second _ _ h))
+
+pub is_sorted-drop : (n : ℕ) (m : VectorEntries) → T (is_sorted nat_cmp m) → T (is_sorted nat_cmp (drop n m))
+is_sorted-drop zero m h = h
+is_sorted-drop (suc n) [] h = tt
+is_sorted-drop (suc n) (e ∷ m) h = is_sorted-drop n m (second _ _ h)
+
+-- the indices alone rise strictly
+pub keys_strict : (ks : List ℕ) (vs : List Value) → length vs ≡ length ks → T (is_sorted nat_cmp (paired ks vs)) → (i j : ℕ) → i < j → j < length ks → get_or ks i 0 < get_or ks j 0
+keys_strict [] vs n h i j l m = absurd (omega arith)
+keys_strict (k ∷ ks) [] n h i j l m = absurd (omega arith)
+keys_strict (k ∷ ks) (v ∷ vs) n h i j l m =
+    let long = length-paired (k ∷ ks) (v ∷ vs) n in
+    let up = rises (paired (k ∷ ks) (v ∷ vs)) (0, v) h i j l (omega (arith, m, long)) in
+    let x = key_at (k ∷ ks) (v ∷ vs) i (0, v) n (omega (arith, l, m)) in
+    let y = key_at (k ∷ ks) (v ∷ vs) j (0, v) n m in
+    omega (arith, up, x, y)
+
+-- ---- more entries above all others
+all_pushed : (m : VectorEntries) (e : ℕ × Value) (k : ℕ) → AllByRecursion (λ x. x.0 < e.0) m → e.0 < k → AllByRecursion (λ x. x.0 < k) (m ++ e ∷ [])
+all_pushed [] e k h l = (l, tt)
+all_pushed (x ∷ m) e k h l = let a = h.0 in (omega (arith, a, l), all_pushed m e k h.1 l)
+
+pub is_sorted-joined : (m run : VectorEntries) → T (is_sorted nat_cmp m) → T (is_sorted nat_cmp run) → ((d : ℕ × Value) → 0 < length run → AllByRecursion (λ x. x.0 < (get_or run 0 d).0) m) → T (is_sorted nat_cmp (m ++ run))
+is_sorted-joined m [] hm hr low = subst (λ (s : VectorEntries). T (is_sorted nat_cmp s)) (sym (append-nil m)) hm
+is_sorted-joined m (e ∷ run) hm hr low =
+    let here : AllByRecursion (λ x. x.0 < e.0) m = low e (omega arith) in
+    subst (λ (s : VectorEntries). T (is_sorted nat_cmp s)) (append_assoc m (e ∷ []) run)
+    (is_sorted-joined (m ++ e ∷ []) run (is_sorted-end e.0 e.1 m here hm) (second _ _ hr) (λ d l. all_pushed m e (get_or run 0 d).0 here (rises (e ∷ run) d hr 0 (suc 0) (omega arith) (omega (arith, l)))))
+
+pub paired-append : (ks ls : List ℕ) (vs ws : List Value) → length vs ≡ length ks → paired (ks ++ ls) (vs ++ ws) ≡ paired ks vs ++ paired ls ws
+paired-append [] ls [] ws h = refl
+paired-append [] ls (v ∷ vs) ws h = absurd (omega arith)
+paired-append (k ∷ ks) ls [] ws h = absurd (omega arith)
+paired-append (k ∷ ks) ls (v ∷ vs) ws h = ap (λ (s : VectorEntries). (k, v) ∷ s) (paired-append ks ls vs ws (omega arith))
+
+drop-paired : (n : ℕ) (ks : List ℕ) (vs : List Value) → length vs ≡ length ks → paired (drop n ks) (drop n vs) ≡ drop n (paired ks vs)
+drop-paired zero ks vs h = refl
+drop-paired (suc n) [] vs h = refl
+drop-paired (suc n) (k ∷ ks) [] h = absurd (omega arith)
+drop-paired (suc n) (k ∷ ks) (v ∷ vs) h = drop-paired n ks vs (omega arith)
+
+pub part-paired : (s e : ℕ) (ks : List ℕ) (vs : List Value) → length vs ≡ length ks → paired (drop s (take e ks)) (drop s (take e vs)) ≡ drop s (take e (paired ks vs))
+part-paired s e ks vs h =
+    let a = length-take e ks in
+    let b = length-take e vs in
+    drop-paired s (take e ks) (take e vs) (b ∙ ap (min e) h ∙ sym a) ∙ ap (drop s) (take-paired e ks vs h)
 
 -- both lists cut at one length
 module _ (ks : List ℕ) (vs : List Value) (same : length vs ≡ length ks) (n : ℕ) (ls : List ℕ) (ws : List Value) (is : ls ≡ take n ks) (are : ws ≡ take n vs) where

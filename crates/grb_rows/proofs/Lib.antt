@@ -11,3 +11,6 @@ pub mod CellLists
 pub mod OneRow
 pub mod Packing
 pub mod Holding
+pub mod Appending
+pub mod Passed
+pub mod Keeping

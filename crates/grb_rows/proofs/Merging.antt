@@ -1,5 +1,5 @@
 -- A row and changes, both in order, put together place by place.
-use Rattle.std.proofs.Common.{◌≡◌, ℕ, ◌+◌, ◌<◌, ◌≤◌, Bool, true, false, cond, List, [], ◌∷◌, ◌++◌, length, get_or, take, refl, sym, ap, subst, ◌∙◌, arith}
+use Rattle.std.proofs.Common.{◌≡◌, ℕ, ◌+◌, ◌<◌, ◌≤◌, Bool, true, false, List, [], ◌∷◌, ◌++◌, length, get_or, take, refl, sym, ap, subst, ◌∙◌, arith}
 use Rattle.std.specs.List.{AllByRecursion}
 use Rattle.std.specs.Ordering.{nat_cmp}
 use Rattle.std.specs.FinMap.{is_sorted}
@@ -13,7 +13,7 @@ use Rattle.grb_core.specs.Entries.{VectorEntries}
 use Rattle.grb_rows.specs.Pending.{Change, changed_at, changed}
 use Rattle.grb_rows.specs.Stored.{kept}
 use Rattle.grb_rows.proofs.Changes.{changed-push}
-use Rattle.grb_rows.proofs.Ends.{keys_rise, below_taken, keys_changed, keys_kept, kept_more, changed-front}
+use Rattle.grb_rows.proofs.Ends.{keys_rise, below_taken, keys_changed, keys_kept}
 
 module _ (m : VectorEntries) (ds : List Bool) (cs : List Change) (i j : ℕ) where
   -- what is made of the first i entries and the first j changes
@@ -37,22 +37,6 @@ module _ (m : VectorEntries) (ds : List Bool) (cs : List Change) (i j : ℕ) whe
         changes_above : (k : ℕ) → ((d : ℕ × Value) → k ≡ (get_or m i d).0) → i < length m → ChangesBelow → AllByRecursion (λ c. c.0 < k) (take j cs)
         changes_above k is inside below = below_taken k cs j (λ b e l n. subst (λ (x : ℕ). (get_or cs b e).0 < x) (sym (is (k, value.Bool true))) (below b (k, value.Bool true) e l inside))
 
-    pub entry_more : (k : ℕ) (v : Value) → ((d : ℕ × Value) → k ≡ (get_or m i d).0) → ((d : ℕ × Value) → v ≡ (get_or m i d).1) → i < length m → ChangesBelow
-        → (b : Bool) → b ≡ get_or ds i false
-        → cond b so_far (so_far ++ (k, v) ∷ []) ≡ changed (kept (take (i + 1) m) (take (i + 1) ds)) (take j cs)
-    entry_more k v is are inside below b mark =
-        let e : ℕ × Value = (k, v) in
-        let entry : e ≡ get_or m i e = λ t. (is e t, are e t) in
-        ap (λ x. cond x so_far (so_far ++ e ∷ [])) mark
-        ∙ ap (cond (get_or ds i false) so_far) (sym (changed-front (take j cs) e (kept (take i m) (take i ds)) (below_taken k cs j (λ b c l n. subst (λ (x : ℕ). (get_or cs b c).0 < x) (sym (is e)) (below b e c l inside)))))
-        ∙ under (get_or ds i false) (kept (take i m) (take i ds)) (kept (take i m) (take i ds) ++ e ∷ [])
-        ∙ ap (λ x. changed (cond (get_or ds i false) (kept (take i m) (take i ds)) (kept (take i m) (take i ds) ++ x ∷ [])) (take j cs)) entry
-        ∙ ap (λ n. changed n (take j cs)) (sym (kept_more m ds i e inside))
-      where
-        under : (b : Bool) (x y : VectorEntries) → cond b (changed x (take j cs)) (changed y (take j cs)) ≡ changed (cond b x y) (take j cs)
-        under true x y = refl
-        under false x y = refl
-
     pub change_above : (c : Change) → ((e : Change) → c ≡ get_or cs j e) → j < length cs → RowBelow → AllByRecursion (λ e. e.0 < c.0) so_far
     change_above c is inside below =
         keys_changed c.0 (take j cs) (kept (take i m) (take i ds))
@@ -67,19 +51,6 @@ module _ (m : VectorEntries) (ds : List Bool) (cs : List Change) (i j : ℕ) whe
         ∙ ap (changed (kept (take i m) (take i ds))) (sym (take_more cs j c inside))
 
 module _ (m : VectorEntries) (ds : List Bool) (cs : List Change) (i j : ℕ) (hm : T (is_sorted nat_cmp m)) (hc : T (is_sorted nat_cmp cs)) where
-  pub row_below_entry : RowBelow m ds cs i j → ((d : ℕ × Value) (e : Change) → j < length cs → (get_or m i d).0 < (get_or cs j e).0) → RowBelow m ds cs (i + 1) j
-  row_below_entry old new a d e l n =
-      elim (cases_lt a i) [
-        | inl low ↦ old a d e low n
-        | inr high ↦ let is : a ≡ i = omega (arith, high, l) in subst (λ (x : ℕ). (get_or m x d).0 < (get_or cs j e).0) (sym is) (new d e n)
-      ]
-
-  pub changes_below_entry : ChangesBelow m ds cs i j → ChangesBelow m ds cs (i + 1) j
-  changes_below_entry old b d e l n =
-      let low = old b d e l (omega arith) in
-      let up = keys_rise m d hm i (i + 1) (omega arith) n in
-      omega (arith, low, up)
-
   pub row_below_change : RowBelow m ds cs i j → RowBelow m ds cs i (j + 1)
   row_below_change old a d e l n =
       let low = old a d e l (omega arith) in

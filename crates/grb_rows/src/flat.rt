@@ -225,6 +225,30 @@ impl FlatRows {
         span_in(&self.rows, &self.starts, &self.columns, i)
     }
 
+    /// Whether all columns are below `ncols`.
+    fn has_columns_below(&self, ncols: u64) -> bool
+        ensures { result ≡ true → (q : ℕ) (d : ℕ × Stored) → q < length self.now.entries → (slice_index_or self.now.entries q d).0 % 2 ^ 32 < ncols }
+    {
+        let mut below = true;
+        for at in 0..self.len() {
+            below = below & (self.column_at(at) < ncols);
+        }
+        below
+    }
+
+    /// Whether all entries are within `nrows` rows and `ncols` columns.
+    pub(crate) fn is_within(&self, nrows: u64, ncols: u64) -> bool
+        ensures { result ≡ true → restricted (λ k. is_cell_in nrows ncols (cell_of k)) self.now.entries ≡ self.now.entries }
+    {
+        let count = self.len();
+        if count == 0 {
+            return true;
+        }
+        let mut hint = self.rows.len().saturating_sub(1);
+        let last = self.index_at(count - 1, &mut hint);
+        last / 0x1_0000_0000 < nrows && self.has_columns_below(ncols)
+    }
+
     /// The entries within `nrows` rows and `ncols` columns, as a row of their own.
     pub(crate) fn within(&self, nrows: u64, ncols: u64) -> Result<FlatRows, AllocError>
         ensures entries { IfOk result (λ new. new.entries ≡ restricted (λ k. is_cell_in nrows ncols (cell_of k)) self.now.entries) }
@@ -372,7 +396,7 @@ fn search(indices: &[u32], index: u64) -> Option<usize>
 }
 
 /// Which row has the entry at a place: the last that starts there or before.
-fn row_place(starts: &[usize], at: usize, hint: usize) -> usize
+pub(crate) fn row_place(starts: &[usize], at: usize, hint: usize) -> usize
     requires some { 0 < length starts.now }
     requires first { slice_index starts.now 0 ≤ at }
     requires rise { (i j : ℕ) → i < j → j < length starts.now → slice_index starts.now i < slice_index starts.now j }
@@ -423,7 +447,7 @@ fn row_search(starts: &[usize], at: usize) -> usize
 }
 
 /// Where the entries of a row end: where the next one starts, or else at the end of all.
-fn end_of(starts: &[usize], k: usize, len: usize) -> usize
+pub(crate) fn end_of(starts: &[usize], k: usize, len: usize) -> usize
     requires among { k < length starts.now }
     requires rise { (i j : ℕ) → i < j → j < length starts.now → slice_index starts.now i < slice_index starts.now j }
     requires inside { (i : ℕ) → i < length starts.now → slice_index starts.now i < len }
@@ -472,7 +496,7 @@ fn bounds(rows: &[u32], starts: &[usize], columns: &[u32], k: usize) -> (usize, 
 }
 
 /// A part of a list.
-fn part<T>(list: &[T], start: usize, end: usize) -> &[T]
+pub(crate) fn part<T>(list: &[T], start: usize, end: usize) -> &[T]
     requires order { start ≤ end }
     requires within { end ≤ length list.now }
     ensures { result.now ≡ take (end - start) (drop start list.now) }
@@ -516,7 +540,7 @@ fn place_in(rows: &[u32], starts: &[usize], columns: &[u32], code: u64) -> Optio
 }
 
 /// Makes `row`, which is none below the last one, the row of the next entry.
-fn begin_row(rows: &mut Vec<u32>, starts: &mut Vec<usize>, columns: &Vec<u32>, row: u32)
+pub(crate) fn begin_row(rows: &mut Vec<u32>, starts: &mut Vec<usize>, columns: &Vec<u32>, row: u32)
     requires flat { IsFlat rows.old.items starts.old.items columns.now.items }
     requires above { 0 < length columns.now.items → row_at (length columns.now.items - 1) 0 rows.old.items starts.old.items ≤ row }
     requires rows_room { vec_len rows.old < vec_capacity rows.old }

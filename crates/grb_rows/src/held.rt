@@ -237,15 +237,24 @@ impl Held {
             return self.rows.within(nrows, ncols);
         }
         let whole = self.merged()?;
+        if whole.is_within(nrows, ncols) {
+            return Ok(whole);
+        }
         whole.within(nrows, ncols)
     }
 
     /// Keeps the entries within `nrows` rows and `ncols` columns alone, with no change that waits. `AllocError` where memory is refused, and
-    /// then nothing changes.
+    /// then nothing changes. Where nothing waits and all entries are within, nothing is copied, and it takes no memory.
     pub fn resize(&mut self, nrows: u64, ncols: u64) -> Result<(), AllocError>
         ensures ok { OnOk result (self.new ≡ record { entries = restricted (λ k. is_cell_in nrows ncols (cell_of k)) self.old.entries; domain = self.old.domain; assembled = self.old.assembled; reserved = 0; pending = 0 }) }
         ensures err { OnErr result (self.new ≡ self.old) }
     {
+        if is_settled(&self.rows, &self.pending, self.nvals) && self.rows.is_within(nrows, ncols) {
+            let alloc = self.allocator();
+            self.deleted = Vec::new(alloc);
+            self.pending = Pending::new(alloc);
+            return Ok(());
+        }
         let rows = self.merged_within(nrows, ncols)?;
         self.settle(rows, self.assembled);
         Ok(())

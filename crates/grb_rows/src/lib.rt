@@ -11,6 +11,8 @@ mod made;
 mod merge;
 pub mod packed;
 mod pending;
+mod runs;
+mod seek;
 mod values;
 
 pub use flat::{FlatRows, code};

@@ -1,10 +1,9 @@
 //! A row and changes, put together as one row.
-ghost use Rattle.std.specs.Prelude.{◌≡◌, ◌≢◌, ◌+◌, ◌<◌, ◌≤◌, ◌^◌, ◌++◌, ℕ, [], ◌∷◌, true, false, cond, length, IfOk, IfSome, IsTrue, slice_index_or};
+ghost use Rattle.std.specs.Prelude.{◌≡◌, ◌≢◌, ◌+◌, ◌<◌, ◌≤◌, ◌^◌, ◌++◌, ℕ, [], ◌∷◌, true, false, take, drop, length, IfOk, OnOk, IsTrue, slice_index_or};
 ghost use Rattle.std.specs.List.{All, AllByRecursion};
 ghost use Rattle.std.specs.Ordering.{nat_cmp};
 ghost use Rattle.std.specs.FinMap.{is_sorted};
 ghost use Rattle.grb_core.specs.declared.value.Value.{Value as Stored};
-ghost use Rattle.grb_core.specs.Value.{value_domain};
 ghost use Rattle.grb_rows.specs.Stored.{kept};
 ghost use Rattle.grb_rows.specs.Pending.{Change, changed, changed_at, IsChangeOf};
 
@@ -13,7 +12,11 @@ use crate::held::is_marked;
 use grb_core::Value;
 use std::alloc::AllocError;
 
-/// The entries of a row that are not marked, after changes in rising order of their indices, of which none stands in the row.
+/// How many marks are looked at together.
+const BLOCK: usize = 64;
+
+/// The entries of a row that are not marked, after changes in rising order of their indices, of which none stands in the row. The entries
+/// between two changes are copied whole, but for those that are marked. `AllocError` where memory is refused.
 pub(crate) fn merged(
     row: &FlatRows,
     deleted: &Vec<bool>,
@@ -26,64 +29,107 @@ pub(crate) fn merged(
     ensures entries { IfOk result (λ new. new.entries ≡ changed (kept row.now.entries deleted.now.items) changes.now.items) }
     ensures domain { IfOk result (λ new. new.domain ≡ row.now.domain) }
 {
-    let mut new = FlatRows::with_capacity(
-        row.allocator(),
-        row.domain(),
-        row.len() + changes.len(),
-    )?;
+    let mut new = room_for(row, changes)?;
     let mut i = 0;
-    let mut j = 0;
-    let mut hint = 0;
-    while i < row.len() || j < changes.len() {
-        if is_row_next(row, i, &mut hint, changes, j) {
-            let index = row.index_at(i, &mut hint);
-            keep(&mut new, index, row.value_at(i), is_marked(deleted, i));
-            i += 1;
-        } else {
-            store_last(&mut new, changes[j]);
-            j += 1;
-        }
+    let mut row_of_change = 0;
+    let mut row_of_run = 0;
+    for j in 0..changes.len() {
+        let next = row.place_from(changes[j].0, i, &mut row_of_change);
+        let spare = changes.len() - j;
+        keep(&mut new, row, deleted, i, next, spare, &mut row_of_run)?;
+        store_last(&mut new, changes[j]);
+        i = next;
     }
+    keep(&mut new, row, deleted, i, row.len(), 0, &mut row_of_run)?;
     new.shrink();
     Ok(new)
 }
 
-/// Whether the next entry of the row comes before the next change.
-fn is_row_next(
-    row: &FlatRows,
-    i: usize,
-    hint: &mut usize,
-    changes: &Vec<(u64, Option<Value>)>,
-    j: usize,
-) -> bool
-    requires i { i ≤ length row.now.entries }
-    requires j { j ≤ length changes.now.items }
-    ensures yes { result ≡ true → (i < length row.now.entries) × ((d : ℕ × Stored) (e : Change) → j < length changes.now.items → (slice_index_or row.now.entries i d).0 < (slice_index_or changes.now.items j e).0) }
-    ensures no { result ≡ false → (d : ℕ × Stored) (e : Change) → i < length row.now.entries → (j < length changes.now.items) × ((slice_index_or changes.now.items j e).0 ≤ (slice_index_or row.now.entries i d).0) }
-    ensures left { result ≡ false → i < length row.now.entries → j < length changes.now.items }
+/// No entries, and memory for those of a row and for changes. As many rows as these have together are not exceeded, so lists of rows take
+/// no memory for each entry. `AllocError` where memory is refused.
+fn room_for(row: &FlatRows, changes: &Vec<(u64, Option<Value>)>) -> Result<FlatRows, AllocError>
+    ensures entries { IfOk result (λ new. new.entries ≡ []) }
+    ensures domain { IfOk result (λ new. new.domain ≡ row.now.domain) }
+    ensures room { IfOk result (λ new. length changes.now.items ≤ new.room) }
 {
-    if i == row.len() {
-        return false;
-    }
-    if j == changes.len() {
-        return true;
-    }
-    row.index_at(i, hint) < changes[j].0
+    // one more row, since a row may go on after a mark
+    let rows = row.rows().len() + changes.len() + 1;
+    let entries = row.len() + changes.len();
+    FlatRows::with_rooms(row.allocator(), row.domain(), rows, entries)
 }
 
-/// One more entry at the end, unless it is marked.
-fn keep(new: &mut FlatRows, index: u64, value: Value, deleted: bool)
-    requires room { 0 < new.old.room }
-    requires above { AllByRecursion (λ e. e.0 < index) new.old.entries }
-    requires domain { value_domain value ≡ new.old.domain }
-    ensures entries { new.new.entries ≡ cond deleted new.old.entries (new.old.entries ++ (index, value) ∷ []) }
+/// The entries of a row from a place to another that are not marked, after others that come before them. There is room for `spare` more
+/// then, as before. `AllocError` where memory is refused.
+fn keep(
+    new: &mut FlatRows,
+    row: &FlatRows,
+    deleted: &[bool],
+    start: usize,
+    end: usize,
+    spare: usize,
+    hint: &mut usize,
+) -> Result<(), AllocError>
+    requires spare { spare < 2 ^ 63 }
+    requires room { spare ≤ new.old.room }
+    requires row_ordered { IsTrue (is_sorted nat_cmp row.now.entries) }
+    requires order { start ≤ end }
+    requires within { end ≤ length row.now.entries }
+    requires above { start < end → (d : ℕ × Stored) → AllByRecursion (λ e. e.0 < (slice_index_or row.now.entries start d).0) new.old.entries }
+    requires domain { row.now.domain ≡ new.old.domain }
+    ensures entries { OnOk result (new.new.entries ≡ new.old.entries ++ kept (drop start (take end row.now.entries)) (drop start (take end deleted.now))) }
     ensures domain { new.new.domain ≡ new.old.domain }
-    ensures room { new.old.room ≤ new.new.room + 1 }
+    ensures room { OnOk result (spare ≤ new.new.room) }
 {
-    if deleted {
-        return;
+    let mut at = start;
+    while at < end {
+        let mark = next_mark(deleted, at, end);
+        if at < mark {
+            new.append(row, at, mark, spare, hint)?;
+        }
+        at = end.min(mark.saturating_add(1));
     }
-    new.push_reserved(index, value);
+    Ok(())
+}
+
+/// The place of the first mark from a place to another, or else that other.
+fn next_mark(deleted: &[bool], start: usize, end: usize) -> usize
+    requires order { start ≤ end }
+    ensures after { start ≤ result }
+    ensures within { result ≤ end }
+    ensures unmarked { (q : ℕ) → start ≤ q → q < result → slice_index_or deleted.now q false ≡ false }
+    ensures mark { result < end → slice_index_or deleted.now result false ≡ true }
+{
+    let mut at = unmarked_blocks(deleted, start, end);
+    while at < end && !is_marked(deleted, at) {
+        at += 1;
+    }
+    at
+}
+
+/// A place up to which there is no mark: marks are looked at block by block.
+fn unmarked_blocks(deleted: &[bool], start: usize, end: usize) -> usize
+    requires order { start ≤ end }
+    ensures after { start ≤ result }
+    ensures within { result ≤ end }
+    ensures unmarked { (q : ℕ) → start ≤ q → q < result → slice_index_or deleted.now q false ≡ false }
+{
+    let last = end.min(deleted.len());
+    let mut at = start;
+    while at < last && BLOCK <= last - at && !has_mark(&deleted[at..at + BLOCK]) {
+        at += BLOCK;
+    }
+    at
+}
+
+/// Whether there may be a mark: where there is none, the answer is no.
+fn has_mark(deleted: &[bool]) -> bool
+    ensures { result ≡ false → (q : ℕ) → q < length deleted.now → slice_index_or deleted.now q false ≡ false }
+{
+    let mut any = false;
+    for mark in deleted {
+        any = any | *mark;
+    }
+    any
 }
 
 /// A change at an index above all others.

@@ -1,5 +1,6 @@
 //! The values of one object, in a list of their domain's type.
-ghost use Rattle.std.specs.Prelude.{◌≡◌, ◌+◌, ◌<◌, ◌≤◌, ◌++◌, [], ◌∷◌, length, slice_set, slice_index_or, IfOk};
+ghost use Rattle.std.specs.Prelude.{◌≡◌, ◌+◌, ◌-◌, ◌<◌, ◌≤◌, ◌++◌, [], ◌∷◌, length, map, take, drop, slice_set, slice_index_or, IfOk, OnOk};
+ghost use Rattle.std.specs.Vec.{vec_len, vec_capacity};
 ghost use Rattle.grb_core.specs.Value.{value_domain};
 ghost use Rattle.grb_rows.specs.Values.{values_list, values_domain, values_len, values_capacity};
 
@@ -35,6 +36,16 @@ pub(crate) fn copied<T: Copy>(alloc: Global, list: &[T]) -> Result<Vec<T>, Alloc
     let mut copy = Vec::with_capacity(alloc, list.len())?;
     copy.extend_from_slice(list)?;
     Ok(copy)
+}
+
+/// Elements copied whole to the end of a list that has room for them. Takes no memory.
+pub(crate) fn extend_reserved<T: Copy>(list: &mut Vec<T>, more: &[T])
+    requires { vec_len list.old + length more.now ≤ vec_capacity list.old }
+    ensures items { list.new.items ≡ list.old.items ++ more.now }
+    ensures len { vec_len list.new ≡ vec_len list.old + length more.now }
+    ensures capacity { vec_capacity list.old ≤ vec_capacity list.new }
+{
+    let _room_was_reserved = list.extend_from_slice(more);
 }
 
 /// The values of one domain, in order.
@@ -134,6 +145,57 @@ impl Values {
         match self {
             Values::Bool(bools) => bools.push_reserved(bool_of(value)),
             Values::Uint64(numbers) => numbers.push_reserved(number_of(value)),
+        }
+    }
+
+    /// Makes room for `n` more. `AllocError` where memory is refused.
+    pub(crate) fn reserve(&mut self, n: usize) -> Result<(), AllocError>
+        ensures list { values_list self.new ≡ values_list self.old }
+        ensures domain { values_domain self.new ≡ values_domain self.old }
+        ensures ok { OnOk result (values_len self.new + n ≤ values_capacity self.new) }
+    {
+        match self {
+            Values::Bool(bools) => bools.reserve(n),
+            Values::Uint64(numbers) => numbers.reserve(n),
+        }
+    }
+
+    /// The values, which are of the domain `Bool`.
+    pub(crate) fn bools(&self) -> &[bool]
+        requires { values_domain self.now ≡ Domain.Bool }
+        ensures { map (λ b. Value.Bool b) result.now ≡ values_list self.now }
+    {
+        match self {
+            Values::Bool(bools) => bools,
+            Values::Uint64(_) => unreachable!(),
+        }
+    }
+
+    /// The values, which are of the domain `Uint64`.
+    pub(crate) fn numbers(&self) -> &[u64]
+        requires { values_domain self.now ≡ Domain.Uint64 }
+        ensures { map (λ n. Value.Uint64 n) result.now ≡ values_list self.now }
+    {
+        match self {
+            Values::Uint64(numbers) => numbers,
+            Values::Bool(_) => unreachable!(),
+        }
+    }
+
+    /// The values of others of the same domain from a place to another, copied whole to the end. Takes no memory.
+    pub(crate) fn append_reserved(&mut self, other: &Values, start: usize, end: usize)
+        requires order { start ≤ end }
+        requires within { end ≤ length (values_list other.now) }
+        requires domain { values_domain other.now ≡ values_domain self.old }
+        requires room { values_len self.old + (end - start) ≤ values_capacity self.old }
+        ensures list { values_list self.new ≡ values_list self.old ++ take (end - start) (drop start (values_list other.now)) }
+        ensures domain { values_domain self.new ≡ values_domain self.old }
+        ensures len { values_len self.new ≡ values_len self.old + (end - start) }
+        ensures capacity { values_capacity self.old ≤ values_capacity self.new }
+    {
+        match self {
+            Values::Bool(bools) => extend_reserved(bools, &other.bools()[start..end]),
+            Values::Uint64(numbers) => extend_reserved(numbers, &other.numbers()[start..end]),
         }
     }
 

@@ -10,6 +10,7 @@ use grb_call::{Call, Object, WaitMode};
 use grb_core::Monoid;
 use grb_script::{Sort, Statement};
 
+/// The dup of the object that a name stands for.
 fn dup_call(objects: &[Object], name: usize, sort: Sort) -> Call
     ensures { result ≡ dup_call objects.now name sort }
 {
@@ -23,6 +24,7 @@ fn dup_call(objects: &[Object], name: usize, sort: Sort) -> Call
     }
 }
 
+/// The free of the object that a name stands for.
 fn free_call(objects: &[Object], name: usize, sort: Sort) -> Call
     ensures { result ≡ free_call objects.now name sort }
 {
@@ -36,6 +38,7 @@ fn free_call(objects: &[Object], name: usize, sort: Sort) -> Call
     }
 }
 
+/// The call for the number of entries of the object that a name stands for.
 fn nvals_call(objects: &[Object], name: usize, sort: Sort) -> Call
     ensures { result ≡ nvals_call objects.now name sort }
 {
@@ -49,6 +52,7 @@ fn nvals_call(objects: &[Object], name: usize, sort: Sort) -> Call
     }
 }
 
+/// The call for the size or the dimensions of the object that a name stands for.
 fn size_call(objects: &[Object], name: usize, sort: Sort) -> Call
     ensures { result ≡ size_call objects.now name sort }
 {
@@ -62,6 +66,7 @@ fn size_call(objects: &[Object], name: usize, sort: Sort) -> Call
     }
 }
 
+/// The clear of the object that a name stands for.
 fn clear_call(objects: &[Object], name: usize, sort: Sort) -> Call
     ensures { result ≡ clear_call objects.now name sort }
 {
@@ -75,6 +80,7 @@ fn clear_call(objects: &[Object], name: usize, sort: Sort) -> Call
     }
 }
 
+/// The reduction to a scalar of the object that a name stands for.
 fn total_call(objects: &[Object], name: usize, sort: Sort, monoid: Monoid) -> Call
     ensures { result ≡ total_call objects.now name sort monoid }
 {
@@ -90,6 +96,7 @@ fn total_call(objects: &[Object], name: usize, sort: Sort, monoid: Monoid) -> Ca
     }
 }
 
+/// The wait for the object that a name stands for.
 fn wait_call(objects: &[Object], name: usize, sort: Sort, mode: WaitMode) -> Call
     ensures { result ≡ wait_call objects.now name sort mode }
 {

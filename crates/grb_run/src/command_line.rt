@@ -34,7 +34,7 @@ fn named<'a>(alloc: Global, program: &'a str) -> Command<'a>
         .no_binary_name(true)
 }
 
-/// The command `[--room N] SCRIPT` of the program of this name.
+/// The command `[--room N] SCRIPT` of the program of this name. `AllocError` where memory is refused; then nothing is made.
 fn command<'a>(alloc: Global, program: &'a str) -> Result<Command<'a>, AllocError>
     ensures { IfOk result (λ c. app_of c ≡ command_line program.now) }
 {

@@ -23,7 +23,8 @@ use std::alloc::{AllocError, Global};
 use std::sync::Wait;
 use std::thread::Threads;
 
-/// A new store with room for so many calls, a pass for main, and one for each of so many thread sections.
+/// A new store with room for so many calls, a pass for main, and one for each of so many thread sections. `AllocError` where memory is
+/// refused; then no store is opened.
 fn open_store(
     alloc: Global,
     room: u32,
@@ -43,7 +44,8 @@ fn open_store(
     Ok((context, main, passes))
 }
 
-/// The answers to the steps of a script, in a new store with these passes: main's, and one for each thread section.
+/// The answers to the steps of a script, in a new store with these passes: main's, and one for each thread section. `OutOfMemory` where
+/// memory for answers, names or threads is refused; then nothing is written.
 fn run_sections<R: Threads + Wait + Sync, G: Gate + Sync>(
     rt: &R,
     alloc: Global,
@@ -84,8 +86,9 @@ fn run_sections<R: Threads + Wait + Sync, G: Gate + Sync>(
     Ok(answers)
 }
 
-/// The answers to the steps of a script, in a new store with room for so many calls: main's, those of the thread sections by their
-/// numbers, and those of the last section.
+/// The answers to the steps of a script, in a new store with room for so many calls: main's, those of the thread sections by their numbers,
+/// and those of the last section. `OutOfMemory` where memory for the store or for answers, names or threads is refused; then nothing is
+/// written.
 fn answers_to<R: Threads + Wait + Sync, G: Gate + Sync>(
     rt: &R,
     alloc: Global,
@@ -107,11 +110,11 @@ fn answers_to<R: Threads + Wait + Sync, G: Gate + Sync>(
 /// of the thread sections by their numbers, and those of the last section.
 ///
 /// The script is read whole. Then `room` times the number of its passes, main's and one for each thread section, is held against
-/// `MOST_SEATS`, and then the file of each of its loads is read, in their order; where one has a fault, nothing is run. Main runs
-/// first. Then each thread section runs on a thread and with a pass of its own, all at the same time, and when all have ended the last
-/// section runs with main's pass. All memory is taken before the first byte is put: where it is refused outside of the calls nothing is
-/// written. A call for which it is refused is answered so, in its line. The gate is called round each statement, with the number of its
-/// section, which for main and the last section is 0; the statements of the last section are counted behind those of main.
+/// `MOST_SEATS`, and then the file of each of its loads is read, in their order; where one has a fault, nothing is run. Main runs first.
+/// Then each thread section runs on a thread and with a pass of its own, all at the same time, and when all have ended the last section
+/// runs with main's pass. All memory is taken before the first byte is put: where it is refused outside of the calls nothing is written. A
+/// call for which it is refused is answered so, in its line. The gate is called round each statement, with the number of its section, which
+/// for main and the last section is 0; the statements of the last section are counted after those of main.
 pub fn run_script<R: Threads + Wait + Sync, S: Source, W: Sink, G: Gate + Sync>(
     rt: &R,
     alloc: Global,

@@ -26,7 +26,7 @@ pub struct FileSource<'a, R> {
 }
 
 impl<'a, R: Files + AllocGlobal> FileSource<'a, R> {
-    /// A source that has not failed yet. The file is read when the script is asked for.
+    /// A source that has not failed yet. The file is read by `script`.
     pub fn new(rt: &'a R, script: &'a str) -> Self
         ensures script { result.script ≡ script.entry }
         ensures faults { (result.cannot_read ≡ 0) × (result.too_long ≡ 0) × (result.out_of_memory ≡ 0) }
@@ -40,7 +40,7 @@ impl<'a, R: Files + AllocGlobal> FileSource<'a, R> {
         }
     }
 
-    /// The whole file of a path. A fault is counted.
+    /// The whole file of a path. A fault is counted. `OutOfMemory` where memory for its bytes is refused.
     fn read(&mut self, path: &str, limit: usize) -> Result<Vec<u8>, SourceFault>
         requires within { limit < 2 ^ 64 - 1 }
         requires countable { AreCountable (counts_of self.old) }
@@ -92,8 +92,8 @@ pub fn read_all<F: Read + Drop>(
     Ok(bytes)
 }
 
-/// The whole file of a path; `TooLong` where it is longer than the limit, and nowhere else. Which bytes it has, and when it cannot be
-/// read, no clause says.
+/// The whole file of a path; `TooLong` where it is longer than the limit, and nowhere else. Which bytes it has, and when it cannot be read,
+/// no clause says. `OutOfMemory` where memory for its bytes is refused; then they are dropped.
 fn read_file<R: Files + AllocGlobal>(
     rt: &R,
     path: &str,

@@ -1,6 +1,6 @@
 //! Who is told before each statement of a section, and after it.
 
-/// Stands before and behind each statement of a run. It may let other threads go first (own).
+/// Stands before and after each statement of a run. It may let other threads go first (own).
 ///
 /// A section is numbered by its pass: the main section is 0. The statements of a section are numbered from 1.
 pub trait Gate {

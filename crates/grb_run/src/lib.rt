@@ -1,5 +1,5 @@
-//! A script at work, all of the program but its `main`: the lines of a script as calls and answers, a run from the bytes that a source gives
-//! to the lines that a sink takes, and the ends of a program: what the words of a command line ask for, files, and exit statuses.
+//! A script at work, all of the program but its `main`: the lines of a script as calls and answers, a run from the bytes that a source
+//! gives to the lines that a sink takes, and the ends of a program: what the words of a command line ask for, files, and exit statuses.
 //!
 //! One unit is a run: the script and the files that it loads are read and checked whole, each statement is one call, a load two, and the
 //! lines of the answers are put when all are known. Where the bytes come from and go to, a `Source` and a `Sink` decide; `FileSource` and

@@ -47,7 +47,8 @@ fn load_run_fault(line: u64, error: ReadError) -> RunFault
     }
 }
 
-/// The matrix that the file of a path spells, for the load on this line.
+/// The matrix that the file of a path spells, for the load on this line. `OutOfMemory` where memory for its bytes or its entries is
+/// refused.
 fn load_file<S: Source>(
     alloc: Global,
     source: &mut S,
@@ -71,7 +72,7 @@ fn load_file<S: Source>(
     }
 }
 
-/// The step of what a line asks for.
+/// The step of what a line asks for. `OutOfMemory` where memory for them or for a file is refused; then no statement is run.
 fn step_of<S: Source>(
     alloc: Global,
     source: &mut S,
@@ -94,7 +95,8 @@ fn step_of<S: Source>(
     }
 }
 
-/// The steps of what these lines ask for. The file of each load is read and checked, in their order.
+/// The steps of what these lines ask for. The file of each load is read and checked, in their order. `OutOfMemory` where memory for them or
+/// for a file is refused; then no statement is run.
 fn steps_of<S: Source>(
     alloc: Global,
     source: &mut S,
@@ -123,7 +125,7 @@ pub struct ScriptSteps {
     pub(crate) finally: Vec<Step>,
 }
 
-/// The steps of thread sections, one after another.
+/// The steps of thread sections, one after another. `OutOfMemory` where memory for them or for a file is refused; then no statement is run.
 fn thread_steps<S: Source>(
     alloc: Global,
     source: &mut S,
@@ -144,7 +146,8 @@ fn thread_steps<S: Source>(
     Ok(all)
 }
 
-/// The steps of a script. The file of each load is read and checked, in the order of the text.
+/// The steps of a script. The file of each load is read and checked, in the order of the text. `OutOfMemory` where memory for them or for a
+/// file is refused; then no statement is run.
 pub(crate) fn script_steps<S: Source>(
     alloc: Global,
     source: &mut S,

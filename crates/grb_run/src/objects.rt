@@ -57,7 +57,8 @@ fn new_object(sort: Sort, answer: &Answer) -> Object
     }
 }
 
-/// Keeps what the name stands for that a statement makes, if it makes one of this sort and was answered this.
+/// Keeps what the name stands for that a statement makes, if it makes one of this sort and was answered this. `AllocError` where memory is
+/// refused; then nothing is kept.
 pub fn keep_object(
     objects: &mut Vec<Object>,
     made: Option<Sort>,

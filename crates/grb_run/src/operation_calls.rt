@@ -26,6 +26,7 @@ pub fn mask_vector(objects: &[Object], mask: Option<usize>) -> Option<VectorId>
     }
 }
 
+/// The eWiseAdd that a statement asks for, of matrices or of vectors as it says, on the objects that its names stand for.
 pub fn ewise_add_call(objects: &[Object], says: &Elementwise) -> Call
     ensures { result ≡ ewise_add_call objects.now says.now says.now.sort }
 {
@@ -51,6 +52,7 @@ pub fn ewise_add_call(objects: &[Object], says: &Elementwise) -> Call
     }
 }
 
+/// The eWiseMult that a statement asks for, of matrices or of vectors as it says, on the objects that its names stand for.
 pub fn ewise_mult_call(objects: &[Object], says: &Elementwise) -> Call
     ensures { result ≡ ewise_mult_call objects.now says.now says.now.sort }
 {
@@ -76,6 +78,7 @@ pub fn ewise_mult_call(objects: &[Object], says: &Elementwise) -> Call
     }
 }
 
+/// The mxv that a statement asks for: its left name stands for the matrix, its right one for the vector.
 pub fn mxv_call(objects: &[Object], says: &Product) -> Call
     ensures { result ≡ mxv_call objects.now says.now }
 {
@@ -90,6 +93,7 @@ pub fn mxv_call(objects: &[Object], says: &Product) -> Call
     }
 }
 
+/// The vxm that a statement asks for: its left name stands for the vector, its right one for the matrix.
 pub fn vxm_call(objects: &[Object], says: &Product) -> Call
     ensures { result ≡ vxm_call objects.now says.now }
 {
@@ -104,6 +108,7 @@ pub fn vxm_call(objects: &[Object], says: &Product) -> Call
     }
 }
 
+/// The mxm that a statement asks for, on the matrices that its names stand for.
 pub fn mxm_call(objects: &[Object], says: &Product) -> Call
     ensures { result ≡ mxm_call objects.now says.now }
 {
@@ -118,6 +123,7 @@ pub fn mxm_call(objects: &[Object], says: &Product) -> Call
     }
 }
 
+/// The reduction of rows that a statement asks for, of the matrix that its input stands for into the vector of its output.
 pub fn reduce_call(objects: &[Object], says: &Reduction) -> Call
     ensures { result ≡ reduce_call objects.now says.now }
 {

@@ -10,7 +10,7 @@ use std::alloc::{AllocError, Global};
 /// What a call is answered: its reply, or why it is refused.
 pub type Answer = Result<Reply, Refusal>;
 
-/// Appends the line of an answer.
+/// Appends the line of an answer. `AllocError` where memory is refused; then a beginning of the line may stand in the text.
 fn push_reply(text: &mut String, answer: &Answer) -> Result<(), AllocError>
     ensures { OnOk result (string_bytes text.new ≡ string_bytes text.old ++ reply_line answer.now) }
 {
@@ -29,7 +29,7 @@ fn push_reply(text: &mut String, answer: &Answer) -> Result<(), AllocError>
     }
 }
 
-/// The lines of these answers.
+/// The lines of these answers. `AllocError` where memory is refused; then nothing is made.
 pub fn text_of(alloc: Global, answers: &[Answer]) -> Result<String, AllocError>
     ensures { IfOk result (λ text. string_bytes text ≡ flat_map reply_line answers.now) }
 {

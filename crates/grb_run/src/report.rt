@@ -50,8 +50,8 @@ where
     }
 }
 
-/// Says on standard error why the words of the command line could not be read, and answers the exit status: want of memory ends a run,
-/// and a word that is not UTF-8 is a fault of the command line.
+/// Says on standard error why the words of the command line could not be read, and answers the exit status: out of memory ends a run, and a
+/// word that is not UTF-8 is a fault of the command line.
 pub fn report_unread_words(rt: &impl Eprint, program: &str, error: &io::Error) -> u8
     ensures { result ≡ status_of_unread (error_kind error.now) }
 {

@@ -17,7 +17,8 @@ use grb_market::Loaded;
 use grb_script::Statement;
 use std::alloc::{AllocError, Global};
 
-/// Makes the call of a statement, and keeps what its name stands for.
+/// Makes the call of a statement, and keeps what its name stands for. `AllocError` where memory is refused to the place of the name; the
+/// call was made then.
 fn answer_to(
     context: &Context,
     pass: &mut Pass,
@@ -35,7 +36,8 @@ fn answer_to(
     Ok(answer)
 }
 
-/// Makes and fills the matrix of a load, and keeps it for the next name. Where it is not made, nothing is filled.
+/// Makes and fills the matrix of a load, and keeps it for the next name. Where it is not made, nothing is filled. `AllocError` where memory
+/// is refused to the list of the build, and then no call is made; or to the place of the name, and then the matrix is made and not filled.
 fn answer_to_load(
     context: &Context,
     pass: &mut Pass,
@@ -57,7 +59,7 @@ fn answer_to_load(
     answer_to(context, pass, objects, second)
 }
 
-/// Makes the calls of a step.
+/// Makes the calls of a step. `AllocError` where memory is refused to what is kept of it; calls that were made stay in the store.
 fn answer_to_step(
     context: &Context,
     pass: &mut Pass,
@@ -75,8 +77,9 @@ fn answer_to_step(
     }
 }
 
-/// The answers to the steps of a section, one behind another, by its pass. The gate is called round each, with the number of the pass and
-/// a number behind those of the statements that were begun before.
+/// The answers to the steps of a section, one after another, by its pass. The gate is called round each, with the number of the pass and a
+/// number after those of the statements that were begun before. `AllocError` where memory is refused to the list of answers or to what is
+/// kept of a step; calls that were made stay in the store.
 pub(crate) fn answers_by<G: Gate>(
     alloc: Global,
     context: &Context,

@@ -10,7 +10,7 @@ pub const MAX_SCRIPT: usize = 1_048_576;
 /// How many bytes a file that a script names has at most.
 pub const MAX_FILE: usize = 67_108_864;
 
-/// Why a source did not give the bytes that were asked for.
+/// Why a source did not give the bytes of a script or of a file.
 #[derive(Clone, Copy, Debug, PartialEq, Eq, Error)]
 pub enum SourceFault {
     /// The bytes could not be read.
@@ -35,7 +35,7 @@ pub trait Source {
 
     ghost faults: { Self → FaultCounts };
 
-    /// The whole script, of at most `MAX_SCRIPT` bytes.
+    /// The whole script, of at most `MAX_SCRIPT` bytes. `OutOfMemory` where memory for them is refused.
     fn script(&mut self) -> Result<Vec<u8>, SourceFault>
         requires { AreCountable (faults self.old) }
         ensures given { IfOk result (λ bytes. IsGiven (script_bytes self.old) MAX_SCRIPT bytes.items) }
@@ -43,7 +43,7 @@ pub trait Source {
         ensures script_stays { script_bytes self.new ≡ script_bytes self.old }
         ensures files_stay { (path : List ℕ) → file_bytes self.new path ≡ file_bytes self.old path };
 
-    /// The whole file of this path, of at most `MAX_FILE` bytes.
+    /// The whole file of this path, of at most `MAX_FILE` bytes. `OutOfMemory` where memory for them is refused.
     fn file(&mut self, path: &str) -> Result<Vec<u8>, SourceFault>
         requires { AreCountable (faults self.old) }
         ensures given { IfOk result (λ bytes. IsGiven (file_bytes self.old path.now) MAX_FILE bytes.items) }

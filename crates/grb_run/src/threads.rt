@@ -64,7 +64,8 @@ impl Promise<Result<FinishedSection, AllocError>> for ThreadPromise {
 /// A thread that runs a job.
 type Running = PromisedHandle<Result<FinishedSection, AllocError>, ThreadPromise>;
 
-/// Runs a thread section.
+/// Runs a thread section. `AllocError` where memory is refused to its answers; its pass is dropped then, and the calls that it made stay in
+/// the store.
 fn run_job<G: Gate>(
     alloc: Global,
     context: &Context,
@@ -83,7 +84,8 @@ fn run_job<G: Gate>(
     Ok(FinishedSection { pass, answers })
 }
 
-/// Lets a thread section's pass adopt main's, and gives the names that the section begins with.
+/// Lets a thread section's pass adopt main's, and gives the names that the section begins with. `Panic` where a record is not shown, and
+/// `OutOfMemory` where memory for the names is refused.
 fn names_for(
     alloc: Global,
     context: &Context,
@@ -106,7 +108,8 @@ fn names_for(
     Ok(Vec::from_slice(alloc, objects)?)
 }
 
-/// A thread section that is to run by this pass, which adopts main's.
+/// A thread section that is to run by this pass, which adopts main's. `Panic` and `OutOfMemory` as of `names_for`; the pass and the steps
+/// are dropped then.
 fn job_of(
     alloc: Global,
     context: &Context,
@@ -129,7 +132,8 @@ fn job_of(
     })
 }
 
-/// The thread sections that are to run, each by the next of these passes. Each pass adopts main's.
+/// The thread sections that are to run, each by the next of these passes. Each pass adopts main's. `Panic` and `OutOfMemory` as of
+/// `names_for`; the passes and the steps are dropped then.
 fn jobs_of(
     alloc: Global,
     context: &Context,
@@ -154,7 +158,7 @@ fn jobs_of(
     Ok(jobs)
 }
 
-/// Starts the thread of a job.
+/// Starts the thread of a job. `NoThread` where it is not started, for whatever reason, memory too; the job is dropped then.
 fn start<'s, E, G: Gate + Sync>(
     alloc: Global,
     scope: &Scope<'s, E>,
@@ -181,7 +185,8 @@ fn start<'s, E, G: Gate + Sync>(
     }
 }
 
-/// Starts the threads of all jobs. Where one is not started, those before it run on.
+/// Starts the threads of all jobs. Where one is not started, those before it run on. `OutOfMemory` where memory for their list is refused;
+/// those that were started run on then too.
 fn start_all<'s, E, G: Gate + Sync>(
     alloc: Global,
     scope: &Scope<'s, E>,
@@ -202,7 +207,9 @@ fn start_all<'s, E, G: Gate + Sync>(
     Ok(running)
 }
 
-/// Runs these jobs, each on a thread, and returns when all threads have ended that were started.
+/// Runs these jobs, each on a thread, and returns when all threads have ended that were started. A section ends with `AllocError` where
+/// memory was refused to its answers. `NoThread` where a thread was not started, and `OutOfMemory` where memory for the list of threads or
+/// of their ends was refused; the calls that sections made stay in the store.
 fn run_jobs<R: Threads + Wait + Sync, G: Gate + Sync>(
     rt: &R,
     alloc: Global,
@@ -231,7 +238,8 @@ fn run_jobs<R: Threads + Wait + Sync, G: Gate + Sync>(
     )
 }
 
-/// Lets main's pass adopt what a thread section's pass knows, and moves the answers of the section behind these.
+/// Lets main's pass adopt what a thread section's pass knows, and moves the answers of the section after these. `Panic` where a record is
+/// not shown, and `OutOfMemory` where memory for the answers is refused; those of earlier sections stay.
 fn gather_from(
     context: &Context,
     main: &mut Pass,
@@ -252,7 +260,8 @@ fn gather_from(
     Ok(())
 }
 
-/// Lets main's pass learn what the pass of a thread section knows, moves the answers of the section behind these, and lets the section go.
+/// Lets main's pass learn what the pass of a thread section knows, moves the answers of the section after these, and lets the section go.
+/// `Panic` and `OutOfMemory` as of `gather_from`.
 fn gather(
     context: &Context,
     main: &mut Pass,
@@ -268,7 +277,7 @@ fn gather(
     gather_from(context, main, answers, &mut ended)
 }
 
-/// Does so of each thread section in turn.
+/// Does so of each thread section in turn. `OutOfMemory` also where a section ended without memory for its answers.
 fn gather_all(
     context: &Context,
     main: &mut Pass,
@@ -331,9 +340,10 @@ fn prepare_main(context: &Context, main: &mut Pass, threads: &[Vec<Step>])
     }
 }
 
-/// Runs the thread sections of a script, all at the same time, each on a thread and by one of these passes, and puts their answers behind
-/// those of main. Where there is none, nothing is done. Where several ask for entries, main's pass first evaluates what main left, and each section
-/// goes on from there.
+/// Runs the thread sections of a script, all at the same time, each on a thread and by one of these passes, and puts their answers after
+/// those of main. Where there is none, nothing is done. Where several ask for entries, main's pass first evaluates what main left, and each
+/// section goes on from there. `NoThread` where a thread is not started, `OutOfMemory` where memory is refused outside of the calls; all
+/// threads have ended then too.
 pub(crate) fn run_threads<R: Threads + Wait + Sync, G: Gate + Sync>(
     rt: &R,
     alloc: Global,

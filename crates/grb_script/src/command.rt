@@ -24,6 +24,7 @@ impl Model for FilePath {
 }
 
 impl FilePath {
+    /// A copy of the path. `AllocError` where memory is refused; then nothing is made.
     fn from_str(alloc: Global, path: &str) -> Result<FilePath, AllocError>
         ensures { IfOk result (λ copy. copy ≡ path.now) }
     {

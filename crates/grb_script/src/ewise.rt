@@ -75,6 +75,7 @@ fn tran_fits(sort: Sort, tran: bool) -> bool
     }
 }
 
+/// The statement of an eWiseAdd or an eWiseMult with these operands.
 fn statement_of(ewise: Ewise, says: Elementwise) -> Statement
     ensures { result ≡ ewise_statement ewise says }
 {

@@ -25,6 +25,7 @@ pub(crate) enum LineMeaning {
     Command(Command),
 }
 
+/// The error of a fault on the line of this number.
 pub(crate) fn fault(line: u64, kind: FaultKind) -> ReadFault
     ensures { result ≡ ReadFault.Fault (record { line = line; kind = kind }) }
 {
@@ -83,7 +84,8 @@ fn read_words(
     Ok(Some(LineMeaning::Command(command)))
 }
 
-/// What the line with these bytes says, which has this number.
+/// What the line with these bytes says, which has this number. `OutOfMemory` where memory for its words, a name, a path or a list is
+/// refused.
 pub(crate) fn read_line(
     alloc: Global,
     number: u64,

@@ -91,7 +91,8 @@ impl Names {
         self.sorts.truncate(count);
     }
 
-    /// Makes a name for an object of this sort. Its number is how many names stood before.
+    /// Makes a name for an object of this sort. Its number is how many names stood before. `AllocError` where memory is refused; then no
+    /// name is made.
     pub(crate) fn make(&mut self, name: &[u8], sort: Sort) -> Result<(), AllocError>
         requires { stands self.old name.now ≡ false }
         ensures made { OnOk result (self.new ≡ self.old ++ (name.now, sort) ∷ []) }

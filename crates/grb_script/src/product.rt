@@ -47,6 +47,7 @@ pub struct Reduction {
     pub descriptor: Descriptor,
 }
 
+/// Whether the output is a matrix or a vector.
 fn output_sort(multiply: Multiply) -> Sort
     ensures { result ≡ output_sort multiply }
 {
@@ -56,6 +57,7 @@ fn output_sort(multiply: Multiply) -> Sort
     }
 }
 
+/// Whether the left input is a matrix or a vector.
 fn left_sort(multiply: Multiply) -> Sort
     ensures { result ≡ left_sort multiply }
 {
@@ -65,6 +67,7 @@ fn left_sort(multiply: Multiply) -> Sort
     }
 }
 
+/// Whether the right input is a matrix or a vector.
 fn right_sort(multiply: Multiply) -> Sort
     ensures { result ≡ right_sort multiply }
 {
@@ -90,6 +93,7 @@ fn are_of_product(
         && mask_is_of(output_sort(multiply), mask)
 }
 
+/// The statement of an mxv, a vxm or an mxm with these operands.
 fn statement_of(multiply: Multiply, says: Product) -> Statement
     ensures { result ≡ product_statement multiply says }
 {

@@ -29,7 +29,7 @@ fn most_threads(version: Version) -> u64
     }
 }
 
-/// Whether this section may stand behind that one, or behind main, in a script of this version.
+/// Whether this section may stand after that one, or after main, in a script of this version.
 pub(crate) fn may_follow(version: Version, here: Option<Section>, next: Section) -> bool
     ensures { result ≡ may_follow version here next }
 {

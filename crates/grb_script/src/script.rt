@@ -25,11 +25,12 @@ pub struct Script {
     pub main: Vec<NumberedCommand>,
     /// The thread sections: that of `thread K` at K - 1. There are at most 255, and at most 63 in version 1.
     pub threads: Vec<Vec<NumberedCommand>>,
-    /// What stands behind `finally`, where that stands.
+    /// What stands after `finally`, where that stands.
     pub finally: Vec<NumberedCommand>,
 }
 
-/// Adds what a section asks for to a script, and empties that list.
+/// Adds the commands of a section to a script, and empties their list. `AllocError` where memory is refused; what the script asks for then,
+/// no clause says.
 fn end_section(
     alloc: Global,
     script: &mut Script,
@@ -49,7 +50,8 @@ fn end_section(
     }
 }
 
-/// Takes what a line of this number says that stands in this section: what it asks for joins what the section asked for so far.
+/// Takes in the line of this number, which stands in this section: its command joins those of the section so far. `AllocError` where memory
+/// is refused; what the script asks for then, no clause says.
 fn take(
     alloc: Global,
     script: &mut Script,
@@ -72,7 +74,7 @@ fn take(
     }
 }
 
-/// Reads a line of this number, and takes what it says.
+/// Reads a line of this number, and takes what it says. `OutOfMemory` where memory for that is refused.
 fn take_line(
     alloc: Global,
     script: &mut Script,
@@ -92,7 +94,8 @@ fn take_line(
     Ok(take(alloc, script, section, asked, number, said)?)
 }
 
-/// Reads the lines of a text into a script that asks for nothing, where nothing is asked for so far.
+/// Reads the lines of a text into a script without commands, by a list of commands that is empty. `OutOfMemory` where memory is refused;
+/// what the script has then, no clause says.
 fn read_lines(
     alloc: Global,
     text: &[u8],
@@ -121,7 +124,8 @@ fn read_lines(
     Ok(end_section(alloc, script, scope.section, asked)?)
 }
 
-/// What a script asks for, section by section and line by line, or its first fault. Takes time linear in the text.
+/// What a script asks for, section by section and line by line, or its first fault. Takes time linear in the text. `OutOfMemory` where
+/// memory is refused, and then no script is made.
 ///
 /// A line ends with a byte 0x0A, and its words are parted by spaces. A line without words and a comment, whose first byte other
 /// than a space is a `#`, are skipped (own). Where the words of line 1 are `version 2`, it asks for nothing, and the script is written in

@@ -261,6 +261,7 @@ fn whole(whole: Whole, name: &[u8], others: &[&[u8]], names: &Names) -> Result<S
     })
 }
 
+/// The remove at these indices, if they are as many as the sort of the name has.
 fn remove_at(name: usize, sort: Sort, indices: Indices) -> Result<Statement, FaultKind>
     ensures { result ≡ remove_at name sort indices }
 {
@@ -271,6 +272,7 @@ fn remove_at(name: usize, sort: Sort, indices: Indices) -> Result<Statement, Fau
     }
 }
 
+/// The get at these indices, if they are as many as the sort of the name has.
 fn get_at(name: usize, sort: Sort, indices: Indices) -> Result<Statement, FaultKind>
     ensures { result ≡ get_at name sort indices }
 {
@@ -281,6 +283,7 @@ fn get_at(name: usize, sort: Sort, indices: Indices) -> Result<Statement, FaultK
     }
 }
 
+/// The resize to these dimensions, if they are as many as the sort of the name has.
 fn resize_to(name: usize, sort: Sort, indices: Indices) -> Result<Statement, FaultKind>
     ensures { result ≡ resize_to name sort indices }
 {
@@ -313,6 +316,7 @@ fn placed(
     }
 }
 
+/// The set at these indices, if they are as many as the sort of the name has.
 fn set_at(name: usize, sort: Sort, indices: Indices, value: Value) -> Result<Statement, FaultKind>
     ensures { result ≡ set_at name sort indices value }
 {
@@ -358,7 +362,7 @@ fn build_of(
     }
 }
 
-/// `build NAME MONOID ..`, where the list behind the monoid is apart.
+/// `build NAME MONOID ..`, where the list after the monoid is apart.
 fn build_by_words(
     alloc: Global,
     name: &[u8],
@@ -415,7 +419,7 @@ fn wait(name: &[u8], others: &[&[u8]], names: &Names) -> Result<Statement, Fault
     Ok(Statement::Wait { name, sort, mode })
 }
 
-/// The statement that this keyword, this name and the words behind them spell in a script of this version where these names stand, or what
+/// The statement that this keyword, this name and the words after them spell in a script of this version where these names stand, or what
 /// is wrong with it. It makes no name, and its words are all that it says.
 fn statement_on(
     version: Version,
@@ -443,7 +447,7 @@ fn statement_on(
     }
 }
 
-/// The statement that this keyword, this name and the words behind them spell in a script of this version where these names stand, or what
+/// The statement that this keyword, this name and the words after them spell in a script of this version where these names stand, or what
 /// is wrong with it. The name that it makes joins the names.
 fn statement_with(
     alloc: Global,

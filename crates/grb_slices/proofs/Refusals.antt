@@ -15,7 +15,8 @@ use Rattle.grb_call.specs.declared.ids.Object.{Object}
 use Rattle.grb_call.specs.declared.ids.Object.TheVariants as object
 use Rattle.grb_call.specs.Operands.{given_domains, masks, matrix_mask, objects_read, operands, vector_mask}
 use Rattle.grb_call.specs.Shapes.{ObjectShapes, MatrixShape, VectorShape, matrix_shape_at, vector_shape_at, is_live, domain_at, nrows_at, ncols_at, size_at}
-use Rattle.grb_call.specs.Refused.{is_initialized, has_valid_values, has_valid_index, has_one_domain, has_fitting_dims, same_domain, are_of_domain, is_one_domain, matrix_mask_fits, vector_mask_fits, refused_by_shapes, turned_ncols, turned_nrows}
+use Rattle.grb_call.specs.Refused.{is_initialized, has_valid_values, has_valid_index, has_one_domain, has_fitting_dims, same_domain, are_of_domain, is_one_domain, refused_by_shapes, turned_ncols, turned_nrows}
+use Rattle.grb_call.specs.Fits.{matrix_mask_fits, vector_mask_fits}
 use Rattle.grb_call.specs.Store.{Store, shapes_of, matrix_shape, vector_shape, matrix_at, vector_at}
 use Rattle.grb_call.proofs.ShapesAfter.{object_at-map}
 use Rattle.grb_slices.specs.Content.{Content, MatrixContent, VectorContent, content_at}

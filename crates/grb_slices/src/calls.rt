@@ -6,7 +6,7 @@ ghost use Rattle.grb_call.specs.declared.ids.Object.{Object};
 use grb_call::{Call, Object};
 
 /// A list of calls, with the target of each at its place, none for one that is refused there or only reads. A source holds the calls and
-/// lends each for itself, so that only those are read that are asked for (own).
+/// lends each for itself, so that only those are read that are needed (own).
 ///
 /// `calls` are the calls, where the source holds them by `is_in`, and `target_list` are their targets.
 pub trait CallList<S> {

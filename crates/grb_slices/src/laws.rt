@@ -21,7 +21,7 @@ pub fn a_slice_is_enough()
     ensures all { SliceIsEnoughFor }
 {}
 
-/// What was evaluated at its place in a list of calls stays so when more calls come behind them, and more may be known of these.
+/// What was evaluated at its place in a list of calls stays so when more calls come after them, and more may be known of these.
 ///
 /// Source: own.
 pub fn entries_stay_evaluated()

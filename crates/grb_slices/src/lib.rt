@@ -1,6 +1,7 @@
 //! Which calls an object depends on: the laws, and the walk back over a list of calls that finds them.
 //!
-//! The functions of `laws` have a law as their contract, and do nothing. `Wanted` is one step of the walk, and a `CallList` what it goes over.
+//! The functions of `laws` have a law as their contract, and do nothing. `Wanted` is one step of the walk, and a `CallList` what it goes
+//! over.
 #![tactic(auto)]
 
 mod calls;

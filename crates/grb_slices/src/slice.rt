@@ -30,7 +30,7 @@ fn counted(count: usize, is_chosen: bool) -> usize
 }
 
 /// Goes back over the call at this place, which has this target there: whether the target is wanted, so that the call is chosen. Only then
-/// is the call read. `AllocError` where memory is refused.
+/// is the call read. `AllocError` where memory is refused; what is wanted then, no clause says.
 fn go_back_at<S, C: CallList<S>>(
     wanted: &mut Wanted,
     target: Option<Object>,
@@ -53,7 +53,7 @@ fn go_back_at<S, C: CallList<S>>(
     wanted.go_back(target, calls.call_at(source, at))
 }
 
-/// The calls from a place on that what is wanted behind the last depends on. `AllocError` where memory is refused.
+/// The calls from a place on that what is wanted after the last depends on. `AllocError` where memory is refused; then `wanted` is dropped.
 ///
 /// Source: Weiser, "Program slicing", 1981; over calls own.
 pub fn slice_for<S, C: CallList<S>>(

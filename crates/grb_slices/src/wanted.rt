@@ -9,8 +9,8 @@ use grb_call::{Call, Object, objects_read};
 use std::alloc::{AllocError, Global};
 use std::marker::Model;
 
-/// The objects that are wanted at a place of a list of calls, for one who goes back over them from the last: those of which what they
-/// hold there is asked for, or is read by a later call that was chosen. Each is a mark by its number.
+/// The objects that are wanted at a place of a list of calls, for one who goes back over them from the last: those whose entries there are
+/// needed for the answer, or are read by a later call that was chosen. Each is a mark by its number.
 #[derive(Drop)]
 pub struct Wanted {
     matrices: Vec<bool>,
@@ -32,7 +32,8 @@ fn mark_at(marks: &[bool], number: u32) -> bool
     marks.get(number as usize).copied().unwrap_or(false)
 }
 
-/// Makes a place for the mark with this number, if it has none. `AllocError` where memory is refused.
+/// Makes a place for the mark with this number, if it has none. `AllocError` where memory is refused; the same objects are wanted in any
+/// case.
 fn make_place_at(marks: &mut Vec<bool>, number: u32) -> Result<(), AllocError>
     ensures same { (n : ℕ) → marked marks.new.items n ≡ marked marks.old.items n }
     ensures place { OnOk result (number < length marks.new.items) }
@@ -85,7 +86,7 @@ impl Wanted {
         }
     }
 
-    /// The matrices and the vectors with numbers below these are wanted. `AllocError` where memory is refused.
+    /// The matrices and the vectors with numbers below these are wanted. `AllocError` where memory is refused; then nothing is made.
     pub fn all(alloc: Global, matrices: u32, vectors: u32) -> Result<Wanted, AllocError>
         ensures matrices { IfOk result (λ wanted. wanted.matrices ≡ replicate matrices true) }
         ensures vectors { IfOk result (λ wanted. wanted.vectors ≡ replicate vectors true) }
@@ -106,7 +107,7 @@ impl Wanted {
         }
     }
 
-    /// The same objects are wanted. `AllocError` where memory is refused.
+    /// The same objects are wanted. `AllocError` where memory is refused; then nothing is made.
     pub fn try_clone(&self) -> Result<Wanted, AllocError>
         ensures { IfOk result (λ copy. copy ≡ self.now) }
     {
@@ -125,7 +126,8 @@ impl Wanted {
         are_within(&self.matrices, &other.matrices) && are_within(&self.vectors, &other.vectors)
     }
 
-    /// Makes a place for the mark of the object, if it has none. `AllocError` where memory is refused.
+    /// Makes a place for the mark of the object, if it has none. `AllocError` where memory is refused; the same objects are wanted in any
+    /// case.
     fn make_place(&mut self, object: Object) -> Result<(), AllocError>
         ensures same { (o : Object) → is_wanted self.new o ≡ is_wanted self.old o }
         ensures place { OnOk result (HasPlace self.new object) }
@@ -168,7 +170,7 @@ impl Wanted {
         }
     }
 
-    /// Makes a place for the mark of each object. `AllocError` where memory is refused.
+    /// Makes a place for the mark of each object. `AllocError` where memory is refused; the same objects are wanted in any case.
     fn make_places(&mut self, objects: &[Object]) -> Result<(), AllocError>
         ensures same { (o : Object) → is_wanted self.new o ≡ is_wanted self.old o }
         ensures places { OnOk result (HavePlaces self.new objects.now) }

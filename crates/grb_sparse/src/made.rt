@@ -24,8 +24,8 @@ impl SparseVector {
         }
     }
 
-    /// The vector of `size` that stores these truth values at these indices, assembled. The lists are kept, and not copied; memory is
-    /// taken for the list of its one row.
+    /// The vector of `size` that stores these truth values at these indices, assembled. The lists are kept, and not copied; memory is taken
+    /// for the list of its one row. `AllocError` where that is refused; then both lists are dropped.
     ///
     /// Source: own.
     pub fn from_bools(
@@ -42,8 +42,8 @@ impl SparseVector {
         Ok(SparseVector::from_row(alloc, size, row))
     }
 
-    /// The vector of `size` that stores these numbers at these indices, assembled. The lists are kept, and not copied; memory is taken
-    /// for the list of its one row.
+    /// The vector of `size` that stores these numbers at these indices, assembled. The lists are kept, and not copied; memory is taken for
+    /// the list of its one row. `AllocError` where that is refused; then both lists are dropped.
     ///
     /// Source: own.
     pub fn from_numbers(

@@ -211,7 +211,7 @@ impl SparseMatrix {
         Ok(())
     }
 
-    /// A matrix of its own with the same entries and no reserved places. `AllocError` where memory is refused.
+    /// A matrix of its own with the same entries and no reserved places. `AllocError` where memory is refused; then nothing is made.
     ///
     /// Source: GraphBLAS C API 2.0, `GrB_Matrix_dup`.
     pub fn try_clone(&self) -> Result<SparseMatrix, AllocError>

@@ -12,7 +12,7 @@ use grb_core::{Monoid, Value};
 use grb_rows::{FlatRows, code};
 use std::alloc::{AllocError, Global};
 
-/// The tuples, each as the number of its cell and a value.
+/// The tuples, each as the number of its cell and a value. `AllocError` where memory is refused; then nothing is made.
 fn numbered(alloc: Global, tuples: &[(u64, u64, Value)]) -> Result<Vec<(u64, Value)>, AllocError>
     requires rows { All (λ e. e.0 < 2 ^ 32) tuples.now }
     requires columns { All (λ e. e.1 < 2 ^ 32) tuples.now }
@@ -40,8 +40,8 @@ fn is_in_order(tuples: &[(u64, u64, Value)]) -> bool
     true
 }
 
-/// The flat lists of tuples in rising order of their cells, where those of one cell stand together: their values are combined. Takes
-/// memory for as many entries as there are tuples, and gives back what none takes.
+/// The flat lists of tuples in rising order of their cells, where those of one cell stand together: their values are combined. Takes memory
+/// for as many entries as there are tuples, and gives back what none takes. `AllocError` where that is refused; then nothing is made.
 fn combine(alloc: Global, tuples: &[(u64, u64, Value)], dup: Monoid) -> Result<FlatRows, AllocError>
     requires rows { All (λ e. e.0 < 2 ^ 32) tuples.now }
     requires columns { All (λ e. e.1 < 2 ^ 32) tuples.now }

@@ -150,7 +150,8 @@ impl SparseVector {
         self.held.rows().bools()
     }
 
-    /// The stored values of a vector of the domain `Uint64`, in the order of their indices: of an assembled vector alone. Nothing is copied.
+    /// The stored values of a vector of the domain `Uint64`, in the order of their indices: of an assembled vector alone. Nothing is
+    /// copied.
     ///
     /// Source: own.
     pub fn numbers(&self) -> &[u64]
@@ -225,7 +226,7 @@ impl SparseVector {
         Ok(())
     }
 
-    /// A vector of its own with the same entries and no reserved places. `AllocError` where memory is refused.
+    /// A vector of its own with the same entries and no reserved places. `AllocError` where memory is refused; then nothing is made.
     ///
     /// Source: GraphBLAS C API 2.0, `GrB_Vector_dup`.
     pub fn try_clone(&self) -> Result<SparseVector, AllocError>

@@ -1,5 +1,5 @@
 -- What an operation that is not refused is lent, and what it leaves of its output.
-use Rattle.std.proofs.Common.{◌≡◌, ℕ, zero, suc, Bool, true, false, List, [], ◌∷◌, refl, sym, ap, subst, ◌∙◌, Option, Some, None, IfSome, is_some}
+use Rattle.std.proofs.Common.{◌≡◌, ℕ, zero, suc, Bool, true, false, List, [], ◌∷◌, refl, sym, ap, ◌∙◌, Option, Some, None, IfSome, is_some}
 use Rattle.std.specs.Prelude.{map, if◌then◌else◌, Result, Ok, Err, IfOk}
 use Rattle.std.specs.List.{list_all}
 use Rattle.std.specs.Option.{option_map, option_map_or}
@@ -15,23 +15,22 @@ use Rattle.grb_core.specs.Written.{written}
 use Rattle.grb_core.specs.Results.{ewise_add, ewise_mult, turned}
 use Rattle.grb_sparse.specs.Matrix.{SparseMatrixView}
 use Rattle.grb_sparse.specs.Vector.{SparseVectorView}
-use Rattle.grb_call.specs.declared.call.Call.{Call}
 use Rattle.grb_call.specs.declared.call.Call.TheVariants as call
 use Rattle.grb_call.specs.declared.descriptor.Descriptor.{Descriptor}
 use Rattle.grb_call.specs.declared.ids.MatrixId.{MatrixId}
 use Rattle.grb_call.specs.declared.ids.VectorId.{VectorId}
-use Rattle.grb_call.specs.declared.ids.Object.{Object}
 use Rattle.grb_call.specs.declared.ids.Object.TheVariants as object
-use Rattle.grb_call.specs.Operands.{matrix_mask, vector_mask, accum_domains}
-use Rattle.grb_call.specs.Output.{output_of, matrix_left, vector_left}
+use Rattle.grb_call.specs.Operands.{matrix_mask, vector_mask}
+use Rattle.grb_call.specs.Operation.{accum_domains}
+use Rattle.grb_call.specs.Output.{matrix_left, vector_left}
 use Rattle.grb_call.specs.Shapes.{ObjectShapes, object_at, is_live}
-use Rattle.grb_call.specs.Refused.{is_one_domain, ewise_matrices_fit, ewise_vectors_fit}
+use Rattle.grb_call.specs.Refused.{is_one_domain}
+use Rattle.grb_call.specs.Fits.{ewise_matrices_fit, ewise_vectors_fit}
 use Rattle.grb_call.specs.Store.{Store, shapes_of, matrix_at, vector_at, matrix_entries, vector_entries, matrix_shape, vector_shape}
 use Rattle.grb_call.specs.After.{refused}
 use Rattle.grb_call.proofs.ShapesAfter.{object_at-map}
 use Rattle.grb_call.proofs.Passed.{has_passed}
-use Rattle.grb_call.proofs.Operations.{IsMatrixAt, IsTurnedAt, IsVectorAt, IsMatrixMask, IsVectorMask, EwiseMatrices, EwiseVectors, ewise_matrices, ewise_vectors}
-use Rattle.grb_state.specs.Operation.{is_elementwise}
+use Rattle.grb_call.proofs.Operations.{IsMatrixAt, IsTurnedAt, EwiseMatrices, EwiseVectors, ewise_matrices, ewise_vectors}
 use Rattle.grb_state.specs.State.{stored, stored_matrix, stored_vector}
 
 pub if_ok : {X E : Type 0} (P Q : X → Type 0) (r : Result X E) → ((x : X) → P x → Q x) → IfOk r P → IfOk r Q
@@ -59,29 +58,12 @@ pub record MatrixTests (t : ObjectShapes) (tran : Bool) (c : MatrixId) (mask : O
   pub one_domain : is_one_domain t (object.Matrix c ∷ object.Matrix a ∷ object.Matrix b ∷ []) (op_domain op ∷ accum_domains accum) ≡ true
   pub fits : ewise_matrices_fit t tran c mask a b ≡ true
 
-module _ (s : Store) (called : Call) (out : MatrixId) (c : MatrixId) (mask : Option MatrixId) (accum : Option BinaryOp) (op : BinaryOp) (a b : MatrixId) (d : Descriptor)
-    (output : output_of called ≡ Some (object.Matrix out)) (accepted : refused s called ≡ None) where
-  pub add_matrix-is : called ≡ call.EwiseAddMatrix c mask accum op a b d → called ≡ call.EwiseAddMatrix out mask accum op a b d
-  add_matrix-is e =
-      let same_output : ◌≡◌ {A = Option Object} (Some (object.Matrix c)) (Some (object.Matrix out)) = sym (ap output_of e) ∙ output in
-      let same : c ≡ out = cc in
-      e ∙ ap (λ x. call.EwiseAddMatrix x mask accum op a b d) same
+module _ (s : Store) (c : MatrixId) (mask : Option MatrixId) (accum : Option BinaryOp) (op : BinaryOp) (a b : MatrixId) (d : Descriptor) where
+  pub add_matrix-tests : refused s (call.EwiseAddMatrix c mask accum op a b d) ≡ None → MatrixTests (shapes_of s) d.tran c mask accum op a b
+  add_matrix-tests accepted = let p = has_passed s (call.EwiseAddMatrix c mask accum op a b d) accepted in record { live = p.initialized; one_domain = p.one_domain; fits = p.fits }
 
-  pub mult_matrix-is : called ≡ call.EwiseMultMatrix c mask accum op a b d → called ≡ call.EwiseMultMatrix out mask accum op a b d
-  mult_matrix-is e =
-      let same_output : ◌≡◌ {A = Option Object} (Some (object.Matrix c)) (Some (object.Matrix out)) = sym (ap output_of e) ∙ output in
-      let same : c ≡ out = cc in
-      e ∙ ap (λ x. call.EwiseMultMatrix x mask accum op a b d) same
-
-  pub add_matrix-tests : called ≡ call.EwiseAddMatrix c mask accum op a b d → MatrixTests (shapes_of s) d.tran out mask accum op a b
-  add_matrix-tests e =
-      let p = has_passed s (call.EwiseAddMatrix out mask accum op a b d) (subst (λ x. refused s x ≡ None) (add_matrix-is e) accepted) in
-      record { live = p.initialized; one_domain = p.one_domain; fits = p.fits }
-
-  pub mult_matrix-tests : called ≡ call.EwiseMultMatrix c mask accum op a b d → MatrixTests (shapes_of s) d.tran out mask accum op a b
-  mult_matrix-tests e =
-      let p = has_passed s (call.EwiseMultMatrix out mask accum op a b d) (subst (λ x. refused s x ≡ None) (mult_matrix-is e) accepted) in
-      record { live = p.initialized; one_domain = p.one_domain; fits = p.fits }
+  pub mult_matrix-tests : refused s (call.EwiseMultMatrix c mask accum op a b d) ≡ None → MatrixTests (shapes_of s) d.tran c mask accum op a b
+  mult_matrix-tests accepted = let p = has_passed s (call.EwiseMultMatrix c mask accum op a b d) accepted in record { live = p.initialized; one_domain = p.one_domain; fits = p.fits }
 
 module _ (ms : List (Option SparseMatrixView)) (vs : List (Option SparseVectorView)) where
   pub at_matrix : (b : MatrixId) (y : SparseMatrixView) → object_at ms b.0 ≡ Some y → matrix_at (stored ms vs) b ≡ Some y.matrix
@@ -117,6 +99,11 @@ module _ (ms : List (Option SparseMatrixView)) (vs : List (Option SparseVectorVi
         let at : object_at ms x.0 ≡ Some (now b) = cc in
         ap (λ (es : MatrixEntries). Some es) (sym (matrix_entries-at x (now b) at))
 
+  -- a mask that is live is there
+  pub matrix_mask_held : (mask : Option MatrixId) → list_all (is_live (shapes_of (stored ms vs))) (matrix_mask mask) ≡ true → IfSome mask (λ x. is_some (object_at ms x.0) ≡ true)
+  matrix_mask_held None live = tt
+  matrix_mask_held (Some x) live = held stored_matrix matrix_shape ms x.0 (and_parts _ _ live).0
+
   module _ {tran : Bool} (c : MatrixId) (mask : Option MatrixId) (accum : Option BinaryOp) (op : BinaryOp) (a b : MatrixId) (tests : MatrixTests (shapes_of (stored ms vs)) tran c mask accum op a b) where
     pub matrix_output-there : is_some (object_at ms c.0) ≡ true
     matrix_output-there = held stored_matrix matrix_shape ms c.0 (and_parts _ _ tests.live).0
@@ -126,10 +113,6 @@ module _ (ms : List (Option SparseMatrixView)) (vs : List (Option SparseVectorVi
 
     pub matrix_second-there : is_some (object_at ms b.0) ≡ true
     matrix_second-there = held stored_matrix matrix_shape ms b.0 (and_parts _ _ (and_parts _ _ (and_parts _ _ tests.live).1).1).0
-
-    matrix_mask_held : (mask : Option MatrixId) → list_all (is_live (shapes_of (stored ms vs))) (matrix_mask mask) ≡ true → IfSome mask (λ x. is_some (object_at ms x.0) ≡ true)
-    matrix_mask_held None live = tt
-    matrix_mask_held (Some x) live = held stored_matrix matrix_shape ms x.0 (and_parts _ _ live).0
 
     pub matrix_mask-there : IfSome mask (λ x. is_some (object_at ms x.0) ≡ true)
     matrix_mask-there =
@@ -141,51 +124,28 @@ module _ (ms : List (Option SparseMatrixView)) (vs : List (Option SparseVectorVi
       pub matrix_are : EwiseMatrices (stored ms vs) x.matrix tran mask accum op a b
       matrix_are = ewise_matrices (stored ms vs) c x.matrix (at_matrix c x at_output) tran mask accum op a b tests.live tests.one_domain tests.fits
 
-      pub matrix_first-same : (y : SparseMatrixView) → object_at ms a.0 ≡ Some y →
-          (y.matrix.domain ≡ x.matrix.domain) × ((if tran then y.matrix.ncols else y.matrix.nrows) ≡ x.matrix.nrows) × ((if tran then y.matrix.nrows else y.matrix.ncols) ≡ x.matrix.ncols)
-      matrix_first-same y at = lent_turned_is a y at tran x.matrix.domain x.matrix.nrows x.matrix.ncols matrix_are.first
-
-      pub matrix_second-same : (y : SparseMatrixView) → object_at ms b.0 ≡ Some y → (y.matrix.domain ≡ x.matrix.domain) × (y.matrix.nrows ≡ x.matrix.nrows) × (y.matrix.ncols ≡ x.matrix.ncols)
-      matrix_second-same y at = lent_matrix_is b y at x.matrix.domain x.matrix.nrows x.matrix.ncols matrix_are.second
-
-      module _ {B : Type 0} (now : B → SparseMatrixView) where
-        matrix_lent_same : (mask : Option MatrixId) (lent : Option B) → option_map (λ m. Some (now m)) lent ≡ option_map (λ x. object_at ms x.0) mask → IsMatrixMask (stored ms vs) mask x.matrix.nrows x.matrix.ncols →
-            IfSome lent (λ m. ((now m).matrix.nrows ≡ x.matrix.nrows) × ((now m).matrix.ncols ≡ x.matrix.ncols))
-        matrix_lent_same None None e is = tt
-        matrix_lent_same None (Some b) e is = cc
-        matrix_lent_same (Some z) None e is = tt
-        matrix_lent_same (Some z) (Some b) e is =
-            let at : object_at ms z.0 ≡ Some (now b) = cc in
-            let same = matrix_is (matrix_at (stored ms vs) z) is.0 (now b).matrix is.1 (at_matrix z (now b) at) in
-            (ap (λ (m : Matrix). m.nrows) (sym same) ∙ is.2, ap (λ (m : Matrix). m.ncols) (sym same) ∙ is.3)
-
-        pub lent_matrix_mask-same : (lent : Option B) → option_map (λ m. Some (now m)) lent ≡ option_map (λ x. object_at ms x.0) mask → IfSome lent (λ m. ((now m).matrix.nrows ≡ x.matrix.nrows) × ((now m).matrix.ncols ≡ x.matrix.ncols))
-        lent_matrix_mask-same lent e = matrix_lent_same mask lent e matrix_are.masked
-
   -- what is left of the output, where this was computed and written
-  module _ (called : Call) (c : MatrixId) (mask : Option MatrixId) (accum : Option BinaryOp) (op : BinaryOp) (a b : MatrixId) (d : Descriptor)
+  module _ (c : MatrixId) (mask : Option MatrixId) (accum : Option BinaryOp) (op : BinaryOp) (a b : MatrixId) (d : Descriptor)
       (x y z : SparseMatrixView) (at_output : object_at ms c.0 ≡ Some x) (at_first : object_at ms a.0 ≡ Some y) (at_second : object_at ms b.0 ≡ Some z)
       (lent : Option MatrixEntries) (same_mask : lent ≡ option_map (matrix_entries (stored ms vs)) mask) (made : Matrix) where
     abbrev matrix_write : Option MatrixEntries → MatrixEntries → Matrix
     matrix_write m computed = edited_matrix (λ old. written cell_cmp (is_inside cell_cmp d.structure d.comp m) d.replace accum old computed) x.matrix
 
-    pub add_matrix-left : called ≡ call.EwiseAddMatrix c mask accum op a b d → made ≡ matrix_write lent (ewise_add cell_cmp op (turned d.tran y.matrix.entries) z.matrix.entries) →
-        matrix_left (stored ms vs) called (matrix_at (stored ms vs) c) ≡ Some made
-    add_matrix-left e is =
+    pub add_matrix-left : made ≡ matrix_write lent (ewise_add cell_cmp op (turned d.tran y.matrix.entries) z.matrix.entries) →
+        matrix_left (stored ms vs) (call.EwiseAddMatrix c mask accum op a b d) (matrix_at (stored ms vs) c) ≡ Some made
+    add_matrix-left is =
         let s = stored ms vs in
-        ap (λ t. matrix_left s t (matrix_at s c)) e
-        ∙ ap (λ (o : Option Matrix). matrix_left s (call.EwiseAddMatrix c mask accum op a b d) o) (at_matrix c x at_output)
+        ap (λ (o : Option Matrix). matrix_left s (call.EwiseAddMatrix c mask accum op a b d) o) (at_matrix c x at_output)
         ∙ ap (λ (m : Matrix). Some m) (sym (is
         ∙ ap (λ m. matrix_write m (ewise_add cell_cmp op (turned d.tran y.matrix.entries) z.matrix.entries)) same_mask
         ∙ ap (λ es. matrix_write (option_map (matrix_entries s) mask) (ewise_add cell_cmp op (turned d.tran es) z.matrix.entries)) (sym (matrix_entries-at a y at_first))
         ∙ ap (λ es. matrix_write (option_map (matrix_entries s) mask) (ewise_add cell_cmp op (turned d.tran (matrix_entries s a)) es)) (sym (matrix_entries-at b z at_second))))
 
-    pub mult_matrix-left : called ≡ call.EwiseMultMatrix c mask accum op a b d → made ≡ matrix_write lent (ewise_mult cell_cmp op (turned d.tran y.matrix.entries) z.matrix.entries) →
-        matrix_left (stored ms vs) called (matrix_at (stored ms vs) c) ≡ Some made
-    mult_matrix-left e is =
+    pub mult_matrix-left : made ≡ matrix_write lent (ewise_mult cell_cmp op (turned d.tran y.matrix.entries) z.matrix.entries) →
+        matrix_left (stored ms vs) (call.EwiseMultMatrix c mask accum op a b d) (matrix_at (stored ms vs) c) ≡ Some made
+    mult_matrix-left is =
         let s = stored ms vs in
-        ap (λ t. matrix_left s t (matrix_at s c)) e
-        ∙ ap (λ (o : Option Matrix). matrix_left s (call.EwiseMultMatrix c mask accum op a b d) o) (at_matrix c x at_output)
+        ap (λ (o : Option Matrix). matrix_left s (call.EwiseMultMatrix c mask accum op a b d) o) (at_matrix c x at_output)
         ∙ ap (λ (m : Matrix). Some m) (sym (is
         ∙ ap (λ m. matrix_write m (ewise_mult cell_cmp op (turned d.tran y.matrix.entries) z.matrix.entries)) same_mask
         ∙ ap (λ es. matrix_write (option_map (matrix_entries s) mask) (ewise_mult cell_cmp op (turned d.tran es) z.matrix.entries)) (sym (matrix_entries-at a y at_first))
@@ -197,29 +157,12 @@ pub record VectorTests (t : ObjectShapes) (w : VectorId) (mask : Option VectorId
   pub one_domain : is_one_domain t (object.Vector w ∷ object.Vector u ∷ object.Vector v ∷ []) (op_domain op ∷ accum_domains accum) ≡ true
   pub fits : ewise_vectors_fit t w mask u v ≡ true
 
-module _ (s : Store) (called : Call) (out : VectorId) (w : VectorId) (mask : Option VectorId) (accum : Option BinaryOp) (op : BinaryOp) (u v : VectorId) (d : Descriptor)
-    (output : output_of called ≡ Some (object.Vector out)) (accepted : refused s called ≡ None) where
-  pub add_vector-is : called ≡ call.EwiseAddVector w mask accum op u v d → called ≡ call.EwiseAddVector out mask accum op u v d
-  add_vector-is e =
-      let same_output : ◌≡◌ {A = Option Object} (Some (object.Vector w)) (Some (object.Vector out)) = sym (ap output_of e) ∙ output in
-      let same : w ≡ out = cc in
-      e ∙ ap (λ x. call.EwiseAddVector x mask accum op u v d) same
+module _ (s : Store) (w : VectorId) (mask : Option VectorId) (accum : Option BinaryOp) (op : BinaryOp) (u v : VectorId) (d : Descriptor) where
+  pub add_vector-tests : refused s (call.EwiseAddVector w mask accum op u v d) ≡ None → VectorTests (shapes_of s) w mask accum op u v
+  add_vector-tests accepted = let p = has_passed s (call.EwiseAddVector w mask accum op u v d) accepted in record { live = p.initialized; one_domain = p.one_domain; fits = p.fits }
 
-  pub mult_vector-is : called ≡ call.EwiseMultVector w mask accum op u v d → called ≡ call.EwiseMultVector out mask accum op u v d
-  mult_vector-is e =
-      let same_output : ◌≡◌ {A = Option Object} (Some (object.Vector w)) (Some (object.Vector out)) = sym (ap output_of e) ∙ output in
-      let same : w ≡ out = cc in
-      e ∙ ap (λ x. call.EwiseMultVector x mask accum op u v d) same
-
-  pub add_vector-tests : called ≡ call.EwiseAddVector w mask accum op u v d → VectorTests (shapes_of s) out mask accum op u v
-  add_vector-tests e =
-      let p = has_passed s (call.EwiseAddVector out mask accum op u v d) (subst (λ x. refused s x ≡ None) (add_vector-is e) accepted) in
-      record { live = p.initialized; one_domain = p.one_domain; fits = p.fits }
-
-  pub mult_vector-tests : called ≡ call.EwiseMultVector w mask accum op u v d → VectorTests (shapes_of s) out mask accum op u v
-  mult_vector-tests e =
-      let p = has_passed s (call.EwiseMultVector out mask accum op u v d) (subst (λ x. refused s x ≡ None) (mult_vector-is e) accepted) in
-      record { live = p.initialized; one_domain = p.one_domain; fits = p.fits }
+  pub mult_vector-tests : refused s (call.EwiseMultVector w mask accum op u v d) ≡ None → VectorTests (shapes_of s) w mask accum op u v
+  mult_vector-tests accepted = let p = has_passed s (call.EwiseMultVector w mask accum op u v d) accepted in record { live = p.initialized; one_domain = p.one_domain; fits = p.fits }
 
 module _ (ms : List (Option SparseMatrixView)) (vs : List (Option SparseVectorView)) where
   pub at_vector : (v : VectorId) (y : SparseVectorView) → object_at vs v.0 ≡ Some y → vector_at (stored ms vs) v ≡ Some y.vector
@@ -242,6 +185,11 @@ module _ (ms : List (Option SparseMatrixView)) (vs : List (Option SparseVectorVi
         let at : object_at vs x.0 ≡ Some (now b) = cc in
         ap (λ (es : VectorEntries). Some es) (sym (vector_entries-at x (now b) at))
 
+  -- a mask that is live is there
+  pub vector_mask_held : (mask : Option VectorId) → list_all (is_live (shapes_of (stored ms vs))) (vector_mask mask) ≡ true → IfSome mask (λ x. is_some (object_at vs x.0) ≡ true)
+  vector_mask_held None live = tt
+  vector_mask_held (Some x) live = held stored_vector vector_shape vs x.0 (and_parts _ _ live).0
+
   module _ (w : VectorId) (mask : Option VectorId) (accum : Option BinaryOp) (op : BinaryOp) (u v : VectorId) (tests : VectorTests (shapes_of (stored ms vs)) w mask accum op u v) where
     pub vector_output-there : is_some (object_at vs w.0) ≡ true
     vector_output-there = held stored_vector vector_shape vs w.0 (and_parts _ _ tests.live).0
@@ -251,10 +199,6 @@ module _ (ms : List (Option SparseMatrixView)) (vs : List (Option SparseVectorVi
 
     pub vector_second-there : is_some (object_at vs v.0) ≡ true
     vector_second-there = held stored_vector vector_shape vs v.0 (and_parts _ _ (and_parts _ _ (and_parts _ _ tests.live).1).1).0
-
-    vector_mask_held : (mask : Option VectorId) → list_all (is_live (shapes_of (stored ms vs))) (vector_mask mask) ≡ true → IfSome mask (λ x. is_some (object_at vs x.0) ≡ true)
-    vector_mask_held None live = tt
-    vector_mask_held (Some x) live = held stored_vector vector_shape vs x.0 (and_parts _ _ live).0
 
     pub vector_mask-there : IfSome mask (λ x. is_some (object_at vs x.0) ≡ true)
     vector_mask-there =
@@ -266,78 +210,29 @@ module _ (ms : List (Option SparseMatrixView)) (vs : List (Option SparseVectorVi
       pub vector_are : EwiseVectors (stored ms vs) x.vector mask accum op u v
       vector_are = ewise_vectors (stored ms vs) w x.vector (at_vector w x at_output) mask accum op u v tests.live tests.one_domain tests.fits
 
-      vector_input_same : (z : VectorId) (y : SparseVectorView) → object_at vs z.0 ≡ Some y → IsVectorAt (stored ms vs) z x.vector.domain x.vector.size → (y.vector.domain ≡ x.vector.domain) × (y.vector.size ≡ x.vector.size)
-      vector_input_same z y at is =
-          let same = vector_is (vector_at (stored ms vs) z) is.vector y.vector is.at (at_vector z y at) in
-          (ap (λ (v : Vector). v.domain) (sym same) ∙ is.same_domain, ap (λ (v : Vector). v.size) (sym same) ∙ is.same_size)
-
-      pub vector_first-same : (y : SparseVectorView) → object_at vs u.0 ≡ Some y → (y.vector.domain ≡ x.vector.domain) × (y.vector.size ≡ x.vector.size)
-      vector_first-same y at = vector_input_same u y at vector_are.first
-
-      pub vector_second-same : (y : SparseVectorView) → object_at vs v.0 ≡ Some y → (y.vector.domain ≡ x.vector.domain) × (y.vector.size ≡ x.vector.size)
-      vector_second-same y at = vector_input_same v y at vector_are.second
-
-      module _ {B : Type 0} (now : B → SparseVectorView) where
-        vector_lent_same : (mask : Option VectorId) (lent : Option B) → option_map (λ m. Some (now m)) lent ≡ option_map (λ x. object_at vs x.0) mask → IsVectorMask (stored ms vs) mask x.vector.size →
-            IfSome lent (λ m. (now m).vector.size ≡ x.vector.size)
-        vector_lent_same None None e is = tt
-        vector_lent_same None (Some b) e is = cc
-        vector_lent_same (Some z) None e is = tt
-        vector_lent_same (Some z) (Some b) e is =
-            let at : object_at vs z.0 ≡ Some (now b) = cc in
-            let same = vector_is (vector_at (stored ms vs) z) is.0 (now b).vector is.1 (at_vector z (now b) at) in
-            ap (λ (v : Vector). v.size) (sym same) ∙ is.2
-
-        pub lent_vector_mask-same : (lent : Option B) → option_map (λ m. Some (now m)) lent ≡ option_map (λ x. object_at vs x.0) mask → IfSome lent (λ m. (now m).vector.size ≡ x.vector.size)
-        lent_vector_mask-same lent e = vector_lent_same mask lent e vector_are.masked
-
   -- what is left of the output, where this was computed and written
-  module _ (called : Call) (w : VectorId) (mask : Option VectorId) (accum : Option BinaryOp) (op : BinaryOp) (u v : VectorId) (d : Descriptor)
+  module _ (w : VectorId) (mask : Option VectorId) (accum : Option BinaryOp) (op : BinaryOp) (u v : VectorId) (d : Descriptor)
       (x y z : SparseVectorView) (at_output : object_at vs w.0 ≡ Some x) (at_first : object_at vs u.0 ≡ Some y) (at_second : object_at vs v.0 ≡ Some z)
       (lent : Option VectorEntries) (same_mask : lent ≡ option_map (vector_entries (stored ms vs)) mask) (made : Vector) where
     abbrev vector_write : Option VectorEntries → VectorEntries → Vector
     vector_write m computed = edited_vector (λ old. written nat_cmp (is_inside nat_cmp d.structure d.comp m) d.replace accum old computed) x.vector
 
-    pub add_vector-left : called ≡ call.EwiseAddVector w mask accum op u v d → made ≡ vector_write lent (ewise_add nat_cmp op y.vector.entries z.vector.entries) →
-        vector_left (stored ms vs) called (vector_at (stored ms vs) w) ≡ Some made
-    add_vector-left e is =
+    pub add_vector-left : made ≡ vector_write lent (ewise_add nat_cmp op y.vector.entries z.vector.entries) →
+        vector_left (stored ms vs) (call.EwiseAddVector w mask accum op u v d) (vector_at (stored ms vs) w) ≡ Some made
+    add_vector-left is =
         let s = stored ms vs in
-        ap (λ c. vector_left s c (vector_at s w)) e
-        ∙ ap (λ (o : Option Vector). vector_left s (call.EwiseAddVector w mask accum op u v d) o) (at_vector w x at_output)
+        ap (λ (o : Option Vector). vector_left s (call.EwiseAddVector w mask accum op u v d) o) (at_vector w x at_output)
         ∙ ap (λ (m : Vector). Some m) (sym (is
         ∙ ap (λ m. vector_write m (ewise_add nat_cmp op y.vector.entries z.vector.entries)) same_mask
         ∙ ap (λ es. vector_write (option_map (vector_entries s) mask) (ewise_add nat_cmp op es z.vector.entries)) (sym (vector_entries-at u y at_first))
         ∙ ap (λ es. vector_write (option_map (vector_entries s) mask) (ewise_add nat_cmp op (vector_entries s u) es)) (sym (vector_entries-at v z at_second))))
 
-    pub mult_vector-left : called ≡ call.EwiseMultVector w mask accum op u v d → made ≡ vector_write lent (ewise_mult nat_cmp op y.vector.entries z.vector.entries) →
-        vector_left (stored ms vs) called (vector_at (stored ms vs) w) ≡ Some made
-    mult_vector-left e is =
+    pub mult_vector-left : made ≡ vector_write lent (ewise_mult nat_cmp op y.vector.entries z.vector.entries) →
+        vector_left (stored ms vs) (call.EwiseMultVector w mask accum op u v d) (vector_at (stored ms vs) w) ≡ Some made
+    mult_vector-left is =
         let s = stored ms vs in
-        ap (λ c. vector_left s c (vector_at s w)) e
-        ∙ ap (λ (o : Option Vector). vector_left s (call.EwiseMultVector w mask accum op u v d) o) (at_vector w x at_output)
+        ap (λ (o : Option Vector). vector_left s (call.EwiseMultVector w mask accum op u v d) o) (at_vector w x at_output)
         ∙ ap (λ (m : Vector). Some m) (sym (is
         ∙ ap (λ m. vector_write m (ewise_mult nat_cmp op y.vector.entries z.vector.entries)) same_mask
         ∙ ap (λ es. vector_write (option_map (vector_entries s) mask) (ewise_mult nat_cmp op es z.vector.entries)) (sym (vector_entries-at u y at_first))
         ∙ ap (λ es. vector_write (option_map (vector_entries s) mask) (ewise_mult nat_cmp op (vector_entries s u) es)) (sym (vector_entries-at v z at_second))))
-
--- the output of an element-wise operation is there
-pub held_output_matrix : (ms : List (Option SparseMatrixView)) (vs : List (Option SparseVectorView)) (out : MatrixId) (called : Call) → is_elementwise called ≡ true → output_of called ≡ Some (object.Matrix out) →
-    refused (stored ms vs) called ≡ None → is_some (object_at ms out.0) ≡ true
-held_output_matrix ms vs out (call.EwiseAddMatrix x mask accum op y z d) operation output accepted =
-    matrix_output-there ms vs out mask accum op y z (add_matrix-tests (stored ms vs) (call.EwiseAddMatrix x mask accum op y z d) out x mask accum op y z d output accepted refl)
-held_output_matrix ms vs out (call.EwiseMultMatrix x mask accum op y z d) operation output accepted =
-    matrix_output-there ms vs out mask accum op y z (mult_matrix-tests (stored ms vs) (call.EwiseMultMatrix x mask accum op y z d) out x mask accum op y z d output accepted refl)
-held_output_matrix ms vs out (call.EwiseAddVector x mask accum op y z d) operation output accepted = cc
-held_output_matrix ms vs out (call.EwiseMultVector x mask accum op y z d) operation output accepted = cc
-held_output_matrix ms vs out _ operation output accepted = cc
-
--- the output of an element-wise operation is there
-pub held_output_vector : (ms : List (Option SparseMatrixView)) (vs : List (Option SparseVectorView)) (out : VectorId) (called : Call) → is_elementwise called ≡ true → output_of called ≡ Some (object.Vector out) →
-    refused (stored ms vs) called ≡ None → is_some (object_at vs out.0) ≡ true
-held_output_vector ms vs out (call.EwiseAddVector x mask accum op y z d) operation output accepted =
-    vector_output-there ms vs out mask accum op y z (add_vector-tests (stored ms vs) (call.EwiseAddVector x mask accum op y z d) out x mask accum op y z d output accepted refl)
-held_output_vector ms vs out (call.EwiseMultVector x mask accum op y z d) operation output accepted =
-    vector_output-there ms vs out mask accum op y z (mult_vector-tests (stored ms vs) (call.EwiseMultVector x mask accum op y z d) out x mask accum op y z d output accepted refl)
-held_output_vector ms vs out (call.EwiseAddMatrix x mask accum op y z d) operation output accepted = cc
-held_output_vector ms vs out (call.EwiseMultMatrix x mask accum op y z d) operation output accepted = cc
-held_output_vector ms vs out _ operation output accepted = cc

@@ -1,6 +1,5 @@
 -- What a product or a reduction of rows that is not refused is lent, and what it leaves of its output.
 use Rattle.std.proofs.Common.{◌≡◌, ℕ, true, List, sym, ap, ◌∙◌, Option, Some, None, IfSome, is_some}
-use Rattle.std.specs.List.{list_all}
 use Rattle.std.specs.Option.{option_map}
 use Rattle.std.specs.Ordering.{nat_cmp}
 use Rattle.std.proofs.lemmas.Bool.{and_parts}
@@ -20,22 +19,17 @@ use Rattle.grb_call.specs.declared.descriptor.Descriptor.{Descriptor}
 use Rattle.grb_call.specs.declared.ids.MatrixId.{MatrixId}
 use Rattle.grb_call.specs.declared.ids.VectorId.{VectorId}
 use Rattle.grb_call.specs.declared.ids.Object.TheVariants as object
-use Rattle.grb_call.specs.Operands.{matrix_mask, vector_mask}
 use Rattle.grb_call.specs.Output.{matrix_left, vector_left}
 use Rattle.grb_call.specs.Shapes.{object_at, is_live}
 use Rattle.grb_call.specs.Store.{shapes_of, vector_at, matrix_at, matrix_entries, vector_entries, matrix_shape, vector_shape}
 use Rattle.grb_call.specs.After.{refused}
 use Rattle.grb_call.proofs.Passed.{HasPassed, has_passed}
-use Rattle.grb_call.proofs.Operations.{IsMatrixAt, IsVectorAt, IsMatrixMask, IsVectorMask}
+use Rattle.grb_call.proofs.Operations.{IsVectorAt, IsMatrixMask, IsVectorMask}
 use Rattle.grb_call.proofs.Products.{MxvOperands, mxv_operands, MxmOperands, mxm_operands, ReduceRowsOperands, reduce_rows_operands, VxmOperands, vxm_operands}
 use Rattle.grb_state.specs.State.{stored, stored_matrix, stored_vector}
-use Rattle.grb_state.proofs.Lent.{held, at_matrix, at_vector, matrix_is, vector_is, matrix_entries-at, vector_entries-at}
+use Rattle.grb_state.proofs.Lent.{held, at_matrix, at_vector, matrix_mask_held, vector_mask_held, matrix_is, vector_is, matrix_entries-at, vector_entries-at}
 
 module _ (ms : List (Option SparseMatrixView)) (vs : List (Option SparseVectorView)) where
-  pub vector_mask_held : (mask : Option VectorId) → list_all (is_live (shapes_of (stored ms vs))) (vector_mask mask) ≡ true → IfSome mask (λ x. is_some (object_at vs x.0) ≡ true)
-  vector_mask_held None live = tt
-  vector_mask_held (Some x) live = held stored_vector vector_shape vs x.0 (and_parts _ _ live).0
-
   -- what is lent has the domain and the size that are known of the object
   pub lent_vector_is : (v : VectorId) (y : SparseVectorView) → object_at vs v.0 ≡ Some y → (domain : Domain) (size : ℕ) → IsVectorAt (stored ms vs) v domain size → (y.vector.domain ≡ domain) × (y.vector.size ≡ size)
   lent_vector_is v y at domain size is =
@@ -71,7 +65,7 @@ module _ (ms : List (Option SparseMatrixView)) (vs : List (Option SparseVectorVi
     pub mxv_mask-there : IfSome mask (λ x. is_some (object_at vs x.0) ≡ true)
     mxv_mask-there =
         let rest = and_parts (is_live (shapes_of (stored ms vs)) (object.Matrix a)) _ (and_parts (is_live (shapes_of (stored ms vs)) (object.Vector w)) _ mxv_passed.initialized).1 in
-        vector_mask_held mask (and_parts (is_live (shapes_of (stored ms vs)) (object.Vector u)) _ rest.1).1
+        vector_mask_held ms vs mask (and_parts (is_live (shapes_of (stored ms vs)) (object.Vector u)) _ rest.1).1
 
     pub mxv_are : (x : SparseVectorView) → object_at vs w.0 ≡ Some x → MxvOperands (stored ms vs) x.vector d.tran mask accum semiring a u
     mxv_are x at = mxv_operands (stored ms vs) w x.vector (at_vector ms vs w x at) d.tran mask accum semiring a u mxv_passed.initialized mxv_passed.one_domain mxv_passed.fits
@@ -94,14 +88,10 @@ module _ (ms : List (Option SparseMatrixView)) (vs : List (Option SparseVectorVi
     pub vxm_mask-there : IfSome mask (λ x. is_some (object_at vs x.0) ≡ true)
     vxm_mask-there =
         let rest = and_parts (is_live (shapes_of (stored ms vs)) (object.Vector u)) _ (and_parts (is_live (shapes_of (stored ms vs)) (object.Vector w)) _ vxm_passed.initialized).1 in
-        vector_mask_held mask (and_parts (is_live (shapes_of (stored ms vs)) (object.Matrix a)) _ rest.1).1
+        vector_mask_held ms vs mask (and_parts (is_live (shapes_of (stored ms vs)) (object.Matrix a)) _ rest.1).1
 
     pub vxm_are : (x : SparseVectorView) → object_at vs w.0 ≡ Some x → VxmOperands (stored ms vs) x.vector mask accum semiring u a
     vxm_are x at = vxm_operands (stored ms vs) w x.vector (at_vector ms vs w x at) mask accum semiring u a vxm_passed.initialized vxm_passed.one_domain vxm_passed.fits
-
-  pub matrix_mask_held : (mask : Option MatrixId) → list_all (is_live (shapes_of (stored ms vs))) (matrix_mask mask) ≡ true → IfSome mask (λ x. is_some (object_at ms x.0) ≡ true)
-  matrix_mask_held None live = tt
-  matrix_mask_held (Some x) live = held stored_matrix matrix_shape ms x.0 (and_parts _ _ live).0
 
   module _ {B : Type 0} (now : B → SparseMatrixView) where
     pub lent_matrix_mask_is : (mask : Option MatrixId) (lent : Option B) → option_map (λ m. Some (now m)) lent ≡ option_map (λ x. object_at ms x.0) mask → (nrows ncols : ℕ) → IsMatrixMask (stored ms vs) mask nrows ncols →
@@ -132,7 +122,7 @@ module _ (ms : List (Option SparseMatrixView)) (vs : List (Option SparseVectorVi
     pub mxm_mask-there : IfSome mask (λ x. is_some (object_at ms x.0) ≡ true)
     mxm_mask-there =
         let rest = and_parts (is_live (shapes_of (stored ms vs)) (object.Matrix a)) _ (and_parts (is_live (shapes_of (stored ms vs)) (object.Matrix c)) _ mxm_passed.initialized).1 in
-        matrix_mask_held mask (and_parts (is_live (shapes_of (stored ms vs)) (object.Matrix b)) _ rest.1).1
+        matrix_mask_held ms vs mask (and_parts (is_live (shapes_of (stored ms vs)) (object.Matrix b)) _ rest.1).1
 
     pub mxm_are : (x : SparseMatrixView) → object_at ms c.0 ≡ Some x → MxmOperands (stored ms vs) x.matrix d.tran mask accum semiring a b
     mxm_are x at = mxm_operands (stored ms vs) c x.matrix (at_matrix ms vs c x at) d.tran mask accum semiring a b mxm_passed.initialized mxm_passed.one_domain mxm_passed.fits
@@ -162,7 +152,7 @@ module _ (ms : List (Option SparseMatrixView)) (vs : List (Option SparseVectorVi
     rows_matrix-there = held stored_matrix matrix_shape ms a.0 (and_parts _ _ (and_parts _ _ rows_passed.initialized).1).0
 
     pub rows_mask-there : IfSome mask (λ x. is_some (object_at vs x.0) ≡ true)
-    rows_mask-there = vector_mask_held mask (and_parts _ _ (and_parts _ _ rows_passed.initialized).1).1
+    rows_mask-there = vector_mask_held ms vs mask (and_parts _ _ (and_parts _ _ rows_passed.initialized).1).1
 
     pub rows_are : (x : SparseVectorView) → object_at vs w.0 ≡ Some x → ReduceRowsOperands (stored ms vs) x.vector d.tran mask accum monoid a
     rows_are x at = reduce_rows_operands (stored ms vs) w x.vector (at_vector ms vs w x at) d.tran mask accum monoid a rows_passed.initialized rows_passed.one_domain rows_passed.fits

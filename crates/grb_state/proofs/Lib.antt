@@ -1,12 +1,13 @@
 mod Accepted
 mod Applied
 mod Assembled
+mod ByNumber
 mod Dispatched
 mod Folded
 mod Lent
 mod LentProducts
 pub mod Living
 pub mod Numbered
-mod Objects
 mod Premises
+mod Settling
 mod Totals

@@ -1,6 +1,7 @@
 pub mod Evaluated
 pub mod Fits
 pub mod Live
+pub mod Objects
 pub mod Operation
 pub mod Places
 pub mod Settled

@@ -1,34 +1,13 @@
 -- inside: no public contract names it. When an operation on several objects may be evaluated (own; what the kernels ask for).
-use Rattle.std.specs.Prelude.{ℕ, Bool, true, false, List, Option}
+use Rattle.std.specs.Prelude.{ℕ, List, Option}
 use Rattle.std.specs.List.{AllByRecursion}
 use Rattle.grb_sparse.specs.Matrix.{SparseMatrixView}
 use Rattle.grb_sparse.specs.Vector.{SparseVectorView}
 use Rattle.grb_call.specs.declared.call.Call.{Call}
-use Rattle.grb_call.specs.declared.call.Call.TheVariants as call
 use Rattle.grb_call.specs.declared.ids.Object.{Object}
 use Rattle.grb_call.specs.declared.ids.Object.TheVariants as object
 use Rattle.grb_call.specs.Operands.{objects_read}
 use Rattle.grb_state.specs.Places.{IsAssembledAt}
-
--- whether what the call leaves of its output is made from other objects too
-abbrev pub is_operation : Call → Bool
-is_operation (call.EwiseAddMatrix c mask accum op a b d) = true
-is_operation (call.EwiseAddVector w mask accum op u v d) = true
-is_operation (call.EwiseMultMatrix c mask accum op a b d) = true
-is_operation (call.EwiseMultVector w mask accum op u v d) = true
-is_operation (call.Mxv w mask accum semiring a u d) = true
-is_operation (call.Vxm w mask accum semiring u a d) = true
-is_operation (call.Mxm c mask accum semiring a b d) = true
-is_operation (call.ReduceRows w mask accum monoid a d) = true
-is_operation _ = false
-
--- whether it is an element-wise operation, whose objects are of one sort
-abbrev pub is_elementwise : Call → Bool
-is_elementwise (call.EwiseAddMatrix c mask accum op a b d) = true
-is_elementwise (call.EwiseAddVector w mask accum op u v d) = true
-is_elementwise (call.EwiseMultMatrix c mask accum op a b d) = true
-is_elementwise (call.EwiseMultVector w mask accum op u v d) = true
-is_elementwise _ = false
 
 -- the matrix, or the vector, with this number has no change that waits, if it is there
 abbrev pub IsAssembledMatrix : List (Option SparseMatrixView) → ℕ → Type 0

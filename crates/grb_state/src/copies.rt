@@ -4,6 +4,7 @@ ghost use Rattle.std.specs.Option.{option_map, option_map_or};
 ghost use Rattle.grb_call.specs.Store.{matrix_at, shapes_of, vector_at};
 ghost use Rattle.grb_state.specs.State.{count_in, is_assembled};
 
+use crate::objects::Objects;
 use crate::places::{held_of, object_of};
 use crate::shared::share_all;
 use crate::state::State;
@@ -42,7 +43,7 @@ impl State {
         ensures stored { option_map (λ matrix. matrix.now.matrix) result ≡ matrix_at self.now.store a }
         ensures assembled { option_map_or (λ matrix. matrix.now.assembled) result true ≡ is_assembled self.now.matrices self.now.vectors (Object.Matrix a) }
     {
-        object_of(&self.matrices, a)
+        object_of(&self.objects.matrices, a)
     }
 
     /// The vector, if it was made and not freed. Takes no memory.
@@ -50,7 +51,7 @@ impl State {
         ensures stored { option_map (λ vector. vector.now.vector) result ≡ vector_at self.now.store v }
         ensures assembled { option_map_or (λ vector. vector.now.assembled) result true ≡ is_assembled self.now.matrices self.now.vectors (Object.Vector v) }
     {
-        object_of(&self.vectors, v)
+        object_of(&self.objects.vectors, v)
     }
 
     /// The matrix as all share it that hold it, if it was made and not freed: who clones the `Arc` holds it too, and no entry is copied. It
@@ -59,7 +60,7 @@ impl State {
         ensures stored { option_map (λ matrix. matrix.now.value.matrix) result ≡ matrix_at self.now.store a }
         ensures assembled { option_map_or (λ matrix. matrix.now.value.assembled) result true ≡ is_assembled self.now.matrices self.now.vectors (Object.Matrix a) }
     {
-        held_of(&self.matrices, a)
+        held_of(&self.objects.matrices, a)
     }
 
     /// The vector as all share it that hold it, if it was made and not freed, as [`State::held_matrix`] gives a matrix. Takes no memory.
@@ -67,7 +68,7 @@ impl State {
         ensures stored { option_map (λ vector. vector.now.value.vector) result ≡ vector_at self.now.store v }
         ensures assembled { option_map_or (λ vector. vector.now.value.assembled) result true ≡ is_assembled self.now.matrices self.now.vectors (Object.Vector v) }
     {
-        held_of(&self.vectors, v)
+        held_of(&self.objects.vectors, v)
     }
 
     /// The domain and dimensions of all objects. Takes no memory.
@@ -87,8 +88,10 @@ impl State {
     {
         Ok(State {
             shapes: self.shapes.try_clone(room)?,
-            matrices: share_all(&self.matrices, room)?,
-            vectors: share_all(&self.vectors, room)?,
+            objects: Objects {
+                matrices: share_all(&self.objects.matrices, room)?,
+                vectors: share_all(&self.objects.vectors, room)?,
+            },
         })
     }
 }

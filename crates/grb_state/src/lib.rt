@@ -10,14 +10,13 @@ mod copies;
 mod fold;
 mod live;
 mod matrices;
-mod matrix_operations;
+mod objects;
 mod operations;
+mod outputs;
 mod places;
-mod product_operations;
 mod shared;
 mod state;
 mod stored_object;
-mod vector_operations;
 mod vectors;
 
 pub use fold::replay;

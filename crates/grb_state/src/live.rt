@@ -4,7 +4,8 @@ ghost use Rattle.grb_state.specs.Live.{live, live_store};
 ghost use Rattle.grb_state.specs.Settled.{AreAllAssembled};
 ghost use Rattle.grb_state.specs.State.{is_assembled};
 
-use crate::shared::{SharedObject, share_place};
+use crate::objects::Objects;
+use crate::shared::{Places, share_place};
 use crate::state::State;
 use grb_call::{MatrixId, Shapes, VectorId};
 use grb_core::Domain;
@@ -12,9 +13,7 @@ use std::alloc::{AllocError, Global};
 
 /// The objects of these places that are there, in turn, for one more store; no entry is copied. `AllocError` where memory is refused to the
 /// places, or 2^63 - 1 hold one of the objects.
-fn share_live<T>(
-    places: &Vec<Option<SharedObject<T>>>,
-) -> Result<Vec<Option<SharedObject<T>>>, AllocError>
+fn share_live<T>(places: &Places<T>) -> Result<Places<T>, AllocError>
 where
     T: Drop,
     ensures live { IfOk result (λ all. all.items ≡ live places.now.items) }
@@ -82,11 +81,13 @@ impl State {
         ensures store { IfOk result (λ copy. copy.store ≡ live_store self.now.store) }
         ensures assembled { IfOk result (λ copy. AreAllAssembled (is_assembled self.now.matrices self.now.vectors) → AreAllAssembled (is_assembled copy.matrices copy.vectors)) }
     {
-        let alloc = *self.matrices.allocator();
+        let alloc = *self.objects.matrices.allocator();
         Ok(State {
             shapes: live_shapes(alloc, &self.shapes)?,
-            matrices: share_live(&self.matrices)?,
-            vectors: share_live(&self.vectors)?,
+            objects: Objects {
+                matrices: share_live(&self.objects.matrices)?,
+                vectors: share_live(&self.objects.vectors)?,
+            },
         })
     }
 }

@@ -53,7 +53,7 @@ impl StoredObject for SparseMatrix {
             }
             Call::ResizeMatrix { nrows, ncols, .. } => self.resize(*nrows, *ncols),
             Call::BuildMatrix { tuples, dup, .. } => self.build(tuples.as_slice(), *dup),
-            _ => Ok(()),
+            _ => unreachable!(),
         }
     }
 

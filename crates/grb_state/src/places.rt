@@ -1,10 +1,10 @@
 //! The places of objects of one sort, by their numbers. An object that a clone shares is copied before it is changed.
-ghost use Rattle.std.specs.Prelude.{◌≡◌, ◌<◌, ℕ, [], ◌∷◌, ◌++◌, Some, true, is_some, OnOk, OnErr, IfOk, IfSome, slice_set, vec_len, vec_capacity};
+ghost use Rattle.std.specs.Prelude.{◌≡◌, ◌<◌, ℕ, [], ◌∷◌, ◌++◌, Some, false, true, is_some, OnOk, OnErr, IfOk, IfSome, slice_set, vec_len, vec_capacity};
 ghost use Rattle.std.specs.Option.{option_map};
 ghost use Rattle.grb_call.specs.Shapes.{object_at};
 ghost use Rattle.grb_state.specs.Places.{contents_at, left_of, IsAssembledAt};
 
-use crate::shared::SharedObject;
+use crate::shared::{Places, SharedObject};
 use crate::stored_object::StoredObject;
 use grb_call::Call;
 use std::alloc::{AllocError, Global};
@@ -17,7 +17,8 @@ fn change_shared<T: StoredObject>(
     shared: &mut SharedObject<T>,
     call: &Call,
 ) -> Result<(), AllocError>
-    requires { T.fits call.now (T.contents shared.old) }
+    requires fits { T.fits call.now (T.contents shared.old) }
+    requires goes_on { T.ends call.now ≡ false }
     ensures ok { OnOk result (T.contents shared.new ≡ T.after call.now (T.contents shared.old)) }
     ensures err { OnErr result (T.contents shared.new ≡ T.contents shared.old) }
 {
@@ -53,7 +54,7 @@ fn change_place<T: StoredObject>(
 /// Changes or ends the object with this number, if it is there, as the call says. `AllocError` where memory is refused; then its
 /// entries are as before.
 pub(crate) fn edit<T: StoredObject>(
-    places: &mut Vec<Option<SharedObject<T>>>,
+    places: &mut Places<T>,
     id: T::Id,
     call: &Call,
 ) -> Result<(), AllocError>
@@ -71,10 +72,10 @@ pub(crate) fn edit<T: StoredObject>(
 
 /// The object with this number for one more place, if it is there; no entry is copied. `AllocError` where 2^63 - 1 places hold it.
 fn share<T: StoredObject>(
-    places: &[Option<SharedObject<T>>],
+    places: &Places<T>,
     id: T::Id,
 ) -> Result<Option<SharedObject<T>>, AllocError>
-    ensures { IfOk result (λ shared. option_map T.contents shared ≡ object_at (contents_at T.contents places.now) (T.number id)) }
+    ensures { IfOk result (λ shared. option_map T.contents shared ≡ object_at (contents_at T.contents places.now.items) (T.number id)) }
 {
     match places.get(T::number(id) as usize) {
         Some(Some(shared)) => Ok(Some(shared.share()?)),
@@ -84,10 +85,7 @@ fn share<T: StoredObject>(
 
 /// Makes one more object, equal to the one with this number: the same object, until one of the two is changed. `AllocError` where
 /// 2^63 - 1 places hold it. Takes no memory.
-pub(crate) fn dup<T: StoredObject>(
-    places: &mut Vec<Option<SharedObject<T>>>,
-    id: T::Id,
-) -> Result<(), AllocError>
+pub(crate) fn dup<T: StoredObject>(places: &mut Places<T>, id: T::Id) -> Result<(), AllocError>
     requires { vec_len places.old < vec_capacity places.old }
     ensures ok { OnOk result (contents_at T.contents places.new.items ≡ contents_at T.contents places.old.items ++ object_at (contents_at T.contents places.old.items) (T.number id) ∷ []) }
     ensures err { OnErr result (places.new.items ≡ places.old.items) }
@@ -99,12 +97,9 @@ pub(crate) fn dup<T: StoredObject>(
 }
 
 /// The object with this number, if it was made and not freed. Takes no memory.
-pub(crate) fn object_of<T: StoredObject>(
-    places: &[Option<SharedObject<T>>],
-    id: T::Id,
-) -> Option<&T>
-    ensures stored { option_map (λ x. T.contents x.now) result ≡ object_at (contents_at T.contents places.now) (T.number id) }
-    ensures object { option_map (λ x. x.now) result ≡ object_at places.now (T.number id) }
+pub(crate) fn object_of<T: StoredObject>(places: &Places<T>, id: T::Id) -> Option<&T>
+    ensures stored { option_map (λ x. T.contents x.now) result ≡ object_at (contents_at T.contents places.now.items) (T.number id) }
+    ensures object { option_map (λ x. x.now) result ≡ object_at places.now.items (T.number id) }
 {
     match places.get(T::number(id) as usize) {
         Some(Some(shared)) => Some(shared.lent()),
@@ -113,12 +108,9 @@ pub(crate) fn object_of<T: StoredObject>(
 }
 
 /// The object with this number as all share it that hold it, if it was made and not freed. Takes no memory.
-pub(crate) fn held_of<T: StoredObject>(
-    places: &[Option<SharedObject<T>>],
-    id: T::Id,
-) -> Option<&Arc<T>>
-    ensures stored { option_map (λ x. T.contents x.now.value) result ≡ object_at (contents_at T.contents places.now) (T.number id) }
-    ensures object { option_map (λ x. x.now.value) result ≡ object_at places.now (T.number id) }
+pub(crate) fn held_of<T: StoredObject>(places: &Places<T>, id: T::Id) -> Option<&Arc<T>>
+    ensures stored { option_map (λ x. T.contents x.now.value) result ≡ object_at (contents_at T.contents places.now.items) (T.number id) }
+    ensures object { option_map (λ x. x.now.value) result ≡ object_at places.now.items (T.number id) }
 {
     match places.get(T::number(id) as usize) {
         Some(Some(shared)) => Some(shared.held()),
@@ -165,10 +157,7 @@ fn assemble_place<T: StoredObject>(
 
 /// Assembles the object of the place with this number, if there is one. `AllocError` where memory is refused; its entries are as before
 /// in any case, and what was assembled stays so.
-fn assemble_at<T: StoredObject>(
-    places: &mut Vec<Option<SharedObject<T>>>,
-    at: usize,
-) -> Result<(), AllocError>
+fn assemble_at<T: StoredObject>(places: &mut Places<T>, at: usize) -> Result<(), AllocError>
     ensures same { contents_at T.contents places.new.items ≡ contents_at T.contents places.old.items }
     ensures assembled { OnOk result (IsAssembledAt T.is_assembled places.new.items at) }
     ensures kept { (n : ℕ) → IsAssembledAt T.is_assembled places.old.items n → IsAssembledAt T.is_assembled places.new.items n }
@@ -183,10 +172,7 @@ fn assemble_at<T: StoredObject>(
 
 /// Assembles the object with this number, if it is there. `AllocError` where memory is refused; its entries are as before in any
 /// case, and what was assembled stays so.
-pub(crate) fn assemble<T: StoredObject>(
-    places: &mut Vec<Option<SharedObject<T>>>,
-    id: T::Id,
-) -> Result<(), AllocError>
+pub(crate) fn assemble<T: StoredObject>(places: &mut Places<T>, id: T::Id) -> Result<(), AllocError>
     ensures same { contents_at T.contents places.new.items ≡ contents_at T.contents places.old.items }
     ensures assembled { OnOk result (IsAssembledAt T.is_assembled places.new.items (T.number id)) }
     ensures kept { (n : ℕ) → IsAssembledAt T.is_assembled places.old.items n → IsAssembledAt T.is_assembled places.new.items n }
@@ -196,9 +182,7 @@ pub(crate) fn assemble<T: StoredObject>(
 }
 
 /// Assembles each object. `AllocError` where memory is refused; the entries are as before in any case.
-pub(crate) fn assemble_all<T: StoredObject>(
-    places: &mut Vec<Option<SharedObject<T>>>,
-) -> Result<(), AllocError>
+pub(crate) fn assemble_all<T: StoredObject>(places: &mut Places<T>) -> Result<(), AllocError>
     ensures same { contents_at T.contents places.new.items ≡ contents_at T.contents places.old.items }
     ensures assembled { OnOk result ((n : ℕ) → IsAssembledAt T.is_assembled places.new.items n) }
     ensures capacity { vec_capacity places.new ≡ vec_capacity places.old }
@@ -211,7 +195,7 @@ pub(crate) fn assemble_all<T: StoredObject>(
 
 /// Puts the object in the place of the one with this number. `AllocError` where memory is refused; then each is as before.
 pub(crate) fn put<T: StoredObject>(
-    places: &mut Vec<Option<SharedObject<T>>>,
+    places: &mut Places<T>,
     id: T::Id,
     object: T,
 ) -> Result<(), AllocError>
@@ -227,9 +211,9 @@ pub(crate) fn put<T: StoredObject>(
 }
 
 /// The object with this number, which is there. Takes no memory.
-pub(crate) fn lent<T: StoredObject>(places: &[Option<SharedObject<T>>], id: T::Id) -> &T
-    requires { is_some (object_at places.now (T.number id)) ≡ true }
-    ensures { object_at places.now (T.number id) ≡ Some result.now }
+pub(crate) fn lent<T: StoredObject>(places: &Places<T>, id: T::Id) -> &T
+    requires { is_some (object_at places.now.items (T.number id)) ≡ true }
+    ensures { object_at places.now.items (T.number id) ≡ Some result.now }
 {
     match places.get(T::number(id) as usize) {
         Some(Some(shared)) => shared.lent(),
@@ -238,12 +222,9 @@ pub(crate) fn lent<T: StoredObject>(places: &[Option<SharedObject<T>>], id: T::I
 }
 
 /// The mask with this number, which is there, or none. Takes no memory.
-pub(crate) fn lent_mask<T: StoredObject>(
-    places: &[Option<SharedObject<T>>],
-    mask: Option<T::Id>,
-) -> Option<&T>
-    requires { IfSome mask (λ id. is_some (object_at places.now (T.number id)) ≡ true) }
-    ensures { option_map (λ x. Some x.now) result ≡ option_map (λ id. object_at places.now (T.number id)) mask }
+pub(crate) fn lent_mask<T: StoredObject>(places: &Places<T>, mask: Option<T::Id>) -> Option<&T>
+    requires { IfSome mask (λ id. is_some (object_at places.now.items (T.number id)) ≡ true) }
+    ensures { option_map (λ x. Some x.now) result ≡ option_map (λ id. object_at places.now.items (T.number id)) mask }
 {
     match mask {
         Some(id) => Some(lent(places, id)),

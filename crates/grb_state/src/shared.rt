@@ -11,6 +11,9 @@ pub(crate) struct SharedObject<T> {
     pub(crate) object: Arc<T>,
 }
 
+/// The places of the objects of one sort, by their numbers: each has its object where that was made and not freed.
+pub(crate) type Places<T> = Vec<Option<SharedObject<T>>>;
+
 impl<T> Model for SharedObject<T> {
     ghost use Rattle.std.specs.Arc.{arc_value};
 
@@ -71,10 +74,7 @@ pub(crate) fn share_place<T>(
 
 /// The same objects for one more store, at the same places, with places reserved for so many more. `AllocError` where memory is refused, or
 /// where 2^63 - 1 hold one of them.
-pub(crate) fn share_all<T>(
-    places: &Vec<Option<SharedObject<T>>>,
-    room: u32,
-) -> Result<Vec<Option<SharedObject<T>>>, AllocError>
+pub(crate) fn share_all<T>(places: &Places<T>, room: u32) -> Result<Places<T>, AllocError>
 where
     T: Drop,
     requires { length places.now.items + room < 2 ^ 32 }

@@ -1,24 +1,21 @@
 //! A state: the objects that calls made, and what one call more makes of them.
-ghost use Rattle.std.specs.Prelude.{◌≡◌, ◌+◌, ◌<◌, [], false, true, None, length, OnOk, OnErr, IfOk, vec_len, vec_capacity};
-ghost use Rattle.std.specs.Option.{option_map};
+ghost use Rattle.std.specs.Prelude.{◌≡◌, ◌+◌, ◌<◌, [], false, true, None, OnOk, OnErr};
 ghost use Rattle.std.specs.Ordering.{nat_cmp};
 ghost use Rattle.std.specs.FinMap.{find};
 ghost use Rattle.grb_core.specs.Entries.{cell_cmp, nvals_of};
 ghost use Rattle.grb_core.specs.Results.{reduce_of};
-ghost use Rattle.grb_call.specs.Kinds.{enters, is_build, is_size};
-ghost use Rattle.grb_call.specs.Output.{output_of};
+ghost use Rattle.grb_call.specs.Kinds.{class_of, enters, is_size};
 ghost use Rattle.grb_call.specs.Refused.{is_in_bounds};
-ghost use Rattle.grb_call.specs.Store.{empty_store, shapes_of, matrix_at, vector_at, matrix_entries, vector_entries, with_place};
-ghost use Rattle.grb_call.specs.After.{after, changed, get_reply, has_old_entries, refused, refused_build, reply_of};
-ghost use Rattle.grb_state.specs.Settled.{AreAllAssembled, HasWaited, IsSettled, settles};
-ghost use Rattle.grb_state.specs.State.{stored, is_assembled};
+ghost use Rattle.grb_call.specs.Store.{empty_store, shapes_of, matrix_entries, vector_entries, with_place};
+ghost use Rattle.grb_call.specs.After.{after, get_reply, has_old_entries, refused, refused_build, reply_of};
+ghost use Rattle.grb_state.specs.Settled.{AreAllAssembled, IsSettled, settles};
+ghost use Rattle.grb_state.specs.State.{is_assembled};
 
-use crate::operations::{is_operation, operate};
-use crate::places::{assemble, assemble_all, dup, edit, lent, object_of};
-use crate::shared::SharedObject;
-use grb_call::{Call, Kind, MatrixId, Object, Reply, Shapes, VectorId, WaitMode, check};
+use crate::objects::Objects;
+use crate::places::{assemble_all, lent, object_of};
+use grb_call::{Call, Class, Extent, Kind, MatrixId, Object, Reply, Shapes, VectorId, check};
 use grb_core::{Monoid, Refusal, Value};
-use grb_products::{reduce_matrix, reduce_vector};
+use grb_ops::{reduce_matrix, reduce_vector};
 use grb_sparse::{SparseMatrix, SparseVector};
 use std::alloc::{AllocError, Global};
 use std::marker::Model;
@@ -27,81 +24,18 @@ use std::marker::Model;
 #[derive(Drop)]
 pub struct State {
     pub(crate) shapes: Shapes,
-    pub(crate) matrices: Vec<Option<SharedObject<SparseMatrix>>>,
-    pub(crate) vectors: Vec<Option<SharedObject<SparseVector>>>,
+    pub(crate) objects: Objects,
 }
 
 impl Model for State {
-    ghost use Rattle.std.specs.Prelude.{vec_capacity};
-    ghost use Rattle.grb_state.specs.State.{RoomyStore, stored, IsState};
+    ghost use Rattle.grb_state.specs.Objects.{places_of, store_of};
+    ghost use Rattle.grb_state.specs.State.{RoomyStore, IsState};
 
     ghost Value = { RoomyStore };
 
-    ghost view = { λ s. record { store = stored s.matrices.items s.vectors.items; room = s.shapes.room; matrices = s.matrices.items; vectors = s.vectors.items } };
+    ghost view = { λ s. record { store = store_of s.objects; room = s.shapes.room; matrices = s.objects.matrices.items; vectors = s.objects.vectors.items } };
 
-    ghost invariant = { λ s. IsState s.shapes (stored s.matrices.items s.vectors.items) (vec_capacity s.matrices) (vec_capacity s.vectors) };
-}
-
-/// Makes the object that the call makes, if it makes one. `AllocError` where memory is refused.
-fn make(
-    matrices: &mut Vec<Option<SharedObject<SparseMatrix>>>,
-    vectors: &mut Vec<Option<SharedObject<SparseVector>>>,
-    call: &Call,
-) -> Result<(), AllocError>
-    requires accepted { refused (stored matrices.old.items vectors.old.items) call.now ≡ None }
-    requires no_output { output_of call.now ≡ None }
-    requires matrices { vec_len matrices.old < vec_capacity matrices.old }
-    requires vectors { vec_len vectors.old < vec_capacity vectors.old }
-    ensures ok { OnOk result (stored matrices.new.items vectors.new.items ≡ changed (stored matrices.old.items vectors.old.items) call.now) }
-    ensures err { OnErr result (stored matrices.new.items vectors.new.items ≡ stored matrices.old.items vectors.old.items) }
-    ensures matrices { vec_capacity matrices.new ≡ vec_capacity matrices.old }
-    ensures vectors { vec_capacity vectors.new ≡ vec_capacity vectors.old }
-{
-    match call {
-        Call::NewMatrix {
-            domain,
-            nrows,
-            ncols,
-        } => {
-            let alloc = *matrices.allocator();
-            let matrix = SparseMatrix::new(alloc, *domain, *nrows, *ncols);
-            matrices.push_reserved(Some(SharedObject::new(alloc, matrix)?));
-            Ok(())
-        }
-        Call::NewVector { domain, size } => {
-            let alloc = *vectors.allocator();
-            let vector = SparseVector::new(alloc, *domain, *size);
-            vectors.push_reserved(Some(SharedObject::new(alloc, vector)?));
-            Ok(())
-        }
-        Call::DupMatrix { a } => dup(matrices, *a),
-        Call::DupVector { v } => dup(vectors, *v),
-        _ => Ok(()),
-    }
-}
-
-/// The objects that a call which is not refused leaves. `AllocError` where memory is refused; then each has the entries that it had.
-fn change(
-    matrices: &mut Vec<Option<SharedObject<SparseMatrix>>>,
-    vectors: &mut Vec<Option<SharedObject<SparseVector>>>,
-    call: &Call,
-) -> Result<(), AllocError>
-    requires accepted { refused (stored matrices.old.items vectors.old.items) call.now ≡ None }
-    requires matrices { vec_len matrices.old < vec_capacity matrices.old }
-    requires vectors { vec_len vectors.old < vec_capacity vectors.old }
-    ensures ok { OnOk result (stored matrices.new.items vectors.new.items ≡ changed (stored matrices.old.items vectors.old.items) call.now) }
-    ensures err { OnErr result (stored matrices.new.items vectors.new.items ≡ stored matrices.old.items vectors.old.items) }
-    ensures matrices { vec_capacity matrices.new ≡ vec_capacity matrices.old }
-    ensures vectors { vec_capacity vectors.new ≡ vec_capacity vectors.old }
-{
-    if is_operation(call) {
-        return operate(matrices, vectors, call);
-    }
-    match call.output() {
-        Some(Object::Matrix(a)) => edit(matrices, a, call),
-        Some(Object::Vector(v)) => edit(vectors, v, call),
-        None => make(matrices, vectors, call),
-    }
+    ghost invariant = { λ s. IsState s.shapes (store_of s.objects) (places_of s.objects).0 (places_of s.objects).1 };
 }
 
 /// The reply to a get, by what is stored there.
@@ -121,8 +55,10 @@ impl State {
     {
         State {
             shapes: Shapes::empty(alloc),
-            matrices: Vec::new(alloc),
-            vectors: Vec::new(alloc),
+            objects: Objects {
+                matrices: Vec::new(alloc),
+                vectors: Vec::new(alloc),
+            },
         }
     }
 
@@ -130,28 +66,28 @@ impl State {
     fn get_matrix(&self, a: MatrixId, i: u64, j: u64) -> Option<Value>
         ensures { result ≡ find cell_cmp (i, j) (matrix_entries self.now.store a) }
     {
-        object_of(&self.matrices, a)?.get(i, j)
+        object_of(&self.objects.matrices, a)?.get(i, j)
     }
 
     /// The value that the vector stores at `i`, if there is one.
     fn get_vector(&self, v: VectorId, i: u64) -> Option<Value>
         ensures { result ≡ find nat_cmp i (vector_entries self.now.store v) }
     {
-        object_of(&self.vectors, v)?.get(i)
+        object_of(&self.objects.vectors, v)?.get(i)
     }
 
     /// How many entries the matrix stores.
     pub(crate) fn nvals_matrix(&self, a: MatrixId) -> u64
         ensures { result ≡ nvals_of (matrix_entries self.now.store a) }
     {
-        object_of(&self.matrices, a).map_or(0, |matrix| matrix.nvals())
+        object_of(&self.objects.matrices, a).map_or(0, |matrix| matrix.nvals())
     }
 
     /// How many entries the vector stores.
     pub(crate) fn nvals_vector(&self, v: VectorId) -> u64
         ensures { result ≡ nvals_of (vector_entries self.now.store v) }
     {
-        object_of(&self.vectors, v).map_or(0, |vector| vector.nvals())
+        object_of(&self.objects.vectors, v).map_or(0, |vector| vector.nvals())
     }
 
     /// Whether the call is a build of an object that stores an entry.
@@ -201,10 +137,7 @@ impl State {
         ensures room { self.new.room ≡ self.old.room }
         ensures assembled { OnOk result (is_assembled self.new.matrices self.new.vectors object ≡ true) }
     {
-        match object {
-            Object::Matrix(a) => assemble(&mut self.matrices, a),
-            Object::Vector(v) => assemble(&mut self.vectors, v),
-        }
+        self.objects.assemble(object)
     }
 
     /// Does the changes that wait in any object. `AllocError` where memory is refused; the entries are as before in any case.
@@ -215,19 +148,29 @@ impl State {
         ensures room { self.new.room ≡ self.old.room }
         ensures assembled { OnOk result (AreAllAssembled (is_assembled self.new.matrices self.new.vectors)) }
     {
-        assemble_all(&mut self.matrices)?;
-        assemble_all(&mut self.vectors)
+        assemble_all(&mut self.objects.matrices)?;
+        assemble_all(&mut self.objects.vectors)
     }
 
-    /// Does the changes that a wait for the object asks for. `AllocError` where memory is refused.
-    fn wait_for(&mut self, object: Object, mode: WaitMode) -> Result<(), AllocError>
+    /// Does the changes that wait in the one object of which the call asks, where it reads more of it than an entry or their number.
+    /// `AllocError` where memory is refused.
+    fn settle_object(&mut self, call: &Call) -> Result<(), AllocError>
+        requires reads { class_of call.now ≡ Class.Reads Extent.Object }
         ensures store { self.new.store ≡ self.old.store }
         ensures room { self.new.room ≡ self.old.room }
-        ensures waited { OnOk result (HasWaited (is_assembled self.new.matrices self.new.vectors) object mode) }
+        ensures settled { OnOk result (IsSettled (is_assembled self.new.matrices self.new.vectors) call.now) }
+        ensures memory { OnErr result (settles call.now ≡ true) }
     {
-        match mode {
-            WaitMode::Complete => self.complete(object),
-            WaitMode::Materialize => self.materialize(),
+        match call {
+            Call::GetMatrix { .. }
+            | Call::GetVector { .. }
+            | Call::NvalsMatrix { .. }
+            | Call::NvalsVector { .. } => Ok(()),
+            Call::ReduceMatrix { a, .. } => self.complete(Object::Matrix(*a)),
+            Call::ReduceVector { v, .. } => self.complete(Object::Vector(*v)),
+            Call::WaitMatrix { a, .. } => self.complete(Object::Matrix(*a)),
+            Call::WaitVector { v, .. } => self.complete(Object::Vector(*v)),
+            _ => unreachable!(),
         }
     }
 
@@ -239,12 +182,10 @@ impl State {
         ensures settled { OnOk result (IsSettled (is_assembled self.new.matrices self.new.vectors) call.now) }
         ensures memory { OnErr result (settles call.now ≡ true) }
     {
-        match call {
-            Call::ReduceMatrix { a, .. } => self.complete(Object::Matrix(*a)),
-            Call::ReduceVector { v, .. } => self.complete(Object::Vector(*v)),
-            Call::WaitMatrix { a, mode } => self.wait_for(Object::Matrix(*a), *mode),
-            Call::WaitVector { v, mode } => self.wait_for(Object::Vector(*v), *mode),
-            _ => Ok(()),
+        match call.class() {
+            Class::Reads(Extent::Object) => self.settle_object(call),
+            Class::Reads(Extent::All) => self.materialize(),
+            Class::Makes | Class::Edits | Class::Operates | Class::AsksDimensions => Ok(()),
         }
     }
 
@@ -254,7 +195,7 @@ impl State {
         requires assembled { is_assembled self.now.matrices self.now.vectors (Object.Matrix a) ≡ true }
         ensures { result ≡ reduce_of monoid (matrix_entries self.now.store a) }
     {
-        reduce_matrix(lent(&self.matrices, a), monoid)
+        reduce_matrix(lent(&self.objects.matrices, a), monoid)
     }
 
     /// All values that the vector stores, combined by the monoid.
@@ -263,7 +204,7 @@ impl State {
         requires assembled { is_assembled self.now.matrices self.now.vectors (Object.Vector v) ≡ true }
         ensures { result ≡ reduce_of monoid (vector_entries self.now.store v) }
     {
-        reduce_vector(lent(&self.vectors, v), monoid)
+        reduce_vector(lent(&self.objects.vectors, v), monoid)
     }
 
     /// The reply to a call that is not refused, only reads, and does not ask for dimensions alone; what it needs was settled. Takes no
@@ -295,8 +236,8 @@ impl State {
         ensures room { self.new.room + 1 ≡ self.old.room }
     {
         match object {
-            Object::Matrix(_) => self.matrices.push_reserved(None),
-            Object::Vector(_) => self.vectors.push_reserved(None),
+            Object::Matrix(_) => self.objects.matrices.push_reserved(None),
+            Object::Vector(_) => self.objects.vectors.push_reserved(None),
         }
         self.shapes.add_place(object);
     }
@@ -310,7 +251,7 @@ impl State {
         ensures err_room { OnErr result (self.new.room ≡ self.old.room) }
     {
         if self.refused(call).is_none() {
-            change(&mut self.matrices, &mut self.vectors, call)?;
+            self.objects.change(call)?;
         }
         self.shapes.absorb(call);
         Ok(())

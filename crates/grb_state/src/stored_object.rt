@@ -1,5 +1,5 @@
 //! What a state asks of the objects of one sort that it holds.
-ghost use Rattle.std.specs.Prelude.{◌≡◌, ℕ, Bool, true, OnOk, OnErr, IfOk};
+ghost use Rattle.std.specs.Prelude.{◌≡◌, ℕ, Bool, false, true, OnOk, OnErr, IfOk};
 ghost use Rattle.grb_call.specs.declared.call.Call.{Call};
 
 use grb_call::Call;
@@ -22,7 +22,7 @@ pub(crate) trait StoredObject: Drop {
     /// Whether no change waits in the object.
     ghost is_assembled: { Self → Bool };
 
-    /// When the call may change an object that stores this.
+    /// When the call may change or end an object that stores this.
     ghost fits: { Call → Contents → Type 0 };
 
     /// What the call makes of this, where it does not end the object.
@@ -39,9 +39,10 @@ pub(crate) trait StoredObject: Drop {
     fn is_ended_by(call: &Call) -> bool
         ensures { result ≡ ends call.now };
 
-    /// Changes the object as the call says. `AllocError` where memory is refused; then its entries are as before.
+    /// Changes the object as the call says, which does not end it. `AllocError` where memory is refused; then its entries are as before.
     fn change(&mut self, call: &Call) -> Result<(), AllocError>
-        requires { fits call.now (contents self.old) }
+        requires fits { fits call.now (contents self.old) }
+        requires goes_on { ends call.now ≡ false }
         ensures ok { OnOk result (contents self.new ≡ after call.now (contents self.old)) }
         ensures err { OnErr result (contents self.new ≡ contents self.old) };
 

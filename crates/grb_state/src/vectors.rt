@@ -53,7 +53,7 @@ impl StoredObject for SparseVector {
             }
             Call::ResizeVector { size, .. } => self.resize(*size),
             Call::BuildVector { tuples, dup, .. } => self.build(tuples.as_slice(), *dup),
-            _ => Ok(()),
+            _ => unreachable!(),
         }
     }
 

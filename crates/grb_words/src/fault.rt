@@ -17,8 +17,8 @@ pub enum FaultKind {
     /// The line begins with `thread` or `finally`, where no section may stand.
     #[error("section")]
     Section,
-    /// The line has the form of no statement in the script's version, whatever its names stand for. What begins with `version` has none, and
-    /// is no fault as line 1 with the words `version 2`.
+    /// The line has the form of no statement in the script's version, whatever its names stand for. What begins with `version` has none,
+    /// and is no fault as line 1 with the words `version 2`.
     #[error("statement")]
     Statement,
     /// The line makes a name that stands already.
@@ -28,8 +28,8 @@ pub enum FaultKind {
     #[error("unknown name")]
     UnknownName,
     /// A name stands for an object of another sort than the form asks for, or than the output of an element-wise statement, or a mask for
-    /// one of another sort than its output; or `tran` stands in an element-wise statement of vectors; or the list of a `build` is no list of
-    /// its object's groups.
+    /// one of another sort than its output; or `tran` stands in an element-wise statement of vectors; or the list of a `build` is no list
+    /// of its object's groups.
     #[error("wrong kind")]
     WrongKind,
     /// The monoid and the operator of a semiring differ in domain.

@@ -5,7 +5,7 @@ ghost use Rattle.grb_words.specs.Form.{indices_of, indices_and_value_of};
 use crate::word::{number, value};
 use grb_core::Value;
 
-/// What stands behind a name in a statement on one entry or on a size: one number at a vector, two at a matrix. Indices count from 0.
+/// What stands after a name in a statement on one entry or on a size: one number at a vector, two at a matrix. Indices count from 0.
 #[derive(Clone, Copy, Debug, PartialEq, Eq)]
 pub enum Indices {
     /// An index, or a size.
@@ -25,7 +25,7 @@ pub fn indices_of(words: &[&[u8]]) -> Option<Indices>
     }
 }
 
-/// The one or two numbers that the words spell, and the value behind them.
+/// The one or two numbers that the words spell, and the value after them.
 pub fn indices_and_value_of(words: &[&[u8]]) -> Option<(Indices, Value)>
     ensures { result ≡ indices_and_value_of (map (λ word. word.now) words.now) }
 {

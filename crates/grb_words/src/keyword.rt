@@ -9,17 +9,17 @@ pub enum Keyword {
     Vector,
     /// `dup NAME NAME`.
     Dup,
-    /// A keyword behind which a name stands alone.
+    /// A keyword after which a name stands alone.
     Whole(Whole),
-    /// A keyword behind which a name and its indices stand.
+    /// A keyword after which a name and its indices stand.
     Placed(Placed),
     /// `set NAME INDICES VALUE`.
     Set,
     /// `build NAME MONOID ..`.
     Build,
-    /// A keyword behind which the names of an output and of two inputs stand, an operator and options.
+    /// A keyword after which the names of an output and of two inputs stand, an operator and options.
     Ewise(Ewise),
-    /// A keyword behind which the names of an output and of two inputs stand, a semiring and options.
+    /// A keyword after which the names of an output and of two inputs stand, a semiring and options.
     Multiply(Multiply),
     /// `reduce NAME NAME MONOID OPTIONS`.
     Reduce,

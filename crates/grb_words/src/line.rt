@@ -4,7 +4,7 @@ ghost use Rattle.grb_words.specs.Line.{words_of, has_allowed_bytes, is_skipped, 
 
 use std::alloc::{AllocError, Global};
 
-/// The words of a line, which one or more spaces part.
+/// The words of a line, which one or more spaces part. `AllocError` where memory is refused; then nothing is made.
 pub fn words(alloc: Global, line: &[u8]) -> Result<Vec<&[u8]>, AllocError>
     ensures { IfOk result (λ words. map (λ word. word.now) words.items ≡ words_of line.now) }
 {

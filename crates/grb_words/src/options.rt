@@ -9,7 +9,7 @@ use crate::word::{is_name, operator};
 use grb_call::Descriptor;
 use grb_core::BinaryOp;
 
-/// The options behind a statement that writes an output, as the words of its line spell them.
+/// The options after a statement that writes an output, as the words of its line spell them.
 #[derive(Clone, Copy, Debug, PartialEq, Eq)]
 pub struct Options<'a> {
     /// The name of the mask, where one is given.
@@ -20,7 +20,7 @@ pub struct Options<'a> {
     pub descriptor: Descriptor,
 }
 
-/// Whether the words begin with this one, and the words behind it where they do.
+/// Whether the words begin with this one, and the words after it where they do.
 fn flag<'a>(words: &'a [&'a [u8]], word: &[u8]) -> (bool, &'a [&'a [u8]])
     ensures { (result.0, map (λ word. word.now) result.1.now) ≡ flag (map (λ word. word.now) words.now) word.now }
 {
@@ -30,7 +30,7 @@ fn flag<'a>(words: &'a [&'a [u8]], word: &[u8]) -> (bool, &'a [&'a [u8]])
     }
 }
 
-/// `mask NAME` where the words begin with `mask`, and the words behind that.
+/// `mask NAME` where the words begin with `mask`, and the words after that.
 fn mask_option<'a>(words: &'a [&'a [u8]]) -> Option<(Option<&'a [u8]>, &'a [&'a [u8]])>
     ensures { option_map (λ read. (option_map (λ name. name.now) read.0, map (λ word. word.now) read.1.now)) result ≡ mask_option (map (λ word. word.now) words.now) }
 {
@@ -45,7 +45,7 @@ fn mask_option<'a>(words: &'a [&'a [u8]]) -> Option<(Option<&'a [u8]>, &'a [&'a 
     Some((Some(*name), others))
 }
 
-/// `accum OP` where the words begin with `accum`, and the words behind that.
+/// `accum OP` where the words begin with `accum`, and the words after that.
 fn accum_option<'a>(words: &'a [&'a [u8]]) -> Option<(Option<BinaryOp>, &'a [&'a [u8]])>
     ensures { option_map (λ read. (read.0, map (λ word. word.now) read.1.now)) result ≡ accum_option (map (λ word. word.now) words.now) }
 {
@@ -104,7 +104,7 @@ pub fn options_in<'a>(version: Version, words: &'a [&'a [u8]]) -> Option<Options
     }
 }
 
-/// The same behind a statement that multiplies: `vxm` has no `tran` in any version.
+/// The same after a statement that multiplies: `vxm` has no `tran` in any version.
 pub fn product_options<'a>(
     version: Version,
     multiply: Multiply,

@@ -4,7 +4,7 @@ ghost use Rattle.grb_words.specs.Section.{section_of};
 
 use crate::word::number;
 
-/// A section of a script behind main, as the line names it that begins it.
+/// A section of a script other than main, as the line names it that begins it.
 #[derive(Clone, Copy, Debug, PartialEq, Eq)]
 pub enum Section {
     /// `thread K`, with its number K.
@@ -14,7 +14,7 @@ pub enum Section {
 }
 
 /// The section that a line with these words begins, if they are `thread K` or `finally` and no more. Whether it may begin there is not
-/// asked.
+/// checked.
 pub fn section_of(words: &[&[u8]]) -> Option<Section>
     ensures { result ≡ section_of (map (λ word. word.now) words.now) }
 {

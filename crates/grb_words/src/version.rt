@@ -11,7 +11,7 @@ pub enum Version {
     Two,
 }
 
-/// Whether these words are `version 2` and no more. On which line they stand is not asked.
+/// Whether these words are `version 2` and no more. On which line they stand is not checked.
 pub fn is_version_two(words: &[&[u8]]) -> bool
     ensures { result ≡ is_version_two (map (λ word. word.now) words.now) }
 {

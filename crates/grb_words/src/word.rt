@@ -13,12 +13,14 @@ use grb_call::WaitMode;
 use grb_core::{BinaryOp, Domain, Monoid, Value};
 use memchr::memchr;
 
+/// Whether a name may have the byte: a letter, a digit or `_`.
 fn is_name_byte(b: u8) -> bool
     ensures { result ≡ is_name_byte b }
 {
     b.is_ascii_alphabetic() || b.is_ascii_digit() || b == b'_'
 }
 
+/// Whether a name may have all these bytes.
 fn has_name_bytes(bytes: &[u8]) -> bool
     ensures { result ≡ list_all is_name_byte bytes.now }
 {
@@ -37,12 +39,14 @@ pub fn is_name(word: &[u8]) -> bool
     }
 }
 
+/// Whether all bytes are digits.
 fn has_digits(bytes: &[u8]) -> bool
     ensures { result ≡ list_all is_digit bytes.now }
 {
     bytes.iter().all(|b| b.is_ascii_digit())
 }
 
+/// Whether the word is a decimal number without a leading zero, however large.
 fn is_numeral(word: &[u8]) -> bool
     ensures { result ≡ is_numeral word.now }
 {
@@ -163,7 +167,7 @@ pub fn operator(word: &[u8]) -> Option<BinaryOp>
     }
 }
 
-/// The bytes before the first `.` of the word, and those behind it.
+/// The bytes before the first `.` of the word, and those after it.
 fn at_dot(word: &[u8]) -> Option<(&[u8], &[u8])>
     ensures { option_map (λ parts. (parts.0.now, parts.1.now)) result ≡ at_dot word.now }
 {
@@ -171,8 +175,8 @@ fn at_dot(word: &[u8]) -> Option<(&[u8], &[u8])>
     Some((&word[..dot], &word[dot + 1..]))
 }
 
-/// The monoid and the operator of the semiring that the word names, if it is a word of each with a `.` between them. Whether both are
-/// of one domain is not asked.
+/// The monoid and the operator of the semiring that the word names, if it is a word of each with a `.` between them. Whether both are of
+/// one domain is not checked.
 pub fn semiring(word: &[u8]) -> Option<(Monoid, BinaryOp)>
     ensures { result ≡ semiring_of word.now }
 {

@@ -21,7 +21,8 @@ use std::{env, io};
 /// The name that the program gives itself in what it tells.
 const PROGRAM: &str = "grbrun";
 
-/// Runs the script that the options name, and writes its lines to standard output.
+/// Runs the script that the options name, and writes its lines to standard output. `OutOfMemory` where memory is refused outside of the
+/// calls; then nothing is written.
 fn run<R: Files + Print + AllocGlobal + Threads + Wait + Sync>(
     rt: &R,
     options: Options<'_>,
@@ -56,6 +57,7 @@ where
     Ok(run_words(rt, PROGRAM, &words, run_with))
 }
 
+/// Runs the program by the words of its command line, and ends with the status of that.
 fn main(rt: HostRuntime) -> ExitCode {
     let status = match run_arguments(&rt) {
         Ok(status) => status,

@@ -1,4 +1,4 @@
-//! What a replay, a version and a value lend, passed on as it is to what asks for objects in which no change waits: totals, an operation and
+//! What a replay, an edition and a value lend, passed on as it is to what asks for objects in which no change waits: totals, an operation and
 //! a text.
 //!
 //! Contracts say that none waits there. What comes out of each is written here by hand, and no contract says that memory suffices.
@@ -7,14 +7,14 @@ ghost use Rattle.grb_state.specs.Settled.{AreAllAssembled};
 ghost use Rattle.grb_state.specs.State.{is_assembled};
 
 use crate::calls::{PLAIN, lent, replayed};
+use crate::editions::state_of;
 use crate::same::same;
 use crate::texts_written::text_of;
 use crate::values::held_after;
-use crate::versions::state_of;
 use grb_call::{Call, MatrixId, Object, VectorId};
 use grb_core::{BinaryOp, Domain, Monoid, Semiring, Value};
 use grb_products::{mxv, reduce_matrix, reduce_vector};
-use grb_replay::Versions;
+use grb_replay::Editions;
 use grb_sparse::{SparseMatrix, SparseVector};
 use grb_state::State;
 use std::alloc::{AllocError, Global};
@@ -151,15 +151,15 @@ fn expect_state(
     }
 }
 
-fn expect_version(rt: &impl Abort, alloc: Global, calls: &[&Call]) -> Result<(), AllocError> {
-    let versions = Versions::open(alloc, 64)?;
+fn expect_edition(rt: &impl Abort, alloc: Global, calls: &[&Call]) -> Result<(), AllocError> {
+    let editions = Editions::open(alloc, 64)?;
     if calls.len() > 64 {
         panic!(rt; "{calls} calls", calls = calls.len());
     }
-    versions.offer(calls, state_of(alloc, calls)?)?;
-    match versions.newest(calls) {
-        Some((_, state)) => expect_state(rt, alloc, state, "a version"),
-        None => panic!(rt; "no version"),
+    editions.offer(calls, state_of(alloc, calls)?)?;
+    match editions.newest(calls) {
+        Some((_, state)) => expect_state(rt, alloc, state, "an edition"),
+        None => panic!(rt; "no edition"),
     }
 }
 
@@ -180,6 +180,6 @@ fn what_is_lent_goes_into_totals_an_operation_and_a_text(
     let lent = lent(rt.alloc(), &calls)?;
     let state = replayed(&rt, rt.alloc(), &lent)?;
     expect_state(&rt, rt.alloc(), &state, "a replay")?;
-    expect_version(&rt, rt.alloc(), &lent)?;
+    expect_edition(&rt, rt.alloc(), &lent)?;
     expect_values(&rt, rt.alloc(), &lent)
 }

@@ -12,6 +12,8 @@ mod calls;
 #[cfg(test)]
 mod draw;
 #[cfg(test)]
+mod editions;
+#[cfg(test)]
 mod histories;
 #[cfg(test)]
 mod listed;
@@ -37,5 +39,3 @@ mod texts_read;
 mod texts_written;
 #[cfg(test)]
 mod values;
-#[cfg(test)]
-mod versions;

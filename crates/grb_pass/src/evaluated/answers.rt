@@ -19,7 +19,8 @@ use grb_replay::Choice;
 use std::alloc::AllocError;
 
 impl Evaluated {
-    /// Which of the known calls are needed by the object, and which by others that are there.
+    /// Which of the known calls are needed by the object, and which by others that are there. `AllocError` where memory is refused; then
+    /// nothing is chosen.
     fn choice_for(
         &self,
         records: &Records,
@@ -39,7 +40,8 @@ impl Evaluated {
     }
 
     /// The reply to a call that only reads the object, from a partial store: after those calls that were made for it before, or else after
-    /// those that the store has gone over. None where it is not to be had so.
+    /// those that the store has gone over. None where it is not to be had so. `AllocError` where memory is refused; the store is as before
+    /// in any case.
     fn reply_of_partial(
         &mut self,
         records: &Records,
@@ -83,8 +85,8 @@ impl Evaluated {
         self.reached.count() >= reader.known() as usize && !self.reached.lacks(object)
     }
 
-    /// Goes over the known calls, as is chosen, where the store holds what they need. `AllocError` where memory is refused to what the answer
-    /// needs.
+    /// Goes over the known calls, as is chosen, where the store holds what they need. `AllocError` where memory is refused to what the
+    /// answer needs; what was made stays made.
     fn evaluate_served(
         &mut self,
         records: &Records,
@@ -103,8 +105,8 @@ impl Evaluated {
         Ok(())
     }
 
-    /// Goes over the known calls on the way to what the object holds from the store that stayed behind, where the other does not hold it.
-    /// `AllocError` where memory is refused to what it needs.
+    /// Goes over the known calls on the way to what the object holds from the base, where the store does not hold it. `AllocError` where
+    /// memory is refused to what it needs; what was made stays made.
     fn evaluate_from_base(
         &mut self,
         records: &Records,
@@ -125,8 +127,8 @@ impl Evaluated {
         self.evaluate(records, reader, &mut choice)
     }
 
-    /// Goes over the known calls on the way to what the object holds: a dear one that it does not need is left out, and so is one that memory
-    /// is refused to. `AllocError` where memory is refused to what it needs.
+    /// Goes over the known calls on the way to what the object holds: a dear one that it does not need is left out, and so is one that
+    /// memory is refused to. `AllocError` where memory is refused to what it needs; what was made stays made.
     fn evaluate_for(
         &mut self,
         records: &Records,
@@ -154,6 +156,7 @@ impl Evaluated {
     }
 
     /// The reply to a call that only reads the object, from a store that lacks other objects. None where it lacks no object, or this one.
+    /// `AllocError` where memory is refused to changes that wait in the object; its entries are as before in any case.
     fn reply_of_lacking(
         &mut self,
         reader: &Reader,
@@ -180,7 +183,8 @@ impl Evaluated {
     }
 
     /// The reply to a call that only reads the object and is not refused, after all known calls, from those that the object depends on, and
-    /// from others that are not dear. None where all calls were made, or are to be. `AllocError` where memory is refused to what it needs.
+    /// from others that are not dear. None where all calls were made, or are to be. `AllocError` where memory is refused to what it needs;
+    /// what was made stays made.
     pub(crate) fn reply_of_object(
         &mut self,
         records: &Records,

@@ -12,10 +12,10 @@ use grb_records::Records;
 use grb_replay::Amount;
 use std::alloc::AllocError;
 
-/// How many calls more are known where a pass asks for a version again, and how many are to be made where it asks at once (own).
+/// How many calls more are known where a pass asks for an edition again, and how many are to be made where it asks at once (own).
 pub(super) const MANY: usize = 64;
 
-/// From how much on calls are dear, as a number of sets: a pass asks for a version before it makes them, and offers their store when it has
+/// From how much on calls are dear, as a number of sets: a pass asks for an edition before it makes them, and offers their store when it has
 /// made them (own).
 const DEAR: u64 = 4096;
 
@@ -28,33 +28,33 @@ impl Evaluated {
         self.effort.of(&self.left(reader)) >= DEAR
     }
 
-    /// Whether operations are to be made of which it has no measure: then a version that has them was worth more than to copy its calls, to
+    /// Whether operations are to be made of which it has no measure: then an edition that has them was worth more than to copy its calls, to
     /// whoever left it.
     fn may_be_dear(&self, reader: &Reader) -> bool {
         self.left(reader).has_operations() && self.effort.is_unknown()
     }
 
-    /// Whether the known calls that were not gone over take as much as to compare all known calls with those of a version.
+    /// Whether the known calls that were not gone over take as much as to compare all known calls with those of an edition.
     fn is_worth_comparing(&self, reader: &Reader) -> bool {
         let known = reader.amount_beyond(&Amount::none());
         self.effort.of(&self.left(reader)) >= known.compared()
     }
 
-    /// Whether there is a version to go on from: in a cell where so many calls are known or more, and among the latest where those that were
-    /// not gone over are dear; but not where to compare calls would take longer than to make them.
+    /// Whether there is an edition to go on from: in a cell where so many calls are known or more, and among the latest where those that
+    /// were not gone over are dear; but not where to compare calls would take longer than to make them.
     fn finds(&self, reader: &Reader, from: usize) -> bool {
         let known = reader.known() as usize;
         let count = self.reached.count();
         if known >= from && self.is_worth_comparing(reader) {
-            return self.versions.has_beyond(count, known);
+            return self.editions.has_beyond(count, known);
         }
-        if !self.versions.has_latest_beyond(count, known) {
+        if !self.editions.has_latest_beyond(count, known) {
             return false;
         }
         self.may_be_dear(reader) || (self.is_dear(reader) && self.is_worth_comparing(reader))
     }
 
-    /// Goes on from a version where one is found, and where so many calls are known or more.
+    /// Goes on from an edition where one is found, and where so many calls are known or more.
     pub(super) fn advance_from(&mut self, records: &Records, reader: &mut Reader, from: usize)
         requires evaluated { IsEvaluatedFor reader.old self.old }
         requires of { All (IsOf records.now) reader.old.shown }
@@ -63,12 +63,12 @@ impl Evaluated {
         ensures made { self.new.made ≡ self.old.made }
     {
         if self.finds(reader, from) {
-            advance(&self.versions, records, reader, &mut self.reached);
+            advance(&self.editions, records, reader, &mut self.reached);
             self.let_base_go();
         }
     }
 
-    /// Goes on from a version before a read, or a build's check: the first time, and then where 64 calls more are known than when it last
+    /// Goes on from an edition before a read, or a build's check: the first time, and then where 64 calls more are known than when it last
     /// did so, or those that were not gone over are dear; not where comparing calls would take longer.
     pub(crate) fn go_on(&mut self, records: &Records, reader: &mut Reader)
         requires evaluated { IsEvaluatedFor reader.old self.old }
@@ -85,8 +85,9 @@ impl Evaluated {
         self.advance_from(records, reader, from);
     }
 
-    /// Leaves the store, in which all known calls are evaluated, to the other passes, where there are some, and what was made for the answer
-    /// was dear, also next to copies of the calls and of what the passes may change. Nothing is missed where memory is refused to that.
+    /// Leaves the store, in which all known calls are evaluated, to the other passes, where there are some, and what was made for the
+    /// answer was dear, also next to copies of the calls and of what the passes may change. Nothing is missed where memory is refused to
+    /// that.
     pub(super) fn share_dear(&mut self, records: &Records, reader: &mut Reader)
         requires evaluated { IsEvaluatedFor reader.old self.old }
         requires of { All (IsOf records.now) reader.old.shown }
@@ -102,7 +103,7 @@ impl Evaluated {
         if spent < entries_of(self.reached.state()) / COPIED || !self.is_made(reader) {
             return;
         }
-        share(&self.versions, records, reader, &mut self.reached);
+        share(&self.editions, records, reader, &mut self.reached);
     }
 
     /// Whether what was evaluated since the store was last offered takes as much as copies of the calls, and of what the passes may change.
@@ -112,8 +113,8 @@ impl Evaluated {
         since >= known.copied() && since >= entries_of(self.reached.state()) / COPIED
     }
 
-    /// Offers the store, in which no change waits, to the other passes, where there are some and it is worth that. `AllocError` where memory
-    /// is refused; then it has not offered it.
+    /// Offers the store, in which no change waits, to the other passes, where there are some and it is worth that. `AllocError` where
+    /// memory is refused; then it has not offered it.
     pub(super) fn offer(&mut self, records: &Records, reader: &mut Reader) -> Result<(), AllocError>
         requires of { All (IsOf records.now) reader.old.shown }
         requires all { self.old.reached.state.store ≡ store_of (known reader.old) }
@@ -124,7 +125,7 @@ impl Evaluated {
         if self.alone || !self.is_worth_offering(reader) {
             return Ok(());
         }
-        offer(&self.versions, records, reader, self.reached.state())?;
+        offer(&self.editions, records, reader, self.reached.state())?;
         self.offered = reader.amount_beyond(&Amount::none());
         Ok(())
     }

@@ -14,8 +14,8 @@ use grb_replay::{Choice, Reached, go_on, make_everything};
 use std::alloc::AllocError;
 
 impl Evaluated {
-    /// Evaluates all known calls where that is dear, and has all changes done, so that others can go on from there. Where memory is refused,
-    /// it has evaluated less.
+    /// Evaluates all known calls where that is dear, and has all changes done, so that others can go on from there. Where memory is
+    /// refused, it has evaluated less.
     pub(crate) fn prepare(&mut self, records: &Records, reader: &mut Reader)
         requires evaluated { IsEvaluatedFor reader.old self.old }
         requires of { All (IsOf records.now) reader.old.shown }
@@ -60,7 +60,8 @@ impl Evaluated {
         Ok(())
     }
 
-    /// Which of the known calls are needed by what is there after them: all, where there are no operations among them.
+    /// Which of the known calls are needed by what is there after them: all, where there are no operations among them. `AllocError` where
+    /// memory is refused; then nothing is chosen.
     fn choice_for_all(&self, records: &Records, reader: &mut Reader) -> Result<Choice, AllocError>
         requires evaluated { IsEvaluatedFor reader.old self.now }
         requires of { All (IsOf records.now) reader.old.shown }
@@ -73,7 +74,8 @@ impl Evaluated {
         Choice::for_all(self.alloc, reader, records, live, self.reached.count())
     }
 
-    /// Makes all known calls anew, by a store that lacks no object: where one lacks some at the end.
+    /// Makes all known calls anew, by a store that lacks no object: where one lacks some at the end. `AllocError` where memory is refused;
+    /// what was made until then stays so.
     fn make_anew(&mut self, records: &Records, reader: &mut Reader) -> Result<(), AllocError>
         requires evaluated { IsEvaluatedFor reader.old self.old }
         requires of { All (IsOf records.now) reader.old.shown }
@@ -93,9 +95,9 @@ impl Evaluated {
         make_everything(&mut self.reached, reader, records, room, &mut self.effort)
     }
 
-    /// Evaluates all known calls but those that nothing needs which is there, from a version where 64 of them or more are not made yet, or
-    /// these are dear, and comparing calls does not take longer; and leaves their store to others where they were dear. No object is held in
-    /// a partial store any more. Where memory is refused, `AllocError`; what was made stays so.
+    /// Evaluates all known calls but those that nothing needs which is there, from an edition where 64 of them or more are not made yet, or
+    /// these are dear, and comparing calls does not take longer; and leaves their store to others where they were dear. No object is held
+    /// in a partial store any more. Where memory is refused, `AllocError`; what was made stays so.
     pub(crate) fn make_all(
         &mut self,
         records: &Records,

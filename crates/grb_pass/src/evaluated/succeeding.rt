@@ -16,8 +16,7 @@ use crate::reader::Reader;
 use crate::sharing::assemble;
 use grb_rebuild::{NoSuccessor, Rebuild, Renumbered, rebuild_all, rebuild_live};
 use grb_records::Records;
-use grb_replay::{Amount, Reached};
-use grb_state::State;
+use grb_replay::{Amount, Reached, State};
 use std::alloc::{AllocError, Global};
 
 impl Evaluated {

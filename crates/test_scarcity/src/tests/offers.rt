@@ -1,5 +1,5 @@
 //! What a pass leaves to others and takes of them where memory is refused. A wait that is done has left its store; a read makes the calls of one
-//! object, or those that no version has, and needs no memory for others. No contract says what is left, or which calls a read makes.
+//! object, or those that no edition has, and needs no memory for others. No contract says what is left, or which calls a read makes.
 ghost use Rattle.grb_context.specs.Known.{IsPassOf};
 
 use crate::tests::calls::calls_in;

@@ -31,7 +31,7 @@ enum Way {
     List,
     /// In place of a call that is entered, the total that has it evaluated; any other call after so many sets that a wait offers a version.
     Late,
-    /// By the other pass, which goes on from a version of the first.
+    /// By the other pass, which goes on from an edition of the first.
     Other,
 }
 

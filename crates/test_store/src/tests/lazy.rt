@@ -1,6 +1,6 @@
 //! Reads in histories that are long for other objects, or dear. Which calls a read makes, and what another pass left for it, no contract
 //! says: each of its three ways to a value is taken here, and the calls that it makes are counted. They are those that the object depends on
-//! and that were not made yet, and none of those that a version has. No script has a pass that meets another.
+//! and that were not made yet, and none of those that an edition has. No script has a pass that meets another.
 use crate::tests::asked::Asked::{
     ClearVector, EwiseAddVector, GetVector, NewVector, NvalsVector, SetVector, WaitVector,
 };

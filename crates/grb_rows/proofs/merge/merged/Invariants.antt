@@ -1,18 +1,14 @@
-use Rattle.std.proofs.Common.{◌≡◌, ◌+◌, ◌-◌, ◌≤◌, length}
+use Rattle.std.proofs.Common.{◌≡◌, ◌-◌, ◌≤◌, length}
 use Rattle.grb_rows.proofs.Merging.{so_far, RowBelow, ChangesBelow}
 use Rattle.grb_rows.proofs.merge.merged.Given as goal
 
 -- the entries and the changes so far are put together
-abbrev pub invariant-loop-i : goal.invariant-loop-i
-invariant-loop-i l = record {
+abbrev pub invariant-loop-j : goal.invariant-loop-j
+invariant-loop-j l = record {
   i : l.i ≤ length l.row.entries;
-  j : l.j ≤ length l.changes.items;
   entries : l.new.entries ≡ so_far l.row.entries l.deleted.items l.changes.items l.i l.j;
   row_below : RowBelow l.row.entries l.deleted.items l.changes.items l.i l.j;
   changes_below : ChangesBelow l.row.entries l.deleted.items l.changes.items l.i l.j;
   domain : l.new.domain ≡ l.row.domain;
-  room : (length l.row.entries - l.i) + (length l.changes.items - l.j) ≤ l.new.room;
+  room : length l.changes.items - l.j ≤ l.new.room;
 }
-
-abbrev pub decreases-loop-i : goal.decreases-loop-i
-decreases-loop-i l = (length l.row.entries - l.i) + (length l.changes.items - l.j)

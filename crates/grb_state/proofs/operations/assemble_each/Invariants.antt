@@ -1,17 +1,14 @@
 use Rattle.std.proofs.Common.{◌≡◌, ◌≤◌, drop, length}
-use Rattle.std.specs.Prelude.{vec_capacity}
-use Rattle.grb_state.specs.Operation.{AreAllOf}
-use Rattle.grb_state.specs.State.{stored}
+use Rattle.grb_state.specs.Objects.{AreAllIn, places_of, store_of}
 use Rattle.grb_state.proofs.operations.assemble_each.Given as goal
 
-abbrev pub invariant-objects : goal.invariant-objects
-invariant-objects l = record {
-  within : l.at ≤ length l.objects;
-  same : stored l.matrices.items l.vectors.items ≡ stored l.initial.matrices.items l.initial.vectors.items;
-  assembled : AreAllOf l.matrices.items l.vectors.items (drop l.at l.objects);
-  matrices : vec_capacity l.matrices ≡ vec_capacity l.initial.matrices;
-  vectors : vec_capacity l.vectors ≡ vec_capacity l.initial.vectors;
+abbrev pub invariant-each : goal.invariant-each
+invariant-each l = record {
+  within : l.at ≤ length l.read;
+  same : store_of l.objects ≡ store_of l.initial.objects;
+  assembled : AreAllIn l.objects (drop l.at l.read);
+  places : places_of l.objects ≡ places_of l.initial.objects;
 }
 
-abbrev pub decreases-objects : goal.decreases-objects
-decreases-objects l = l.at
+abbrev pub decreases-each : goal.decreases-each
+decreases-each l = l.at

@@ -1,5 +1,5 @@
 use Rattle.std.proofs.Common.{◌≡◌, true, false}
-use Rattle.grb_state.proofs.Objects.{kept_at, holds_at, holds_kept, holds_beyond, on_ok}
+use Rattle.grb_state.proofs.ByNumber.{kept_at, holds_at, holds_kept, holds_beyond, on_ok}
 use Rattle.grb_state.proofs.places.assemble_at.Goals as goal
 
 pub returns-in-Some-clause-same : goal.returns-in-Some-clause-same

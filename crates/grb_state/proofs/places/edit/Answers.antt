@@ -1,5 +1,5 @@
 use Rattle.grb_state.specs.Places.{left_of}
-use Rattle.grb_state.proofs.Objects.{edited_at, kept_at, on_ok, on_err}
+use Rattle.grb_state.proofs.ByNumber.{edited_at, kept_at, on_ok, on_err}
 use Rattle.grb_state.proofs.places.edit.Goals as goal
 
 pub returns-in-Some-clause-ok : goal.returns-in-Some-clause-ok

@@ -1,5 +1,5 @@
 use Rattle.std.proofs.Common.{Some, ap}
-use Rattle.grb_state.proofs.Objects.{edited_at}
+use Rattle.grb_state.proofs.ByNumber.{edited_at}
 use Rattle.grb_state.proofs.places.put.Goals as goal
 
 pub returns-in-Some-clause-ok : goal.returns-in-Some-clause-ok

@@ -1,19 +1,14 @@
-use Rattle.std.proofs.Common.{zero, suc, sym, ap, subst, ◌∙◌, arith, get_or, ◌≡◌, ◌+◌, ◌-◌, ◌*◌, ◌/◌, ◌%◌, ◌<◌, ◌++◌, ℕ, [], ◌∷◌, length, false, List}
+use Rattle.std.proofs.Common.{sym, ap, subst, ◌∙◌, arith, ◌≡◌, ◌+◌, ◌-◌, ◌*◌, ◌/◌, ◌%◌, ◌<◌, ◌++◌, ℕ, [], ◌∷◌, length, false, List}
 use Rattle.std.specs.List.{AllByRecursion}
 use Rattle.grb_core.specs.declared.value.Value.{Value as Stored}
 use Rattle.grb_rows.specs.Cells.{codes_of, IsFlat}
 use Rattle.grb_rows.specs.Values.{values_list}
 use Rattle.grb_rows.specs.Stored.{RowView, paired}
 use Rattle.grb_rows.proofs.Places.{holds, passes}
-use Rattle.grb_rows.proofs.FlatLists.{length-paired, get_or-paired, length-pushed, entries-pushed, is_sorted-pushed}
+use Rattle.grb_rows.proofs.FlatLists.{length-paired, get_or-paired, below_each, length-pushed, entries-pushed, is_sorted-pushed}
 use Rattle.grb_rows.proofs.FlatCells.{length-codes, code_at, codes-begun}
 use Rattle.grb_rows.proofs.flat.FlatRows.push_reserved.Goals as goal
 use Rattle.grb_core.specs.declared.value.Value.TheVariants as value
-
-below_each : (k : ℕ) (d : ℕ × Stored) (x : ℕ) (m : List (ℕ × Stored)) → AllByRecursion (λ e. e.0 < x) m → k < length m → (get_or m k d).0 < x
-below_each k d x [] h l = absurd (omega arith)
-below_each zero d x (e ∷ m) h l = h.0
-below_each (suc k) d x (e ∷ m) h l = below_each k d x m h.1 (omega arith)
 
 pub begin_row-requires-clause-above : goal.begin_row-requires-clause-above
 begin_row-requires-clause-above c =

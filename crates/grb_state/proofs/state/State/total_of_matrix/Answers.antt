@@ -1,8 +1,6 @@
-use Rattle.std.proofs.Common.{◌≡◌, true, List, sym, ap, subst, ◌∙◌, Option, None, is_some}
+use Rattle.std.proofs.Common.{◌≡◌, ap, ◌∙◌, None}
 use Rattle.grb_core.specs.Results.{reduce_of}
-use Rattle.grb_sparse.specs.Matrix.{SparseMatrixView}
 use Rattle.grb_call.specs.declared.call.Call.TheVariants as call
-use Rattle.grb_call.specs.Shapes.{object_at}
 use Rattle.grb_call.specs.Store.{matrix_entries}
 use Rattle.grb_call.specs.After.{refused}
 use Rattle.grb_state.specs.State.{RoomyStore, stored}
@@ -11,20 +9,20 @@ use Rattle.grb_state.proofs.state.State.total_of_matrix.Goals as goal
 
 pub lent-requires : goal.lent-requires
 lent-requires c =
-    let a = c.args.a in let monoid = c.args.monoid in let ms = c.self.inside.matrices.items in let vs = c.self.inside.vectors.items in
+    let a = c.args.a in let monoid = c.args.monoid in let ms = c.self.inside.objects.matrices.items in let vs = c.self.inside.objects.vectors.items in
     let accepted : refused (stored ms vs) (call.ReduceMatrix a monoid) ≡ None = ap (λ (x : RoomyStore). refused x.store (call.ReduceMatrix a monoid)) c.self.view_is ∙ c.requires.accepted in
-    subst (λ (xs : List (Option SparseMatrixView)). is_some (object_at xs a.0) ≡ true) (sym c.deref.ensures.value) (matrix_total-there ms vs a monoid accepted)
+    matrix_total-there ms vs a monoid accepted
 
 pub reduce_matrix-requires-clause-domain : goal.reduce_matrix-requires-clause-domain
 reduce_matrix-requires-clause-domain c =
-    let a = c.args.a in let monoid = c.args.monoid in let ms = c.self.inside.matrices.items in let vs = c.self.inside.vectors.items in
+    let a = c.args.a in let monoid = c.args.monoid in let ms = c.self.inside.objects.matrices.items in let vs = c.self.inside.objects.vectors.items in
     let accepted : refused (stored ms vs) (call.ReduceMatrix a monoid) ≡ None = ap (λ (x : RoomyStore). refused x.store (call.ReduceMatrix a monoid)) c.self.view_is ∙ c.requires.accepted in
-    matrix_total-domain ms vs a monoid accepted c.lent.result.now (ap (λ (xs : List (Option SparseMatrixView)). object_at xs a.0) (sym c.deref.ensures.value) ∙ c.lent.ensures)
+    matrix_total-domain ms vs a monoid accepted c.lent.result.now c.lent.ensures
 
 pub returns : goal.returns
 returns c =
-    let a = c.args.a in let monoid = c.args.monoid in let ms = c.self.inside.matrices.items in let vs = c.self.inside.vectors.items in
+    let a = c.args.a in let monoid = c.args.monoid in let ms = c.self.inside.objects.matrices.items in let vs = c.self.inside.objects.vectors.items in
     let accepted : refused (stored ms vs) (call.ReduceMatrix a monoid) ≡ None = ap (λ (x : RoomyStore). refused x.store (call.ReduceMatrix a monoid)) c.self.view_is ∙ c.requires.accepted in
     c.reduce_matrix.ensures
-    ∙ matrix_total-is ms vs a monoid accepted c.lent.result.now (ap (λ (xs : List (Option SparseMatrixView)). object_at xs a.0) (sym c.deref.ensures.value) ∙ c.lent.ensures)
+    ∙ matrix_total-is ms vs a monoid accepted c.lent.result.now c.lent.ensures
     ∙ ap (λ (x : RoomyStore). reduce_of monoid (matrix_entries x.store a)) c.self.view_is

@@ -1,8 +1,6 @@
-use Rattle.std.proofs.Common.{◌≡◌, true, List, sym, ap, subst, ◌∙◌, Option, None, is_some}
+use Rattle.std.proofs.Common.{◌≡◌, ap, ◌∙◌, None}
 use Rattle.grb_core.specs.Results.{reduce_of}
-use Rattle.grb_sparse.specs.Vector.{SparseVectorView}
 use Rattle.grb_call.specs.declared.call.Call.TheVariants as call
-use Rattle.grb_call.specs.Shapes.{object_at}
 use Rattle.grb_call.specs.Store.{vector_entries}
 use Rattle.grb_call.specs.After.{refused}
 use Rattle.grb_state.specs.State.{RoomyStore, stored}
@@ -11,20 +9,20 @@ use Rattle.grb_state.proofs.state.State.total_of_vector.Goals as goal
 
 pub lent-requires : goal.lent-requires
 lent-requires c =
-    let v = c.args.v in let monoid = c.args.monoid in let ms = c.self.inside.matrices.items in let vs = c.self.inside.vectors.items in
+    let v = c.args.v in let monoid = c.args.monoid in let ms = c.self.inside.objects.matrices.items in let vs = c.self.inside.objects.vectors.items in
     let accepted : refused (stored ms vs) (call.ReduceVector v monoid) ≡ None = ap (λ (x : RoomyStore). refused x.store (call.ReduceVector v monoid)) c.self.view_is ∙ c.requires.accepted in
-    subst (λ (xs : List (Option SparseVectorView)). is_some (object_at xs v.0) ≡ true) (sym c.deref.ensures.value) (vector_total-there ms vs v monoid accepted)
+    vector_total-there ms vs v monoid accepted
 
 pub reduce_vector-requires-clause-domain : goal.reduce_vector-requires-clause-domain
 reduce_vector-requires-clause-domain c =
-    let v = c.args.v in let monoid = c.args.monoid in let ms = c.self.inside.matrices.items in let vs = c.self.inside.vectors.items in
+    let v = c.args.v in let monoid = c.args.monoid in let ms = c.self.inside.objects.matrices.items in let vs = c.self.inside.objects.vectors.items in
     let accepted : refused (stored ms vs) (call.ReduceVector v monoid) ≡ None = ap (λ (x : RoomyStore). refused x.store (call.ReduceVector v monoid)) c.self.view_is ∙ c.requires.accepted in
-    vector_total-domain ms vs v monoid accepted c.lent.result.now (ap (λ (xs : List (Option SparseVectorView)). object_at xs v.0) (sym c.deref.ensures.value) ∙ c.lent.ensures)
+    vector_total-domain ms vs v monoid accepted c.lent.result.now c.lent.ensures
 
 pub returns : goal.returns
 returns c =
-    let v = c.args.v in let monoid = c.args.monoid in let ms = c.self.inside.matrices.items in let vs = c.self.inside.vectors.items in
+    let v = c.args.v in let monoid = c.args.monoid in let ms = c.self.inside.objects.matrices.items in let vs = c.self.inside.objects.vectors.items in
     let accepted : refused (stored ms vs) (call.ReduceVector v monoid) ≡ None = ap (λ (x : RoomyStore). refused x.store (call.ReduceVector v monoid)) c.self.view_is ∙ c.requires.accepted in
     c.reduce_vector.ensures
-    ∙ vector_total-is ms vs v monoid accepted c.lent.result.now (ap (λ (xs : List (Option SparseVectorView)). object_at xs v.0) (sym c.deref.ensures.value) ∙ c.lent.ensures)
+    ∙ vector_total-is ms vs v monoid accepted c.lent.result.now c.lent.ensures
     ∙ ap (λ (x : RoomyStore). reduce_of monoid (vector_entries x.store v)) c.self.view_is

@@ -1,0 +1,181 @@
+use Rattle.std.proofs.Common.{refl, sym, ◌∙◌, Some}
+use Rattle.grb_call.specs.declared.call.Call.TheVariants as call
+use Rattle.grb_state.specs.State.{stored}
+use Rattle.grb_state.proofs.Dispatched.{held_output_matrix, matrix_call, matrix_left_as}
+use Rattle.grb_state.proofs.Lent.{if_ok, add_matrix-tests, mult_matrix-tests, matrix_first-there, matrix_second-there, matrix_mask-there, matrix_are, lent_matrix_entries, add_matrix-left, mult_matrix-left}
+use Rattle.grb_state.proofs.LentProducts.{mxm_first-there, mxm_second-there, mxm_mask-there, mxm_are, mxm-left}
+use Rattle.grb_state.proofs.Premises.{ewise_matrix_output, ewise_matrix_first, ewise_matrix_second, matrix_input, matrix_output, turned_input}
+use Rattle.grb_state.proofs.outputs.operated_matrix.Goals as goal
+
+pub lent-output-requires : goal.lent-output-requires
+lent-output-requires c = held_output_matrix c.args.objects.now.matrices.items c.args.objects.now.vectors.items c.args.c c.args.call.now c.requires.operates c.requires.output c.requires.accepted
+
+pub lent_mask-inside-requires : goal.lent_mask-inside-requires
+lent_mask-inside-requires c =
+    let f = c.in-EwiseAddMatrix in let ms = c.args.objects.now.matrices.items in let vs = c.args.objects.now.vectors.items in
+    let of = matrix_call ms vs c.args.call.now c.requires.accepted c.requires.assembled (λ x. call.EwiseAddMatrix x f.mask f.accum f.op f.a f.b f.d) f.c c.args.c f.is refl c.requires.output in
+    let tests = add_matrix-tests (stored ms vs) c.args.c f.mask f.accum f.op f.a f.b f.d of.accepted in
+    matrix_mask-there ms vs c.args.c f.mask f.accum f.op f.a f.b tests
+
+pub lent-first-requires : goal.lent-first-requires
+lent-first-requires c =
+    let f = c.in-EwiseAddMatrix in let ms = c.args.objects.now.matrices.items in let vs = c.args.objects.now.vectors.items in
+    let of = matrix_call ms vs c.args.call.now c.requires.accepted c.requires.assembled (λ x. call.EwiseAddMatrix x f.mask f.accum f.op f.a f.b f.d) f.c c.args.c f.is refl c.requires.output in
+    let tests = add_matrix-tests (stored ms vs) c.args.c f.mask f.accum f.op f.a f.b f.d of.accepted in
+    matrix_first-there ms vs c.args.c f.mask f.accum f.op f.a f.b tests
+
+pub lent-second-requires : goal.lent-second-requires
+lent-second-requires c =
+    let f = c.in-EwiseAddMatrix in let ms = c.args.objects.now.matrices.items in let vs = c.args.objects.now.vectors.items in
+    let of = matrix_call ms vs c.args.call.now c.requires.accepted c.requires.assembled (λ x. call.EwiseAddMatrix x f.mask f.accum f.op f.a f.b f.d) f.c c.args.c f.is refl c.requires.output in
+    let tests = add_matrix-tests (stored ms vs) c.args.c f.mask f.accum f.op f.a f.b f.d of.accepted in
+    matrix_second-there ms vs c.args.c f.mask f.accum f.op f.a f.b tests
+
+pub ewise_add_matrix-requires-clause-op_domain : goal.ewise_add_matrix-requires-clause-op_domain
+ewise_add_matrix-requires-clause-op_domain c =
+    let f = c.in-EwiseAddMatrix in let ms = c.args.objects.now.matrices.items in let vs = c.args.objects.now.vectors.items in
+    let of = matrix_call ms vs c.args.call.now c.requires.accepted c.requires.assembled (λ x. call.EwiseAddMatrix x f.mask f.accum f.op f.a f.b f.d) f.c c.args.c f.is refl c.requires.output in
+    let tests = add_matrix-tests (stored ms vs) c.args.c f.mask f.accum f.op f.a f.b f.d of.accepted in
+    (matrix_are ms vs c.args.c f.mask f.accum f.op f.a f.b tests c.lent-output.result.now c.lent-output.ensures).computes
+
+pub ewise_add_matrix-requires-clause-output : goal.ewise_add_matrix-requires-clause-output
+ewise_add_matrix-requires-clause-output c =
+    let f = c.in-EwiseAddMatrix in let ms = c.args.objects.now.matrices.items in let vs = c.args.objects.now.vectors.items in
+    let of = matrix_call ms vs c.args.call.now c.requires.accepted c.requires.assembled (λ x. call.EwiseAddMatrix x f.mask f.accum f.op f.a f.b f.d) f.c c.args.c f.is refl c.requires.output in
+    let tests = add_matrix-tests (stored ms vs) c.args.c f.mask f.accum f.op f.a f.b f.d of.accepted in
+    ewise_matrix_output ms vs c.args.c f.mask f.accum f.op f.a f.b tests of.assembled c.lent-output.result.now c.lent-output.ensures c.lent_mask-inside.result c.lent_mask-inside.ensures
+
+pub ewise_add_matrix-requires-clause-a : goal.ewise_add_matrix-requires-clause-a
+ewise_add_matrix-requires-clause-a c =
+    let f = c.in-EwiseAddMatrix in let ms = c.args.objects.now.matrices.items in let vs = c.args.objects.now.vectors.items in
+    let of = matrix_call ms vs c.args.call.now c.requires.accepted c.requires.assembled (λ x. call.EwiseAddMatrix x f.mask f.accum f.op f.a f.b f.d) f.c c.args.c f.is refl c.requires.output in
+    let tests = add_matrix-tests (stored ms vs) c.args.c f.mask f.accum f.op f.a f.b f.d of.accepted in
+    ewise_matrix_first ms vs c.args.c f.mask f.accum f.op f.a f.b tests of.assembled c.lent-output.result.now c.lent-output.ensures c.lent-first.result.now c.lent-first.ensures
+
+pub ewise_add_matrix-requires-clause-b : goal.ewise_add_matrix-requires-clause-b
+ewise_add_matrix-requires-clause-b c =
+    let f = c.in-EwiseAddMatrix in let ms = c.args.objects.now.matrices.items in let vs = c.args.objects.now.vectors.items in
+    let of = matrix_call ms vs c.args.call.now c.requires.accepted c.requires.assembled (λ x. call.EwiseAddMatrix x f.mask f.accum f.op f.a f.b f.d) f.c c.args.c f.is refl c.requires.output in
+    let tests = add_matrix-tests (stored ms vs) c.args.c f.mask f.accum f.op f.a f.b f.d of.accepted in
+    ewise_matrix_second ms vs c.args.c f.mask f.accum f.op f.a f.b tests of.assembled c.lent-output.result.now c.lent-output.ensures c.lent-second.result.now c.lent-second.ensures
+
+pub returns-in-EwiseAddMatrix : goal.returns-in-EwiseAddMatrix
+returns-in-EwiseAddMatrix c =
+    let f = c.in-EwiseAddMatrix in let ms = c.args.objects.now.matrices.items in let vs = c.args.objects.now.vectors.items in
+    let of = matrix_call ms vs c.args.call.now c.requires.accepted c.requires.assembled (λ x. call.EwiseAddMatrix x f.mask f.accum f.op f.a f.b f.d) f.c c.args.c f.is refl c.requires.output in
+    let same_mask = lent_matrix_entries ms vs (λ m. m.now) f.mask c.lent_mask-inside.result c.lent_mask-inside.ensures in
+    if_ok _ _ c.ewise_add_matrix.result (λ made is. matrix_left_as (stored ms vs) c.args.call.now _ of.is c.args.c (Some made.matrix) (add_matrix-left ms vs c.args.c f.mask f.accum f.op f.a f.b f.d
+    c.lent-output.result.now c.lent-first.result.now c.lent-second.result.now c.lent-output.ensures c.lent-first.ensures c.lent-second.ensures _ same_mask made.matrix is)) c.ewise_add_matrix.ensures.matrix
+
+pub lent_mask-inside-requires-in-EwiseMultMatrix : goal.lent_mask-inside-requires-in-EwiseMultMatrix
+lent_mask-inside-requires-in-EwiseMultMatrix c =
+    let f = c.in-EwiseMultMatrix in let ms = c.args.objects.now.matrices.items in let vs = c.args.objects.now.vectors.items in
+    let of = matrix_call ms vs c.args.call.now c.requires.accepted c.requires.assembled (λ x. call.EwiseMultMatrix x f.mask f.accum f.op f.a f.b f.d) f.c c.args.c f.is refl c.requires.output in
+    let tests = mult_matrix-tests (stored ms vs) c.args.c f.mask f.accum f.op f.a f.b f.d of.accepted in
+    matrix_mask-there ms vs c.args.c f.mask f.accum f.op f.a f.b tests
+
+pub lent-first-requires-in-EwiseMultMatrix : goal.lent-first-requires-in-EwiseMultMatrix
+lent-first-requires-in-EwiseMultMatrix c =
+    let f = c.in-EwiseMultMatrix in let ms = c.args.objects.now.matrices.items in let vs = c.args.objects.now.vectors.items in
+    let of = matrix_call ms vs c.args.call.now c.requires.accepted c.requires.assembled (λ x. call.EwiseMultMatrix x f.mask f.accum f.op f.a f.b f.d) f.c c.args.c f.is refl c.requires.output in
+    let tests = mult_matrix-tests (stored ms vs) c.args.c f.mask f.accum f.op f.a f.b f.d of.accepted in
+    matrix_first-there ms vs c.args.c f.mask f.accum f.op f.a f.b tests
+
+pub lent-second-requires-in-EwiseMultMatrix : goal.lent-second-requires-in-EwiseMultMatrix
+lent-second-requires-in-EwiseMultMatrix c =
+    let f = c.in-EwiseMultMatrix in let ms = c.args.objects.now.matrices.items in let vs = c.args.objects.now.vectors.items in
+    let of = matrix_call ms vs c.args.call.now c.requires.accepted c.requires.assembled (λ x. call.EwiseMultMatrix x f.mask f.accum f.op f.a f.b f.d) f.c c.args.c f.is refl c.requires.output in
+    let tests = mult_matrix-tests (stored ms vs) c.args.c f.mask f.accum f.op f.a f.b f.d of.accepted in
+    matrix_second-there ms vs c.args.c f.mask f.accum f.op f.a f.b tests
+
+pub ewise_mult_matrix-requires-clause-op_domain : goal.ewise_mult_matrix-requires-clause-op_domain
+ewise_mult_matrix-requires-clause-op_domain c =
+    let f = c.in-EwiseMultMatrix in let ms = c.args.objects.now.matrices.items in let vs = c.args.objects.now.vectors.items in
+    let of = matrix_call ms vs c.args.call.now c.requires.accepted c.requires.assembled (λ x. call.EwiseMultMatrix x f.mask f.accum f.op f.a f.b f.d) f.c c.args.c f.is refl c.requires.output in
+    let tests = mult_matrix-tests (stored ms vs) c.args.c f.mask f.accum f.op f.a f.b f.d of.accepted in
+    (matrix_are ms vs c.args.c f.mask f.accum f.op f.a f.b tests c.lent-output.result.now c.lent-output.ensures).computes
+
+pub ewise_mult_matrix-requires-clause-output : goal.ewise_mult_matrix-requires-clause-output
+ewise_mult_matrix-requires-clause-output c =
+    let f = c.in-EwiseMultMatrix in let ms = c.args.objects.now.matrices.items in let vs = c.args.objects.now.vectors.items in
+    let of = matrix_call ms vs c.args.call.now c.requires.accepted c.requires.assembled (λ x. call.EwiseMultMatrix x f.mask f.accum f.op f.a f.b f.d) f.c c.args.c f.is refl c.requires.output in
+    let tests = mult_matrix-tests (stored ms vs) c.args.c f.mask f.accum f.op f.a f.b f.d of.accepted in
+    ewise_matrix_output ms vs c.args.c f.mask f.accum f.op f.a f.b tests of.assembled c.lent-output.result.now c.lent-output.ensures c.lent_mask-inside-in-EwiseMultMatrix.result c.lent_mask-inside-in-EwiseMultMatrix.ensures
+
+pub ewise_mult_matrix-requires-clause-a : goal.ewise_mult_matrix-requires-clause-a
+ewise_mult_matrix-requires-clause-a c =
+    let f = c.in-EwiseMultMatrix in let ms = c.args.objects.now.matrices.items in let vs = c.args.objects.now.vectors.items in
+    let of = matrix_call ms vs c.args.call.now c.requires.accepted c.requires.assembled (λ x. call.EwiseMultMatrix x f.mask f.accum f.op f.a f.b f.d) f.c c.args.c f.is refl c.requires.output in
+    let tests = mult_matrix-tests (stored ms vs) c.args.c f.mask f.accum f.op f.a f.b f.d of.accepted in
+    ewise_matrix_first ms vs c.args.c f.mask f.accum f.op f.a f.b tests of.assembled c.lent-output.result.now c.lent-output.ensures c.lent-first-in-EwiseMultMatrix.result.now c.lent-first-in-EwiseMultMatrix.ensures
+
+pub ewise_mult_matrix-requires-clause-b : goal.ewise_mult_matrix-requires-clause-b
+ewise_mult_matrix-requires-clause-b c =
+    let f = c.in-EwiseMultMatrix in let ms = c.args.objects.now.matrices.items in let vs = c.args.objects.now.vectors.items in
+    let of = matrix_call ms vs c.args.call.now c.requires.accepted c.requires.assembled (λ x. call.EwiseMultMatrix x f.mask f.accum f.op f.a f.b f.d) f.c c.args.c f.is refl c.requires.output in
+    let tests = mult_matrix-tests (stored ms vs) c.args.c f.mask f.accum f.op f.a f.b f.d of.accepted in
+    ewise_matrix_second ms vs c.args.c f.mask f.accum f.op f.a f.b tests of.assembled c.lent-output.result.now c.lent-output.ensures c.lent-second-in-EwiseMultMatrix.result.now c.lent-second-in-EwiseMultMatrix.ensures
+
+pub returns-in-EwiseMultMatrix : goal.returns-in-EwiseMultMatrix
+returns-in-EwiseMultMatrix c =
+    let f = c.in-EwiseMultMatrix in let ms = c.args.objects.now.matrices.items in let vs = c.args.objects.now.vectors.items in
+    let of = matrix_call ms vs c.args.call.now c.requires.accepted c.requires.assembled (λ x. call.EwiseMultMatrix x f.mask f.accum f.op f.a f.b f.d) f.c c.args.c f.is refl c.requires.output in
+    let same_mask = lent_matrix_entries ms vs (λ m. m.now) f.mask c.lent_mask-inside-in-EwiseMultMatrix.result c.lent_mask-inside-in-EwiseMultMatrix.ensures in
+    if_ok _ _ c.ewise_mult_matrix.result (λ made is. matrix_left_as (stored ms vs) c.args.call.now _ of.is c.args.c (Some made.matrix) (mult_matrix-left ms vs c.args.c f.mask f.accum f.op f.a f.b f.d
+    c.lent-output.result.now c.lent-first-in-EwiseMultMatrix.result.now c.lent-second-in-EwiseMultMatrix.result.now c.lent-output.ensures c.lent-first-in-EwiseMultMatrix.ensures c.lent-second-in-EwiseMultMatrix.ensures _ same_mask made.matrix is)) c.ewise_mult_matrix.ensures.matrix
+
+pub lent_mask-inside-requires-in-Mxm : goal.lent_mask-inside-requires-in-Mxm
+lent_mask-inside-requires-in-Mxm c =
+    let f = c.in-Mxm in let ms = c.args.objects.now.matrices.items in let vs = c.args.objects.now.vectors.items in
+    let of = matrix_call ms vs c.args.call.now c.requires.accepted c.requires.assembled (λ x. call.Mxm x f.mask f.accum f.semiring f.a f.b f.d) f.c c.args.c f.is refl c.requires.output in
+    mxm_mask-there ms vs c.args.c f.mask f.accum f.semiring f.a f.b f.d of.accepted
+
+pub lent-first-requires-in-Mxm : goal.lent-first-requires-in-Mxm
+lent-first-requires-in-Mxm c =
+    let f = c.in-Mxm in let ms = c.args.objects.now.matrices.items in let vs = c.args.objects.now.vectors.items in
+    let of = matrix_call ms vs c.args.call.now c.requires.accepted c.requires.assembled (λ x. call.Mxm x f.mask f.accum f.semiring f.a f.b f.d) f.c c.args.c f.is refl c.requires.output in
+    mxm_first-there ms vs c.args.c f.mask f.accum f.semiring f.a f.b f.d of.accepted
+
+pub lent-second-requires-in-Mxm : goal.lent-second-requires-in-Mxm
+lent-second-requires-in-Mxm c =
+    let f = c.in-Mxm in let ms = c.args.objects.now.matrices.items in let vs = c.args.objects.now.vectors.items in
+    let of = matrix_call ms vs c.args.call.now c.requires.accepted c.requires.assembled (λ x. call.Mxm x f.mask f.accum f.semiring f.a f.b f.d) f.c c.args.c f.is refl c.requires.output in
+    mxm_second-there ms vs c.args.c f.mask f.accum f.semiring f.a f.b f.d of.accepted
+
+pub mxm-requires-clause-semiring_domain : goal.mxm-requires-clause-semiring_domain
+mxm-requires-clause-semiring_domain c =
+    let f = c.in-Mxm in let ms = c.args.objects.now.matrices.items in let vs = c.args.objects.now.vectors.items in
+    let of = matrix_call ms vs c.args.call.now c.requires.accepted c.requires.assembled (λ x. call.Mxm x f.mask f.accum f.semiring f.a f.b f.d) f.c c.args.c f.is refl c.requires.output in
+    (mxm_are ms vs c.args.c f.mask f.accum f.semiring f.a f.b f.d of.accepted c.lent-output.result.now c.lent-output.ensures).multiplies
+
+pub mxm-requires-clause-output : goal.mxm-requires-clause-output
+mxm-requires-clause-output c =
+    let f = c.in-Mxm in let ms = c.args.objects.now.matrices.items in let vs = c.args.objects.now.vectors.items in
+    let of = matrix_call ms vs c.args.call.now c.requires.accepted c.requires.assembled (λ x. call.Mxm x f.mask f.accum f.semiring f.a f.b f.d) f.c c.args.c f.is refl c.requires.output in
+    let are = mxm_are ms vs c.args.c f.mask f.accum f.semiring f.a f.b f.d of.accepted c.lent-output.result.now c.lent-output.ensures in
+    matrix_output ms vs c.args.c c.lent-output.result.now c.lent-output.ensures of.assembled.0 f.mask c.lent_mask-inside-in-Mxm.result c.lent_mask-inside-in-Mxm.ensures of.assembled.1.1.1 are.masked f.accum are.accumulates
+
+pub mxm-requires-clause-a : goal.mxm-requires-clause-a
+mxm-requires-clause-a c =
+    let f = c.in-Mxm in let ms = c.args.objects.now.matrices.items in let vs = c.args.objects.now.vectors.items in
+    let of = matrix_call ms vs c.args.call.now c.requires.accepted c.requires.assembled (λ x. call.Mxm x f.mask f.accum f.semiring f.a f.b f.d) f.c c.args.c f.is refl c.requires.output in
+    let are = mxm_are ms vs c.args.c f.mask f.accum f.semiring f.a f.b f.d of.accepted c.lent-output.result.now c.lent-output.ensures in
+    let second = matrix_input ms vs f.b c.lent-second-in-Mxm.result.now c.lent-second-in-Mxm.ensures _ _ _ are.second of.assembled.1.1.0 in
+    let first = turned_input ms vs f.a c.lent-first-in-Mxm.result.now c.lent-first-in-Mxm.ensures f.d.tran _ _ _ are.first of.assembled.1.0 in
+    record { assembled = first.assembled; domain = first.domain; rows = first.rows; columns = first.columns ∙ sym second.rows }
+
+pub mxm-requires-clause-b : goal.mxm-requires-clause-b
+mxm-requires-clause-b c =
+    let f = c.in-Mxm in let ms = c.args.objects.now.matrices.items in let vs = c.args.objects.now.vectors.items in
+    let of = matrix_call ms vs c.args.call.now c.requires.accepted c.requires.assembled (λ x. call.Mxm x f.mask f.accum f.semiring f.a f.b f.d) f.c c.args.c f.is refl c.requires.output in
+    let are = mxm_are ms vs c.args.c f.mask f.accum f.semiring f.a f.b f.d of.accepted c.lent-output.result.now c.lent-output.ensures in
+    let second = matrix_input ms vs f.b c.lent-second-in-Mxm.result.now c.lent-second-in-Mxm.ensures _ _ _ are.second of.assembled.1.1.0 in
+    record { assembled = second.assembled; domain = second.domain; rows = refl; columns = second.columns }
+
+pub returns-in-Mxm : goal.returns-in-Mxm
+returns-in-Mxm c =
+    let f = c.in-Mxm in let ms = c.args.objects.now.matrices.items in let vs = c.args.objects.now.vectors.items in
+    let of = matrix_call ms vs c.args.call.now c.requires.accepted c.requires.assembled (λ x. call.Mxm x f.mask f.accum f.semiring f.a f.b f.d) f.c c.args.c f.is refl c.requires.output in
+    let same_mask = lent_matrix_entries ms vs (λ m. m.now) f.mask c.lent_mask-inside-in-Mxm.result c.lent_mask-inside-in-Mxm.ensures in
+    if_ok _ _ c.mxm.result (λ made is. matrix_left_as (stored ms vs) c.args.call.now _ of.is c.args.c (Some made.matrix) (mxm-left ms vs c.args.c f.mask f.accum f.semiring f.a f.b f.d of.accepted
+    c.lent-output.result.now c.lent-first-in-Mxm.result.now c.lent-second-in-Mxm.result.now c.lent-output.ensures c.lent-first-in-Mxm.ensures c.lent-second-in-Mxm.ensures _ same_mask made.matrix is)) c.mxm.ensures.matrix
