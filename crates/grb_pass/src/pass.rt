@@ -149,7 +149,7 @@ impl Pass {
 
     /// How many calls of the history the pass's last call made to answer: each that it applied to its store, or to the partial stores of
     /// the objects that it reads. A call that is made twice counts twice, and one that was refused memory counts; those that the pass has
-    /// of another's, as an edition or by [`Shared::adopt`](crate::Shared::adopt), do not. 0 before the first call and after a meeting; after
+    /// of another's, by an edition or by [`Shared::adopt`](crate::Shared::adopt), do not. 0 before a first call and after a meeting; after
     /// [`Shared::prepare`](crate::Shared::prepare) what that made, and after a list of calls what its last call made. It is for tests and
     /// for services that watch what reads cost. It is 0 after a call that enters and is no build, one for dimensions, a read that shapes
     /// refuse, and a read where all known calls are settled; no contract says more of the number (own). Takes no memory.

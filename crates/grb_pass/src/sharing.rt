@@ -122,8 +122,8 @@ pub(crate) fn entries_of(state: &State) -> u64 {
     entries
 }
 
-/// Leaves the store, in which all known calls are evaluated, to the other passes, with no change left that waits, unless there is an edition
-/// of as many calls. Where memory is refused to that, it is not left.
+/// Leaves the store, in which all known calls are evaluated, to the other passes, with no change left that waits, unless there is an
+/// edition of as many calls. Where memory is refused to that, it is not left.
 pub(crate) fn share(
     editions: &Editions,
     records: &Records,

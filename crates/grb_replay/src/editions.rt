@@ -294,8 +294,8 @@ impl Editions {
 
     /// Puts the longest edition found whose calls begin these in place of a state that is evaluated less far: of so many of these calls,
     /// in a history that takes `room` calls. It answers how many the state is of then. Where no such edition is found, or memory for its
-    /// places is refused, the state stays as it is. No entry is copied, and no call compared with those of an edition that has no more calls
-    /// than the state.
+    /// places is refused, the state stays as it is. No entry is copied, and no call compared with those of an edition that has no more
+    /// calls than the state.
     pub fn advance(&self, calls: &[&Call], state: &mut State, evaluated: usize, room: u32) -> usize
         requires few { length calls.now ≤ room }
         requires evaluated { IsEvaluated (map (λ c. c.now) calls.now) evaluated state.old.store }

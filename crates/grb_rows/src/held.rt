@@ -243,8 +243,8 @@ impl Held {
         whole.within(nrows, ncols)
     }
 
-    /// Keeps the entries within `nrows` rows and `ncols` columns alone, with no change that waits. `AllocError` where memory is refused, and
-    /// then nothing changes. Where nothing waits and all entries are within, nothing is copied, and it takes no memory.
+    /// Keeps the entries within `nrows` rows and `ncols` columns alone, with no change that waits. `AllocError` where memory is refused,
+    /// and then nothing changes. Where nothing waits and all entries are within, nothing is copied, and it takes no memory.
     pub fn resize(&mut self, nrows: u64, ncols: u64) -> Result<(), AllocError>
         ensures ok { OnOk result (self.new ≡ record { entries = restricted (λ k. is_cell_in nrows ncols (cell_of k)) self.old.entries; domain = self.old.domain; assembled = self.old.assembled; reserved = 0; pending = 0 }) }
         ensures err { OnErr result (self.new ≡ self.old) }

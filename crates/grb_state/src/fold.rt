@@ -9,8 +9,8 @@ use grb_call::Call;
 use std::alloc::AllocError;
 
 /// The store that these calls leave of the state, which stays as it is: each of them is made, one after another, and one that is refused at
-/// its place changes nothing; no change waits in what they leave. Objects that no call changes, and in which none waits, are the state's own.
-/// `AllocError` where memory is refused.
+/// its place changes nothing; no change waits in what they leave. Objects that no call changes, and in which none waits, are the state's
+/// own. `AllocError` where memory is refused.
 ///
 /// Source: GraphBLAS C API 2.0, "Execution modes": what the methods give in blocking mode; the form is own.
 pub fn replay(state: &State, calls: &[&Call]) -> Result<State, AllocError>

@@ -75,8 +75,8 @@ fn live_shapes(alloc: Global, shapes: &Shapes) -> Result<Shapes, AllocError>
 
 impl State {
     /// The store of the objects that are there, in their order: numbers whose objects were freed are left out. Both stores hold the same
-    /// objects, until one of them changes one, and no entry is copied. It has room for no further call. `AllocError` where memory is refused
-    /// to the places (own).
+    /// objects, until one of them changes one, and no entry is copied. It has room for no further call. `AllocError` where memory is
+    /// refused to the places (own).
     pub fn live(&self) -> Result<State, AllocError>
         ensures store { IfOk result (λ copy. copy.store ≡ live_store self.now.store) }
         ensures assembled { IfOk result (λ copy. AreAllAssembled (is_assembled self.now.matrices self.now.vectors) → AreAllAssembled (is_assembled copy.matrices copy.vectors)) }

@@ -15,8 +15,8 @@ use std::alloc::AllocError;
 /// How many calls more are known where a pass asks for an edition again, and how many are to be made where it asks at once (own).
 pub(super) const MANY: usize = 64;
 
-/// From how much on calls are dear, as a number of sets: a pass asks for an edition before it makes them, and offers their store when it has
-/// made them (own).
+/// From how much on calls are dear, as a number of sets: a pass asks for an edition before it makes them, and offers their store when it
+/// has made them (own).
 const DEAR: u64 = 4096;
 
 /// How many entries of a store are copied in the time of a set, about, where the passes that share it change its objects (own).
@@ -28,8 +28,8 @@ impl Evaluated {
         self.effort.of(&self.left(reader)) >= DEAR
     }
 
-    /// Whether operations are to be made of which it has no measure: then an edition that has them was worth more than to copy its calls, to
-    /// whoever left it.
+    /// Whether operations are to be made of which it has no measure: then an edition that has them was worth more than to copy its calls,
+    /// to whoever left it.
     fn may_be_dear(&self, reader: &Reader) -> bool {
         self.left(reader).has_operations() && self.effort.is_unknown()
     }
