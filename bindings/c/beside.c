@@ -1,5 +1,5 @@
-/* Times the store next to another case of the same: work beside a product that nobody reads, sets with waits
- * between them, a product that several passes read, and a successor next to the builds of its objects.
+/* Times the store next to another case of the same: work beside a product that nobody reads, sets with totals or
+ * waits between them, a product that several passes read, and a successor next to the builds of its objects.
  *
  *     beside
  *
@@ -157,6 +157,30 @@ static double sets(uint32_t npasses, uint64_t every, uint64_t *left)
     return seconds;
 }
 
+/* Turns of a set in a loaded matrix and a total of it, or, where `totals` is 0, a get. */
+static double questions(uint64_t totals, uint64_t *left)
+{
+    TrB_Pass pass = TRB_PASS_INIT;
+    OK(TrB_open(4096, &pass, 1));
+    TrB_Matrix a = build(&pass, SIDE, BUILT, 1);
+    OK(TrB_Matrix_wait(&pass, a, TrB_MATERIALIZE));
+    double start = now();
+    for (uint64_t k = 1; k <= TURNS; k++) {
+        TrB_Index i = mix(2 * k) % SIDE, j = mix(2 * k + 1) % SIDE;
+        OK(TrB_Matrix_setElement_UINT64(&pass, a, k, i, j));
+        if (totals) {
+            OK(TrB_Matrix_reduce_UINT64(&pass, left, TrB_PLUS, a));
+        } else {
+            OK(TrB_Matrix_extractElement_UINT64(&pass, left, a, i, j));
+            HOLDS(*left == k);
+        }
+    }
+    double seconds = now() - start;
+    OK(TrB_Matrix_reduce_UINT64(&pass, left, TrB_PLUS, a));
+    TrB_free(&pass);
+    return seconds;
+}
+
 static double sets_by_one(uint64_t every, uint64_t *left)
 {
     return sets(1, every, left);
@@ -257,6 +281,7 @@ static void pair(const char *name, Round *round, uint64_t first, uint64_t second
 int main(void)
 {
     pair("turns beside a product that nobody reads", turns, 1, 0);
+    pair("turns of a set and a total, and a get", questions, 1, 0);
     pair("sets by one pass, a wait after each 300", sets_by_one, 300, SETS);
     pair("sets by one pass, a wait after each 64", sets_by_one, 64, SETS);
     pair("sets by one of two, a wait after each 300", sets_by_one_of_two, 300, SETS);

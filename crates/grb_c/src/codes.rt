@@ -1,6 +1,6 @@
 //! What the numbers of the C interface stand for.
-ghost use Rattle.std.specs.Prelude.{◌≡◌};
-ghost use Rattle.grb_c.specs.Codes.{accum_at, bool_code, bool_out, descriptor_at, dims_code, dims_out, domain_at, done_code, matrix_mask_at, met_code, mode_at, monoid_at, number_code, number_out, object_code, object_out, op_at, refusal_code, semiring_of, vector_mask_at};
+ghost use Rattle.std.specs.Prelude.{◌≡◌, ◌==◌, ℕ, None, Some, if◌then◌else◌};
+ghost use Rattle.grb_c.specs.Codes.{accum_at, bool_code, bool_out, descriptor_at, dims_code, dims_out, domain_at, done_code, met_code, mode_at, monoid_at, number_code, number_out, object_code, object_out, op_at, refusal_code, semiring_of};
 
 use grb_call::{Descriptor, MatrixId, Reply, VectorId, WaitMode};
 use grb_core::{BinaryOp, Domain, Monoid, Refusal, Semiring, Value};
@@ -205,26 +205,37 @@ pub(crate) fn semiring_of(monoid: Monoid, op: BinaryOp) -> Result<Semiring, i32>
     }
 }
 
-/// The mask of a number, of which the largest is none.
-pub(crate) fn matrix_mask_at(n: u32) -> Option<MatrixId>
-    ensures { result ≡ matrix_mask_at n }
-{
-    if n == 4294967295 {
-        None
-    } else {
-        Some(MatrixId(n))
+/// The number of an object of one sort.
+pub(crate) trait Id: Copy {
+    /// The object of this number.
+    ghost at: { ℕ → Self };
+
+    /// The object of this number.
+    fn at(n: u32) -> Self
+        ensures { result ≡ at n };
+}
+
+impl Id for MatrixId {
+    ghost at = { λ n. record { 0 = n } };
+
+    fn at(n: u32) -> MatrixId {
+        MatrixId(n)
+    }
+}
+
+impl Id for VectorId {
+    ghost at = { λ n. record { 0 = n } };
+
+    fn at(n: u32) -> VectorId {
+        VectorId(n)
     }
 }
 
 /// The mask of a number, of which the largest is none.
-pub(crate) fn vector_mask_at(n: u32) -> Option<VectorId>
-    ensures { result ≡ vector_mask_at n }
+pub(crate) fn mask_at<I: Id>(n: u32) -> Option<I>
+    ensures { result ≡ (if n == 4294967295 then None else Some (I.at n)) }
 {
-    if n == 4294967295 {
-        None
-    } else {
-        Some(VectorId(n))
-    }
+    if n == u32::MAX { None } else { Some(I::at(n)) }
 }
 
 /// The descriptor of four bits, from the lowest: replace, complement, structure, and the first input transposed.

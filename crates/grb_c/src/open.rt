@@ -129,9 +129,8 @@ pub extern "C" fn trb_free(alloc: Global, pass: &mut TrbPass)
     let _session = pass.take(alloc);
 }
 
-/// Lets the pass learn all that the other knows. Two stores' passes are refused.
-#[unsafe(no_mangle)]
-pub extern "C" fn trb_meet(alloc: Global, pass: &mut TrbPass, other: &mut TrbPass) -> i32
+/// Lets the pass learn all that the other knows, and where it adopts, go on from what that has evaluated. Two stores' passes are refused.
+fn learn(alloc: Global, pass: &mut TrbPass, other: &mut TrbPass, adopts: bool) -> i32
     requires apart { AreApart pass.old.raw.session other.old.raw.session }
     ensures meets { Meets pass.old.raw.session pass.new.raw.session other.old.raw.session result }
     ensures other { other.new.raw.session ≡ other.old.raw.session }
@@ -144,13 +143,23 @@ pub extern "C" fn trb_meet(alloc: Global, pass: &mut TrbPass, other: &mut TrbPas
         return UNINITIALIZED_OBJECT;
     };
     let code = if session.store() == second.store() {
-        met_code(session.meet(&mut second))
+        met_code(session.learn(&mut second, adopts))
     } else {
         INVALID_VALUE
     };
     pass.put(session);
     other.put(second);
     code
+}
+
+/// Lets the pass learn all that the other knows. Two stores' passes are refused.
+#[unsafe(no_mangle)]
+pub extern "C" fn trb_meet(alloc: Global, pass: &mut TrbPass, other: &mut TrbPass) -> i32
+    requires apart { AreApart pass.old.raw.session other.old.raw.session }
+    ensures meets { Meets pass.old.raw.session pass.new.raw.session other.old.raw.session result }
+    ensures other { other.new.raw.session ≡ other.old.raw.session }
+{
+    learn(alloc, pass, other, false)
 }
 
 /// Lets the pass learn all that the other knows, and go on from what that has evaluated. Two stores' passes are refused.
@@ -160,21 +169,7 @@ pub extern "C" fn trb_adopt(alloc: Global, pass: &mut TrbPass, other: &mut TrbPa
     ensures meets { Meets pass.old.raw.session pass.new.raw.session other.old.raw.session result }
     ensures other { other.new.raw.session ≡ other.old.raw.session }
 {
-    let Some(mut session) = pass.take(alloc) else {
-        return UNINITIALIZED_OBJECT;
-    };
-    let Some(mut second) = other.take(alloc) else {
-        pass.put(session);
-        return UNINITIALIZED_OBJECT;
-    };
-    let code = if session.store() == second.store() {
-        met_code(session.adopt(&mut second))
-    } else {
-        INVALID_VALUE
-    };
-    pass.put(session);
-    other.put(second);
-    code
+    learn(alloc, pass, other, true)
 }
 
 /// Evaluates what the pass knows where that is dear, so that others may adopt it, and tells how many of the calls that it knows are

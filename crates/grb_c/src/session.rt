@@ -1,6 +1,5 @@
 //! A pass with the context that it is of.
-ghost use Rattle.std.specs.Prelude.{◌≡◌, ◌<◌, ◌≤◌, ◌*◌, All, IfErr, IfOk, length};
-ghost use Rattle.grb_order.specs.declared.limits.TheConstants.{MOST_PASSES, MOST_ROOM, MOST_SEATS};
+ghost use Rattle.std.specs.Prelude.{◌≡◌, ◌≤◌, All, IfErr, IfOk, length};
 ghost use Rattle.grb_order.specs.Order.{room_of};
 ghost use Rattle.grb_call.specs.History.{store_of};
 ghost use Rattle.grb_context.specs.Known.{IsPassOf, known};
@@ -8,6 +7,7 @@ ghost use Rattle.grb_context.specs.Answered.{Answered};
 ghost use Rattle.grb_context.specs.Meeting.{Met};
 ghost use Rattle.grb_context.specs.Rebuilding.{IsNoSuccessor};
 ghost use Rattle.grb_context.specs.Succeeding.{AreBegun};
+ghost use Rattle.grb_c.specs.Opening.{IsWithin};
 
 use grb_call::{Call, Reply};
 use grb_context::{Context, NoSuccessor, Pass};
@@ -58,27 +58,20 @@ impl Session {
         self.context.call(&mut self.pass, call)
     }
 
-    /// Learns what the other knows. `Panic` as of `Context::meet`; it takes no memory.
-    pub fn meet(&mut self, other: &mut Session) -> Result<(), Refusal>
+    /// Learns what the other knows, and where it adopts, goes on from what that has evaluated. `Panic` as of `Context::meet` and
+    /// `Context::adopt`. A meeting takes no memory; where it is refused to an adoption, that goes on from its own.
+    pub fn learn(&mut self, other: &mut Session, adopts: bool) -> Result<(), Refusal>
         requires context { self.old.context ≡ other.old.context }
         ensures met { Met self.old.context self.old.pass self.new.pass other.old.pass result }
         ensures context { self.new.context ≡ self.old.context }
         ensures store { self.new.store ≡ self.old.store }
         ensures other { other.new ≡ other.old }
     {
-        self.context.meet(&mut self.pass, &mut other.pass)
-    }
-
-    /// Learns what the other knows, and goes on from what it has evaluated. `Panic` as of `Context::adopt`; where memory is refused, it
-    /// goes on from its own.
-    pub fn adopt(&mut self, other: &mut Session) -> Result<(), Refusal>
-        requires context { self.old.context ≡ other.old.context }
-        ensures met { Met self.old.context self.old.pass self.new.pass other.old.pass result }
-        ensures context { self.new.context ≡ self.old.context }
-        ensures store { self.new.store ≡ self.old.store }
-        ensures other { other.new ≡ other.old }
-    {
-        self.context.adopt(&mut self.pass, &mut other.pass)
+        if adopts {
+            self.context.adopt(&mut self.pass, &mut other.pass)
+        } else {
+            self.context.meet(&mut self.pass, &mut other.pass)
+        }
     }
 
     /// Evaluates what the pass knows, where that is dear; how many of the calls that it knows are evaluated then.
@@ -98,9 +91,7 @@ impl Session {
         room: u32,
         passes: u32,
     ) -> Result<(Context, Vec<Pass>), NoSuccessor>
-        requires room { (0 < room) × (room ≤ MOST_ROOM) }
-        requires passes { (0 < passes) × (passes ≤ MOST_PASSES) }
-        requires seats { room * passes ≤ MOST_SEATS }
+        requires within { IsWithin room passes }
         ensures context { self.new.context ≡ self.old.context }
         ensures store { self.new.store ≡ self.old.store }
         ensures same { self.new.pass ≡ record self.old.pass { made = self.new.pass.made } }

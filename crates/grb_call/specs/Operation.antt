@@ -1,5 +1,5 @@
--- believed: An operation in one shape, whichever objects it is on: GraphBLAS C API 2.0, "Operations". What is asked of all operations
--- alike is asked of this shape.
+-- believed: An operation in one shape, whichever objects it is on: GraphBLAS C API 2.0, "Operations". What must hold of all
+-- operations alike is stated of this shape.
 use Rattle.std.specs.Prelude.{List, [], ◌∷◌, ◌++◌, Option, Some, None}
 use Rattle.std.specs.Option.{option_map, option_map_or}
 use Rattle.grb_core.specs.declared.domain.Domain.{Domain}

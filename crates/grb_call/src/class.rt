@@ -5,6 +5,22 @@ ghost use Rattle.grb_call.specs.Kinds.{class_of, enters, extent_of};
 use crate::call::Call;
 use crate::descriptor::WaitMode;
 
+/// The operations, as a pattern.
+macro_rules! an_operation {
+    () => {
+        Call::EwiseAddMatrix { .. }
+            | Call::EwiseAddVector { .. }
+            | Call::EwiseMultMatrix { .. }
+            | Call::EwiseMultVector { .. }
+            | Call::Mxv { .. }
+            | Call::Vxm { .. }
+            | Call::Mxm { .. }
+            | Call::ReduceRows { .. }
+    };
+}
+
+pub(crate) use an_operation;
+
 /// How many objects a reading call reads.
 #[derive(Clone, Copy, Debug, PartialEq, Eq)]
 pub enum Extent {
@@ -63,14 +79,7 @@ impl Call {
             | Call::ResizeVector { .. }
             | Call::BuildMatrix { .. }
             | Call::BuildVector { .. } => Class::Edits,
-            Call::EwiseAddMatrix { .. }
-            | Call::EwiseAddVector { .. }
-            | Call::EwiseMultMatrix { .. }
-            | Call::EwiseMultVector { .. }
-            | Call::Mxv { .. }
-            | Call::Vxm { .. }
-            | Call::Mxm { .. }
-            | Call::ReduceRows { .. } => Class::Operates,
+            an_operation!() => Class::Operates,
             Call::GetMatrix { .. }
             | Call::GetVector { .. }
             | Call::NvalsMatrix { .. }

@@ -1,8 +1,10 @@
 //! An operation in one shape, whichever objects it is on.
-ghost use Rattle.std.specs.Prelude.{◌≡◌};
+ghost use Rattle.std.specs.Prelude.{◌≡◌, IfSome};
+ghost use Rattle.grb_call.specs.Kinds.{class_of};
 ghost use Rattle.grb_call.specs.Operation.{operation_of};
 
 use crate::call::Call;
+use crate::class::Class;
 use crate::descriptor::Descriptor;
 use crate::ids::Object;
 use grb_core::{BinaryOp, Monoid, Semiring};
@@ -45,172 +47,102 @@ pub struct Operation {
 }
 
 impl Call {
+    /// What the operation computes of its inputs.
+    fn computed(&self) -> OperationKind
+        requires { class_of self.now ≡ Class.Operates }
+        ensures { IfSome (operation_of self.now) (λ o. result ≡ o.kind) }
+    {
+        match self {
+            Call::EwiseAddMatrix { op, .. } | Call::EwiseAddVector { op, .. } => {
+                OperationKind::EwiseAdd(*op)
+            }
+            Call::EwiseMultMatrix { op, .. } | Call::EwiseMultVector { op, .. } => {
+                OperationKind::EwiseMult(*op)
+            }
+            Call::Mxm { semiring, .. } | Call::Mxv { semiring, .. } | Call::Vxm { semiring, .. } =>
+                { OperationKind::Product(*semiring) }
+            Call::ReduceRows { monoid, .. } => OperationKind::Rows(*monoid),
+            _ => unreachable!(),
+        }
+    }
+
+    /// The output of the operation, and its mask.
+    fn output_and_mask(&self) -> (Object, Option<Object>)
+        requires { class_of self.now ≡ Class.Operates }
+        ensures { IfSome (operation_of self.now) (λ o. result ≡ (o.output, o.mask)) }
+    {
+        match self {
+            Call::EwiseAddMatrix { c, mask, .. }
+            | Call::EwiseMultMatrix { c, mask, .. }
+            | Call::Mxm { c, mask, .. } => (Object::Matrix(*c), mask.map(|m| Object::Matrix(m))),
+            Call::EwiseAddVector { w, mask, .. }
+            | Call::EwiseMultVector { w, mask, .. }
+            | Call::Mxv { w, mask, .. }
+            | Call::Vxm { w, mask, .. }
+            | Call::ReduceRows { w, mask, .. } => {
+                (Object::Vector(*w), mask.map(|m| Object::Vector(m)))
+            }
+            _ => unreachable!(),
+        }
+    }
+
+    /// The inputs of the operation.
+    fn inputs(&self) -> (Object, Option<Object>)
+        requires { class_of self.now ≡ Class.Operates }
+        ensures { IfSome (operation_of self.now) (λ o. result ≡ (o.first, o.second)) }
+    {
+        match self {
+            Call::EwiseAddMatrix { a, b, .. }
+            | Call::EwiseMultMatrix { a, b, .. }
+            | Call::Mxm { a, b, .. } => (Object::Matrix(*a), Some(Object::Matrix(*b))),
+            Call::EwiseAddVector { u, v, .. } | Call::EwiseMultVector { u, v, .. } => {
+                (Object::Vector(*u), Some(Object::Vector(*v)))
+            }
+            Call::Mxv { a, u, .. } => (Object::Matrix(*a), Some(Object::Vector(*u))),
+            Call::Vxm { u, a, .. } => (Object::Vector(*u), Some(Object::Matrix(*a))),
+            Call::ReduceRows { a, .. } => (Object::Matrix(*a), None),
+            _ => unreachable!(),
+        }
+    }
+
+    /// The accumulator of the operation, and its descriptor.
+    fn accum_and_descriptor(&self) -> (Option<BinaryOp>, Descriptor)
+        requires { class_of self.now ≡ Class.Operates }
+        ensures { IfSome (operation_of self.now) (λ o. result ≡ (o.accum, o.d)) }
+    {
+        match self {
+            Call::EwiseAddMatrix { accum, d, .. }
+            | Call::EwiseAddVector { accum, d, .. }
+            | Call::EwiseMultMatrix { accum, d, .. }
+            | Call::EwiseMultVector { accum, d, .. }
+            | Call::Mxv { accum, d, .. }
+            | Call::Vxm { accum, d, .. }
+            | Call::Mxm { accum, d, .. }
+            | Call::ReduceRows { accum, d, .. } => (*accum, *d),
+            _ => unreachable!(),
+        }
+    }
+
     /// The operation that the call is, if it writes a result into an output. Takes no memory.
     pub fn operation(&self) -> Option<Operation>
         ensures { result ≡ operation_of self.now }
     {
-        match self {
-            Call::EwiseAddMatrix {
-                c,
-                mask,
-                accum,
-                op,
-                a,
-                b,
-                d,
-            } => Some(Operation {
-                output: Object::Matrix(*c),
-                mask: mask.map(|m| Object::Matrix(m)),
-                accum: *accum,
-                first: Object::Matrix(*a),
-                second: Some(Object::Matrix(*b)),
-                kind: OperationKind::EwiseAdd(*op),
-                d: *d,
-            }),
-            Call::EwiseMultMatrix {
-                c,
-                mask,
-                accum,
-                op,
-                a,
-                b,
-                d,
-            } => Some(Operation {
-                output: Object::Matrix(*c),
-                mask: mask.map(|m| Object::Matrix(m)),
-                accum: *accum,
-                first: Object::Matrix(*a),
-                second: Some(Object::Matrix(*b)),
-                kind: OperationKind::EwiseMult(*op),
-                d: *d,
-            }),
-            Call::Mxm {
-                c,
-                mask,
-                accum,
-                semiring,
-                a,
-                b,
-                d,
-            } => Some(Operation {
-                output: Object::Matrix(*c),
-                mask: mask.map(|m| Object::Matrix(m)),
-                accum: *accum,
-                first: Object::Matrix(*a),
-                second: Some(Object::Matrix(*b)),
-                kind: OperationKind::Product(*semiring),
-                d: *d,
-            }),
-            Call::EwiseAddVector {
-                w,
-                mask,
-                accum,
-                op,
-                u,
-                v,
-                d,
-            } => Some(Operation {
-                output: Object::Vector(*w),
-                mask: mask.map(|m| Object::Vector(m)),
-                accum: *accum,
-                first: Object::Vector(*u),
-                second: Some(Object::Vector(*v)),
-                kind: OperationKind::EwiseAdd(*op),
-                d: *d,
-            }),
-            Call::EwiseMultVector {
-                w,
-                mask,
-                accum,
-                op,
-                u,
-                v,
-                d,
-            } => Some(Operation {
-                output: Object::Vector(*w),
-                mask: mask.map(|m| Object::Vector(m)),
-                accum: *accum,
-                first: Object::Vector(*u),
-                second: Some(Object::Vector(*v)),
-                kind: OperationKind::EwiseMult(*op),
-                d: *d,
-            }),
-            Call::Mxv {
-                w,
-                mask,
-                accum,
-                semiring,
-                a,
-                u,
-                d,
-            } => Some(Operation {
-                output: Object::Vector(*w),
-                mask: mask.map(|m| Object::Vector(m)),
-                accum: *accum,
-                first: Object::Matrix(*a),
-                second: Some(Object::Vector(*u)),
-                kind: OperationKind::Product(*semiring),
-                d: *d,
-            }),
-            Call::Vxm {
-                w,
-                mask,
-                accum,
-                semiring,
-                u,
-                a,
-                d,
-            } => Some(Operation {
-                output: Object::Vector(*w),
-                mask: mask.map(|m| Object::Vector(m)),
-                accum: *accum,
-                first: Object::Vector(*u),
-                second: Some(Object::Matrix(*a)),
-                kind: OperationKind::Product(*semiring),
-                d: *d,
-            }),
-            Call::ReduceRows {
-                w,
-                mask,
-                accum,
-                monoid,
-                a,
-                d,
-            } => Some(Operation {
-                output: Object::Vector(*w),
-                mask: mask.map(|m| Object::Vector(m)),
-                accum: *accum,
-                first: Object::Matrix(*a),
-                second: None,
-                kind: OperationKind::Rows(*monoid),
-                d: *d,
-            }),
-            Call::NewMatrix { .. }
-            | Call::NewVector { .. }
-            | Call::FreeMatrix { .. }
-            | Call::FreeVector { .. }
-            | Call::SetMatrix { .. }
-            | Call::SetVector { .. }
-            | Call::RemoveMatrix { .. }
-            | Call::RemoveVector { .. }
-            | Call::GetMatrix { .. }
-            | Call::GetVector { .. }
-            | Call::NvalsMatrix { .. }
-            | Call::NvalsVector { .. }
-            | Call::SizeMatrix { .. }
-            | Call::SizeVector { .. }
-            | Call::ClearMatrix { .. }
-            | Call::ClearVector { .. }
-            | Call::ResizeMatrix { .. }
-            | Call::ResizeVector { .. }
-            | Call::DupMatrix { .. }
-            | Call::DupVector { .. }
-            | Call::BuildMatrix { .. }
-            | Call::BuildVector { .. }
-            | Call::ReduceMatrix { .. }
-            | Call::ReduceVector { .. }
-            | Call::WaitMatrix { .. }
-            | Call::WaitVector { .. } => None,
+        match self.class() {
+            Class::Operates => {
+                let (output, mask) = self.output_and_mask();
+                let (accum, d) = self.accum_and_descriptor();
+                let (first, second) = self.inputs();
+                Some(Operation {
+                    output,
+                    mask,
+                    accum,
+                    first,
+                    second,
+                    kind: self.computed(),
+                    d,
+                })
+            }
+            Class::Makes | Class::Edits | Class::Reads(_) | Class::AsksDimensions => None,
         }
     }
 }

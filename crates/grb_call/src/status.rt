@@ -1,7 +1,8 @@
 //! The object that a call is about and whose status it leaves, and the status that an answer is.
 ghost use Rattle.std.specs.Prelude.{◌≡◌};
-ghost use Rattle.std.specs.Option.{option_or};
+ghost use Rattle.std.specs.Option.{option_map, option_or};
 ghost use Rattle.grb_call.specs.Operands.{named};
+ghost use Rattle.grb_call.specs.Operation.{operation_of};
 ghost use Rattle.grb_call.specs.Output.{output_of};
 ghost use Rattle.grb_call.specs.Status.{info_of, made_by, object_of};
 
@@ -12,10 +13,9 @@ use crate::reply::Reply;
 use grb_core::{Info, Refusal};
 
 impl Call {
-    /// The object that a method on one object names; none of a new object, which was not made before, and of an operation. Takes no
-    /// memory.
-    pub fn named(&self) -> Option<Object>
-        ensures { result ≡ named self.now }
+    /// The object that the call names first: that of a method on one object, or the output of an operation; none of a new object.
+    fn first_named(&self) -> Option<Object>
+        ensures { result ≡ option_or (option_map (λ o. o.output) (operation_of self.now)) (named self.now) }
     {
         match self {
             Call::FreeMatrix { a }
@@ -42,16 +42,28 @@ impl Call {
             | Call::BuildVector { v, .. }
             | Call::ReduceVector { v, .. }
             | Call::WaitVector { v, .. } => Some(Object::Vector(*v)),
-            Call::NewMatrix { .. }
-            | Call::NewVector { .. }
-            | Call::EwiseAddMatrix { .. }
-            | Call::EwiseAddVector { .. }
-            | Call::EwiseMultMatrix { .. }
-            | Call::EwiseMultVector { .. }
-            | Call::Mxv { .. }
-            | Call::Vxm { .. }
-            | Call::Mxm { .. }
-            | Call::ReduceRows { .. } => None,
+            Call::EwiseAddMatrix { c, .. }
+            | Call::EwiseMultMatrix { c, .. }
+            | Call::Mxm { c, .. } => Some(Object::Matrix(*c)),
+            Call::EwiseAddVector { w, .. }
+            | Call::EwiseMultVector { w, .. }
+            | Call::Mxv { w, .. }
+            | Call::Vxm { w, .. }
+            | Call::ReduceRows { w, .. } => Some(Object::Vector(*w)),
+            Call::NewMatrix { .. } | Call::NewVector { .. } => None,
+        }
+    }
+
+    /// The object that a method on one object names; none of a new object, which was not made before, and of an operation. Takes no
+    /// memory.
+    pub fn named(&self) -> Option<Object>
+        ensures { result ≡ named self.now }
+    {
+        match self.class() {
+            Class::Operates => None,
+            Class::Makes | Class::Edits | Class::Reads(_) | Class::AsksDimensions => {
+                self.first_named()
+            }
         }
     }
 
@@ -62,11 +74,9 @@ impl Call {
     {
         match self.class() {
             Class::Makes => None,
-            Class::Operates => match self.operation() {
-                Some(operation) => Some(operation.output),
-                None => None,
-            },
-            Class::Edits | Class::Reads(_) | Class::AsksDimensions => self.named(),
+            Class::Edits | Class::Operates | Class::Reads(_) | Class::AsksDimensions => {
+                self.first_named()
+            }
         }
     }
 

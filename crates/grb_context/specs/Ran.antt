@@ -9,7 +9,7 @@ use Rattle.grb_pass.specs.Explains.{Answer, Explains, entered_calls}
 use Rattle.grb_pass.specs.Answered.{Answered}
 use Rattle.grb_pass.specs.Statuses.{status_at}
 
--- each call of the list is answered in turn, from what the pass knew behind the one before it
+-- each call of the list is answered in turn, from what the pass knew after the one before it
 abbrev pub AreAnswered : Shared → Knowing → List Call → List Answer → Knowing → Type 0
 AreAnswered context old [] [] new = new ≡ old
 AreAnswered context old (c ∷ cs) (r ∷ rs) new = (next : Knowing) × Answered context old next c r × AreAnswered context next cs rs new
@@ -27,7 +27,7 @@ all_statuses room [] rs before = before
 all_statuses room (c ∷ cs) [] before = before
 
 -- The calls of a list, made one after another: one history explains all answers, and what is settled from call to call; of its own calls
--- the pass knows those of before, and behind them those of the list that were entered; the statuses are those that the calls left in turn;
+-- the pass knows those of before, and after them those of the list that were entered; the statuses are those that the calls left in turn;
 -- and each call keeps the promise of a call made by itself, its steps too
 pub record Ran (context : Shared) (old new : Knowing) (calls : List Call) (answers : List Answer) : Type 0 where
   pub explains : Explains (room_of context.order) old calls answers new

@@ -1,6 +1,8 @@
+pub mod Alike
 pub mod Columns
 pub mod Counting
 pub mod Lent
+pub mod Made
 pub mod Whole
 pub mod MatrixRows
 pub mod PushedRows

@@ -2,3 +2,4 @@ pub mod Premises
 pub mod Rows
 pub mod Transposing
 pub mod Ranks
+pub mod Objects

@@ -1,76 +1,25 @@
-//! eWiseAdd and eWiseMult of vectors.
-ghost use Rattle.std.specs.Prelude.{◌≡◌, true, IfOk};
+//! eWiseAdd and eWiseMult of vectors and of matrices.
+ghost use Rattle.std.specs.Prelude.{◌≡◌, true, IfOk, if◌then◌else◌, false};
 ghost use Rattle.std.specs.Ordering.{nat_cmp};
 ghost use Rattle.std.specs.Option.{option_map};
 ghost use Rattle.grb_core.specs.Operator.{op_domain, value_of_op};
-ghost use Rattle.grb_core.specs.Contents.{IsVector, edited_vector};
+ghost use Rattle.grb_core.specs.Entries.{cell_cmp};
+ghost use Rattle.grb_core.specs.Contents.{edited_vector, edited_matrix};
 ghost use Rattle.grb_core.specs.Mask.{is_inside};
 ghost use Rattle.grb_core.specs.Written.{pointwise, written};
-ghost use Rattle.grb_core.specs.Results.{ewise_add, ewise_mult};
-ghost use Rattle.grb_kernels.specs.Typed.{entries_of};
+ghost use Rattle.grb_core.specs.Results.{ewise_add, ewise_mult, turned};
 ghost use Rattle.grb_kernels.specs.Pairing.{paired};
-ghost use Rattle.grb_ewise.specs.Premises.{IsVectorInput, IsVectorOutput};
+ghost use Rattle.grb_ewise.specs.Objects.{IsLike, contents_of_matrix};
+ghost use Rattle.grb_ewise.specs.Premises.{IsMatrixInput, IsMatrixOutput, IsVectorInput, IsVectorOutput};
 
-use crate::stored::{Stored, keep_bools, keep_numbers};
-use crate::writing::write_masked_vector;
+use crate::pairing::pair;
+use crate::transposing::transposed;
+use crate::writing::{write_masked_matrix, write_masked_vector};
 use grb_call::Descriptor;
-use grb_core::{BinaryOp, Domain};
-use grb_kernels::{EntryList, Pairing, pair};
-use grb_sparse::SparseVector;
+use grb_core::BinaryOp;
+use grb_kernels::Pairing;
+use grb_sparse::{SparseMatrix, SparseVector};
 use std::alloc::{AllocError, Global};
-
-/// The entries of two vectors, whose values are of the Rust type `T`, combined by an operator. `AllocError` where memory is refused; then
-/// nothing is made.
-fn pair_typed<T: Stored + Drop>(
-    alloc: Global,
-    pairing: Pairing,
-    op: BinaryOp,
-    u: &SparseVector,
-    v: &SparseVector,
-) -> Result<EntryList<T>, AllocError>
-    requires domain { op_domain op ≡ T.domain }
-    requires u_assembled { u.now.assembled ≡ true }
-    requires v_assembled { v.now.assembled ≡ true }
-    requires u_domain { u.now.vector.domain ≡ op_domain op }
-    requires v_domain { v.now.vector.domain ≡ op_domain op }
-    requires sizes { v.now.vector.size ≡ u.now.vector.size }
-    ensures entries { IfOk result (λ made. entries_of T.value made.indices.items made.values.items ≡ pointwise nat_cmp (paired pairing (value_of_op op)) u.now.vector.entries v.now.vector.entries) }
-    ensures whole { IfOk result (λ made. IsVector (record { domain = T.domain; size = u.now.vector.size; entries = entries_of T.value made.indices.items made.values.items })) }
-{
-    let entries = pair(alloc, pairing, op, &T::lend(u), &T::lend(v))?;
-    Ok(entries)
-}
-
-/// Two vectors combined by an operator of their domain. `AllocError` where memory is refused; then nothing is made.
-pub(crate) fn pair_vectors(
-    alloc: Global,
-    pairing: Pairing,
-    op: BinaryOp,
-    u: &SparseVector,
-    v: &SparseVector,
-) -> Result<SparseVector, AllocError>
-    requires u_assembled { u.now.assembled ≡ true }
-    requires v_assembled { v.now.assembled ≡ true }
-    requires u_domain { u.now.vector.domain ≡ op_domain op }
-    requires v_domain { v.now.vector.domain ≡ op_domain op }
-    requires sizes { v.now.vector.size ≡ u.now.vector.size }
-    ensures vector { IfOk result (λ made. made.vector ≡ edited_vector (λ m. pointwise nat_cmp (paired pairing (value_of_op op)) m v.now.vector.entries) u.now.vector) }
-    ensures whole { IfOk result (λ made. IsVector made.vector) }
-    ensures assembled { IfOk result (λ made. made.assembled ≡ true) }
-{
-    match op.domain() {
-        Domain::Bool => {
-            let entries = pair_typed::<bool>(alloc, pairing, op, u, v)?;
-            let made = keep_bools(alloc, u.dims(), entries)?;
-            Ok(made)
-        }
-        Domain::Uint64 => {
-            let entries = pair_typed::<u64>(alloc, pairing, op, u, v)?;
-            let made = keep_numbers(alloc, u.dims(), entries)?;
-            Ok(made)
-        }
-    }
-}
 
 /// eWiseAdd: over the union of the indices of `u` and `v`, what the operator makes of both values, else the one value; written into
 /// `output` by the accumulator, the mask and the descriptor. `AllocError` where memory is refused; then nothing is made, and `output` is as
@@ -103,7 +52,7 @@ pub fn ewise_add_vector(
     ensures vector { IfOk result (λ made. made.vector ≡ edited_vector (λ w. written nat_cmp (is_inside nat_cmp descriptor.structure descriptor.comp (option_map (λ m. m.now.vector.entries) mask.entry)) descriptor.replace accum w (ewise_add nat_cmp op u.now.vector.entries v.now.vector.entries)) output.now.vector) }
     ensures assembled { IfOk result (λ made. made.assembled ≡ true) }
 {
-    let computed = pair_vectors(alloc, Pairing::Union, op, u, v)?;
+    let computed = pair(alloc, Pairing::Union, op, u, v)?;
     write_masked_vector(alloc, output, mask, accum, descriptor, computed)
 }
 
@@ -137,6 +86,105 @@ pub fn ewise_mult_vector(
     ensures vector { IfOk result (λ made. made.vector ≡ edited_vector (λ w. written nat_cmp (is_inside nat_cmp descriptor.structure descriptor.comp (option_map (λ m. m.now.vector.entries) mask.entry)) descriptor.replace accum w (ewise_mult nat_cmp op u.now.vector.entries v.now.vector.entries)) output.now.vector) }
     ensures assembled { IfOk result (λ made. made.assembled ≡ true) }
 {
-    let computed = pair_vectors(alloc, Pairing::Intersection, op, u, v)?;
+    let computed = pair(alloc, Pairing::Intersection, op, u, v)?;
     write_masked_vector(alloc, output, mask, accum, descriptor, computed)
+}
+
+/// A matrix, transposed where `tran` says so, and another one combined by an operator of their domain. Where it is not, nothing is copied.
+/// `AllocError` where memory is refused; then nothing is made.
+fn pair_turned(
+    alloc: Global,
+    pairing: Pairing,
+    op: BinaryOp,
+    a: &SparseMatrix,
+    b: &SparseMatrix,
+    tran: bool,
+) -> Result<SparseMatrix, AllocError>
+    requires a_assembled { a.now.assembled ≡ true }
+    requires b_assembled { b.now.assembled ≡ true }
+    requires a_domain { a.now.matrix.domain ≡ op_domain op }
+    requires b_domain { b.now.matrix.domain ≡ op_domain op }
+    requires rows { b.now.matrix.nrows ≡ (if tran then a.now.matrix.ncols else a.now.matrix.nrows) }
+    requires columns { b.now.matrix.ncols ≡ (if tran then a.now.matrix.nrows else a.now.matrix.ncols) }
+    ensures { IfOk result (λ made. IsLike (contents_of_matrix b.now) (pointwise cell_cmp (paired pairing (value_of_op op)) (turned tran a.now.matrix.entries) b.now.matrix.entries) (contents_of_matrix made)) }
+{
+    if tran {
+        let first = transposed(alloc, a)?;
+        let of_turned = pair(alloc, pairing, op, &first, b)?;
+        return Ok(of_turned);
+    }
+    let made = pair(alloc, pairing, op, a, b)?;
+    Ok(made)
+}
+
+/// eWiseAdd: over the union of the cells of `a` and `b`, what the operator makes of both values, else the one value; written into `output`
+/// by the accumulator, the mask and the descriptor. `AllocError` where memory is refused; then nothing is made, and `output` is as before.
+///
+/// - `output`: the old output, which is read.
+/// - `mask`: which cells may be written, read as `descriptor` says; `None` for all, or with `comp` for none.
+/// - `accum`: combines the old value and the computed one where both are there; `None` for the computed one alone.
+/// - `op`: makes one value of that of `a` and that of `b`, in this order.
+/// - `a`, `b`: the first and the second input.
+/// - `descriptor`: how the mask is read, whether what lies outside of it is removed, and whether `a` is read transposed.
+///
+/// All are of one domain, the mask aside, and of the same dimensions, those of `a` exchanged where the descriptor says `tran`: then `a`
+/// stands for its transposed, which is made first, as `transposed` does. Else nothing is copied, and time and memory are in proportion to
+/// the stored entries.
+///
+/// Source: GraphBLAS C API 2.0, "eWiseAdd".
+pub fn ewise_add_matrix(
+    alloc: Global,
+    output: &SparseMatrix,
+    mask: Option<&SparseMatrix>,
+    accum: Option<BinaryOp>,
+    op: BinaryOp,
+    a: &SparseMatrix,
+    b: &SparseMatrix,
+    descriptor: Descriptor,
+) -> Result<SparseMatrix, AllocError>
+    requires output { IsMatrixOutput output.now mask accum }
+    requires op_domain { op_domain op ≡ output.now.matrix.domain }
+    requires a { IsMatrixInput descriptor.tran output.now.matrix.domain output.now.matrix.nrows output.now.matrix.ncols a.now }
+    requires b { IsMatrixInput false output.now.matrix.domain output.now.matrix.nrows output.now.matrix.ncols b.now }
+    ensures matrix { IfOk result (λ made. made.matrix ≡ edited_matrix (λ c. written cell_cmp (is_inside cell_cmp descriptor.structure descriptor.comp (option_map (λ m. m.now.matrix.entries) mask.entry)) descriptor.replace accum c (ewise_add cell_cmp op (turned descriptor.tran a.now.matrix.entries) b.now.matrix.entries)) output.now.matrix) }
+    ensures assembled { IfOk result (λ made. made.assembled ≡ true) }
+{
+    let computed = pair_turned(alloc, Pairing::Union, op, a, b, descriptor.tran)?;
+    write_masked_matrix(alloc, output, mask, accum, descriptor, computed)
+}
+
+/// eWiseMult: over the intersection of the cells of `a` and `b`, what the operator makes of both values; written into `output` by the
+/// accumulator, the mask and the descriptor. `AllocError` where memory is refused; then nothing is made, and `output` is as before.
+///
+/// - `output`: the old output, which is read.
+/// - `mask`: which cells may be written, read as `descriptor` says; `None` for all, or with `comp` for none.
+/// - `accum`: combines the old value and the computed one where both are there; `None` for the computed one alone.
+/// - `op`: makes one value of that of `a` and that of `b`, in this order.
+/// - `a`, `b`: the first and the second input.
+/// - `descriptor`: how the mask is read, whether what lies outside of it is removed, and whether `a` is read transposed.
+///
+/// All are of one domain, the mask aside, and of the same dimensions, those of `a` exchanged where the descriptor says `tran`: then `a`
+/// stands for its transposed, which is made first, as `transposed` does. Else nothing is copied, and time and memory are in proportion to
+/// the stored entries.
+///
+/// Source: GraphBLAS C API 2.0, "eWiseMult".
+pub fn ewise_mult_matrix(
+    alloc: Global,
+    output: &SparseMatrix,
+    mask: Option<&SparseMatrix>,
+    accum: Option<BinaryOp>,
+    op: BinaryOp,
+    a: &SparseMatrix,
+    b: &SparseMatrix,
+    descriptor: Descriptor,
+) -> Result<SparseMatrix, AllocError>
+    requires output { IsMatrixOutput output.now mask accum }
+    requires op_domain { op_domain op ≡ output.now.matrix.domain }
+    requires a { IsMatrixInput descriptor.tran output.now.matrix.domain output.now.matrix.nrows output.now.matrix.ncols a.now }
+    requires b { IsMatrixInput false output.now.matrix.domain output.now.matrix.nrows output.now.matrix.ncols b.now }
+    ensures matrix { IfOk result (λ made. made.matrix ≡ edited_matrix (λ c. written cell_cmp (is_inside cell_cmp descriptor.structure descriptor.comp (option_map (λ m. m.now.matrix.entries) mask.entry)) descriptor.replace accum c (ewise_mult cell_cmp op (turned descriptor.tran a.now.matrix.entries) b.now.matrix.entries)) output.now.matrix) }
+    ensures assembled { IfOk result (λ made. made.assembled ≡ true) }
+{
+    let computed = pair_turned(alloc, Pairing::Intersection, op, a, b, descriptor.tran)?;
+    write_masked_matrix(alloc, output, mask, accum, descriptor, computed)
 }

@@ -9,19 +9,17 @@
 #![tactic(auto)]
 
 mod ewise;
-mod ewise_matrix;
+mod objects;
+mod pairing;
 mod ranks;
 mod rows;
 mod stored;
 mod transposing;
 mod typed_rows;
 mod writing;
-mod writing_matrix;
 
-pub use ewise::{ewise_add_vector, ewise_mult_vector};
-pub use ewise_matrix::{ewise_add_matrix, ewise_mult_matrix};
+pub use ewise::{ewise_add_matrix, ewise_add_vector, ewise_mult_matrix, ewise_mult_vector};
 pub use ranks::{distinct, is_worth_opening, place_of, ranks_of};
 pub use stored::{Stored, keep_bools, keep_numbers};
 pub use transposing::transposed;
-pub use writing::write_masked_vector;
-pub use writing_matrix::write_masked_matrix;
+pub use writing::{write_masked_matrix, write_masked_vector};

@@ -1,8 +1,9 @@
 //! Two matrices made into one, row by row.
-ghost use Rattle.std.specs.Prelude.{◌≡◌, ◌+◌, ◌<◌, ◌≤◌, ◌^◌, ◌++◌, [], ◌∷◌, length, take, drop, slice_index, true, false, IsTrue, IfOk};
+ghost use Rattle.std.specs.Prelude.{◌≡◌, ◌+◌, ◌<◌, ◌≤◌, ◌^◌, ◌++◌, [], ◌∷◌, length, take, drop, slice_index, true, false, All, IsTrue, IfOk};
 ghost use Rattle.std.specs.Ordering.{nat_cmp};
 ghost use Rattle.std.specs.FinMap.{is_sorted};
 ghost use Rattle.std.specs.Vec.{vec_len, vec_capacity};
+ghost use Rattle.grb_core.specs.Value.{IsValueOf};
 ghost use Rattle.grb_core.specs.Entries.{cell_cmp};
 ghost use Rattle.grb_core.specs.Written.{pointwise};
 ghost use Rattle.grb_core.specs.Results.{row_of};
@@ -169,6 +170,7 @@ pub(crate) fn merge_rows<T: Stored + Drop, U: Stored, R: Rule<T, U>>(
     ensures entries { IfOk result (λ made. decoded made.entries ≡ pointwise cell_cmp (R.gives rule.now) (decoded a.now.lists.now.entries) (decoded b.now.lists.now.entries)) }
     ensures ordered { IfOk result (λ made. IsTrue (is_sorted cell_cmp (decoded made.entries))) }
     ensures domain { IfOk result (λ made. made.domain ≡ T.domain) }
+    ensures of_domain { IfOk result (λ made. All (λ e. IsValueOf T.domain e.1) (decoded made.entries)) }
 {
     let room = a.lists.len() + b.lists.len();
     let rows_room = a.lists.rows().len() + b.lists.rows().len();
@@ -187,5 +189,6 @@ pub(crate) fn merge_rows<T: Stored + Drop, U: Stored, R: Rule<T, U>>(
     );
     columns.truncate(count);
     values.truncate(count);
+    T::show(values.as_slice());
     Ok(T::keep(rows, starts, columns, values))
 }

@@ -25,13 +25,23 @@ pub trait Stored: Operated {
         ensures same { result ≡ self }
         ensures of_domain { IsValueOf Self.domain (Self.value self) };
 
+    /// All values of a list are ones of the domain. It only shows that.
+    fn show(values: &[Self])
+        ensures { All (λ v. IsValueOf Self.domain (Self.value v)) values.now };
+
     /// The entries of a vector.
     fn lend(vector: &SparseVector) -> EntrySlice<'_, Self>
         requires assembled { vector.now.assembled ≡ true }
         requires domain { vector.now.vector.domain ≡ Self.domain }
         ensures entries { entries_of Self.value result.indices.now result.values.now ≡ vector.now.vector.entries }
         ensures below { All (λ j. j < vector.now.vector.size) result.indices.now }
-        ensures whole { IsVector vector.now.vector };
+        ensures whole { IsVector vector.now.vector }
+    {
+        EntrySlice {
+            indices: vector.indices(),
+            values: Self::of_vector(vector),
+        }
+    }
 
     /// The values of a vector, in the order of their indices.
     fn of_vector(vector: &SparseVector) -> &[Self]
@@ -55,7 +65,13 @@ pub trait Stored: Operated {
         requires at { k < length lists.now.rows }
         requires domain { lists.now.domain ≡ Self.domain }
         requires ordered { IsTrue (is_sorted cell_cmp (decoded lists.now.entries)) }
-        ensures { entries_of Self.value result.indices.now result.values.now ≡ row_of (slice_index lists.now.rows k) (decoded lists.now.entries) };
+        ensures { entries_of Self.value result.indices.now result.values.now ≡ row_of (slice_index lists.now.rows k) (decoded lists.now.entries) }
+    {
+        EntrySlice {
+            indices: lists.row_columns(k),
+            values: Self::of_row(lists, k),
+        }
+    }
 
     /// The flat lists of these rows, where each of them begins, and the column and the value of each entry. They are not copied.
     fn keep(rows: Vec<u32>, starts: Vec<usize>, columns: Vec<u32>, values: Vec<Self>) -> FlatRows
@@ -64,6 +80,18 @@ pub trait Stored: Operated {
         requires ordered { IsTrue (is_sorted cell_cmp (flat_entries Self.value rows.items starts.items columns.items values.items)) }
         ensures entries { decoded result.entries ≡ flat_entries Self.value rows.items starts.items columns.items values.items }
         ensures domain { result.domain ≡ Self.domain };
+
+    /// The vector of `size` that stores these values at these indices. They are not copied. `AllocError` where memory is refused; then the
+    /// lists are dropped.
+    fn keep_entries(
+        alloc: Global,
+        size: u64,
+        indices: Vec<u32>,
+        values: Vec<Self>,
+    ) -> Result<SparseVector, AllocError>
+        requires same { length values.items ≡ length indices.items }
+        requires whole { IsVector (record { domain = Self.domain; size = size; entries = entries_of Self.value indices.items values.items }) }
+        ensures { IfOk result (λ v. v ≡ record { vector = record { domain = Self.domain; size = size; entries = entries_of Self.value indices.items values.items }; assembled = true; reserved = 0; pending = 0 }) };
 
     /// A clone of a value is that value.
     ghost same_clone: { (x y : Self) → Self.is_clone x y → y ≡ x };
@@ -74,12 +102,7 @@ impl Stored for bool {
         self
     }
 
-    fn lend(vector: &SparseVector) -> EntrySlice<'_, bool> {
-        EntrySlice {
-            indices: vector.indices(),
-            values: vector.bools(),
-        }
-    }
+    fn show(_values: &[bool]) {}
 
     fn of_vector(vector: &SparseVector) -> &[bool] {
         vector.bools()
@@ -93,13 +116,6 @@ impl Stored for bool {
         lists.row_bools(k)
     }
 
-    fn row(lists: &FlatRows, k: usize) -> EntrySlice<'_, bool> {
-        EntrySlice {
-            indices: lists.row_columns(k),
-            values: lists.row_bools(k),
-        }
-    }
-
     fn keep(rows: Vec<u32>, starts: Vec<usize>, columns: Vec<u32>, values: Vec<bool>) -> FlatRows
         requires flat { IsFlat rows.items starts.items columns.items }
         requires same { length values.items ≡ length columns.items }
@@ -110,6 +126,19 @@ impl Stored for bool {
         FlatRows::from_bools(rows, starts, columns, values)
     }
 
+    fn keep_entries(
+        alloc: Global,
+        size: u64,
+        indices: Vec<u32>,
+        values: Vec<bool>,
+    ) -> Result<SparseVector, AllocError>
+        requires same { length values.items ≡ length indices.items }
+        requires whole { IsVector (record { domain = domain.Bool; size = size; entries = entries_of (λ b. value.Bool b) indices.items values.items }) }
+        ensures { IfOk result (λ v. v ≡ record { vector = record { domain = domain.Bool; size = size; entries = entries_of (λ b. value.Bool b) indices.items values.items }; assembled = true; reserved = 0; pending = 0 }) }
+    {
+        SparseVector::from_bools(alloc, size, indices, values)
+    }
+
     ghost same_clone = { λ x y e. e };
 }
 
@@ -118,12 +147,7 @@ impl Stored for u64 {
         self
     }
 
-    fn lend(vector: &SparseVector) -> EntrySlice<'_, u64> {
-        EntrySlice {
-            indices: vector.indices(),
-            values: vector.numbers(),
-        }
-    }
+    fn show(_values: &[u64]) {}
 
     fn of_vector(vector: &SparseVector) -> &[u64] {
         vector.numbers()
@@ -137,13 +161,6 @@ impl Stored for u64 {
         lists.row_numbers(k)
     }
 
-    fn row(lists: &FlatRows, k: usize) -> EntrySlice<'_, u64> {
-        EntrySlice {
-            indices: lists.row_columns(k),
-            values: lists.row_numbers(k),
-        }
-    }
-
     fn keep(rows: Vec<u32>, starts: Vec<usize>, columns: Vec<u32>, values: Vec<u64>) -> FlatRows
         requires flat { IsFlat rows.items starts.items columns.items }
         requires same { length values.items ≡ length columns.items }
@@ -152,6 +169,19 @@ impl Stored for u64 {
         ensures domain { result.domain ≡ domain.Uint64 }
     {
         FlatRows::from_numbers(rows, starts, columns, values)
+    }
+
+    fn keep_entries(
+        alloc: Global,
+        size: u64,
+        indices: Vec<u32>,
+        values: Vec<u64>,
+    ) -> Result<SparseVector, AllocError>
+        requires same { length values.items ≡ length indices.items }
+        requires whole { IsVector (record { domain = domain.Uint64; size = size; entries = entries_of (λ n. value.Uint64 n) indices.items values.items }) }
+        ensures { IfOk result (λ v. v ≡ record { vector = record { domain = domain.Uint64; size = size; entries = entries_of (λ n. value.Uint64 n) indices.items values.items }; assembled = true; reserved = 0; pending = 0 }) }
+    {
+        SparseVector::from_numbers(alloc, size, indices, values)
     }
 
     ghost same_clone = { λ x y e. e };
@@ -168,7 +198,7 @@ pub fn keep_bools(
     requires whole { IsVector (record { domain = domain.Bool; size = size; entries = entries_of (λ b. value.Bool b) entries.indices.items entries.values.items }) }
     ensures { IfOk result (λ v. v ≡ record { vector = record { domain = domain.Bool; size = size; entries = entries_of (λ b. value.Bool b) entries.indices.items entries.values.items }; assembled = true; reserved = 0; pending = 0 }) }
 {
-    SparseVector::from_bools(alloc, size, entries.indices, entries.values)
+    bool::keep_entries(alloc, size, entries.indices, entries.values)
 }
 
 /// The vector of these numbers. They are not copied. `AllocError` where memory is refused; then the entries are dropped.
@@ -182,5 +212,5 @@ pub fn keep_numbers(
     requires whole { IsVector (record { domain = domain.Uint64; size = size; entries = entries_of (λ n. value.Uint64 n) entries.indices.items entries.values.items }) }
     ensures { IfOk result (λ v. v ≡ record { vector = record { domain = domain.Uint64; size = size; entries = entries_of (λ n. value.Uint64 n) entries.indices.items entries.values.items }; assembled = true; reserved = 0; pending = 0 }) }
 {
-    SparseVector::from_numbers(alloc, size, entries.indices, entries.values)
+    u64::keep_entries(alloc, size, entries.indices, entries.values)
 }

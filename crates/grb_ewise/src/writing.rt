@@ -1,122 +1,152 @@
-//! How what was computed goes into a vector: the accumulator, and then the mask with replace.
-ghost use Rattle.std.specs.Prelude.{◌≡◌, true, Some, None, IfOk};
+//! How what was computed goes into an object: the accumulator, and then the mask with replace.
+ghost use Rattle.std.specs.Prelude.{◌≡◌, not, true, false, Some, None, IfSome, IfOk};
 ghost use Rattle.std.specs.Ordering.{nat_cmp};
-ghost use Rattle.std.specs.Option.{option_map};
-ghost use Rattle.grb_core.specs.Contents.{IsVector, edited_vector};
+ghost use Rattle.std.specs.Option.{option_map, option_or};
+ghost use Rattle.grb_core.specs.Operator.{op_domain};
+ghost use Rattle.grb_core.specs.Entries.{cell_cmp};
+ghost use Rattle.grb_core.specs.Contents.{edited_vector, edited_matrix};
 ghost use Rattle.grb_core.specs.Mask.{is_inside};
-ghost use Rattle.grb_core.specs.Written.{accumulated, written};
-ghost use Rattle.grb_kernels.specs.Typed.{entries_of};
-ghost use Rattle.grb_ewise.specs.Premises.{IsVectorInput, IsVectorOutput};
+ghost use Rattle.grb_core.specs.Written.{AccumulatesIn, accumulated, pointwise, masked, written};
+ghost use Rattle.grb_kernels.specs.Masked.{by_mask};
+ghost use Rattle.grb_ewise.specs.Objects.{AreAlike, IsLike};
+ghost use Rattle.grb_ewise.specs.Premises.{IsMatrixInput, IsMatrixOutput, IsVectorInput, IsVectorOutput};
 
-use crate::ewise::pair_vectors;
-use crate::stored::{Stored, keep_bools, keep_numbers};
+use crate::objects::SparseObject;
+use crate::pairing::pair;
 use grb_call::Descriptor;
 use grb_core::{BinaryOp, Domain};
-use grb_kernels::{EntryList, MaskReading, Pairing, write};
-use grb_sparse::SparseVector;
+use grb_kernels::{ByMask, Over, Pairing};
+use grb_sparse::{SparseMatrix, SparseVector};
 use std::alloc::{AllocError, Global};
+
+/// The object that an operation writes to, and how it does.
+#[derive(Drop)]
+struct Output<'a, O: SparseObject> {
+    alloc: Global,
+    /// The old output, which is read.
+    old: &'a O,
+    /// Combines the old value and the computed one where both are there; `None` for the computed one alone.
+    accum: Option<BinaryOp>,
+    /// How the mask is read, whether what lies outside of it is removed.
+    descriptor: Descriptor,
+}
+
+/// What a mask selects of an object, or what it does not, as the rule says. `AllocError` where memory is refused; then nothing is made.
+fn select<O: SparseObject>(alloc: Global, rule: ByMask, a: &O, mask: &O) -> Result<O, AllocError>
+    requires alike { AreAlike (O.contents a.now) (O.contents mask.now) }
+    ensures { IfOk result (λ made. IsLike (O.contents a.now) (pointwise O.order (by_mask rule.structure rule.wanted) (O.contents a.now).entries (O.contents mask.now).entries) (O.contents made)) }
+{
+    match (a.stores(), mask.stores()) {
+        (Domain::Bool, Domain::Bool) => O::merged::<bool, bool, ByMask>(alloc, &rule, a, mask),
+        (Domain::Bool, Domain::Uint64) => O::merged::<bool, u64, ByMask>(alloc, &rule, a, mask),
+        (Domain::Uint64, Domain::Bool) => O::merged::<u64, bool, ByMask>(alloc, &rule, a, mask),
+        (Domain::Uint64, Domain::Uint64) => O::merged::<u64, u64, ByMask>(alloc, &rule, a, mask),
+    }
+}
+
+/// The entries of the first object, and those of the second where the first has none. `AllocError` where memory is refused; then nothing
+/// is made.
+fn over<O: SparseObject>(alloc: Global, a: &O, b: &O) -> Result<O, AllocError>
+    requires alike { AreAlike (O.contents a.now) (O.contents b.now) }
+    requires domain { (O.contents b.now).domain ≡ (O.contents a.now).domain }
+    ensures { IfOk result (λ made. IsLike (O.contents a.now) (pointwise O.order option_or (O.contents a.now).entries (O.contents b.now).entries) (O.contents made)) }
+{
+    match a.stores() {
+        Domain::Bool => O::merged::<bool, bool, Over>(alloc, &Over, a, b),
+        Domain::Uint64 => O::merged::<u64, u64, Over>(alloc, &Over, a, b),
+    }
+}
+
+/// What the mask lets in of an object. `AllocError` where memory is refused; then nothing is made.
+fn inside_of<O: SparseObject>(output: &Output<O>, mask: &O, made: &O) -> Result<O, AllocError>
+    requires alike { AreAlike (O.contents made.now) (O.contents mask.now) }
+    ensures { IfOk result (λ new. IsLike (O.contents made.now) (pointwise O.order (by_mask output.now.descriptor.structure (not output.now.descriptor.comp)) (O.contents made.now).entries (O.contents mask.now).entries) (O.contents new)) }
+{
+    let keep_inside = ByMask {
+        structure: output.descriptor.structure,
+        wanted: !output.descriptor.comp,
+    };
+    select(output.alloc, keep_inside, made, mask)
+}
+
+/// The new output by a mask: inside it what `made` has, outside what the old output has, or with replace nothing. `AllocError` where memory
+/// is refused; then nothing is made.
+fn write_by_mask<O: SparseObject>(output: &Output<O>, mask: &O, made: &O) -> Result<O, AllocError>
+    requires mask { AreAlike (O.contents output.now.old.now) (O.contents mask.now) }
+    requires made { AreAlike (O.contents output.now.old.now) (O.contents made.now) }
+    requires domain { (O.contents made.now).domain ≡ (O.contents output.now.old.now).domain }
+    ensures { IfOk result (λ new. IsLike (O.contents output.now.old.now) (masked O.order (is_inside O.order output.now.descriptor.structure output.now.descriptor.comp (Some (O.contents mask.now).entries)) output.now.descriptor.replace (O.contents output.now.old.now).entries (O.contents made.now).entries) (O.contents new)) }
+{
+    let descriptor = output.descriptor;
+    let inside = inside_of(output, mask, made)?;
+    if descriptor.replace {
+        return Ok(inside);
+    }
+    let keep_outside = ByMask {
+        structure: descriptor.structure,
+        wanted: descriptor.comp,
+    };
+    let outside = select(output.alloc, keep_outside, output.old, mask)?;
+    let both = over(output.alloc, &inside, &outside)?;
+    Ok(both)
+}
+
+/// The new output by the accumulator, where what lies outside of the mask stays: what is inside of the result alone goes into the old
+/// output, which is read once. `AllocError` where memory is refused; then nothing is made.
+fn accumulate_inside<O: SparseObject>(
+    output: &Output<O>,
+    op: BinaryOp,
+    mask: &O,
+    computed: &O,
+) -> Result<O, AllocError>
+    requires op_domain { op_domain op ≡ (O.contents output.now.old.now).domain }
+    requires mask { AreAlike (O.contents output.now.old.now) (O.contents mask.now) }
+    requires computed { AreAlike (O.contents output.now.old.now) (O.contents computed.now) }
+    requires domain { (O.contents computed.now).domain ≡ (O.contents output.now.old.now).domain }
+    ensures { IfOk result (λ new. IsLike (O.contents output.now.old.now) (written O.order (is_inside O.order output.now.descriptor.structure output.now.descriptor.comp (Some (O.contents mask.now).entries)) false (Some op) (O.contents output.now.old.now).entries (O.contents computed.now).entries) (O.contents new)) }
+{
+    let inside = inside_of(output, mask, computed)?;
+    let new = pair(output.alloc, Pairing::Union, op, output.old, &inside)?;
+    Ok(new)
+}
+
+/// The new output by the accumulator and then by a mask. `AllocError` where memory is refused; then nothing is made.
+fn write_inside<O: SparseObject>(
+    output: &Output<O>,
+    mask: &O,
+    computed: &O,
+) -> Result<O, AllocError>
+    requires accum { AccumulatesIn (O.contents output.now.old.now).domain output.now.accum }
+    requires mask { AreAlike (O.contents output.now.old.now) (O.contents mask.now) }
+    requires computed { AreAlike (O.contents output.now.old.now) (O.contents computed.now) }
+    requires domain { (O.contents computed.now).domain ≡ (O.contents output.now.old.now).domain }
+    ensures { IfOk result (λ new. IsLike (O.contents output.now.old.now) (written O.order (is_inside O.order output.now.descriptor.structure output.now.descriptor.comp (Some (O.contents mask.now).entries)) output.now.descriptor.replace output.now.accum (O.contents output.now.old.now).entries (O.contents computed.now).entries) (O.contents new)) }
+{
+    match output.accum {
+        None => write_by_mask(output, mask, computed),
+        Some(op) => {
+            if !output.descriptor.replace {
+                return accumulate_inside(output, op, mask, computed);
+            }
+            let made = pair(output.alloc, Pairing::Union, op, output.old, computed)?;
+            let new = write_by_mask(output, mask, &made)?;
+            Ok(new)
+        }
+    }
+}
 
 /// What the accumulator makes of the old output and what was computed; without one that is what was computed itself. `AllocError` where
 /// memory is refused; then `computed` is dropped.
-fn accumulate(
-    alloc: Global,
-    output: &SparseVector,
-    accum: Option<BinaryOp>,
-    computed: SparseVector,
-) -> Result<SparseVector, AllocError>
-    requires output { IsVectorOutput output.now None accum }
-    requires computed { IsVectorInput output.now.vector.domain output.now.vector.size computed }
-    requires whole { IsVector computed.vector }
-    ensures vector { IfOk result (λ made. made.vector ≡ edited_vector (λ w. accumulated nat_cmp accum w computed.vector.entries) output.now.vector) }
-    ensures whole { IfOk result (λ made. IsVector made.vector) }
-    ensures assembled { IfOk result (λ made. made.assembled ≡ true) }
+fn accumulate<O: SparseObject>(output: &Output<O>, computed: O) -> Result<O, AllocError>
+    requires accum { AccumulatesIn (O.contents output.now.old.now).domain output.now.accum }
+    requires computed { AreAlike (O.contents output.now.old.now) (O.contents computed) }
+    requires domain { (O.contents computed).domain ≡ (O.contents output.now.old.now).domain }
+    ensures { IfOk result (λ made. IsLike (O.contents output.now.old.now) (accumulated O.order output.now.accum (O.contents output.now.old.now).entries (O.contents computed).entries) (O.contents made)) }
 {
-    match accum {
+    match output.accum {
         None => Ok(computed),
         Some(op) => {
-            let made = pair_vectors(alloc, Pairing::Union, op, output, &computed)?;
-            Ok(made)
-        }
-    }
-}
-
-/// The entries of the new output by a mask, whose values are of the Rust type `M`, and those of the output of `T`. `AllocError` where
-/// memory is refused; then nothing is made.
-fn write_by<T: Stored + Drop, M: Stored>(
-    alloc: Global,
-    output: &SparseVector,
-    mask: &SparseVector,
-    accum: Option<BinaryOp>,
-    descriptor: Descriptor,
-    computed: &SparseVector,
-) -> Result<EntryList<T>, AllocError>
-    requires output { IsVectorOutput output.now (Some mask) accum }
-    requires computed { IsVectorInput output.now.vector.domain output.now.vector.size computed.now }
-    requires output_domain { output.now.vector.domain ≡ T.domain }
-    requires mask_domain { mask.now.vector.domain ≡ M.domain }
-    ensures entries { IfOk result (λ made. entries_of T.value made.indices.items made.values.items ≡ written nat_cmp (is_inside nat_cmp descriptor.structure descriptor.comp (Some mask.now.vector.entries)) descriptor.replace accum output.now.vector.entries computed.now.vector.entries) }
-    ensures whole { IfOk result (λ made. IsVector (record { domain = T.domain; size = output.now.vector.size; entries = entries_of T.value made.indices.items made.values.items })) }
-{
-    let reading = MaskReading {
-        structure: descriptor.structure,
-        comp: descriptor.comp,
-    };
-    let entries = write(
-        alloc,
-        accum,
-        reading,
-        descriptor.replace,
-        &M::lend(mask),
-        &T::lend(output),
-        &T::lend(computed),
-    )?;
-    Ok(entries)
-}
-
-/// The same by a mask of either domain. `AllocError` where memory is refused; then nothing is made.
-fn write_typed<T: Stored + Drop>(
-    alloc: Global,
-    output: &SparseVector,
-    mask: &SparseVector,
-    accum: Option<BinaryOp>,
-    descriptor: Descriptor,
-    computed: &SparseVector,
-) -> Result<EntryList<T>, AllocError>
-    requires output { IsVectorOutput output.now (Some mask) accum }
-    requires computed { IsVectorInput output.now.vector.domain output.now.vector.size computed.now }
-    requires output_domain { output.now.vector.domain ≡ T.domain }
-    ensures entries { IfOk result (λ made. entries_of T.value made.indices.items made.values.items ≡ written nat_cmp (is_inside nat_cmp descriptor.structure descriptor.comp (Some mask.now.vector.entries)) descriptor.replace accum output.now.vector.entries computed.now.vector.entries) }
-    ensures whole { IfOk result (λ made. IsVector (record { domain = T.domain; size = output.now.vector.size; entries = entries_of T.value made.indices.items made.values.items })) }
-{
-    match mask.domain() {
-        Domain::Bool => write_by::<T, bool>(alloc, output, mask, accum, descriptor, computed),
-        Domain::Uint64 => write_by::<T, u64>(alloc, output, mask, accum, descriptor, computed),
-    }
-}
-
-/// The new output by a mask. `AllocError` where memory is refused; then nothing is made.
-fn write_with_mask(
-    alloc: Global,
-    output: &SparseVector,
-    mask: &SparseVector,
-    accum: Option<BinaryOp>,
-    descriptor: Descriptor,
-    computed: &SparseVector,
-) -> Result<SparseVector, AllocError>
-    requires output { IsVectorOutput output.now (Some mask) accum }
-    requires computed { IsVectorInput output.now.vector.domain output.now.vector.size computed.now }
-    ensures vector { IfOk result (λ made. made.vector ≡ edited_vector (λ w. written nat_cmp (is_inside nat_cmp descriptor.structure descriptor.comp (Some mask.now.vector.entries)) descriptor.replace accum w computed.now.vector.entries) output.now.vector) }
-    ensures assembled { IfOk result (λ made. made.assembled ≡ true) }
-{
-    match output.domain() {
-        Domain::Bool => {
-            let entries = write_typed::<bool>(alloc, output, mask, accum, descriptor, computed)?;
-            let made = keep_bools(alloc, output.dims(), entries)?;
-            Ok(made)
-        }
-        Domain::Uint64 => {
-            let entries = write_typed::<u64>(alloc, output, mask, accum, descriptor, computed)?;
-            let made = keep_numbers(alloc, output.dims(), entries)?;
+            let made = pair(output.alloc, Pairing::Union, op, output.old, &computed)?;
             Ok(made)
         }
     }
@@ -124,29 +154,42 @@ fn write_with_mask(
 
 /// The new output where there is no mask: all is inside, or with the complement nothing. `AllocError` where memory is refused; then
 /// `computed` is dropped, and the old output is as before.
-fn write_unmasked(
-    alloc: Global,
-    output: &SparseVector,
-    accum: Option<BinaryOp>,
-    descriptor: Descriptor,
-    computed: SparseVector,
-) -> Result<SparseVector, AllocError>
-    requires output { IsVectorOutput output.now None accum }
-    requires computed { IsVectorInput output.now.vector.domain output.now.vector.size computed }
-    requires whole { IsVector computed.vector }
-    ensures vector { IfOk result (λ made. made.vector ≡ edited_vector (λ w. written nat_cmp (is_inside nat_cmp descriptor.structure descriptor.comp None) descriptor.replace accum w computed.vector.entries) output.now.vector) }
-    ensures assembled { IfOk result (λ made. made.assembled ≡ true) }
+fn write_unmasked<O: SparseObject>(output: &Output<O>, computed: O) -> Result<O, AllocError>
+    requires accum { AccumulatesIn (O.contents output.now.old.now).domain output.now.accum }
+    requires computed { AreAlike (O.contents output.now.old.now) (O.contents computed) }
+    requires domain { (O.contents computed).domain ≡ (O.contents output.now.old.now).domain }
+    ensures { IfOk result (λ new. IsLike (O.contents output.now.old.now) (written O.order (is_inside O.order output.now.descriptor.structure output.now.descriptor.comp None) output.now.descriptor.replace output.now.accum (O.contents output.now.old.now).entries (O.contents computed).entries) (O.contents new)) }
 {
-    let size = output.dims();
+    // What was computed is in order, as every object is.
+    computed.stores();
+    let descriptor = output.descriptor;
     if !descriptor.comp {
-        let made = accumulate(alloc, output, accum, computed)?;
+        let made = accumulate(output, computed)?;
         return Ok(made);
     }
     if descriptor.replace {
-        return Ok(SparseVector::new(alloc, output.domain(), size));
+        return Ok(output.old.emptied(output.alloc));
     }
-    let same = output.try_clone()?;
+    let same = output.old.copied()?;
     Ok(same)
+}
+
+/// The new output of an operation that computed `computed`. `AllocError` where memory is refused; then nothing is made.
+fn write<O: SparseObject>(
+    output: &Output<O>,
+    mask: Option<&O>,
+    computed: O,
+) -> Result<O, AllocError>
+    requires accum { AccumulatesIn (O.contents output.now.old.now).domain output.now.accum }
+    requires mask { IfSome mask (λ m. AreAlike (O.contents output.now.old.now) (O.contents m.now)) }
+    requires computed { AreAlike (O.contents output.now.old.now) (O.contents computed) }
+    requires domain { (O.contents computed).domain ≡ (O.contents output.now.old.now).domain }
+    ensures { IfOk result (λ new. IsLike (O.contents output.now.old.now) (written O.order (is_inside O.order output.now.descriptor.structure output.now.descriptor.comp (option_map (λ m. (O.contents m.now).entries) mask.entry)) output.now.descriptor.replace output.now.accum (O.contents output.now.old.now).entries (O.contents computed).entries) (O.contents new)) }
+{
+    match mask {
+        None => write_unmasked(output, computed),
+        Some(mask) => write_inside(output, mask, &computed),
+    }
 }
 
 /// The new output of an operation that computed `computed`: inside the mask what the accumulator makes of the old output and what was
@@ -177,10 +220,50 @@ pub fn write_masked_vector(
     ensures vector { IfOk result (λ made. made.vector ≡ edited_vector (λ w. written nat_cmp (is_inside nat_cmp descriptor.structure descriptor.comp (option_map (λ m. m.now.vector.entries) mask.entry)) descriptor.replace accum w computed.vector.entries) output.now.vector) }
     ensures assembled { IfOk result (λ made. made.assembled ≡ true) }
 {
-    // What was computed is whole, as every vector is.
-    computed.dims();
-    match mask {
-        None => write_unmasked(alloc, output, accum, descriptor, computed),
-        Some(mask) => write_with_mask(alloc, output, mask, accum, descriptor, &computed),
-    }
+    let output = Output {
+        alloc,
+        old: output,
+        accum,
+        descriptor,
+    };
+    let new = write(&output, mask, computed)?;
+    Ok(new)
+}
+
+/// The new output of an operation that computed `computed`: inside the mask what the accumulator makes of the old output and what was
+/// computed, outside it what the old output has, or with replace nothing. `AllocError` where memory is refused; then nothing is made, and
+/// `output` is as before.
+///
+/// - `output`: the old output, which is read.
+/// - `mask`: which cells may be written, read as `descriptor` says; `None` for all, or with `comp` for none.
+/// - `accum`: combines the old value and the computed one where both are there; `None` for the computed one alone.
+/// - `descriptor`: how the mask is read, whether what lies outside of it is removed.
+/// - `computed`: what the operation made; it is dropped where memory is refused.
+///
+/// All are of one domain, the mask aside, and of the same dimensions. Without a mask and an accumulator the answer is `computed`
+/// itself. Else time and memory are in proportion to the stored entries of the three.
+///
+/// Source: GraphBLAS C API 2.0, "Masks", "Descriptors", and the accumulator in each operation. That the complement of no mask has no
+/// cell inside is our own.
+pub fn write_masked_matrix(
+    alloc: Global,
+    output: &SparseMatrix,
+    mask: Option<&SparseMatrix>,
+    accum: Option<BinaryOp>,
+    descriptor: Descriptor,
+    computed: SparseMatrix,
+) -> Result<SparseMatrix, AllocError>
+    requires output { IsMatrixOutput output.now mask accum }
+    requires computed { IsMatrixInput false output.now.matrix.domain output.now.matrix.nrows output.now.matrix.ncols computed }
+    ensures matrix { IfOk result (λ made. made.matrix ≡ edited_matrix (λ c. written cell_cmp (is_inside cell_cmp descriptor.structure descriptor.comp (option_map (λ m. m.now.matrix.entries) mask.entry)) descriptor.replace accum c computed.matrix.entries) output.now.matrix) }
+    ensures assembled { IfOk result (λ made. made.assembled ≡ true) }
+{
+    let output = Output {
+        alloc,
+        old: output,
+        accum,
+        descriptor,
+    };
+    let new = write(&output, mask, computed)?;
+    Ok(new)
 }

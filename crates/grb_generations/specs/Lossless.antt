@@ -10,14 +10,14 @@ use Rattle.grb_context.specs.Laws.{ShareCalls}
 use Rattle.grb_context.specs.Succeeding.{BeginsWith}
 
 -- Where a pass knows as many calls as there is room for, and a pass of a further store begins with the store that these leave: whatever any other
--- pass of the full store knows, at any step of its order, also a later one, the further store is what that and some calls behind it leave
+-- pass of the full store knows, at any step of its order, also a later one, the further store is what that and some calls after it leave
 abbrev pub NothingIsLost : Type 0
 NothingIsLost =
     (size : Size) (s : Row) → Orderly size s → (i j : ℕ) (context : Shared) (p q : Knowing) → HasPlace s i p.view → HasPlace s j q.view → IsKnown context p → IsKnown context q
     → ShareCalls p.shown q.shown → length (known p) ≡ room_of context.order
     → (further : Shared) (number : ℕ) (new : Knowing) → BeginsWith further (store_of (known p)) number new → (rest : History) × (store_of (known new) ≡ store_of (known q ++ rest))
 
--- one later generation: a pass as it was when it began, and the calls that were entered in it behind those that made the store anew
+-- one later generation: a pass as it was when it began, and the calls that were entered in it after those that made the store anew
 pub record Later : Type 0 where
   pub first : Knowing
   pub entered : History

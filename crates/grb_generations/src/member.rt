@@ -297,10 +297,10 @@ impl Member {
         ensures refused { IfErr result (IsNoSuccessor (self.old.chain.room - 1) (store_of (known self.old.pass))) }
     {
         let generations: &Generations = &self.generations;
-        let asked = self
+        let trial = self
             .context
             .succeed(generations.alloc, &mut self.pass, 1, 1);
-        match asked {
+        match trial {
             Err(NoSuccessor::RoomTooSmall { needed }) => {
                 if needed < u64::from(generations.room) {
                     return Ok(());

@@ -16,6 +16,7 @@ use Rattle.grb_kernels.proofs.Fronts.{pointwise-left, pointwise-right, pointwise
 use Rattle.std.proofs.Common.{get_or}
 use Rattle.std.proofs.lemmas.Bool.{cases_eq, cases_lt}
 use Rattle.grb_kernels.specs.Typed.{entries_from}
+use Rattle.grb_kernels.specs.Rests.{lone}
 use Rattle.grb_kernels.proofs.Lists.{before-append, append_nil, from-read, from-all}
 
 -- the two maps, and what is left of them with the result so far
@@ -88,10 +89,6 @@ module _ (f : Option Value → Option Value → Option Value) (none : f None Non
         (pointwise-both nat_cmp_total nat_cmp-IsAntisymmetric f none p x y rest_a rest_b (first _ _ m.a_ordered) (first _ _ m.b_ordered)) ∙ m.so_far;
   }
 
--- nothing is left of both
-pub merged : (f : Option Value → Option Value → Option Value) (total out : VectorEntries) → IsMerging f total [] [] out → out ≡ total
-merged f total out m = sym (append_nil out) ∙ m.so_far
-
 -- one after the other, where the rest of both was written
 pub written_out : (f : Option Value → Option Value → Option Value) (total rest_a rest_b out out' : VectorEntries)
     → out' ≡ out ++ pointwise nat_cmp f rest_a rest_b → IsMerging f total rest_a rest_b out → out' ≡ total
@@ -100,11 +97,6 @@ written_out f total rest_a rest_b out out' e m = e ∙ m.so_far
 -- both are at an end where none is left
 at_none : {f : Option Value → Option Value → Option Value} {total la lb la' lb' out : VectorEntries} → la ≡ la' → lb ≡ lb' → IsMerging f total la lb out → IsMerging f total la' lb' out
 at_none {f} {total} {la} {lb} {la'} {lb'} {out} p q m = subst (λ w. IsMerging f total la' w out) q (subst (λ w. IsMerging f total w lb out) p m)
-
--- nothing is left of two lists of which nothing is left
-pub ended : (f : Option Value → Option Value → Option Value) (total rest_a rest_b out : VectorEntries)
-    → rest_a ≡ [] → rest_b ≡ [] → IsMerging f total rest_a rest_b out → out ≡ total
-ended f total rest_a rest_b out p q m = merged f total out (at_none p q m)
 
 -- nothing more is written
 pub nothing_more : (out m : VectorEntries) → m ≡ [] → out ≡ out ++ m
@@ -163,55 +155,53 @@ sorted-pointwise f a b = to_true _ (is_sorted-pointwise nat_cmp_total nat_cmp-Is
     to_true true h = refl
     to_true false h = absurd h
 
-module _ {V : Type 0} (tv : V → Value) (f : Option Value → Option Value → Option Value) (none : f None None ≡ None) (total out out' : VectorEntries)
-    (cs : List ℕ) (vs : List V) (i : ℕ) (x : V) (w : Option Value) (hi : i < length cs) (same : length cs ≡ length vs) (xi : x ≡ get_or vs i x)
-    (e : out' ≡ out ++ before_entries (get_or cs i 0) w []) where
-  -- one more of the rest of the first list
-  pub rest_left : IsMerging f total (entries_from tv i cs vs) [] out → w ≡ f (Some (tv x)) None → IsMerging f total (entries_from tv (i + 1) cs vs) [] out'
-  rest_left m is =
-      step_left f none total out (get_or cs i 0) (tv x) (entries_from tv (i + 1) cs vs) [] out' (at_none (from-read tv cs vs i x hi same xi) refl m) tt
-      (e ∙ ap (λ v. out ++ before_entries (get_or cs i 0) v []) is)
-
-  -- and of the second
-  pub rest_right : IsMerging f total [] (entries_from tv i cs vs) out → w ≡ f None (Some (tv x)) → IsMerging f total [] (entries_from tv (i + 1) cs vs) out'
-  rest_right m is =
-      step_right f none total out (get_or cs i 0) (tv x) [] (entries_from tv (i + 1) cs vs) out' (at_none refl (from-read tv cs vs i x hi same xi) m) tt
-      (e ∙ ap (λ v. out ++ before_entries (get_or cs i 0) v []) is)
-
 -- what a merge gives is in order
 pub rising_of : (f : Option Value → Option Value → Option Value) (a b out : VectorEntries) → out ≡ pointwise nat_cmp f a b → IsTrue (is_sorted nat_cmp out)
 rising_of f a b out e = subst (λ m. IsTrue (is_sorted nat_cmp m)) (sym e) (sorted-pointwise f a b)
 
-module _ (f : Option Value → Option Value → Option Value) (none : f None None ≡ None) where
-  -- nothing is kept of one map alone
-  pub kept_none_left : ((x : Value) → f (Some x) None ≡ None) → (a : VectorEntries) → IsTrue (is_sorted nat_cmp a) → pointwise nat_cmp f a [] ≡ []
-  kept_none_left h [] s = refl
-  kept_none_left h (e ∷ a) s =
-      pointwise-left nat_cmp_total nat_cmp-IsAntisymmetric f none e.0 e.1 a [] (first _ _ s) tt
-      ∙ ap (λ w. before_entries e.0 w (pointwise nat_cmp f a [])) (h e.1)
-      ∙ kept_none_left h a (second _ _ s)
+-- one more of the rest of a map
+pub lone_on : (g : Option Value → Option Value) (out out' : VectorEntries) (p : ℕ) (x : Value) (w : Option Value) (rest m : VectorEntries)
+    → rest ≡ (p, x) ∷ m → w ≡ g (Some x) → out' ≡ out ++ before_entries p w [] → out' ++ lone g m ≡ out ++ lone g rest
+lone_on g out out' p x w rest m r is e =
+    ap (λ o. o ++ lone g m) e ∙ append_assoc out (before_entries p w []) (lone g m)
+    ∙ ap (λ t. out ++ t) (before-append p w (lone g m) ∙ ap (λ v. before_entries p v (lone g m)) is ∙ sym (ap (lone g) r))
 
-  pub kept_none_right : ((y : Value) → f None (Some y) ≡ None) → (b : VectorEntries) → IsTrue (is_sorted nat_cmp b) → pointwise nat_cmp f [] b ≡ []
-  kept_none_right h [] s = refl
-  kept_none_right h (e ∷ b) s =
+-- nothing is kept of it
+pub lone_none : (g : Option Value → Option Value) → ((x : Value) → g (Some x) ≡ None) → (m : VectorEntries) → lone g m ≡ []
+lone_none g h [] = refl
+lone_none g h (e ∷ m) = ap (λ w. before_entries e.0 w (lone g m)) (h e.1) ∙ lone_none g h m
+
+module _ (f : Option Value → Option Value → Option Value) (none : f None None ≡ None) where
+  -- a map with one that has nothing is the rest of it
+  pub lone_left : (a : VectorEntries) → IsTrue (is_sorted nat_cmp a) → pointwise nat_cmp f a [] ≡ lone (λ x. f x None) a
+  lone_left [] s = refl
+  lone_left (e ∷ a) s =
+      pointwise-left nat_cmp_total nat_cmp-IsAntisymmetric f none e.0 e.1 a [] (first _ _ s) tt
+      ∙ ap (before_entries e.0 (f (Some e.1) None)) (lone_left a (second _ _ s))
+
+  pub lone_right : (b : VectorEntries) → IsTrue (is_sorted nat_cmp b) → pointwise nat_cmp f [] b ≡ lone (λ y. f None y) b
+  lone_right [] s = refl
+  lone_right (e ∷ b) s =
       pointwise-right nat_cmp_total nat_cmp-IsAntisymmetric f none e.0 e.1 [] b tt (first _ _ s)
-      ∙ ap (λ w. before_entries e.0 w (pointwise nat_cmp f [] b)) (h e.1)
-      ∙ kept_none_right h b (second _ _ s)
+      ∙ ap (before_entries e.0 (f None (Some e.1))) (lone_right b (second _ _ s))
 
 -- the rest of both, one after the other, where one of them has nothing left
-pub finished : {V W : Type 0} (tv : V → Value) (uv : W → Value) (f : Option Value → Option Value → Option Value) (out out' out'' : VectorEntries)
+pub finished : {V W : Type 0} (tv : V → Value) (uv : W → Value) (f : Option Value → Option Value → Option Value) → f None None ≡ None → (out out' out'' : VectorEntries)
     (ac : List ℕ) (av : List V) (bc : List ℕ) (bv : List W) (i j : ℕ) → (i < length ac → length bc ≤ j)
-    → out' ≡ out ++ pointwise nat_cmp f (entries_from tv i ac av) []
-    → out'' ≡ out' ++ pointwise nat_cmp f [] (entries_from uv j bc bv)
+    → IsTrue (is_sorted nat_cmp (entries_from tv i ac av)) → IsTrue (is_sorted nat_cmp (entries_from uv j bc bv))
+    → out' ≡ out ++ lone (λ x. f x None) (entries_from tv i ac av)
+    → out'' ≡ out' ++ lone (λ y. f None y) (entries_from uv j bc bv)
     → out'' ≡ out ++ pointwise nat_cmp f (entries_from tv i ac av) (entries_from uv j bc bv)
-finished tv uv f out out' out'' ac av bc bv i j one e g =
+finished tv uv f z out out' out'' ac av bc bv i j one s t e g =
     elim (cases_lt i (length ac)) [
       | inl h ↦
           let none : entries_from uv j bc bv ≡ [] = from-all uv bc bv j (one h) in
-          g ∙ ap (λ m. out' ++ pointwise nat_cmp f [] m) none ∙ append_nil out' ∙ e
+          g ∙ ap (λ m. out' ++ lone (λ y. f None y) m) none ∙ append_nil out' ∙ e
+          ∙ ap (λ m. out ++ m) (sym (lone_left f z (entries_from tv i ac av) s))
           ∙ ap (λ m. out ++ pointwise nat_cmp f (entries_from tv i ac av) m) (sym none)
       | inr h ↦
           let none : entries_from tv i ac av ≡ [] = from-all tv ac av i (omega arith) in
-          g ∙ ap (λ m. m ++ pointwise nat_cmp f [] (entries_from uv j bc bv)) (e ∙ ap (λ m. out ++ pointwise nat_cmp f m []) none ∙ append_nil out)
+          g ∙ ap (λ m. m ++ lone (λ y. f None y) (entries_from uv j bc bv)) (e ∙ ap (λ m. out ++ lone (λ x. f x None) m) none ∙ append_nil out)
+          ∙ ap (λ m. out ++ m) (sym (lone_right f z (entries_from uv j bc bv) t))
           ∙ ap (λ m. out ++ pointwise nat_cmp f m (entries_from uv j bc bv)) (sym none)
     ]

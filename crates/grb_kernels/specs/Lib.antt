@@ -1,3 +1,4 @@
 pub mod Typed
 pub mod Masked
 pub mod Pairing
+pub mod Rests

@@ -40,13 +40,7 @@ impl Operated for bool {
             BinaryOp::Lxnor => made.by::<Lxnor>(),
             BinaryOp::FirstBool => made.by::<FirstBool>(),
             BinaryOp::SecondBool => made.by::<SecondBool>(),
-            BinaryOp::Plus
-            | BinaryOp::Times
-            | BinaryOp::Min
-            | BinaryOp::Max
-            | BinaryOp::Minus
-            | BinaryOp::First
-            | BinaryOp::Second => unreachable!(),
+            _ => unreachable!(),
         }
     }
 }
@@ -61,12 +55,7 @@ impl Operated for u64 {
             BinaryOp::Minus => made.by::<Minus>(),
             BinaryOp::First => made.by::<First>(),
             BinaryOp::Second => made.by::<Second>(),
-            BinaryOp::Lor
-            | BinaryOp::Land
-            | BinaryOp::Lxor
-            | BinaryOp::Lxnor
-            | BinaryOp::FirstBool
-            | BinaryOp::SecondBool => unreachable!(),
+            _ => unreachable!(),
         }
     }
 }

@@ -12,7 +12,6 @@ pub mod operators;
 mod pairing;
 mod rules;
 mod scalar;
-mod writing;
 
 pub use choice::{ByOperator, Operated};
 pub use list::{EntryList, EntrySlice};
@@ -21,7 +20,6 @@ pub use operators::{
     First, FirstBool, Land, Lor, Lxnor, Lxor, Max, Min, Minus, Operator, Plus, Second, SecondBool,
     Times,
 };
-pub use pairing::{Pairing, pair};
+pub use pairing::Pairing;
 pub use rules::{Both, ByMask, Either, Over};
 pub use scalar::{Scalar, chosen};
-pub use writing::{MaskReading, write, write_masked};

@@ -6,6 +6,7 @@ ghost use Rattle.grb_core.specs.declared.value.Value.{Value};
 ghost use Rattle.grb_core.specs.Entries.{before_entries};
 ghost use Rattle.grb_core.specs.Written.{pointwise};
 ghost use Rattle.grb_kernels.specs.Typed.{kept, entries_of, first_entries, entries_from};
+ghost use Rattle.grb_kernels.specs.Rests.{lone};
 
 use crate::list::{EntryList, EntrySlice};
 use crate::scalar::Scalar;
@@ -16,14 +17,6 @@ pub trait Rule<T: Scalar, U: Scalar> {
     /// The value there, if there is one.
     ghost gives: { Self → Option Value → Option Value → Option Value };
 
-    /// At an index of the first map alone: a value, and whether it is kept.
-    fn left(&self, x: T) -> (T, bool)
-        ensures { kept (T.value result.0) result.1 ≡ gives self.now (Some (T.value x)) None };
-
-    /// At an index of the second map alone.
-    fn right(&self, y: U) -> (T, bool)
-        ensures { kept (T.value result.0) result.1 ≡ gives self.now None (Some (U.value y)) };
-
     /// At an index of one map or of both: `here` and `there` say whether the first and the second store a value. Written with
     /// selects, since which of the two it is would be a branch like the toss of a coin.
     fn pick(&self, x: T, here: bool, y: U, there: bool) -> (T, bool)
@@ -31,11 +24,17 @@ pub trait Rule<T: Scalar, U: Scalar> {
 
     /// Whether anything is kept of the first map alone: where not, what is left of it is not read.
     fn keeps_left(&self) -> bool
-        ensures { result ≡ false → (x : Value) → gives self.now (Some x) None ≡ None };
+        ensures { result ≡ false → (x : Value) → gives self.now (Some x) None ≡ None }
+    {
+        true
+    }
 
     /// Whether anything is kept of the second map alone.
     fn keeps_right(&self) -> bool
-        ensures { result ≡ false → (y : Value) → gives self.now None (Some y) ≡ None };
+        ensures { result ≡ false → (y : Value) → gives self.now None (Some y) ≡ None }
+    {
+        true
+    }
 
     /// Where neither stores a value there is none.
     ghost none: { (rule : Self) → gives rule None None ≡ None };
@@ -103,64 +102,76 @@ fn advance(p: u32, q: u32) -> usize
     usize::from(p <= q)
 }
 
-/// Writes what the rule keeps of the rest of the first list, from `i` on, after the first `k` entries of a result.
-fn finish_left<T: Scalar, U: Scalar, R: Rule<T, U>>(
+/// One of the two maps that a rule is for, where the other one has come to its end. Its values are of the Rust type `X`.
+trait Rest<T: Scalar, U: Scalar, X: Scalar> {
+    /// What is made of it alone by what is made of both.
+    ghost alone: { (Option Value → Option Value → Option Value) → Option Value → Option Value };
+
+    /// At an index of this map alone: a value, and whether it is kept.
+    fn pick<R: Rule<T, U>>(rule: &R, x: X) -> (T, bool)
+        ensures { kept (T.value result.0) result.1 ≡ alone (R.gives rule.now) (Some (X.value x)) };
+
+    /// Whether anything is kept of it.
+    fn is_kept<R: Rule<T, U>>(rule: &R) -> bool
+        ensures { result ≡ false → (x : Value) → alone (R.gives rule.now) (Some x) ≡ None };
+}
+
+/// The rest of the first map.
+struct FirstRest;
+
+impl<T: Scalar, U: Scalar> Rest<T, U, T> for FirstRest {
+    ghost alone = { λ f x. f x None };
+
+    fn pick<R: Rule<T, U>>(rule: &R, x: T) -> (T, bool) {
+        rule.pick(x, true, U::any(), false)
+    }
+
+    fn is_kept<R: Rule<T, U>>(rule: &R) -> bool {
+        rule.keeps_left()
+    }
+}
+
+/// The rest of the second map.
+struct SecondRest;
+
+impl<T: Scalar, U: Scalar> Rest<T, U, U> for SecondRest {
+    ghost alone = { λ f y. f None y };
+
+    fn pick<R: Rule<T, U>>(rule: &R, y: U) -> (T, bool) {
+        rule.pick(T::any(), false, y, true)
+    }
+
+    fn is_kept<R: Rule<T, U>>(rule: &R) -> bool {
+        rule.keeps_right()
+    }
+}
+
+/// Writes what the rule keeps of the rest of a list, from `i` on, after the first `k` entries of a result.
+fn finish_rest<T: Scalar, U: Scalar, X: Scalar, R: Rule<T, U>, S: Rest<T, U, X>>(
     rule: &R,
-    ac: &[u32],
-    av: &[T],
+    cs: &[u32],
+    vs: &[X],
     i: usize,
     columns: &mut [u32],
     values: &mut [T],
     k: usize,
 ) -> usize
-    requires a { length ac.now ≡ length av.now }
-    requires left { i ≤ length ac.now }
-    requires a_rising { IsTrue (is_sorted nat_cmp (entries_from T.value i ac.now av.now)) }
-    requires room { k + length ac.now ≤ length columns.old + i }
+    requires list { length cs.now ≡ length vs.now }
+    requires within { i ≤ length cs.now }
+    requires room { k + length cs.now ≤ length columns.old + i }
     requires same { length columns.old ≡ length values.old }
-    ensures entries { first_entries T.value result columns.new values.new ≡ first_entries T.value k columns.old values.old ++ pointwise nat_cmp (R.gives rule.now) (entries_from T.value i ac.now av.now) [] }
-    ensures most { result + i ≤ k + length ac.now }
+    ensures entries { first_entries T.value result columns.new values.new ≡ first_entries T.value k columns.old values.old ++ lone (S.alone (R.gives rule.now)) (entries_from X.value i cs.now vs.now) }
+    ensures most { result + i ≤ k + length cs.now }
 {
-    if !rule.keeps_left() {
+    if !S::is_kept(rule) {
         return k;
     }
     let mut i = i;
     let mut k = k;
-    'left: while i < ac.len() {
-        let (value, keep) = rule.left(av[i]);
-        k = emit(columns, values, k, ac[i], value, keep);
+    'rest: while i < cs.len() {
+        let (value, keep) = S::pick(rule, vs[i]);
+        k = emit(columns, values, k, cs[i], value, keep);
         i += 1;
-    }
-    k
-}
-
-/// The same of the second list.
-fn finish_right<T: Scalar, U: Scalar, R: Rule<T, U>>(
-    rule: &R,
-    bc: &[u32],
-    bv: &[U],
-    j: usize,
-    columns: &mut [u32],
-    values: &mut [T],
-    k: usize,
-) -> usize
-    requires b { length bc.now ≡ length bv.now }
-    requires right { j ≤ length bc.now }
-    requires b_rising { IsTrue (is_sorted nat_cmp (entries_from U.value j bc.now bv.now)) }
-    requires room { k + length bc.now ≤ length columns.old + j }
-    requires same { length columns.old ≡ length values.old }
-    ensures entries { first_entries T.value result columns.new values.new ≡ first_entries T.value k columns.old values.old ++ pointwise nat_cmp (R.gives rule.now) [] (entries_from U.value j bc.now bv.now) }
-    ensures most { result + j ≤ k + length bc.now }
-{
-    if !rule.keeps_right() {
-        return k;
-    }
-    let mut j = j;
-    let mut k = k;
-    'right: while j < bc.len() {
-        let (value, keep) = rule.right(bv[j]);
-        k = emit(columns, values, k, bc[j], value, keep);
-        j += 1;
     }
     k
 }
@@ -191,8 +202,8 @@ fn finish<T: Scalar, U: Scalar, R: Rule<T, U>>(
     ensures entries { first_entries T.value result columns.new values.new ≡ first_entries T.value k columns.old values.old ++ pointwise nat_cmp (R.gives rule.now) (entries_from T.value i ac.now av.now) (entries_from U.value j bc.now bv.now) }
     ensures most { result ≤ length ac.now + length bc.now }
 {
-    let k = finish_left(rule, ac, av, i, columns, values, k);
-    finish_right(rule, bc, bv, j, columns, values, k)
+    let k = finish_rest::<T, U, T, R, FirstRest>(rule, ac, av, i, columns, values, k);
+    finish_rest::<T, U, U, R, SecondRest>(rule, bc, bv, j, columns, values, k)
 }
 
 /// The map that the rule makes of two others, written to the front of `columns` and `values`. Answers how many entries it has.

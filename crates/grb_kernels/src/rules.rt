@@ -21,26 +21,10 @@ pub struct Either<O> {
 impl<T: Scalar, O: Operator<T>> Rule<T, T> for Either<O> {
     ghost gives = { λ rule. either_value (value_of_op O.op) };
 
-    fn left(&self, x: T) -> (T, bool) {
-        (x, true)
-    }
-
-    fn right(&self, y: T) -> (T, bool) {
-        (y, true)
-    }
-
     fn pick(&self, x: T, here: bool, y: T, there: bool) -> (T, bool) {
         let both = O::apply(x, y);
         let first = chosen(there, both, x);
         (chosen(here, first, y), here | there)
-    }
-
-    fn keeps_left(&self) -> bool {
-        true
-    }
-
-    fn keeps_right(&self) -> bool {
-        true
     }
 
     ghost none = { λ rule. refl };
@@ -55,14 +39,6 @@ pub struct Both<O> {
 
 impl<T: Scalar, O: Operator<T>> Rule<T, T> for Both<O> {
     ghost gives = { λ rule. both_values (value_of_op O.op) };
-
-    fn left(&self, x: T) -> (T, bool) {
-        (x, false)
-    }
-
-    fn right(&self, y: T) -> (T, bool) {
-        (y, false)
-    }
 
     fn pick(&self, x: T, here: bool, y: T, there: bool) -> (T, bool) {
         (O::apply(x, y), here & there)
@@ -86,24 +62,8 @@ pub struct Over;
 impl<T: Scalar> Rule<T, T> for Over {
     ghost gives = { λ rule. option_or };
 
-    fn left(&self, x: T) -> (T, bool) {
-        (x, true)
-    }
-
-    fn right(&self, y: T) -> (T, bool) {
-        (y, true)
-    }
-
     fn pick(&self, x: T, here: bool, y: T, there: bool) -> (T, bool) {
         (chosen(here, x, y), here | there)
-    }
-
-    fn keeps_left(&self) -> bool {
-        true
-    }
-
-    fn keeps_right(&self) -> bool {
-        true
     }
 
     ghost none = { λ rule. refl };
@@ -120,14 +80,6 @@ pub struct ByMask {
 
 impl<T: Scalar, M: Scalar> Rule<T, M> for ByMask {
     ghost gives = { λ rule. by_mask rule.structure rule.wanted };
-
-    fn left(&self, x: T) -> (T, bool) {
-        (x, !self.wanted)
-    }
-
-    fn right(&self, _y: M) -> (T, bool) {
-        (T::any(), false)
-    }
 
     fn pick(&self, x: T, here: bool, y: M, there: bool) -> (T, bool) {
         let lets_in = there & (self.structure | y.is_true());

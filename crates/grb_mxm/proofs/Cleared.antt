@@ -1,12 +1,13 @@
 -- Sums put back to the identity, and marks that there are not.
 use Rattle.std.proofs.Common.{◌≡◌, ◌≢◌, ℕ, zero, suc, ◌+◌, ◌-◌, ◌*◌, ◌<◌, ◌≤◌, Bool, true, false, List, [], ◌∷◌, refl, sym, ap, subst, ◌∙◌, arith, length, get_or, set, inl, inr}
 use Rattle.std.specs.Prelude.{Some, None}
+use Rattle.std.proofs.Math.ListN.{replicate}
 use Rattle.std.proofs.lemmas.Bool.{cases_lt, cases_eq}
 use Rattle.std.proofs.lemmas.List.{get_or-set_same, get_or-set_other}
 use Rattle.grb_core.specs.declared.value.Value.{Value}
 use Rattle.grb_kernels.specs.Typed.{kept}
 use Rattle.grb_products.specs.Open.{marked_at}
-use Rattle.grb_mxm.specs.Bits.{has_bit, value_at, AreMarks, HoldUnmarked}
+use Rattle.grb_mxm.specs.Bits.{has_bit, value_at, AreMarks, HoldAll, HoldUnmarked}
 
 pub none_marked : {V : Type 0} (value : V → Value) (ms : List Bool) (vs : List V) → ((j : ℕ) → get_or ms j false ≡ false) → (j : ℕ) → marked_at value ms vs j ≡ None
 none_marked value [] vs h j = refl
@@ -27,7 +28,19 @@ module _ {V : Type 0} (value : V → Value) where
   value-set_other (s ∷ ss) (suc k) zero x n = refl
   value-set_other (s ∷ ss) (suc k) (suc j) x n = value-set_other ss k j x (λ e. n (ap suc e))
 
+-- each of many is the one that they repeat
+pub replicate-at : {V : Type 0} (n : ℕ) (x : V) (p : ℕ) → get_or (replicate n x) p x ≡ x
+replicate-at zero x p = refl
+replicate-at (suc n) x zero = refl
+replicate-at (suc n) x (suc p) = replicate-at n x p
+
 module _ {V : Type 0} (value : V → Value) (v : Value) where
+  -- as many of one value
+  pub hold_all-replicate : (n : ℕ) (x : V) → value x ≡ v → HoldAll value v (replicate n x)
+  hold_all-replicate zero x is p h = absurd (omega (arith, h))
+  hold_all-replicate (suc n) x is zero h = ap Some is
+  hold_all-replicate (suc n) x is (suc p) h = hold_all-replicate n x is p (omega (arith, h))
+
   -- a bit that is gone has a cleared sum
   pub cleared_here : (bit bit' : ℕ → Bool) (ss : List V) (base low t : ℕ) (x : V) → t < 64 → base + low < length ss → value x ≡ v → ((i : ℕ) → i < 64 → i ≢ low → bit' i ≡ bit i)
       → (bit t ≡ false → value_at value ss (base + t) ≡ Some v) → bit' t ≡ false → value_at value (set ss (base + low) x) (base + t) ≡ Some v

@@ -56,13 +56,6 @@ pub either_none : (f : Value → Value → Value) (o : Option Value) (mul : Valu
 either_none f o mul xv = either_nothing f o
 
 -- one more place is marked, which is allowed
-pub among_set : (ms al : List Bool) (q : ℕ) → get_or al q false ≡ true → AreAmong ms al → AreAmong (set ms q true) al
-among_set ms al q here was p h =
-    elim (cases_eq p q) [
-      | inl e ↦ ap (λ k. get_or al k false) e ∙ here
-      | inr n ↦ was p (sym (get_or-set_other ms q p true false n) ∙ h)
-    ]
-
 module _ (ms al : List Bool) (q : ℕ) (inside : q < length al) (in_marks : q < length ms) where
   -- a place goes, from the marks and from what is allowed
   pub among_gone : AreAmong ms al → AreAmong (set ms q false) (set al q false)

@@ -1,6 +1,6 @@
 -- Columns that are their own names, and how many places rise below a number.
-use Rattle.std.proofs.Common.{◌≡◌, ℕ, ◌+◌, ◌<◌, ◌≤◌, Bool, true, false, List, [], ◌∷◌, length, get_or, set, inl, inr, refl, ap, sym, subst, ◌∙◌, arith}
-use Rattle.std.specs.Prelude.{◌&&◌, map, IsTrue, All}
+use Rattle.std.proofs.Common.{◌≡◌, ℕ, ◌+◌, ◌<◌, ◌≤◌, Bool, true, false, List, [], ◌∷◌, length, get_or, set, inl, inr, refl, ap, sym, ◌∙◌, arith}
+use Rattle.std.specs.Prelude.{◌&&◌, map, IsTrue}
 use Rattle.std.specs.List.{AllByRecursion}
 use Rattle.std.specs.Ordering.{nat_cmp, is_lt}
 use Rattle.std.specs.FinMap.{is_sorted}
@@ -12,7 +12,6 @@ use lib.Dec.{T}
 use Rattle.grb_core.specs.declared.value.Value.{Value}
 use Rattle.grb_core.specs.Entries.{VectorEntries}
 use Rattle.grb_kernels.specs.Typed.{entries_of}
-use Rattle.grb_ewise.specs.Ranks.{Rise}
 use Rattle.grb_mxm.specs.Rows.{name_in, renamed}
 use Rattle.grb_mxm.proofs.Renamed.{holds, passes}
 
@@ -33,18 +32,9 @@ own_step names p inside was q l =
     ]
 
 -- each number below is its own name
-pub own-rise : (names : List ℕ) (n : ℕ) → length names ≡ n → ((p : ℕ) → p < n → get_or names p 0 ≡ p) → Rise names
-own-rise names n long each i j l u =
-    let a = each i (omega (arith, l, u, long)) in
-    let b = each j (omega (arith, u, long)) in
-    omega (arith, a, b, l)
-
 pub own-named : (names : List ℕ) (n : ℕ) (columns : List ℕ) → ((p : ℕ) → p < n → get_or names p 0 ≡ p) → AllByRecursion (λ j. j < n) columns → map (name_in names) columns ≡ columns
 own-named names n [] each h = refl
 own-named names n (j ∷ columns) each h = ap (λ k. k ∷ map (name_in names) columns) (each j h.0) ∙ ap (λ (t : List ℕ). j ∷ t) (own-named names n columns each h.1)
-
-pub below_long : (m n : ℕ) → m ≡ n → (columns : List ℕ) → All (λ j. j < n) columns → All (λ j. j < m) columns
-below_long m n e columns h = subst (λ k. All (λ j. j < k) columns) (sym e) h
 
 less_of : (k l : ℕ) → T (is_lt (nat_cmp k l)) → k < l
 less_of k l h = let e : is_lt (nat_cmp k l) ≡ true = passes _ h in grind (arith, nat_tests)

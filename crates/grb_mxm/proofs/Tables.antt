@@ -1,10 +1,8 @@
 -- Places of rows by their numbers, in a table.
-use Rattle.std.proofs.Common.{◌≡◌, ℕ, ◌+◌, ◌<◌, ◌≤◌, List, length, get_or, set, ap, sym, ◌∙◌, arith, inl, inr}
+use Rattle.std.proofs.Common.{◌≡◌, ℕ, ◌+◌, ◌<◌, List, length, get_or, set, ap, sym, ◌∙◌, arith, inl, inr}
 use Rattle.std.proofs.lemmas.Bool.{cases_eq}
 use Rattle.std.proofs.lemmas.List.{get_or-set_same, get_or-set_other}
 use Rattle.grb_ewise.specs.Ranks.{Rise}
-use Rattle.grb_mxm.specs.Rows.{IsTable}
-use Rattle.grb_ewise.proofs.RankLemmas.{rise_weakly}
 
 -- different rows have different numbers
 other_row : (rows : List ℕ) → Rise rows → (j k : ℕ) → j < k → k < length rows → get_or rows j 0 ≡ get_or rows k 0 → ⊥
@@ -20,13 +18,3 @@ table_step rows table k rise l inside was j u =
           let under : j < k = omega (arith, u, n) in
           get_or-set_other table (get_or rows k 0) (get_or rows j 0) k 0 (other_row rows rise j k under l) ∙ was j under
     ]
-
--- a row has its number's place
-pub tabled_place : (rows table : List ℕ) (number k : ℕ) → IsTable rows table → k < length rows → get_or rows k 0 ≡ number → (number < length table) × (get_or table number 0 ≡ k)
-tabled_place rows table number k is l e =
-    let at = is k l in
-    let below = at.0 in
-    (omega (arith, below, e), ap (λ i. get_or table i 0) (sym e) ∙ at.1)
-
-pub up_to_last : (rows : List ℕ) → Rise rows → (last : ℕ) → last + 1 ≡ length rows → (k : ℕ) → k < length rows → get_or rows k 0 ≤ get_or rows last 0
-up_to_last rows rise last e k l = rise_weakly rows rise k last (omega (arith, e, l)) (omega (arith, e))

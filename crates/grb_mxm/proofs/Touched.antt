@@ -17,17 +17,6 @@ none_touched words touched none = record {
 }
 
 module _ (words touched : List ℕ) (n q new : ℕ) (was : AreTouched words touched n) where
-  -- a word that had a bit already gets one more, or the list is full
-  pub touched_again : (n < length touched → 0 < get_or words q 0) → AreTouched (set words q new) touched n
-  touched_again listed = record {
-    room = was.room;
-    inside = subst (λ m. All (λ w. w < m) (take n touched)) (sym (length-set words q new)) was.inside;
-    all = λ h w set. elim (cases_eq w q) [
-      | inl e ↦ subst (Contains (take n touched)) (sym e) (was.all h q (listed h))
-      | inr other ↦ was.all h w (subst (λ x. 0 < x) (get_or-set_other words q w new 0 other) set)
-    ];
-  }
-
   -- a word gets its first bit
   pub touched_more : n < length touched → q < length words → AreTouched (set words q new) (set touched n q) (n + 1)
   touched_more h inside =

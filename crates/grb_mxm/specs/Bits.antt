@@ -1,9 +1,15 @@
 -- inside: no public contract names it. Values picked by the bits of a word (own): bit t of the word stands for the place base + t.
-use Rattle.std.specs.Prelude.{ℕ, zero, suc, ◌+◌, ◌*◌, ◌/◌, ◌%◌, ◌<◌, ◌≤◌, ◌≡◌, Bool, true, false, slice_index, slice_index_or, length, take, nat_eq, if◌then◌else◌, List, [], ◌∷◌, Option, Some, None, All}
+use Rattle.std.specs.Prelude.{ℕ, zero, suc, ◌+◌, ◌*◌, ◌/◌, ◌%◌, ◌^◌, ◌<◌, ◌≤◌, ◌≡◌, Bool, true, false, slice_index, slice_index_or, length, take, nat_eq, if◌then◌else◌, List, [], ◌∷◌, Option, Some, None, All, map}
 use Rattle.std.specs.List.{Contains}
 use Rattle.std.specs.Int.{bit_at}
+use Rattle.std.specs.Ordering.{nat_cmp}
+use Rattle.std.specs.FinMap.{find}
 use Rattle.grb_core.specs.declared.value.Value.{Value}
 use Rattle.grb_core.specs.Entries.{VectorEntries, before_entries}
+use Rattle.grb_core.specs.Mask.{selects}
+use Rattle.grb_kernels.specs.Typed.{first_entries}
+use Rattle.grb_mxm.specs.Rows.{name_in}
+use Rattle.grb_mxm.specs.Open.{marked_from}
 
 -- the bit is set
 abbrev pub has_bit : ℕ → ℕ → Bool
@@ -63,8 +69,58 @@ AreAmong marks allowed = (p : ℕ) → slice_index_or marks p false ≡ true →
 abbrev pub StandsIn : List ℕ → ℕ → Type 0
 StandsIn places p = (k : ℕ) × (k < length places) × (slice_index places k ≡ p)
 
--- memory to work in at one row of this many places: room for a sum and for an entry at each
-pub record IsRoom {V : Type 0} (count : ℕ) (sums : List V) (columns : List ℕ) (values : List V) : Type 0 where
+-- sums of this many places and the bits of their marks, where nothing lies open
+pub record IsCleared {V : Type 0} (value : V → Value) (v : Value) (count : ℕ) (sums : List V) (words : List ℕ) : Type 0 where
   pub long : length sums ≡ count
-  pub columns_long : length columns ≡ count
-  pub values_long : length values ≡ count
+  pub enough : count ≤ 64 * length words
+  pub words_few : length words ≤ 2 ^ 58
+  pub none : (w : ℕ) → slice_index words w ≡ 0
+  pub clear : HoldAll value v sums
+
+-- sums of this many places and their marks, where nothing lies open and nothing is allowed
+pub record IsUnmarked {V : Type 0} (value : V → Value) (v : Value) (count : ℕ) (sums : List V) (marks allowed : List Bool) : Type 0 where
+  pub long : length sums ≡ count
+  pub marks_long : length marks ≡ count
+  pub allowed_long : length allowed ≡ count
+  pub none : (p : ℕ) → slice_index_or marks p false ≡ false
+  pub none_allowed : (p : ℕ) → slice_index_or allowed p false ≡ false
+  pub clear : HoldUnmarked value v marks sums
+
+-- sums of which some lie open, and room for them as entries at these names
+pub record AreOpen {V : Type 0} (value : V → Value) (v : Value) (words : List ℕ) (sums : List V) (names columns : List ℕ) (values : List V) : Type 0 where
+  pub bits : AreMarks (marks_of (length sums) words) words
+  pub words_few : length words ≤ 2 ^ 58
+  pub enough : length sums ≤ 64 * length words
+  pub clear : HoldUnmarked value v (marks_of (length sums) words) sums
+  pub named : length sums ≡ length names
+  pub room : length sums ≤ length columns
+  pub room_same : length columns ≡ length values
+
+-- those that lay open are the first n entries, and nothing lies open
+pub record AreTaken {V : Type 0} (value : V → Value) (v : Value) (words : List ℕ) (sums : List V) (names : List ℕ) (n : ℕ) (words' : List ℕ) (sums' : List V) (columns : List ℕ) (values : List V) : Type 0 where
+  pub entries : first_entries value n columns values ≡ marked_from value (name_in names) 0 (marks_of (length sums) words) sums
+  pub most : n ≤ length sums
+  pub ready : IsCleared value v (length names) sums' words'
+
+-- sums and the bits of their marks; the first `count` of a list are the words that have a bit, unless they fill it
+pub record AreOpenSums {V : Type 0} (value : V → Value) (v : Value) (sums : List V) (words touched : List ℕ) (count : ℕ) : Type 0 where
+  pub enough : length sums ≤ 64 * length words
+  pub words_few : length words ≤ 2 ^ 58
+  pub bits : AreMarks (marks_of (length sums) words) words
+  pub clear : HoldUnmarked value v (marks_of (length sums) words) sums
+  pub listed : AreTouched words touched count
+
+-- sums and their marks, which are at places that are allowed alone
+pub record AreAllowedSums {V : Type 0} (value : V → Value) (v : Value) (sums : List V) (marks allowed : List Bool) : Type 0 where
+  pub marks_long : length marks ≡ length sums
+  pub allowed_long : length allowed ≡ length marks
+  pub among : AreAmong marks allowed
+  pub clear : HoldUnmarked value v marks sums
+
+-- the marks are at what a mask's row selects, by these places of its entries
+pub record AreSelected (names : List ℕ) (structure : Bool) (row : VectorEntries) (marks : List Bool) (places : List ℕ) : Type 0 where
+  pub allowed : (p : ℕ) → p < length names → slice_index_or marks p false ≡ selects structure (find nat_cmp (name_in names p) row)
+  pub in_range : All (λ p. p < length names) places
+  pub named : map (name_in names) places ≡ map (λ e. e.0) row
+  pub picked : (p : ℕ) → slice_index_or marks p false ≡ true → StandsIn places p
+  pub few : length places ≤ length names

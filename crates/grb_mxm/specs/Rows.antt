@@ -35,6 +35,11 @@ abbrev pub selected_product : SemiringParts → Bool → Option MatrixEntries �
 selected_product s structure None a b = mxm_of s a b
 selected_product s structure (Some mask) a b = restricted (is_selected cell_cmp structure (Some mask)) (mxm_of s a b)
 
+-- the columns that a mask stores, entry by entry; none, where there is no mask
+abbrev pub columns_in : Option MatrixEntries → List ℕ
+columns_in None = []
+columns_in (Some mask) = map (λ e. e.0.1) mask
+
 -- the mask that bounds the work: none, where its complement is meant
 abbrev pub bounding : Bool → Option MatrixEntries → Option MatrixEntries
 bounding comp mask = if comp then None else mask

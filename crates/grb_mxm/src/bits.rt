@@ -1,11 +1,10 @@
 //! The marks of a row of sums as the bits of words, so that a row is read in order and cleared by what was marked. While few words have a
 //! bit they are listed, so that a row of a few sums looks at those words alone.
-ghost use Rattle.std.specs.Prelude.{◌≡◌, ◌+◌, ◌<◌, ◌≤◌, ◌≢◌, ◌^◌, ◌*◌, ◌++◌, ℕ, Bool, List, length, slice_set, slice_index, true, false, Some};
+ghost use Rattle.std.specs.Prelude.{◌≡◌, ◌+◌, ◌<◌, ◌≤◌, ◌≢◌, ◌*◌, ◌++◌, ℕ, Bool, List, length, slice_set, true, false, Some};
 ghost use Rattle.grb_core.specs.Monoid.{identity_of};
 ghost use Rattle.grb_kernels.specs.Typed.{first_entries};
 ghost use Rattle.grb_mxm.specs.Rows.{name_in};
-ghost use Rattle.grb_mxm.specs.Bits.{has_bit, value_at, bits_from, marks_of, AreMarks, HoldAll, HoldUnmarked, AreWords, ListTouched, AreTouched};
-ghost use Rattle.grb_mxm.specs.Open.{marked_from};
+ghost use Rattle.grb_mxm.specs.Bits.{has_bit, value_at, bits_from, AreMarks, AreWords, ListTouched, AreTouched, AreOpen, AreTaken};
 
 use grb_kernels::Scalar;
 use grb_products::MonoidOver;
@@ -73,24 +72,15 @@ fn take_word<T: Scalar, M: MonoidOver<T>>(
 
 /// Writes the sums as entries, by rising column, where the bits of `words` are set. Takes the bits away, and puts the identity in place of
 /// the sums. Answers how many entries there are.
-pub(crate) fn take_words<T: Scalar, M: MonoidOver<T>>(
+fn take_words<T: Scalar, M: MonoidOver<T>>(
     words: &mut [u64],
     names: &[u32],
     sums: &mut [T],
     columns: &mut [u32],
     values: &mut [T],
 ) -> usize
-    requires bits { AreMarks (marks_of (length sums.old) words.old) words.old }
-    requires words_few { length words.old ≤ 2 ^ 58 }
-    requires named { length sums.old ≡ length names.now }
-    requires room { length sums.old ≤ length columns.old }
-    requires room_same { length columns.old ≡ length values.old }
-    requires enough { length sums.old ≤ 64 * length words.old }
-    requires clear { HoldUnmarked T.value (identity_of M.monoid) (marks_of (length sums.old) words.old) sums.old }
-    ensures entries { first_entries T.value result columns.new values.new ≡ marked_from T.value (name_in names.now) 0 (marks_of (length sums.old) words.old) sums.old }
-    ensures most { result ≤ length sums.old }
-    ensures none { (w : ℕ) → slice_index words.new w ≡ 0 }
-    ensures clear { HoldAll T.value (identity_of M.monoid) sums.new }
+    requires sound { AreOpen T.value (identity_of M.monoid) words.old sums.old names.now columns.old values.old }
+    ensures { AreTaken T.value (identity_of M.monoid) words.old sums.old names.now result words.new sums.new columns.new values.new }
 {
     let mut k = 0;
     'words: for w in 0..words.len() {
@@ -102,7 +92,7 @@ pub(crate) fn take_words<T: Scalar, M: MonoidOver<T>>(
 
 /// Writes and clears as `take_words` does, and looks at no word but those that are listed, among which is each that has a bit. Sorts the
 /// list, and passes over a number that it has a second time.
-pub(crate) fn take_listed<T: Scalar, M: MonoidOver<T>>(
+fn take_listed<T: Scalar, M: MonoidOver<T>>(
     words: &mut [u64],
     listed: &mut [usize],
     names: &[u32],
@@ -112,17 +102,8 @@ pub(crate) fn take_listed<T: Scalar, M: MonoidOver<T>>(
 ) -> usize
     requires inside { AreWords words.old listed.old }
     requires all { ListTouched words.old listed.old }
-    requires bits { AreMarks (marks_of (length sums.old) words.old) words.old }
-    requires words_few { length words.old ≤ 2 ^ 58 }
-    requires named { length sums.old ≡ length names.now }
-    requires room { length sums.old ≤ length columns.old }
-    requires room_same { length columns.old ≡ length values.old }
-    requires enough { length sums.old ≤ 64 * length words.old }
-    requires clear { HoldUnmarked T.value (identity_of M.monoid) (marks_of (length sums.old) words.old) sums.old }
-    ensures entries { first_entries T.value result columns.new values.new ≡ marked_from T.value (name_in names.now) 0 (marks_of (length sums.old) words.old) sums.old }
-    ensures most { result ≤ length sums.old }
-    ensures none { (w : ℕ) → slice_index words.new w ≡ 0 }
-    ensures clear { HoldAll T.value (identity_of M.monoid) sums.new }
+    requires sound { AreOpen T.value (identity_of M.monoid) words.old sums.old names.now columns.old values.old }
+    ensures { AreTaken T.value (identity_of M.monoid) words.old sums.old names.now result words.new sums.new columns.new values.new }
 {
     listed.sort_unstable();
     let mut k = 0;
@@ -138,6 +119,27 @@ pub(crate) fn take_listed<T: Scalar, M: MonoidOver<T>>(
         next = w + 1;
     }
     k
+}
+
+/// Writes and clears as `take_words` does. The first `count` of `touched` list the words that have a bit, unless they fill it: then all words
+/// are looked at.
+pub(crate) fn take_row<T: Scalar, M: MonoidOver<T>>(
+    names: &[u32],
+    words: &mut [u64],
+    touched: &mut [usize],
+    count: usize,
+    sums: &mut [T],
+    columns: &mut [u32],
+    values: &mut [T],
+) -> usize
+    requires listed { AreTouched words.old touched.old count }
+    requires sound { AreOpen T.value (identity_of M.monoid) words.old sums.old names.now columns.old values.old }
+    ensures { AreTaken T.value (identity_of M.monoid) words.old sums.old names.now result words.new sums.new columns.new values.new }
+{
+    if count < touched.len() {
+        return take_listed::<T, M>(words, &mut touched[..count], names, sums, columns, values);
+    }
+    take_words::<T, M>(words, names, sums, columns, values)
 }
 
 /// Sets the bit of a place: each list of marks that the words have is marked there. A word that had no bit is put after the first `count`
@@ -156,13 +158,4 @@ pub(crate) fn mark(words: &mut [u64], touched: &mut [usize], count: usize, at: u
         return count + 1;
     }
     count
-}
-
-/// Puts the identity at each place.
-pub(crate) fn clear_all<T: Scalar, M: MonoidOver<T>>(sums: &mut [T])
-    ensures { HoldAll T.value (identity_of M.monoid) sums.new }
-{
-    'places: for i in 0..sums.len() {
-        sums[i] = M::identity();
-    }
 }

@@ -5,18 +5,18 @@
 //! which the caller owes, and nothing here knows of stores or threads.
 #![tactic(auto)]
 
+mod allowed_sums;
 mod bits;
+mod factors;
 mod gustavson;
 mod mask_rows;
-mod masked;
 mod masked_rows;
-mod masked_whole;
-mod multiply;
+mod mxm_product;
+mod open_sums;
 mod places;
 mod ranked;
 mod ranks;
-mod room;
 mod rows;
-mod whole;
+mod whole_rows;
 
-pub use multiply::mxm;
+pub use mxm_product::mxm;

@@ -1,5 +1,5 @@
 //! The rows of a mask, by the ranks of their columns.
-ghost use Rattle.std.specs.Prelude.{◌≡◌, ◌<◌, ◌≤◌, ℕ, length, map, slice_index, slice_index_or, All, IsTrue, true, false};
+ghost use Rattle.std.specs.Prelude.{◌≡◌, ◌<◌, ℕ, length, map, slice_index, slice_index_or, All, IsTrue, false};
 ghost use Rattle.std.specs.Ordering.{nat_cmp};
 ghost use Rattle.std.specs.FinMap.{is_sorted, find};
 ghost use Rattle.grb_core.specs.Entries.{cell_cmp};
@@ -9,7 +9,7 @@ ghost use Rattle.grb_kernels.specs.Typed.{entries_of};
 ghost use Rattle.grb_rows.specs.Cells.{decoded};
 ghost use Rattle.grb_ewise.specs.Ranks.{Rise};
 ghost use Rattle.grb_mxm.specs.Rows.{name_in};
-ghost use Rattle.grb_mxm.specs.Bits.{StandsIn};
+ghost use Rattle.grb_mxm.specs.Bits.{AreSelected};
 
 use crate::ranked::row_at;
 use grb_core::Domain;
@@ -50,11 +50,7 @@ impl<'a> MaskRows<'a> {
         requires domain { self.now.lists.now.domain ≡ U.domain }
         requires room { length allowed.old ≡ length self.now.names.now }
         requires none { (p : ℕ) → slice_index_or allowed.old p false ≡ false }
-        ensures allowed { (p : ℕ) → p < length self.now.names.now → slice_index_or allowed.new p false ≡ selects self.now.structure (find nat_cmp (name_in self.now.names.now p) (row_of (slice_index self.now.lists.now.rows k) (decoded self.now.lists.now.entries))) }
-        ensures in_range { All (λ p. p < length self.now.names.now) result.now }
-        ensures named { map (name_in self.now.names.now) result.now ≡ map (λ e. e.0) (row_of (slice_index self.now.lists.now.rows k) (decoded self.now.lists.now.entries)) }
-        ensures picked { (p : ℕ) → slice_index_or allowed.new p false ≡ true → StandsIn result.now p }
-        ensures few { length result.now ≤ length self.now.names.now }
+        ensures { AreSelected self.now.names.now self.now.structure (row_of (slice_index self.now.lists.now.rows k) (decoded self.now.lists.now.entries)) allowed.new result.now }
     {
         let row = row_at::<U>(self.lists, self.ranks, self.names, k);
         allow_entries(row.indices, row.values, self.structure, allowed);
@@ -62,19 +58,17 @@ impl<'a> MaskRows<'a> {
     }
 
     /// Marks the places that the `k`th row selects. Answers the places of its entries.
-    pub(crate) fn allow(&self, k: usize, allowed: &mut [bool]) -> &'a [u32]
+    pub(crate) fn allow(&self, k: usize, allowed: &mut Vec<bool>) -> &'a [u32]
         requires at { k < length self.now.lists.now.rows }
-        requires room { length allowed.old ≡ length self.now.names.now }
-        requires none { (p : ℕ) → slice_index_or allowed.old p false ≡ false }
-        ensures allowed { (p : ℕ) → p < length self.now.names.now → slice_index_or allowed.new p false ≡ selects self.now.structure (find nat_cmp (name_in self.now.names.now p) (row_of (slice_index self.now.lists.now.rows k) (decoded self.now.lists.now.entries))) }
-        ensures in_range { All (λ p. p < length self.now.names.now) result.now }
-        ensures named { map (name_in self.now.names.now) result.now ≡ map (λ e. e.0) (row_of (slice_index self.now.lists.now.rows k) (decoded self.now.lists.now.entries)) }
-        ensures picked { (p : ℕ) → slice_index_or allowed.new p false ≡ true → StandsIn result.now p }
-        ensures few { length result.now ≤ length self.now.names.now }
+        requires room { length allowed.old.items ≡ length self.now.names.now }
+        requires none { (p : ℕ) → slice_index_or allowed.old.items p false ≡ false }
+        ensures long { length allowed.new.items ≡ length allowed.old.items }
+        ensures selected { AreSelected self.now.names.now self.now.structure (row_of (slice_index self.now.lists.now.rows k) (decoded self.now.lists.now.entries)) allowed.new.items result.now }
     {
+        let places = allowed.as_mut_slice();
         match self.lists.domain() {
-            Domain::Bool => self.allow_typed::<bool>(k, allowed),
-            Domain::Uint64 => self.allow_typed::<u64>(k, allowed),
+            Domain::Bool => self.allow_typed::<bool>(k, places),
+            Domain::Uint64 => self.allow_typed::<u64>(k, places),
         }
     }
 }

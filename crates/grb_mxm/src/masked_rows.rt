@@ -1,31 +1,35 @@
-//! The product of two matrices at the cells that a mask selects, by the rows of the mask.
-ghost use Rattle.std.specs.Prelude.{◌≡◌, ◌<◌, ◌≤◌, ℕ, length, false, Some, IfOk, slice_index, slice_index_or};
+//! The rows of the product of two matrices at the cells that a mask selects, by the rows of the mask.
+ghost use Rattle.std.specs.Prelude.{◌≡◌, ◌<◌, length, Some, IfOk};
 ghost use Rattle.grb_core.specs.Monoid.{identity_of};
 ghost use Rattle.grb_core.specs.Results.{row_of};
 ghost use Rattle.grb_kernels.specs.Typed.{entries_of};
 ghost use Rattle.grb_rows.specs.Cells.{decoded};
 ghost use Rattle.grb_mxm.specs.Rows.{AreRows, IsTable, selected_product};
-ghost use Rattle.grb_mxm.specs.Bits.{HoldUnmarked};
+ghost use Rattle.grb_mxm.specs.Bits.{IsUnmarked};
 
+use crate::allowed_sums::{AllowedSums, take_picked};
+use crate::gustavson::sum_row;
 use crate::mask_rows::MaskRows;
-use crate::masked::multiply_masked_row;
-use crate::places::place_in;
+use crate::places::{place_in, table_of};
 use crate::ranked::RankedRows;
-use crate::rows::{MadeRows, push_row};
+use crate::rows::{MadeRows, RowMaker, make_rows};
 use grb_ewise::Stored;
 use grb_kernels::{EntrySlice, Operator};
 use grb_products::{MatrixRows, MonoidOver};
 use std::alloc::{AllocError, Global};
+use std::marker::PhantomData;
 
-/// The `k`th row that has entries.
-fn row_placed<'a, T: Stored>(rows: &MatrixRows<'a, T>, k: usize) -> EntrySlice<'a, T>
-    requires at { k < length rows.now.lists.now.rows }
-    ensures { entries_of T.value result.indices.now result.values.now ≡ row_of (slice_index rows.now.lists.now.rows k) (decoded rows.now.lists.now.entries) }
-{
-    EntrySlice {
-        indices: rows.lists.row_columns(k),
-        values: T::of_row(rows.lists, k),
-    }
+/// The cells of the product of two matrices that a mask selects. The rows of the mask are read, and of the first matrix those alone in
+/// which the mask stores something; `table` has their places, or is empty.
+#[derive(Drop)]
+struct MaskedRows<'a, T: Stored, M, O> {
+    a: &'a MatrixRows<'a, T>,
+    table: &'a [u32],
+    b: &'a RankedRows<'a, T>,
+    mask: &'a MaskRows<'a>,
+    of: PhantomData<(M, O)>,
+    ghost tabled: { 0 < length table.now → IsTable a.now.lists.now.rows table.now },
+    ghost names: { mask.now.names.now ≡ b.now.names.now },
 }
 
 /// The row of a number; no entries, where it stores nothing.
@@ -38,7 +42,7 @@ fn row_numbered<'a, T: Stored>(
     ensures { entries_of T.value result.indices.now result.values.now ≡ row_of number (decoded rows.now.lists.now.entries) }
 {
     if let Some(k) = place_in(rows.lists.rows(), table, number) {
-        return row_placed(&*rows, k);
+        return T::row(rows.lists, k);
     }
     EntrySlice {
         indices: &[],
@@ -46,66 +50,79 @@ fn row_numbered<'a, T: Stored>(
     }
 }
 
-/// The product of two matrices at the cells that a mask selects, with memory to work in. Takes memory for the result. It reads the rows of
-/// the mask, and of the first matrix those alone in which the mask stores something. `AllocError` where that is refused; what the work
-/// arrays hold then, no clause says.
-pub(crate) fn multiply_masked_rows<T: Stored + Drop, M: MonoidOver<T>, O: Operator<T>>(
+impl<'a, T: Stored + Drop, M: MonoidOver<T>, O: Operator<T>> RowMaker<T>
+    for MaskedRows<'a, T, M, O> {
+    type Work = AllowedSums<T>;
+
+    ghost makes = { λ rows. selected_product (record { monoid = M.monoid; op = O.op }) rows.mask.now.structure (Some (decoded rows.mask.now.lists.now.entries)) (decoded rows.a.now.lists.now.entries) (decoded rows.b.now.lists.now.entries) };
+
+    ghost listed = { λ rows. rows.mask.now.lists.now.rows };
+
+    ghost most = { λ rows. length rows.b.now.names.now };
+
+    ghost ready = { λ rows work. IsUnmarked T.value (identity_of M.monoid) (length rows.b.now.names.now) work.sums.items work.marks.items work.allowed.items };
+
+    fn work(&self, alloc: Global) -> Result<AllowedSums<T>, AllocError> {
+        let count = self.b.names.len();
+        let allowed = vec![in alloc; false; count]?;
+        let marks = vec![in alloc; false; count]?;
+        let sums = vec![in alloc; M::identity(); count]?;
+        Ok(AllowedSums {
+            sums,
+            marks,
+            allowed,
+        })
+    }
+
+    fn width(&self) -> usize {
+        self.b.names.len()
+    }
+
+    fn numbers(&self) -> &[u32] {
+        self.mask.lists.rows()
+    }
+
+    fn make(
+        &self,
+        place: usize,
+        work: &mut AllowedSums<T>,
+        columns: &mut [u32],
+        values: &mut [T],
+    ) -> usize {
+        let number = self.mask.lists.rows()[place];
+        let row = row_numbered(self.a, self.table, number);
+        let places = self.mask.allow(place, &mut work.allowed);
+        sum_row::<T, M, O, AllowedSums<T>>(&row, self.b, work);
+        take_picked::<T, M>(
+            places,
+            self.b.names,
+            work.allowed.as_mut_slice(),
+            work.marks.as_mut_slice(),
+            work.sums.as_mut_slice(),
+            columns,
+            values,
+        )
+    }
+}
+
+/// The product of two matrices at the cells that a mask selects, by a monoid and an operator as types. Takes memory to work in, some places
+/// for each name, for a table of the rows of the first, and for the result. `AllocError` where that is refused; then nothing is made.
+pub(crate) fn multiply_masked<T: Stored + Drop, M: MonoidOver<T>, O: Operator<T>>(
     alloc: Global,
     a: &MatrixRows<T>,
-    a_table: &[u32],
     b: &RankedRows<T>,
     mask: &MaskRows,
-    allowed: &mut [bool],
-    marks: &mut [bool],
-    sums: &mut [T],
-    made_columns: &mut [u32],
-    made_values: &mut [T],
 ) -> Result<MadeRows<T>, AllocError>
-    requires tabled { 0 < length a_table.now → IsTable a.now.lists.now.rows a_table.now }
     requires names { mask.now.names.now ≡ b.now.names.now }
-    requires open { length marks.old ≡ length sums.old }
-    requires named { length sums.old ≡ length b.now.names.now }
-    requires allowed { length allowed.old ≡ length marks.old }
-    requires none_allowed { (p : ℕ) → slice_index_or allowed.old p false ≡ false }
-    requires none { (p : ℕ) → slice_index_or marks.old p false ≡ false }
-    requires clear { HoldUnmarked T.value (identity_of M.monoid) marks.old sums.old }
-    requires room { length marks.old ≤ length made_columns.old }
-    requires room_same { length made_columns.old ≡ length made_values.old }
     ensures { IfOk result (λ made. AreRows T.value made.rows.items made.starts.items made.columns.items made.values.items (selected_product (record { monoid = M.monoid; op = O.op }) mask.now.structure (Some (decoded mask.now.lists.now.entries)) (decoded a.now.lists.now.entries) (decoded b.now.lists.now.entries))) }
 {
-    let numbers = mask.lists.rows();
-    let mut rows = Vec::new(alloc);
-    let mut starts = Vec::new(alloc);
-    let mut columns = Vec::new(alloc);
-    let mut values = Vec::new(alloc);
-    'rows: for place in 0..numbers.len() {
-        let row = row_numbered::<T>(&*a, a_table, numbers[place]);
-        let count = multiply_masked_row::<T, M, O>(
-            row.indices,
-            row.values,
-            &*b,
-            &*mask,
-            place,
-            allowed,
-            marks,
-            sums,
-            made_columns,
-            made_values,
-        );
-        push_row(
-            &mut rows,
-            &mut starts,
-            &mut columns,
-            &mut values,
-            numbers[place],
-            &made_columns[..count],
-            &made_values[..count],
-        )?;
-    }
-    Ok(MadeRows {
-        rows,
-        starts,
-        columns,
-        values,
-    })
+    let table = table_of(alloc, a.lists.rows(), a.lists.len() + mask.lists.len())?;
+    let rows: MaskedRows<T, M, O> = MaskedRows {
+        a,
+        table: table.as_slice(),
+        b,
+        mask,
+        of: PhantomData,
+    };
+    make_rows(alloc, &rows, 0)
 }

@@ -1,21 +1,15 @@
-//! The product of two matrices, row by row.
-ghost use Rattle.std.specs.Prelude.{◌≡◌, ◌+◌, ◌*◌, ◌<◌, ◌≤◌, ◌^◌, ◌++◌, ℕ, [], ◌∷◌, length, IfOk, OnOk, slice_index};
-ghost use Rattle.grb_core.specs.Monoid.{identity_of};
-ghost use Rattle.grb_core.specs.Results.{mxm_of};
-ghost use Rattle.grb_rows.specs.Cells.{decoded};
+//! The product of two matrices, row by row: one walk, whichever of its cells are computed.
+ghost use Rattle.std.specs.Prelude.{◌≡◌, ◌≢◌, ◌<◌, ◌≤◌, ◌^◌, ◌++◌, ℕ, List, [], ◌∷◌, length, IfOk, OnOk, IsTrue, slice_index};
+ghost use Rattle.std.specs.FinMap.{is_sorted};
+ghost use Rattle.grb_core.specs.Entries.{MatrixEntries, cell_cmp};
+ghost use Rattle.grb_core.specs.Results.{row_of};
+ghost use Rattle.grb_kernels.specs.Typed.{first_entries};
+ghost use Rattle.grb_ewise.specs.Ranks.{Rise};
 ghost use Rattle.grb_mxm.specs.Rows.{AreRows};
-ghost use Rattle.grb_mxm.specs.Bits.{HoldAll};
 
-use crate::gustavson::multiply_row;
-use crate::ranked::RankedRows;
 use grb_ewise::Stored;
-use grb_kernels::Operator;
-use grb_products::{MatrixRows, MonoidOver};
+use grb_kernels::Scalar;
 use std::alloc::{AllocError, Global};
-
-/// Memory is reserved for at most so many entries of the product for each entry of both matrices. Where the product has more, its lists
-/// grow as they are written.
-const RESERVED_FOR_ONE_ENTRY: usize = 8;
 
 /// The rows that have entries, where each of them begins, and the column and the value of each entry.
 #[derive(Drop)]
@@ -28,46 +22,77 @@ pub(crate) struct MadeRows<T> {
 
 /// Puts a row after those so far, where it has entries. `AllocError` where memory is refused; then a part of the row may stand in the
 /// lists.
-pub(crate) fn push_row<T: Stored>(
-    rows: &mut Vec<u32>,
-    starts: &mut Vec<usize>,
-    columns: &mut Vec<u32>,
-    values: &mut Vec<T>,
+fn push_row<T: Stored>(
+    made: &mut MadeRows<T>,
     row: u32,
-    made_columns: &[u32],
-    made_values: &[T],
+    columns: &[u32],
+    values: &[T],
 ) -> Result<(), AllocError>
-    ensures fit { (k : ℕ) → k < length made_columns.now → slice_index made_columns.now k < 2 ^ 32 }
-    ensures rows_pushed { OnOk result (0 < length made_columns.now → rows.new.items ≡ rows.old.items ++ row ∷ []) }
-    ensures starts_pushed { OnOk result (0 < length made_columns.now → starts.new.items ≡ starts.old.items ++ length columns.old.items ∷ []) }
-    ensures rows_same { OnOk result (length made_columns.now ≡ 0 → rows.new.items ≡ rows.old.items) }
-    ensures starts_same { OnOk result (length made_columns.now ≡ 0 → starts.new.items ≡ starts.old.items) }
-    ensures columns { OnOk result (columns.new.items ≡ columns.old.items ++ made_columns.now) }
-    ensures values { OnOk result (values.new.items ≡ values.old.items ++ made_values.now) }
+    ensures fit { (k : ℕ) → k < length columns.now → slice_index columns.now k < 2 ^ 32 }
+    ensures rows_pushed { OnOk result (0 < length columns.now → made.new.rows.items ≡ made.old.rows.items ++ row ∷ []) }
+    ensures starts_pushed { OnOk result (0 < length columns.now → made.new.starts.items ≡ made.old.starts.items ++ length made.old.columns.items ∷ []) }
+    ensures rows_same { OnOk result (length columns.now ≡ 0 → made.new.rows.items ≡ made.old.rows.items) }
+    ensures starts_same { OnOk result (length columns.now ≡ 0 → made.new.starts.items ≡ made.old.starts.items) }
+    ensures columns { OnOk result (made.new.columns.items ≡ made.old.columns.items ++ columns.now) }
+    ensures values { OnOk result (made.new.values.items ≡ made.old.values.items ++ values.now) }
 {
-    if made_columns.len() > 0 {
-        rows.push(row)?;
-        starts.push(columns.len())?;
+    if columns.len() > 0 {
+        made.rows.push(row)?;
+        made.starts.push(made.columns.len())?;
     }
-    columns.extend_from_slice(made_columns)?;
-    values.extend_from_slice(made_values)?;
+    made.columns.extend_from_slice(columns)?;
+    made.values.extend_from_slice(values)?;
     Ok(())
 }
 
-/// How many products there are, if they are fewer than `most`; else `most`. A product makes one entry of the result, or is added to one.
-fn products_up_to<T: Stored>(a: &MatrixRows<T>, b: &RankedRows<T>, most: usize) -> usize
-    ensures { result ≤ most }
-{
-    let columns = a.lists.columns();
-    let mut count = 0;
-    for i in 0..columns.len() {
-        let row = (&*b).row(columns[i]);
-        count += row.indices.len().min(most - count);
-        if count == most {
-            return most;
-        }
-    }
-    count
+/// Rows of a product of two matrices, which are made one after another in the same memory.
+pub(crate) trait RowMaker<T: Scalar> {
+    /// Memory to work in at one row.
+    type Work: Drop;
+
+    /// What is made of the product.
+    ghost makes: { Self → MatrixEntries };
+
+    /// The numbers of the rows in which there may be entries.
+    ghost listed: { Self → List ℕ };
+
+    /// A row has no more entries.
+    ghost most: { Self → ℕ };
+
+    /// Between rows nothing lies open.
+    ghost ready: { Self → Self.Work → Type 0 };
+
+    /// The memory to work in. `AllocError` where it is refused; then nothing is made.
+    fn work(&self, alloc: Global) -> Result<Self::Work, AllocError>
+        ensures { IfOk result (λ work. ready self.now work) };
+
+    /// How many entries a row has at most.
+    fn width(&self) -> usize
+        ensures { result ≡ most self.now };
+
+    /// The numbers of the rows in which there may be entries.
+    fn numbers(&self) -> &[u32]
+        ensures list { result.now ≡ listed self.now }
+        ensures rise { Rise result.now }
+        ensures sorted { IsTrue (is_sorted cell_cmp (makes self.now)) }
+        ensures all { (i : ℕ) → ((k : ℕ) → k < length result.now → slice_index result.now k ≢ i) → row_of i (makes self.now) ≡ [] };
+
+    /// Makes the row whose number stands at a place, to the front of `columns` and `values`. Answers how many entries it has.
+    fn make(
+        &self,
+        place: usize,
+        work: &mut Self::Work,
+        columns: &mut [u32],
+        values: &mut [T],
+    ) -> usize
+        requires at { place < length (listed self.now) }
+        requires ready { ready self.now work.old }
+        requires room { most self.now ≤ length columns.old }
+        requires room_same { length columns.old ≡ length values.old }
+        ensures ready { ready self.now work.new }
+        ensures within { result ≤ length columns.new }
+        ensures room_same { length columns.new ≡ length values.new }
+        ensures entries { first_entries T.value result columns.new values.new ≡ row_of (slice_index (listed self.now) place) (makes self.now) };
 }
 
 /// An empty list, with room for so many elements if that memory is there; else it grows as it is written.
@@ -79,59 +104,36 @@ fn list_with_room<U>(alloc: Global, room: usize) -> Vec<U>
     list
 }
 
-/// The product of two matrices, with memory to work in. Takes memory for the result. `AllocError` where that is refused; what the work
-/// arrays hold then, no clause says.
-pub(crate) fn multiply_rows<T: Stored + Drop, M: MonoidOver<T>, O: Operator<T>>(
+/// All rows, one after another. Takes memory to work in, and for the result, where `room` entries are reserved at first. `AllocError` where
+/// memory is refused; then nothing is made.
+pub(crate) fn make_rows<T: Stored + Drop, R: RowMaker<T>>(
     alloc: Global,
-    a: &MatrixRows<T>,
-    b: &RankedRows<T>,
-    sums: &mut [T],
-    words: &mut [u64],
-    touched: &mut [usize],
-    made_columns: &mut [u32],
-    made_values: &mut [T],
+    maker: &R,
+    room: usize,
 ) -> Result<MadeRows<T>, AllocError>
-    requires named { length sums.old ≡ length b.now.names.now }
-    requires enough { length sums.old ≤ 64 * length words.old }
-    requires words_few { length words.old ≤ 2 ^ 58 }
-    requires none { (w : ℕ) → slice_index words.old w ≡ 0 }
-    requires clear { HoldAll T.value (identity_of M.monoid) sums.old }
-    requires room { length sums.old ≤ length made_columns.old }
-    requires room_same { length made_columns.old ≡ length made_values.old }
-    ensures { IfOk result (λ made. AreRows T.value made.rows.items made.starts.items made.columns.items made.values.items (mxm_of (record { monoid = M.monoid; op = O.op }) (decoded a.now.lists.now.entries) (decoded b.now.lists.now.entries))) }
+    ensures { IfOk result (λ made. AreRows T.value made.rows.items made.starts.items made.columns.items made.values.items (R.makes maker.now)) }
 {
-    let numbers = a.lists.rows();
-    let mut rows = Vec::new(alloc);
-    let mut starts = Vec::new(alloc);
-    let most = (a.lists.len() + b.lists.len()).saturating_mul(RESERVED_FOR_ONE_ENTRY);
-    let room = products_up_to(&*a, &*b, most);
-    let mut columns = list_with_room(alloc, room);
-    let mut values = list_with_room(alloc, room);
+    let width = maker.width();
+    let mut work = maker.work(alloc)?;
+    let mut column_room = vec![in alloc; 0u32; width]?;
+    let mut value_room = vec![in alloc; T::any(); width]?;
+    let columns = column_room.as_mut_slice();
+    let values = value_room.as_mut_slice();
+    let mut made = MadeRows {
+        rows: Vec::new(alloc),
+        starts: Vec::new(alloc),
+        columns: list_with_room(alloc, room),
+        values: list_with_room(alloc, room),
+    };
+    let numbers = maker.numbers();
     'rows: for place in 0..numbers.len() {
-        let count = multiply_row::<T, M, O>(
-            a.lists.row_columns(place),
-            T::of_row(a.lists, place),
-            &*b,
-            sums,
-            words,
-            touched,
-            made_columns,
-            made_values,
-        );
+        let count = maker.make(place, &mut work, columns, values);
         push_row(
-            &mut rows,
-            &mut starts,
-            &mut columns,
-            &mut values,
+            &mut made,
             numbers[place],
-            &made_columns[..count],
-            &made_values[..count],
+            &columns[..count],
+            &values[..count],
         )?;
     }
-    Ok(MadeRows {
-        rows,
-        starts,
-        columns,
-        values,
-    })
+    Ok(made)
 }

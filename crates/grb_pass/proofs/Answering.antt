@@ -217,7 +217,7 @@ explains_won room old mid new c token reply l ready writes same small view shown
     let point : IsAtPoint room old.view new.view g = inr (inl (own, omega arith)) in
     let answered : Ok reply ≡ answer (store_of g) c = ap (λ (r : Reply). Ok r) is ∙ sym (answer_unrefused (store_of g) c ready.unrefused) in
     let entry : known new ≡ g ++ (old.view.number, c) ∷ [] = known_won mid new token ready.all small view shown ∙ (λ i. g ++ (l.grown.number i, same i) ∷ []) in
-    let behind : known new ≡ history_after old.view.number c (Ok reply) g = entry ∙ sym (ap (λ (b : Bool). cond b (g ++ (old.view.number, c) ∷ []) g) writes) in
+    let longer : known new ≡ history_after old.view.number c (Ok reply) g = entry ∙ sym (ap (λ (b : Bool). cond b (g ++ (old.view.number, c) ∷ []) g) writes) in
     let grounds : IsGrounded room old new c (Ok reply) g ByStore = record { answered = answered; point = point } in
     record {
       grown = grows_then old.view mid.view new.view l.grown (grows_enters mid.view new.view word view);
@@ -225,7 +225,7 @@ explains_won room old mid new c token reply l ready writes same small view shown
       others = l.others;
       passes = l.passes;
       grounds = subst (λ (h : History). IsGrounded room old new c (Ok reply) h ByStore) l.known_is grounds;
-      known_is = behind ∙ ap (history_after old.view.number c (Ok reply)) l.known_is;
+      known_is = longer ∙ ap (history_after old.view.number c (Ok reply)) l.known_is;
     }
 
 pub known_entered : (mid new : Knowing) (token : Shown) (room : ℕ) (c : Call) → IsReady room mid c → token.index < 2 ^ 48 → new.view ≡ enters_word mid.view (order_word mid.view.number token.index) → new.shown ≡ mid.shown ++ token ∷ []
@@ -243,14 +243,14 @@ explains_read room old new end c kind reply l f reads e is =
     let g : History = known new in
     let answered : Ok reply ≡ answer (store_of g) c = ap (λ (r : Reply). Ok r) is ∙ sym (answer-ok (store_of g) c kind e (reads_no_build c reads)) in
     let grounds : IsGrounded room old new c (Ok reply) g ByStore = record { answered = answered; point = point_found room old new end f } in
-    let behind : g ≡ history_after old.view.number c (Ok reply) g = sym (ap (λ (b : Bool). cond b (g ++ (old.view.number, c) ∷ []) g) reads) in
+    let longer : g ≡ history_after old.view.number c (Ok reply) g = sym (ap (λ (b : Bool). cond b (g ++ (old.view.number, c) ∷ []) g) reads) in
     record {
       grown = l.grown;
       learnt = l.learnt;
       others = l.others;
       passes = l.passes;
       grounds = subst (λ (h : History). IsGrounded room old new c (Ok reply) h ByStore) l.known_is grounds;
-      known_is = behind ∙ ap (history_after old.view.number c (Ok reply)) l.known_is;
+      known_is = longer ∙ ap (history_after old.view.number c (Ok reply)) l.known_is;
     }
 
 refused_by_memory : (room : ℕ) (old new : Knowing) (end : End) (c : Call) (kind : Kind) → Finds room old (Ok end) new → enters c ≡ false → check_of (shapes_of (store_of (known new))) c ≡ Ok kind → is_size c ≡ false → old.settled < length (known new) → IsRefused room old new c OutOfMemory

@@ -30,7 +30,7 @@ rising_in first end next words more (at ∷ rest) le is =
     let word : ℕ = is.0 in let below : index_of word < end = is.3 in
     (word, get_more words more at word is.1, is.2, omega arith, rising_in (index_of word + 1) end next words more rest le is.4)
 
--- one more word, behind them
+-- one more word, after them
 rising_entered : (first end next : ℕ) (words own : List ℕ) (word : ℕ) → first ≤ index_of word → end ≤ index_of word → index_of word < next → NameRising first end words own → NameRising first next (words ++ word ∷ []) (own ++ length words ∷ [])
 rising_entered first end next words [] word from le lt is = (word, get_pushed words word, from, lt, tt)
 rising_entered first end next words (at ∷ rest) word from le lt is =
@@ -57,7 +57,7 @@ own_lost end v w word learnt is = subst (OwnBelow end) (sym learnt) (own_more en
 index_of-order_word : (number index : ℕ) → index < 2 ^ 48 → index_of (order_word number index) ≡ index
 index_of-order_word number index small = omega arith
 
--- after a try the pass goes on behind the token's record, if it did not before
+-- after a try the pass goes on after the token's record, if it did not before
 pub own_tried : (room : ℕ) (old new : Knowing) (token : Shown) (back : Option Shown) (next : ℕ) → Enters room token old back new → token.index < 2 ^ 48 → token.index < next → OwnBelow token.index old.view → OwnBelow next new.view
 own_tried room old new token None next is small lt fresh =
     let v : View = old.view in let word : ℕ = order_word v.number token.index in let e : index_of word ≡ token.index = index_of-order_word v.number token.index small in
@@ -68,7 +68,7 @@ own_tried room old new token (Some back) next is small lt fresh =
 pub state_learns : (old new : Knowing) (e : EvaluatedView) (next : ℕ) → new.order ≡ old.order → Learns old new → new.made ≡ old.made → IsPassState old e next → IsPassState new e next
 state_learns old new e next order l made is = record { step = in_step_learns old new e order l made is.step; own = own_learns next old new l is.own }
 
--- the record that was put goes behind them
+-- the record that was put goes after them
 pub fresh_put : (r : Result Shown Refusal) (pass next : ℕ) (c : Call) (v : View) → IfOk r (λ token. (token.pass ≡ pass) × (token.index ≡ next) × (token.call ≡ c)) → OwnBelow next v → IfOk r (λ token. OwnBelow token.index v)
 fresh_put (Ok token) pass next c v is own = subst (λ (n : ℕ). OwnBelow n v) (sym is.1) own
 fresh_put (Err refusal) pass next c v is own = tt

@@ -14,7 +14,8 @@ use Rattle.grb_call.proofs.Counted.{matrices_after_all, vectors_after_all}
 use Rattle.grb_replay.specs.Partial.{ArePartial, PartialStoresView}
 use Rattle.grb_replay.specs.Reached.{IsReached, IsReachedIn, IsWhole, IsWholeIn, ReachedView}
 use Rattle.grb_replay.proofs.Partial.{partial_more}
-use Rattle.grb_replay.proofs.GoneOver.{reached_more, reached_same, whole_all}
+use Rattle.grb_replay.proofs.GoneOver.{evaluated_reached, reached_more, reached_same, whole_all}
+use Rattle.grb_state.specs.Evaluated.{IsEvaluated}
 use Rattle.grb_pass.specs.Known.{Knowing, known, spelled}
 use Rattle.grb_pass.specs.Laws.{Begins}
 use Rattle.grb_pass.specs.Learning.{Enters, Learns}
@@ -84,7 +85,7 @@ in_step_noted p q e is evaluated = subst (λ (k : Knowing). IsInStep k e) (sym i
 pub all_made : (p : Knowing) (e : EvaluatedView) → IsEvaluatedFor p e → length (known p) ≤ p.settled → IsWhole e.reached × (length (known p) ≤ e.reached.count)
 all_made p e is all = let at : IsSettledStore p e.reached = is.store.settled all in (at.whole, at.all)
 
--- a try to enter a record: it was entered behind all known ones, or another pass's word was learnt
+-- a try to enter a record: it was entered after all known ones, or another pass's word was learnt
 pub tried : (room : ℕ) (old new : Knowing) (token : Shown) (back : Option Shown) → Enters room token old back new → length old.shown ≡ length old.view.words → (more : History) × (known new ≡ known old ++ more)
 tried room old new token None is all =
     let word : ℕ = order_word old.view.number token.index in let words : List ℕ = old.view.words ++ word ∷ [] in
@@ -138,6 +139,16 @@ unsettled p r is left = by (le_or_lt (length (known p)) p.settled)
     by : (length (known p) ≤ p.settled) ⊎ (p.settled < length (known p)) → p.settled < length (known p)
     by (inl all) = let at : IsSettledStore p r = is.settled all in absurd (left at.whole at.all)
     by (inr less) = less
+
+-- a store that has gone over no call, where not all known calls are settled
+pub none_reached : (p : Knowing) (r : ReachedView) → r.state.store ≡ empty_store → r.count ≡ 0 → room_of p.order ≤ r.state.room → p.settled < length (known p) → IsStoreFor p r
+none_reached p r store count room unsettled =
+    let calls : List Call = calls_of (known p) in
+    let none : IsEvaluated calls r.count r.state.store = subst (λ (n : ℕ). IsEvaluated calls n r.state.store) (sym count) (record { within = omega arith; store_is = store }) in
+    record {
+      at = record { reached = evaluated_reached calls r none; roomy = omega (arith, room) };
+      settled = λ all. absurd (omega (arith, all, unsettled));
+    }
 
 -- one more call lent
 pub lent_next : (calls : List Call) (at : ℕ) (c : Call) (lent : List Call) → slice_get calls at ≡ Some c → lent ≡ take at calls → lent ++ c ∷ [] ≡ take (at + 1) calls

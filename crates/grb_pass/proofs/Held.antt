@@ -1,5 +1,5 @@
 -- Where an object lies that a wait had the changes done of.
-use Rattle.std.proofs.Common.{◌≡◌, ℕ, ◌<◌, ◌≤◌, ◌⊎◌, inl, inr, Bool, true, false, length, is_some, option_map, refl, sym, ap, subst, ◌∙◌, arith, Option, Some, None}
+use Rattle.std.proofs.Common.{◌≡◌, ◌<◌, ◌≤◌, ◌⊎◌, inl, inr, Bool, true, false, length, is_some, option_map, sym, ap, ◌∙◌, arith, Option, Some, None}
 use Rattle.grb_sparse.specs.Matrix.{SparseMatrixView}
 use Rattle.grb_sparse.specs.Vector.{SparseVectorView}
 use Rattle.grb_call.specs.declared.ids.MatrixId.{MatrixId}

@@ -1,5 +1,5 @@
 -- Which calls are answered without that a call of the history is made.
-use Rattle.std.proofs.Common.{◌≡◌, ℕ, ◌≤◌, Bool, true, false, inl, inr, length, None, Some, refl, sym, ap, subst, ◌∙◌, arith}
+use Rattle.std.proofs.Common.{◌≡◌, ℕ, ◌≤◌, true, false, inl, inr, length, None, Some, sym, ap, subst, ◌∙◌, arith}
 use Rattle.std.specs.Prelude.{Option}
 use Rattle.grb_core.specs.declared.refusal.Refusal.{Refusal}
 use Rattle.grb_call.specs.declared.call.Call.{Call}

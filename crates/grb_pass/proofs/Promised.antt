@@ -13,6 +13,7 @@ use Rattle.grb_call.specs.Statuses.{status_at}
 use Rattle.grb_pass.specs.Learning.{IsSteady}
 use Rattle.grb_pass.specs.Made.{MakesNone}
 use Rattle.grb_pass.specs.Answered.{Promise, Answered, promised}
+use Rattle.grb_pass.specs.Replying.{statuses_with}
 use Rattle.grb_pass.specs.Settled.{settled_after}
 use Rattle.grb_pass.proofs.Alike.{with_rest, explains_alike, caught_up_alike, counts_alike, known_alike}
 use Rattle.grb_pass.proofs.Answering.{memory_explained}
@@ -28,7 +29,7 @@ promise context old new c r (promised is) = is
 -- the answer was kept as a status
 pub record IsKeptAs (mid : Knowing) (x : Option Object) (r : Answer) (new : Knowing) : Type 0 where
   pub same : new ≡ record mid { statuses = new.statuses }
-  pub kept : status_at new.statuses ≡ with_status (room_of mid.order) (option_or x (made_by r)) (info_of r) (status_at mid.statuses)
+  pub statuses : status_at new.statuses ≡ statuses_with mid x r
 
 pub pass_kept : (context : Shared) (mid new : Knowing) (x : Option Object) (r : Answer) → IsKeptAs mid x r new → IsPassOf context mid → IsPassOf context new
 pass_kept context mid new x r kept of = pass_same context mid new (ap (λ (p : Knowing). p.order) kept.same) (ap (λ (p : Knowing). p.shown) kept.same) of
@@ -43,7 +44,7 @@ answered context old now mid new x c r is before pass explains steady caught_up 
     let e : ExplainsAnswer room old last c r = explains_alike room old mid new.statuses mid.settled mid.made c r first in
     let statuses : mid.statuses ≡ old.statuses = same ∙ ap (λ (p : Knowing). p.statuses) is in
     let after : status_at new.statuses ≡ statuses_after room c r (status_at old.statuses) =
-    kept.kept ∙ (λ i. with_status (room_of (pass.order i)) (option_or (about i) (made_by r)) (info_of r) (status_at (statuses i))) in
+    kept.statuses ∙ (λ i. with_status (room_of (pass.order i)) (option_or (about i) (made_by r)) (info_of r) (status_at (statuses i))) in
     let promise : Promise context old last c r = record {
       explains = explains_settled room old last c r e before (settled ∙ ap (λ (p : Knowing). settled_after c r (length (known mid)) p.settled) is);
       knows = known_alike context mid new.statuses mid.settled mid.made (is_known context mid pass steady);

@@ -77,8 +77,6 @@ has_waited assembled o Materialize all = all
 
 -- where no change waits in any object, a reading call asks for none to be done
 pub all_settled : (assembled : Object → Bool) (c : Call) → AreAllAssembled assembled → IsSettled assembled c
-all_settled assembled (call.ReduceMatrix a monoid) all = all (object.Matrix a)
-all_settled assembled (call.ReduceVector v monoid) all = all (object.Vector v)
 all_settled assembled (call.WaitMatrix a mode) all = has_waited assembled (object.Matrix a) mode all
 all_settled assembled (call.WaitVector v mode) all = has_waited assembled (object.Vector v) mode all
 all_settled assembled _ all = tt

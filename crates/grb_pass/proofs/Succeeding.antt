@@ -82,7 +82,7 @@ pub each_all : {X : Type 0} (P : X → Type 0) (xs : List X) → ((n : ℕ) (p :
 each_all P [] h = λ k d lt. absurd (omega arith)
 each_all P (x ∷ xs) h = All-cons P x xs (h 0 x refl) (each_all P xs (λ n p e. h (suc n) p e))
 
--- the first pass, and those behind it
+-- the first pass, and those after it
 pub are_begun : (context : Shared) (s : Store) (passes : ℕ) (first : Knowing) (others all : List Knowing) → IsStore s → all ≡ first ∷ others → length others + 1 ≡ passes → IsOpened context 0 first → known first ≡ begun s
     → ((n : ℕ) (p : Knowing) → slice_get others n ≡ Some p → IsOpened context (n + 1) p) → ((n : ℕ) (p : Knowing) → slice_get others n ≡ Some p → known p ≡ known first) → AreBegun context s passes all
 are_begun context s passes first others all whole is count opened knows each told = subst (AreBegun context s passes) (sym is) (record { count = omega (arith, count); each = at }) where

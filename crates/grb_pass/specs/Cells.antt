@@ -14,7 +14,7 @@ NameRising first end words (at ∷ rest) = (word : ℕ) × (slice_get words at �
 abbrev pub OwnBelow : ℕ → View → Type 0
 OwnBelow end v = NameRising 0 end v.words v.own
 
--- what a pass keeps: its parts are in step, and its next record goes behind those that its own words name
+-- what a pass keeps: its parts are in step, and its next record goes after those that its own words name
 pub record IsPassState (p : Knowing) (e : EvaluatedView) (next : ℕ) : Type 0 where
   pub step : IsInStep p e
   pub own : OwnBelow next p.view

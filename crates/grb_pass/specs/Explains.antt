@@ -56,7 +56,7 @@ pub record IsFull (room : ℕ) (c : Call) (g : History) : Type 0 where
   pub full : length g ≡ room
 
 -- memory may be refused in place of an answer: not in place of a refusal by shapes, nor to a call for dimensions, nor in place of a full
--- order unless the call is a build, nor to a read or a wait where no entry came behind those that are settled
+-- order unless the call is a build, nor to a read or a wait where no entry came after those that are settled
 pub record MayLackMemory (room settled : ℕ) (g : History) (c : Call) : Type 0 where
   pub by_shapes : refused_by_shapes (shapes_of (store_of g)) c ≡ None
   pub no_size : is_size c ≡ false
@@ -90,7 +90,7 @@ IsGrounded room old new c r g ByRoom = IsFull room c g
 IsGrounded room old new c r g ByMemory = IsOutOfMemory room old new c g
 IsGrounded room old new c r g ByRecords = IsUnshown new ⊎ IsUntaken room old new c g
 
--- The answer of one call: the pass first learnt entries of others; then the answer is grounded, and the call stands behind what was
+-- The answer of one call: the pass first learnt entries of others; then the answer is grounded, and the call stands after what was
 -- known if it was entered, once, and nowhere if not
 pub record ExplainsAnswer (room : ℕ) (old new : Knowing) (c : Call) (r : Answer) : Type 0 where
   pub grown : Grows old.view new.view

@@ -12,6 +12,7 @@ pub mod Meeting
 pub mod Point
 pub mod Putting
 pub mod Reading
+pub mod Replying
 pub mod Settled
 pub mod Succeeding
 pub use Rattle.grb_call.specs.Statuses

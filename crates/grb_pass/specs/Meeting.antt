@@ -19,7 +19,7 @@ IsMet new other (Ok _) = Begins (known other) (known new) × (length (known new)
 IsMet new other (Err r) = (r ≡ Panic) × IsUnshown new
 
 -- A meeting of a pass with another, with what it knows before and after. It is still a pass of the context. It learnt entries of
--- others alone, behind what it knew, and its own calls and its statuses are those of before. Its steps on the order are the words that it
+-- others alone, after what it knew, and its own calls and its statuses are those of before. Its steps on the order are the words that it
 -- learnt, and it looked for no further one. It made no call
 pub record Met (context : Shared) (old new other : Knowing) (r : Result (Unit {0}) Refusal) : Type 0 where
   pub pass : IsPassOf context new

@@ -1,13 +1,18 @@
 -- believed: How many calls a pass has settled (own; `GrB_MATERIALIZE` of GraphBLAS C API 2.0): those that it knew when it last had
 -- all objects materialized.
-use Rattle.std.specs.Prelude.{ℕ, Bool, true, false, if◌then◌else◌, Result, Ok, Err}
+use Rattle.std.specs.Prelude.{◌≡◌, ◌<◌, ℕ, Bool, true, false, if◌then◌else◌, is_some, length, Result, Ok, Err}
 use Rattle.grb_core.specs.declared.refusal.Refusal.{Refusal}
 use Rattle.grb_call.specs.declared.call.Call.{Call}
 use Rattle.grb_call.specs.declared.class.Class.{Class}
 use Rattle.grb_call.specs.declared.class.Class.TheVariants.{Reads}
 use Rattle.grb_call.specs.declared.class.Extent.TheVariants as extent
+use Rattle.grb_call.specs.declared.ids.MatrixId.{MatrixId}
+use Rattle.grb_call.specs.declared.ids.VectorId.{VectorId}
 use Rattle.grb_call.specs.declared.reply.Reply.{Reply}
+use Rattle.grb_call.specs.History.{store_of}
 use Rattle.grb_call.specs.Kinds.{class_of}
+use Rattle.grb_call.specs.Store.{matrix_at, vector_at}
+use Rattle.grb_pass.specs.Known.{Knowing, known}
 
 -- whether a call of this class is about all objects
 abbrev pub reads_all : Class → Bool
@@ -19,7 +24,18 @@ reads_all _ = false
 abbrev pub is_materialize : Call → Bool
 is_materialize c = reads_all (class_of c)
 
--- how many calls are settled after a call with this answer, where so many are known after it, and so many were settled before
+-- how many calls are settled after a call that is answered, where so many are known after it, and so many were settled before
+abbrev pub settled_by : Call → ℕ → ℕ → ℕ
+settled_by c known settled = if is_materialize c then known else settled
+
+-- how many calls are settled after a call with this answer
 abbrev pub settled_after : Call → Result Reply Refusal → ℕ → ℕ → ℕ
-settled_after c (Ok reply) known settled = if is_materialize c then known else settled
+settled_after c (Ok reply) known settled = settled_by c known settled
 settled_after c (Err refusal) known settled = settled
+
+-- the object need not lie ready: where it is there, not all calls that the pass knows are settled
+abbrev pub MayLackMatrix : Knowing → MatrixId → Type 0
+MayLackMatrix p a = is_some (matrix_at (store_of (known p)) a) ≡ true → p.settled < length (known p)
+
+abbrev pub MayLackVector : Knowing → VectorId → Type 0
+MayLackVector p v = is_some (vector_at (store_of (known p)) v) ≡ true → p.settled < length (known p)

@@ -1,5 +1,5 @@
 //! What a pass has evaluated of the calls that it knows.
-ghost use Rattle.std.specs.Prelude.{◌≡◌, ◌<◌, ◌≤◌, ◌⊎◌, [], false, true, None, if◌then◌else◌, length, All, IfOk, OnOk, OnErr};
+ghost use Rattle.std.specs.Prelude.{◌≡◌, ◌<◌, ◌≤◌, ◌⊎◌, [], false, true, None, length, All, IfOk, OnOk, OnErr};
 ghost use Rattle.grb_records.specs.Token.{IsOf};
 ghost use Rattle.grb_call.specs.Kinds.{enters, is_size};
 ghost use Rattle.grb_call.specs.Store.{empty_store};
@@ -12,7 +12,7 @@ ghost use Rattle.grb_replay.specs.Reached.{IsReached, IsWhole};
 ghost use Rattle.grb_pass.specs.Evaluated.{IsEvaluatedFor};
 ghost use Rattle.grb_pass.specs.Known.{known};
 ghost use Rattle.grb_pass.specs.Laws.{Begins};
-ghost use Rattle.grb_pass.specs.Settled.{is_materialize};
+ghost use Rattle.grb_pass.specs.Settled.{is_materialize, settled_by};
 
 mod answers;
 mod exchange;
@@ -230,7 +230,7 @@ impl Evaluated {
         ensures store { self.new.reached.state.store ≡ self.old.reached.state.store }
         ensures evaluated { IsEvaluatedFor reader.new self.new }
         ensures same { reader.new ≡ record reader.old { settled = reader.new.settled } }
-        ensures settled { OnOk result (reader.new.settled ≡ (if is_materialize call.now then length (known reader.old) else reader.old.settled)) }
+        ensures settled { OnOk result (reader.new.settled ≡ settled_by call.now (length (known reader.old)) reader.old.settled) }
         ensures err { OnErr result (reader.new ≡ reader.old) }
         ensures ready { OnOk result (IsSettled (is_assembled self.new.reached.state.matrices self.new.reached.state.vectors) call.now) }
         ensures memory { OnErr result (reader.old.settled < length (known reader.old)) }
@@ -239,9 +239,10 @@ impl Evaluated {
         if reader.settled() >= reader.known() {
             return Ok(());
         }
+        let waiting = self.waiting(call);
         self.reached.settle(call)?;
         if is_materialize(call) {
-            self.offer(records, reader)?;
+            self.offer(records, reader, waiting)?;
             reader.settle();
         }
         Ok(())

@@ -1,29 +1,29 @@
 //! A pass: one thread's way into the history, with what it knows, has evaluated and was answered.
-ghost use Rattle.std.specs.Prelude.{◌≡◌, ℕ, ◌<◌, ◌≤◌, ◌+◌, ◌^◌, ◌==◌, ◌⊎◌, false, true, None, Some, [], if◌then◌else◌, is_some, length, All, IfOk, IfErr, IfSome, MatchOption, OnOk, OnErr};
-ghost use Rattle.std.specs.Option.{option_or};
+ghost use Rattle.std.specs.Prelude.{◌≡◌, ℕ, ◌<◌, ◌≤◌, ◌+◌, ◌^◌, ◌==◌, ◌⊎◌, false, true, None, Some, length, All, IfOk, IfErr, IfSome, MatchOption, OnErr};
 ghost use Rattle.grb_order.specs.declared.limits.TheConstants.{MOST_ROOM};
 ghost use Rattle.grb_order.specs.View.{fresh, LookedLast};
 ghost use Rattle.grb_order.specs.Order.{room_of};
 ghost use Rattle.grb_records.specs.Token.{IsOf};
 ghost use Rattle.grb_call.specs.Kinds.{enters, is_build, is_size};
 ghost use Rattle.grb_call.specs.Refused.{is_in_bounds, refused_by_shapes};
-ghost use Rattle.grb_call.specs.Store.{empty_store, matrix_at, shapes_of, vector_at};
-ghost use Rattle.grb_call.specs.After.{refused, reply_of};
+ghost use Rattle.grb_call.specs.Store.{shapes_of};
+ghost use Rattle.grb_call.specs.After.{refused};
 ghost use Rattle.grb_call.specs.History.{store_of};
-ghost use Rattle.grb_call.specs.Status.{info_of, made_by, object_of, with_status};
-ghost use Rattle.grb_call.specs.Statuses.{no_rows, status_at};
+ghost use Rattle.grb_call.specs.Status.{object_of};
+ghost use Rattle.grb_call.specs.Statuses.{status_at};
 ghost use Rattle.grb_state.specs.Live.{live_store};
 ghost use Rattle.grb_state.specs.StoredIn.{IsMatrixOf, IsVectorOf};
 ghost use Rattle.grb_rebuild.specs.Rebuilding.{IsNoSuccessor, IsRebuild};
 ghost use Rattle.grb_rebuild.specs.Renumbered.{AreRenumbered};
 ghost use Rattle.grb_pass.specs.Evaluated.{IsAssembled};
-ghost use Rattle.grb_pass.specs.Known.{known};
+ghost use Rattle.grb_pass.specs.Known.{known, new_pass};
 ghost use Rattle.grb_pass.specs.Counting.{Counts};
 ghost use Rattle.grb_pass.specs.Laws.{Begins};
 ghost use Rattle.grb_pass.specs.Learning.{Enters, IsSteady};
 ghost use Rattle.grb_pass.specs.Cells.{OwnBelow};
 ghost use Rattle.grb_pass.specs.Reading.{IsBuildChecked, IsChecked, count_call, count_of_output};
-ghost use Rattle.grb_pass.specs.Settled.{is_materialize};
+ghost use Rattle.grb_pass.specs.Replying.{IsReplied, ReadsStore, statuses_with};
+ghost use Rattle.grb_pass.specs.Settled.{is_materialize, MayLackMatrix, MayLackVector};
 
 use crate::back_off::BackOff;
 use crate::evaluated::Evaluated;
@@ -68,10 +68,10 @@ fn count_call(call: &Call) -> Call
     requires { is_build call.now ≡ true }
     ensures { result ≡ count_call call.now }
 {
-    match call {
-        Call::BuildMatrix { a, .. } => Call::NvalsMatrix { a: *a },
-        Call::BuildVector { v, .. } => Call::NvalsVector { v: *v },
-        _ => unreachable!(),
+    match call.object() {
+        Some(Object::Matrix(a)) => Call::NvalsMatrix { a },
+        Some(Object::Vector(v)) => Call::NvalsVector { v },
+        None => unreachable!(),
     }
 }
 
@@ -103,7 +103,7 @@ impl Pass {
         requires number { (number ≡ place.view.number) × (number < place.view.passes) }
         requires room { (room ≡ room_of place.table_id) × (room ≤ MOST_ROOM) }
         requires fresh { place.view ≡ fresh number place.view.passes }
-        ensures { IfOk result (λ pass. pass ≡ record { order = place.table_id; view = place.view; shown = []; steps = 0; statuses = no_rows (room_of place.table_id); settled = 0; made = 0 }) }
+        ensures { IfOk result (λ pass. pass ≡ new_pass place.table_id place.view) }
     {
         let reader = Reader::open(alloc, number, place, room)?;
         let evaluated = Evaluated::open(alloc, room, editions, alone)?;
@@ -186,14 +186,14 @@ impl Pass {
     /// that changes its matrix while another holds it changes a copy. `None` where there is no such matrix or it does not lie ready; where
     /// all that the pass knows is settled, each matrix lies ready. Evaluates nothing, learns nothing and takes no memory (own).
     pub fn matrix(&self, a: MatrixId) -> Option<&Arc<SparseMatrix>>
-        ensures { MatchOption result (is_some (matrix_at (store_of (known self.now)) a) ≡ true → self.now.settled < length (known self.now)) (λ matrix. IsMatrixOf (store_of (known self.now)) a matrix.now.value) }
+        ensures { MatchOption result (MayLackMatrix self.now a) (λ matrix. IsMatrixOf (store_of (known self.now)) a matrix.now.value) }
     {
         self.evaluated.held_matrix(&self.reader, a)
     }
 
     /// The vector as it is after all calls that the pass knows, where it lies ready, as [`Pass::matrix`] gives a matrix (own).
     pub fn vector(&self, v: VectorId) -> Option<&Arc<SparseVector>>
-        ensures { MatchOption result (is_some (vector_at (store_of (known self.now)) v) ≡ true → self.now.settled < length (known self.now)) (λ vector. IsVectorOf (store_of (known self.now)) v vector.now.value) }
+        ensures { MatchOption result (MayLackVector self.now v) (λ vector. IsVectorOf (store_of (known self.now)) v vector.now.value) }
     {
         self.evaluated.held_vector(&self.reader, v)
     }
@@ -201,7 +201,7 @@ impl Pass {
     /// Keeps the status that this answer leaves on the target of its call, which is about that object.
     pub(crate) fn keep(&mut self, object: Option<Object>, answer: &Result<Reply, Refusal>)
         ensures same { self.new ≡ record self.old { statuses = self.new.statuses } }
-        ensures kept { status_at self.new.statuses ≡ with_status (room_of self.old.order) (option_or object (made_by answer.now)) (info_of answer.now) (status_at self.old.statuses) }
+        ensures statuses { status_at self.new.statuses ≡ statuses_with self.old object answer.now }
     {
         self.reader.keep(object, answer);
     }
@@ -334,19 +334,14 @@ impl Pass {
     }
 
     /// The reply to a call that reads entries or has changes done, after all known ones, which it evaluates. One that waits for all objects
-    /// settles them. `AllocError` where memory is refused; then no more calls are settled than before.
+    /// goes on with an edition of just these calls, if there is one, and settles them. `AllocError` where memory is refused; then no more
+    /// calls are settled than before.
     fn reply_of_all(&mut self, records: &Records, call: &Call) -> Result<Reply, AllocError>
-        requires reads { enters call.now ≡ false }
-        requires no_size { is_size call.now ≡ false }
-        requires accepted { refused (store_of (known self.old)) call.now ≡ None }
+        requires call { ReadsStore (store_of (known self.old)) call.now }
         requires records { All (IsOf records.now) self.old.shown }
-        ensures reply { IfOk result (λ reply. reply ≡ reply_of (store_of (known self.old)) call.now) }
-        ensures unsettled { OnErr result (self.old.settled < length (known self.old)) }
-        ensures same { self.new ≡ record self.old { settled = self.new.settled; made = self.new.made } }
-        ensures settled { OnOk result (self.new.settled ≡ (if is_materialize call.now then length (known self.old) else self.old.settled)) }
-        ensures err { OnErr result (self.new.settled ≡ self.old.settled) }
-        ensures made { length (known self.old) ≤ self.old.settled → self.new.made ≡ self.old.made }
+        ensures { IsReplied self.old self.new call.now result }
     {
+        self.evaluated.take_ready(records, &mut self.reader, call);
         let all = self.evaluated.make_all(records, &mut self.reader);
         self.reader.note_made(self.evaluated.made());
         all?;
@@ -358,16 +353,9 @@ impl Pass {
     /// that the object depends on which it reads. One that waits for all objects settles them. `AllocError` where memory is refused; then
     /// no more calls are settled than before.
     fn reply_of_entries(&mut self, records: &Records, call: &Call) -> Result<Reply, AllocError>
-        requires reads { enters call.now ≡ false }
-        requires no_size { is_size call.now ≡ false }
-        requires accepted { refused (store_of (known self.old)) call.now ≡ None }
+        requires call { ReadsStore (store_of (known self.old)) call.now }
         requires records { All (IsOf records.now) self.old.shown }
-        ensures reply { IfOk result (λ reply. reply ≡ reply_of (store_of (known self.old)) call.now) }
-        ensures unsettled { OnErr result (self.old.settled < length (known self.old)) }
-        ensures same { self.new ≡ record self.old { settled = self.new.settled; made = self.new.made } }
-        ensures settled { OnOk result (self.new.settled ≡ (if is_materialize call.now then length (known self.old) else self.old.settled)) }
-        ensures err { OnErr result (self.new.settled ≡ self.old.settled) }
-        ensures made { length (known self.old) ≤ self.old.settled → self.new.made ≡ self.old.made }
+        ensures { IsReplied self.old self.new call.now result }
     {
         self.go_on(records);
         if let Some(object) = object_read(call) {
@@ -447,18 +435,14 @@ impl Pass {
         requires reads { enters call.now ≡ false }
         requires accepted { refused (store_of (known self.old)) call.now ≡ None }
         requires records { All (IsOf records.now) self.old.shown }
-        ensures reply { IfOk result (λ reply. reply ≡ reply_of (store_of (known self.old)) call.now) }
+        ensures replied { IsReplied self.old self.new call.now result }
         ensures memory { OnErr result (is_size call.now ≡ false) }
         ensures size { is_size call.now ≡ true → self.new.made ≡ self.old.made }
-        ensures unsettled { OnErr result (self.old.settled < length (known self.old)) }
-        ensures same { self.new ≡ record self.old { settled = self.new.settled; made = self.new.made } }
-        ensures settled { OnOk result (self.new.settled ≡ (if is_materialize call.now then length (known self.old) else self.old.settled)) }
-        ensures err { OnErr result (self.new.settled ≡ self.old.settled) }
-        ensures made { length (known self.old) ≤ self.old.settled → self.new.made ≡ self.old.made }
     {
-        match call {
-            Call::SizeMatrix { .. } | Call::SizeVector { .. } => Ok(self.reader.size(call)),
-            _ => self.reply_of_entries(records, call),
+        match call.class() {
+            Class::AsksDimensions => Ok(self.reader.size(call)),
+            Class::Reads(_) => self.reply_of_entries(records, call),
+            Class::Makes | Class::Edits | Class::Operates => unreachable!(),
         }
     }
 
@@ -482,7 +466,7 @@ impl Pass {
         ensures steady { IsSteady self.new }
         ensures counts { Counts self.old self.new }
     {
-        // The row goes on behind the record before a word names it.
+        // The row goes on after the record before a word names it.
         let index = token.index();
         self.row.spend(index);
         let back = self.reader.enter(order, token, call);

@@ -16,28 +16,27 @@
 //! All lists have places for each word of the order from `open` on. So no step takes memory, and none waits: each makes one step on the
 //! order at most, `tell` one for each word that it learns and three of the first word.
 ghost use Rattle.std.specs.Prelude.{◌≡◌, ◌<◌, ◌≤◌, ◌+◌, ◌^◌, true, [], ◌∷◌, ◌++◌, length, All, None, Some, slice_get, slice_index, MatchOption, IfOk};
-ghost use Rattle.std.specs.Option.{option_or};
 ghost use Rattle.grb_order.specs.declared.limits.TheConstants.{MOST_ROOM};
 ghost use Rattle.grb_order.specs.Word.{number_of, index_of, StartsWith};
 ghost use Rattle.grb_order.specs.View.{fresh, is_told, LookedLast};
 ghost use Rattle.grb_order.specs.Order.{room_of};
 ghost use Rattle.grb_order.specs.Steps.{Looks};
 ghost use Rattle.grb_records.specs.Token.{IsOf};
-ghost use Rattle.grb_call.specs.Kinds.{enters, is_size};
+ghost use Rattle.grb_call.specs.Kinds.{class_of, enters, is_size};
 ghost use Rattle.grb_call.specs.Refused.{check_of, refused_by_shapes};
 ghost use Rattle.grb_call.specs.Store.{empty_store, shapes_of};
 ghost use Rattle.grb_call.specs.After.{reply_of};
 ghost use Rattle.grb_call.specs.History.{calls_of, store_of};
-ghost use Rattle.grb_call.specs.Status.{info_of, made_by, with_status};
 ghost use Rattle.grb_slices.specs.Followed.{targets_of};
-ghost use Rattle.grb_call.specs.Statuses.{no_rows, status_at};
-ghost use Rattle.grb_pass.specs.Known.{known};
+ghost use Rattle.grb_call.specs.Statuses.{status_at};
+ghost use Rattle.grb_pass.specs.Known.{known, new_pass};
 ghost use Rattle.grb_pass.specs.Learning.{Enters, IsNextUnshown, IsSteady};
 ghost use Rattle.grb_pass.specs.Counting.{Counts, look_steps};
 ghost use Rattle.grb_pass.specs.Meeting.{SharesCallAt};
+ghost use Rattle.grb_pass.specs.Replying.{statuses_with};
 
 use grb_call::{
-    Call, Kind, MatrixId, Object, Reply, Statuses, VectorId, check, info_of, target_of,
+    Call, Class, Kind, MatrixId, Object, Reply, Statuses, VectorId, check, info_of, target_of,
 };
 use grb_core::{Info, Refusal};
 use grb_order::{Entered, Look, Order, Place};
@@ -102,7 +101,7 @@ impl Reader {
         requires number { (number ≡ place.view.number) × (number < place.view.passes) }
         requires room { (room ≡ room_of place.table_id) × (room ≤ MOST_ROOM) }
         requires fresh { place.view ≡ fresh number place.view.passes }
-        ensures { IfOk result (λ reader. reader ≡ record { order = place.table_id; view = place.view; shown = []; steps = 0; statuses = no_rows (room_of place.table_id); settled = 0; made = 0 }) }
+        ensures { IfOk result (λ reader. reader ≡ new_pass place.table_id place.view) }
     {
         let tokens = Vec::with_capacity(alloc, room as usize)?;
         let targets = Targets::open(alloc, room)?;
@@ -185,7 +184,7 @@ impl Reader {
     /// Keeps the status that this answer leaves on the target of its call, which is about that object.
     pub(crate) fn keep(&mut self, object: Option<Object>, answer: &Result<Reply, Refusal>)
         ensures same { self.new ≡ record self.old { statuses = self.new.statuses } }
-        ensures kept { status_at self.new.statuses ≡ with_status (room_of self.old.order) (option_or object (made_by answer.now)) (info_of answer.now) (status_at self.old.statuses) }
+        ensures statuses { status_at self.new.statuses ≡ statuses_with self.old object answer.now }
     {
         self.statuses
             .keep(target_of(object, answer), info_of(answer));
@@ -319,9 +318,9 @@ impl Reader {
         check(self.targets.shapes(), call)
     }
 
-    /// The reply to a call that is entered after all known ones.
-    pub(crate) fn reply(&self, call: &Call) -> Reply
-        requires { enters call.now ≡ true }
+    /// The number that a call is given which makes an object after all known ones.
+    fn reply_of_made(&self, call: &Call) -> Reply
+        requires { class_of call.now ≡ Class.Makes }
         ensures { result ≡ reply_of (store_of (known self.now)) call.now }
     {
         match call {
@@ -331,7 +330,19 @@ impl Reader {
             Call::NewVector { .. } | Call::DupVector { .. } => {
                 Reply::MadeVector(VectorId(self.targets.shapes().vectors()))
             }
-            _ => Reply::Done,
+            _ => unreachable!(),
+        }
+    }
+
+    /// The reply to a call that is entered after all known ones.
+    pub(crate) fn reply(&self, call: &Call) -> Reply
+        requires { enters call.now ≡ true }
+        ensures { result ≡ reply_of (store_of (known self.now)) call.now }
+    {
+        match call.class() {
+            Class::Makes => self.reply_of_made(call),
+            Class::Edits | Class::Operates => Reply::Done,
+            Class::Reads(_) | Class::AsksDimensions => unreachable!(),
         }
     }
 
@@ -340,18 +351,18 @@ impl Reader {
         requires { is_size call.now ≡ true }
         ensures { result ≡ reply_of (store_of (known self.now)) call.now }
     {
-        match call {
-            Call::SizeMatrix { a } => self
+        match call.object() {
+            Some(Object::Matrix(a)) => self
                 .targets
                 .shapes()
-                .matrix(*a)
+                .matrix(a)
                 .map_or(Reply::Done, |shape| Reply::Dims(shape.1, shape.2)),
-            Call::SizeVector { v } => self
+            Some(Object::Vector(v)) => self
                 .targets
                 .shapes()
-                .vector(*v)
+                .vector(v)
                 .map_or(Reply::Done, |shape| Reply::Size(shape.1)),
-            _ => unreachable!(),
+            None => unreachable!(),
         }
     }
 

@@ -36,7 +36,7 @@ impl RecordRow {
         ensures of { IfOk result (IsOf records.now) }
         ensures refused { IfErr result (λ refusal. (refusal ≡ Refusal.Panic) ⊎ (refusal ≡ Refusal.OutOfMemory)) }
         ensures next { self.new.next ≡ next_after room self.old.next result }
-        ensures behind { self.old.next ≤ self.new.next }
+        ensures later { self.old.next ≤ self.new.next }
         ensures within { OnOk result (self.old.next < room) }
     {
         if self.next >= u64::from(room) {
@@ -53,7 +53,7 @@ impl RecordRow {
     pub(crate) fn spend(&mut self, index: u64)
         requires { index < 2 ^ 48 }
         ensures next { self.new.next ≡ max self.old.next (index + 1) }
-        ensures behind { index < self.new.next }
+        ensures later { index < self.new.next }
     {
         self.next = self.next.max(index + 1);
     }

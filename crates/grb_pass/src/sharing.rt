@@ -10,7 +10,7 @@ ghost use Rattle.grb_pass.specs.Evaluated.{IsAssembled, IsStoreFor};
 ghost use Rattle.grb_pass.specs.Known.{known};
 
 use crate::reader::Reader;
-use grb_call::{Call, MatrixId, Object, VectorId};
+use grb_call::{Call, MatrixId, VectorId};
 use grb_records::Records;
 use grb_replay::{Editions, Reached, State};
 use grb_slices::CallList;
@@ -100,7 +100,7 @@ pub(crate) fn offer(
 pub(crate) fn assemble(reader: &Reader, reached: &mut Reached) -> Result<(), AllocError>
     requires store { IsStoreFor reader.now reached.old }
     ensures same { reached.new ≡ record reached.old { state = reached.new.state } }
-    ensures kept { reached.new.state.store ≡ reached.old.state.store }
+    ensures entries { reached.new.state.store ≡ reached.old.state.store }
     ensures store { IsStoreFor reader.now reached.new }
     ensures all { OnOk result (IsAssembled reached.new.state) }
 {
@@ -110,14 +110,37 @@ pub(crate) fn assemble(reader: &Reader, reached: &mut Reached) -> Result<(), All
     Ok(())
 }
 
+/// How many entries the objects of a store have.
+#[derive(Clone, Copy)]
+pub(crate) struct Entries {
+    /// All of them.
+    pub(crate) all: u64,
+    /// Those of the objects in which changes wait.
+    pub(crate) waiting: u64,
+}
+
+impl Entries {
+    /// Adds those of one object.
+    fn add(&mut self, nvals: u64, is_assembled: bool) {
+        self.all = self.all.saturating_add(nvals);
+        if !is_assembled {
+            self.waiting = self.waiting.saturating_add(nvals);
+        }
+    }
+}
+
 /// How many entries the objects of the store have.
-pub(crate) fn entries_of(state: &State) -> u64 {
-    let mut entries: u64 = 0;
+pub(crate) fn entries_of(state: &State) -> Entries {
+    let mut entries = Entries { all: 0, waiting: 0 };
     for number in 0..state.matrices() {
-        entries = entries.saturating_add(state.nvals(Object::Matrix(MatrixId(number))));
+        if let Some(matrix) = state.matrix(MatrixId(number)) {
+            entries.add(matrix.nvals(), matrix.is_assembled());
+        }
     }
     for number in 0..state.vectors() {
-        entries = entries.saturating_add(state.nvals(Object::Vector(VectorId(number))));
+        if let Some(vector) = state.vector(VectorId(number)) {
+            entries.add(vector.nvals(), vector.is_assembled());
+        }
     }
     entries
 }
@@ -133,7 +156,7 @@ pub(crate) fn share(
     requires of { All (IsOf records.now) reader.old.shown }
     requires store { IsStoreFor reader.old reached.old }
     requires all { reached.old.state.store ≡ store_of (known reader.old) }
-    ensures kept { reached.new.state.store ≡ reached.old.state.store }
+    ensures entries { reached.new.state.store ≡ reached.old.state.store }
     ensures part { reached.new ≡ record reached.old { state = reached.new.state } }
     ensures same { reader.new ≡ reader.old }
     ensures store { IsStoreFor reader.new reached.new }

@@ -15,3 +15,5 @@ pub mod ByColumn
 pub mod SumsByColumn
 pub mod ColumnFolds
 pub mod RunFolds
+pub mod ChangedTotals
+pub mod Windows

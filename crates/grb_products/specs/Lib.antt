@@ -3,3 +3,4 @@ pub mod Products
 pub mod Open
 pub mod ColumnSums
 pub mod Numbers
+pub mod Changed

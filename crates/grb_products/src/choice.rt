@@ -1,5 +1,6 @@
 //! The choice from a monoid, and from a semiring, to the types that stand for them: made once a call, and in one place.
-ghost use Rattle.std.specs.Prelude.{◌≡◌};
+ghost use Rattle.std.specs.Prelude.{◌≡◌, All};
+ghost use Rattle.grb_core.specs.Value.{IsValueOf};
 ghost use Rattle.grb_core.specs.declared.monoid.Monoid.{Monoid as MonoidOf};
 ghost use Rattle.grb_core.specs.Monoid.{monoid_domain};
 ghost use Rattle.grb_core.specs.Operator.{op_domain};
@@ -39,6 +40,10 @@ pub trait BySemiring<T: Scalar> {
 
 /// A Rust type that has the monoids of its domain.
 pub trait Folded: Operated {
+    /// What reading values shows: they are of the domain. Takes no time.
+    fn read_all(values: &[Self])
+        ensures { All (λ x. IsValueOf Self.domain (Self.value x)) values.now };
+
     /// Makes what a monoid of the domain makes, by the type that stands for it.
     fn choose_monoid<F: ByMonoid<Self>>(monoid: Monoid, made: F) -> F::Output
         requires domain { monoid_domain monoid ≡ Self.domain }
@@ -46,6 +51,8 @@ pub trait Folded: Operated {
 }
 
 impl Folded for bool {
+    fn read_all(_values: &[bool]) {}
+
     fn choose_monoid<F: ByMonoid<bool>>(monoid: Monoid, made: F) -> F::Output {
         match monoid {
             Monoid::Lor => made.by::<Lor>(),
@@ -58,6 +65,8 @@ impl Folded for bool {
 }
 
 impl Folded for u64 {
+    fn read_all(_values: &[u64]) {}
+
     fn choose_monoid<F: ByMonoid<u64>>(monoid: Monoid, made: F) -> F::Output {
         match monoid {
             Monoid::Plus => made.by::<Plus>(),

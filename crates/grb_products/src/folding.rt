@@ -1,5 +1,5 @@
 //! Values folded by a monoid: chosen once a call.
-ghost use Rattle.std.specs.Prelude.{◌≡◌, map};
+ghost use Rattle.std.specs.Prelude.{◌≡◌, ◌++◌, map, length};
 ghost use Rattle.grb_core.specs.Fold.{fold_of};
 ghost use Rattle.grb_core.specs.Monoid.{monoid_domain};
 
@@ -8,8 +8,63 @@ use crate::monoids::MonoidOver;
 use grb_core::Monoid;
 use grb_ewise::Stored;
 
-/// The values combined by a monoid as a type; its identity, where there are none. Values after a terminal one are not read.
-pub(crate) fn fold_values<T: Stored, M: MonoidOver<T>>(values: &[T]) -> T
+/// How many values are folded together, and a quarter of them.
+const BLOCK: usize = 4 * QUARTER;
+
+const QUARTER: usize = 64;
+
+/// The values combined by a monoid as a type; its identity, where there are none. Blocks after a sum that no value changes are not read.
+pub(crate) fn fold_values<T: Stored + Folded, M: MonoidOver<T>>(values: &[T]) -> T
+    ensures { T.value result ≡ fold_of M.monoid (map T.value values.now) }
+{
+    T::read_all(values);
+    let mut sum = M::identity();
+    let mut at = 0;
+    'whole: while BLOCK <= values.len() - at {
+        if M::is_final(sum) {
+            return sum;
+        }
+        sum = M::add(sum, fold_block::<T, M>(&values[at..at + BLOCK]));
+        at += BLOCK;
+    }
+    M::add(sum, fold_each::<T, M>(&values[at..]))
+}
+
+/// A block of values combined: its quarters are folded in step, so that no sum waits for the one before.
+fn fold_block<T: Stored, M: MonoidOver<T>>(values: &[T]) -> T
+    requires len { length values.now ≡ 256 }
+    ensures { T.value result ≡ fold_of M.monoid (map T.value values.now) }
+{
+    let (low, high) = values.split_at(2 * QUARTER);
+    let (first, second) = low.split_at(QUARTER);
+    let (third, fourth) = high.split_at(QUARTER);
+    fold_quarters::<T, M>(first, second, third, fourth)
+}
+
+/// Four lists of one length combined, one after the other.
+fn fold_quarters<T: Stored, M: MonoidOver<T>>(
+    first: &[T],
+    second: &[T],
+    third: &[T],
+    fourth: &[T],
+) -> T
+    requires second { length second.now ≡ length first.now }
+    requires third { length third.now ≡ length first.now }
+    requires fourth { length fourth.now ≡ length first.now }
+    ensures { T.value result ≡ fold_of M.monoid (map T.value ((first.now ++ second.now) ++ (third.now ++ fourth.now))) }
+{
+    let mut sums = (M::identity(), M::identity(), M::identity(), M::identity());
+    for i in 0..first.len() {
+        sums.0 = M::add(sums.0, first[i].read());
+        sums.1 = M::add(sums.1, second[i].read());
+        sums.2 = M::add(sums.2, third[i].read());
+        sums.3 = M::add(sums.3, fourth[i].read());
+    }
+    M::add(M::add(sums.0, sums.1), M::add(sums.2, sums.3))
+}
+
+/// Values combined one after the other. Those after a terminal one are not read.
+fn fold_each<T: Stored, M: MonoidOver<T>>(values: &[T]) -> T
     ensures { T.value result ≡ fold_of M.monoid (map T.value values.now) }
 {
     let mut sum = M::identity();
@@ -29,7 +84,7 @@ struct Values<'a, T> {
     values: &'a [T],
 }
 
-impl<'a, T: Stored> ByMonoid<T> for Values<'a, T> {
+impl<'a, T: Stored + Folded> ByMonoid<T> for Values<'a, T> {
     type Output = T;
 
     ghost Gives = { λ v monoid result. T.value result ≡ fold_of monoid (map T.value v.values.now) };

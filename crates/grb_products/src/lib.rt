@@ -5,6 +5,7 @@
 //! lent is changed. Nothing here checks domains or dimensions, which the caller owes, and nothing here knows of stores or threads.
 #![tactic(auto)]
 
+mod changed;
 mod choice;
 mod column_folds;
 mod column_sums;
@@ -12,20 +13,20 @@ mod folding;
 mod lookup;
 mod matrix_rows;
 mod monoids;
-mod multiply;
+mod mxv_product;
 mod picks;
 mod push;
-mod pushes;
-mod row_folds;
+mod reduce_folds;
+mod reduce_totals;
 mod row_products;
 mod rows;
 mod runs;
-mod totals;
+mod vxm_product;
 
 pub use choice::{ByMonoid, BySemiring, Folded, by_semiring};
 pub use matrix_rows::{MatrixRows, lend_matrix};
 pub use monoids::MonoidOver;
-pub use multiply::mxv;
-pub use pushes::vxm;
-pub use row_folds::reduce_rows;
-pub use totals::{reduce_matrix, reduce_vector};
+pub use mxv_product::mxv;
+pub use reduce_folds::reduce_rows;
+pub use reduce_totals::{reduce_matrix, reduce_vector};
+pub use vxm_product::vxm;

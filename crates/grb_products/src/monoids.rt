@@ -5,6 +5,7 @@ ghost use Rattle.std.specs.Prelude.{◌≡◌, refl, true};
 ghost use Rattle.grb_core.specs.declared.value.Value.{Value};
 ghost use Rattle.grb_core.specs.declared.monoid.Monoid.{Monoid};
 ghost use Rattle.grb_core.specs.declared.monoid.Monoid.TheVariants as monoid;
+ghost use Rattle.grb_core.specs.Value.{IsValueOf};
 ghost use Rattle.grb_core.specs.Operator.{value_of_op};
 ghost use Rattle.grb_core.specs.Monoid.{monoid_op, monoid_domain, identity_of};
 
@@ -29,6 +30,10 @@ pub trait MonoidOver<T: Scalar> {
     fn is_terminal(value: T) -> bool
         ensures { result ≡ true → (v : Value) → value_of_op (monoid_op monoid) (T.value value) v ≡ T.value value };
 
+    /// The same of a sum, asked once for many values: whether no value of the domain changes it.
+    fn is_final(sum: T) -> bool
+        ensures { result ≡ true → (v : Value) → IsValueOf (monoid_domain monoid) v → value_of_op (monoid_op monoid) (T.value sum) v ≡ T.value sum };
+
     /// Its values are those of the type.
     ghost same_domain: { monoid_domain monoid ≡ T.domain };
 }
@@ -46,6 +51,10 @@ impl MonoidOver<bool> for Lor {
 
     fn is_terminal(value: bool) -> bool {
         value
+    }
+
+    fn is_final(sum: bool) -> bool {
+        sum
     }
 
     ghost same_domain = { refl };
@@ -66,6 +75,10 @@ impl MonoidOver<bool> for Land {
         !value
     }
 
+    fn is_final(sum: bool) -> bool {
+        !sum
+    }
+
     ghost same_domain = { refl };
 }
 
@@ -81,6 +94,10 @@ impl MonoidOver<bool> for Lxor {
     }
 
     fn is_terminal(_value: bool) -> bool {
+        false
+    }
+
+    fn is_final(_sum: bool) -> bool {
         false
     }
 
@@ -102,6 +119,10 @@ impl MonoidOver<bool> for Lxnor {
         false
     }
 
+    fn is_final(_sum: bool) -> bool {
+        false
+    }
+
     ghost same_domain = { refl };
 }
 
@@ -117,6 +138,10 @@ impl MonoidOver<u64> for Plus {
     }
 
     fn is_terminal(_value: u64) -> bool {
+        false
+    }
+
+    fn is_final(_sum: u64) -> bool {
         false
     }
 
@@ -138,6 +163,10 @@ impl MonoidOver<u64> for Times {
         false
     }
 
+    fn is_final(sum: u64) -> bool {
+        sum == 0
+    }
+
     ghost same_domain = { refl };
 }
 
@@ -156,6 +185,10 @@ impl MonoidOver<u64> for Min {
         false
     }
 
+    fn is_final(sum: u64) -> bool {
+        sum == 0
+    }
+
     ghost same_domain = { refl };
 }
 
@@ -172,6 +205,10 @@ impl MonoidOver<u64> for Max {
 
     fn is_terminal(_value: u64) -> bool {
         false
+    }
+
+    fn is_final(sum: u64) -> bool {
+        sum == u64::MAX
     }
 
     ghost same_domain = { refl };

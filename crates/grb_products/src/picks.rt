@@ -3,73 +3,12 @@ ghost use Rattle.std.specs.Prelude.{◌≡◌, ◌≢◌, ◌<◌, ◌≤◌, �
 ghost use Rattle.grb_core.specs.declared.value.Value.{Value};
 ghost use Rattle.grb_kernels.specs.Typed.{entries_of, first_entries};
 ghost use Rattle.grb_rows.specs.Cells.{decoded};
-ghost use Rattle.grb_ewise.specs.Ranks.{Rise};
 ghost use Rattle.grb_products.specs.Pushes.{pushed, at_numbers};
 
 use grb_ewise::Stored;
 use grb_kernels::EntrySlice;
-use grb_rows::FlatRows;
+use grb_rows::{FlatRows, next_place};
 use std::alloc::{AllocError, Global};
-
-/// Two places between which the numbers that are not below another begin, each step twice as long as the one before.
-fn gallop(numbers: &[u32], from: usize, number: u32) -> (usize, usize)
-    requires rising { Rise numbers.now }
-    requires from { from ≤ length numbers.now }
-    requires passed { (q : ℕ) → q < from → slice_index numbers.now q < number }
-    ensures after { from ≤ result.0 }
-    ensures order { result.0 ≤ result.1 }
-    ensures within { result.1 ≤ length numbers.now }
-    ensures below { (q : ℕ) → q < result.0 → slice_index numbers.now q < number }
-    ensures above { (q : ℕ) → result.1 ≤ q → q < length numbers.now → number ≤ slice_index numbers.now q }
-{
-    let mut low = from;
-    let mut end = from;
-    'gallop: while end < numbers.len() && numbers[end] < number {
-        low = end + 1;
-        end = low + (low - from).min(numbers.len() - low);
-    }
-    (low, end)
-}
-
-/// Where the numbers that are not below another begin, between two places.
-fn bisect(numbers: &[u32], low: usize, end: usize, number: u32) -> usize
-    requires rising { Rise numbers.now }
-    requires order { low ≤ end }
-    requires within { end ≤ length numbers.now }
-    requires below { (q : ℕ) → q < low → slice_index numbers.now q < number }
-    requires above { (q : ℕ) → end ≤ q → q < length numbers.now → number ≤ slice_index numbers.now q }
-    ensures after { low ≤ result }
-    ensures within { result ≤ length numbers.now }
-    ensures below { (q : ℕ) → q < result → slice_index numbers.now q < number }
-    ensures above { (q : ℕ) → result ≤ q → q < length numbers.now → number ≤ slice_index numbers.now q }
-{
-    let mut low = low;
-    let mut end = end;
-    'halves: while low < end {
-        let middle = low + (end - low) / 2;
-        if numbers[middle] < number {
-            low = middle + 1;
-        } else {
-            end = middle;
-        }
-    }
-    low
-}
-
-/// Where the numbers that are not below another begin. Those before `from` are known to be below it, and the time is the logarithm of how
-/// many more are.
-fn next_place(numbers: &[u32], from: usize, number: u32) -> usize
-    requires rising { Rise numbers.now }
-    requires from { from ≤ length numbers.now }
-    requires passed { (q : ℕ) → q < from → slice_index numbers.now q < number }
-    ensures after { from ≤ result }
-    ensures within { result ≤ length numbers.now }
-    ensures below { (q : ℕ) → q < result → slice_index numbers.now q < number }
-    ensures above { (q : ℕ) → result ≤ q → q < length numbers.now → number ≤ slice_index numbers.now q }
-{
-    let (low, end) = gallop(numbers, from, number);
-    bisect(numbers, low, end, number)
-}
 
 /// Whether a number stands at a place.
 fn is_at(numbers: &[u32], place: usize, number: u32) -> bool

@@ -62,7 +62,7 @@ rebuilt s = matrices_calls 0 s.matrices ++ vectors_calls 0 s.vectors
 abbrev pub RebuildLeavesTheStore : Type 0
 RebuildLeavesTheStore = (s : Store) → IsStore s → after_all empty_store (rebuilt s) ≡ s
 
--- and so further calls leave behind them what they leave in that store
+-- and so further calls leave after them what they leave in that store
 abbrev pub HistoryGoesOn : Type 0
 HistoryGoesOn = (s : Store) (more : List Call) → IsStore s → after_all empty_store (rebuilt s ++ more) ≡ after_all s more
 

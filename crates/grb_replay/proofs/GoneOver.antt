@@ -26,7 +26,7 @@ use Rattle.grb_slices.proofs.Places.{drop_there}
 use Rattle.grb_slices.proofs.Wants.{is_same_object-self, is_same_object-true}
 use Rattle.grb_state.specs.Evaluated.{IsEvaluated}
 use Rattle.grb_replay.specs.Reached.{IsReached, IsWhole, ReachedView, besides, is_free}
-use Rattle.grb_replay.proofs.NextTarget.{targets_behind}
+use Rattle.grb_replay.proofs.NextTarget.{targets_of_rest}
 use Rattle.grb_replay.proofs.Valued.{follows_same, narrowed}
 
 -- one object more that is not lacking
@@ -89,7 +89,7 @@ module _ (old new : Marks) (s t : Store) (c : Call) (o : Object) (target : effec
 module _ (cs : List Call) (ts : List (Option Object)) (k : ℕ) (c : Call) (walked : ts ≡ targets_of (shapes_of empty_store) cs) (there : slice_get cs k ≡ Some c) where
   pub target_there : get_or ts k None ≡ effective_target (shapes_of (after_all empty_store (take k cs))) c
   target_there =
-      let here : drop k ts ≡ targets_of (shapes_of (after_all empty_store (take k cs))) (drop k cs) = ap (drop k) walked ∙ targets_behind empty_store cs k in
+      let here : drop k ts ≡ targets_of (shapes_of (after_all empty_store (take k cs))) (drop k cs) = ap (drop k) walked ∙ targets_of_rest empty_store cs k in
       let same : k + 0 ≡ k = omega arith in
       let first : drop k ts ≡ effective_target (shapes_of (after_all empty_store (take k cs))) c ∷ targets_of _ (drop (suc k) cs) = here ∙ ap (targets_of (shapes_of (after_all empty_store (take k cs)))) (drop_there cs k c there) in
       sym (get_or-drop k ts 0 None ∙ ap (λ (n : ℕ). get_or ts n None) same) ∙ ap (λ (us : List (Option Object)). get_or us 0 None) first

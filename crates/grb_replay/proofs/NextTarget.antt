@@ -26,11 +26,11 @@ pub length-targets_of : (s : ObjectShapes) (cs : List Call) → length (targets_
 length-targets_of s [] = refl
 length-targets_of s (c ∷ cs) = ap suc (length-targets_of (shapes_after s c) cs)
 
--- the targets behind a place are those of the calls behind it
-pub targets_behind : (s : Store) (cs : List Call) (k : ℕ) → drop k (targets_of (shapes_of s) cs) ≡ targets_of (shapes_of (after_all s (take k cs))) (drop k cs)
-targets_behind s cs zero = refl
-targets_behind s [] (suc k) = refl
-targets_behind s (c ∷ cs) (suc k) = ap (λ (u : ObjectShapes). drop k (targets_of u cs)) (sym (shapes_of-after s c)) ∙ targets_behind (after s c) cs k
+-- the targets after a place are those of the calls after it
+pub targets_of_rest : (s : Store) (cs : List Call) (k : ℕ) → drop k (targets_of (shapes_of s) cs) ≡ targets_of (shapes_of (after_all s (take k cs))) (drop k cs)
+targets_of_rest s cs zero = refl
+targets_of_rest s [] (suc k) = refl
+targets_of_rest s (c ∷ cs) (suc k) = ap (λ (u : ObjectShapes). drop k (targets_of u cs)) (sym (shapes_of-after s c)) ∙ targets_of_rest (after s c) cs k
 
 module _ (s : Store) (old new : WalkedCalls) (cs : List Call) (at : ℕ) (c : Call) (was : AreTargetsOf s old cs) (here : length old.targets ≡ at) (less : at < length cs) (is : get_or cs at c ≡ c)
     (pushed : new.targets ≡ old.targets ++ effective_target old.shapes.objects c ∷ []) (shaped : new.shapes.objects ≡ shapes_after old.shapes.objects c) where
@@ -70,7 +70,7 @@ module _ (s : Store) (old new : WalkedCalls) (cs : List Call) (at : ℕ) (c : Ca
     shapes_are = next-shapes ∙ ap (λ n. shapes_of (after_all s (take n cs))) (sym count);
   }
 
--- one more call walked over, of calls that come behind those walked over at first
+-- one more call walked over, of calls that come after those walked over at first
 pub walked_further : (s : Store) (first old new : WalkedCalls) (known bs : List Call) (at : ℕ) (c : Call) → AreTargetsOf s first known → bs ≡ drop (length first.targets) known → AreTargetsOf s old known →
     length old.targets ≡ length first.targets + at → at < length bs → get_or bs at c ≡ c →
     new.targets ≡ old.targets ++ effective_target old.shapes.objects c ∷ [] → new.shapes.objects ≡ shapes_after old.shapes.objects c → AreTargetsOf s new known

@@ -14,7 +14,7 @@ use Rattle.grb_slices.proofs.Wants.{is_same_object-self}
 use Rattle.grb_call.specs.Status.{is_same_object}
 use Rattle.grb_replay.specs.Partial.{ArePartial, IsPartialAt, IsPartialNow, ReadObjectView, PartialStoresView}
 use Rattle.grb_replay.proofs.NextTarget.{length-targets_of}
-use Rattle.grb_replay.proofs.Onward.{after_behind, targets_here}
+use Rattle.grb_replay.proofs.Onward.{after_rest, targets_here}
 
 -- held as it is after all calls
 pub partial_now : (room : ℕ) (known : List Call) (o : Object) (k : ReadObjectView) → k.upto ≡ length known → is_wanted k.store.objects o ≡ true →
@@ -33,20 +33,20 @@ partial_now room known o k all held follows roomy = record {
 pub wanted_self : (o : Object) (b : Bool) → (is_same_object o o || b) ≡ true
 wanted_self o b = ap (λ (a : Bool). a || b) (is_same_object-self o)
 
--- what stands behind a place of all calls, and of their targets
+-- what stands after a place of all calls, and of their targets
 module _ (known : List Call) (at : ℕ) (ws : List (Option Object)) (walked : ws ≡ targets_of (shapes_of empty_store) known) where
   pub count_all : length ws ≡ length known
   count_all = ap length walked ∙ length-targets_of (shapes_of empty_store) known
 
-  pub targets_behind_are : (s : Store) → s ≡ after_all empty_store (take at known) → drop at ws ≡ targets_of (shapes_of s) (drop at known)
-  targets_behind_are s is = targets_here known (drop at known) at s is refl ws (drop at ws) walked refl
+  pub targets_of_rest_are : (s : Store) → s ≡ after_all empty_store (take at known) → drop at ws ≡ targets_of (shapes_of s) (drop at known)
+  targets_of_rest_are s is = targets_here known (drop at known) at s is refl ws (drop at ws) walked refl
 
   -- a partial store that went on to the end
   pub partial_onward : (o : Object) (m : Marks) (s : Store) → s ≡ after_all empty_store (take at known) → (room before : ℕ) (k : ReadObjectView) → k.upto ≡ length known → k.store.objects ≡ m → is_wanted m o ≡ true →
       Follows (is_wanted m) (after_all s (drop at known)) k.store.state.store → room ≤ before + at → before + at ≤ k.store.state.room + length known → IsPartialNow room known o k
   partial_onward o m s is room before k now held wanted follows roomy more =
       let end : Follows (is_wanted k.store.objects) (after_all empty_store known) k.store.state.store =
-      subst (λ (t : Store). Follows (is_wanted k.store.objects) t k.store.state.store) (after_behind known (drop at known) at s is refl) (subst (λ (n : Marks). Follows (is_wanted n) (after_all s (drop at known)) k.store.state.store) (sym held) follows) in
+      subst (λ (t : Store). Follows (is_wanted k.store.objects) t k.store.state.store) (after_rest known (drop at known) at s is refl) (subst (λ (n : Marks). Follows (is_wanted n) (after_all s (drop at known)) k.store.state.store) (sym held) follows) in
       partial_now room known o k now (ap (λ (n : Marks). is_wanted n o) held ∙ wanted) end (omega (arith, roomy, more))
 
 -- other partial stores

@@ -18,17 +18,17 @@ use Rattle.grb_slices.specs.declared.slice.Slice.{Slice}
 use Rattle.grb_slices.specs.SliceFor.{IsSliceFor}
 use Rattle.grb_slices.specs.Slice.{Step, Wants, entries, sliced}
 use Rattle.grb_slices.specs.Wanted.{is_wanted}
-use Rattle.grb_replay.specs.Held.{tasks_for, tasks_of}
+use Rattle.grb_replay.specs.Held.{slice_of, slice_length}
 use Rattle.grb_slices.specs.Followed.{Follows, GoesOn, HasGoneOver, targets_of}
 use Rattle.grb_slices.proofs.Going.{entries_are}
 use Rattle.grb_slices.proofs.Answered.{same_answer}
 
--- the tasks of the slice of one object, which is all that is wanted
-pub tasks_are : (o : Object) (s : Store) (cs : List Call) (ts : List (Option Object)) (w : Wants) → ((p : Object) → w p ≡ is_same_object o p) → ts ≡ targets_of (shapes_of s) cs →
-    (sliced w (entries ts cs)).tasks ≡ tasks_for s o cs
-tasks_are o s cs ts w one targets =
-    ap (λ (v : Wants). (sliced v (entries ts cs)).tasks) (λ i p. one p i)
-    ∙ ap (λ (xs : List Step). (sliced (is_same_object o) xs).tasks) (ap (λ (us : List (Option Object)). entries us cs) targets ∙ entries_are (shapes_of s) cs)
+-- the elements of the slice of one object, which is all that is wanted
+pub slice_is : (o : Object) (s : Store) (cs : List Call) (ts : List (Option Object)) (w : Wants) → ((p : Object) → w p ≡ is_same_object o p) → ts ≡ targets_of (shapes_of s) cs →
+    (sliced w (entries ts cs)).elements ≡ slice_of s o cs
+slice_is o s cs ts w one targets =
+    ap (λ (v : Wants). (sliced v (entries ts cs)).elements) (λ i p. one p i)
+    ∙ ap (λ (xs : List Step). (sliced (is_same_object o) xs).elements) (ap (λ (us : List (Option Object)). entries us cs) targets ∙ entries_are (shapes_of s) cs)
 
 -- the answer by the part, where the object holds the same as in the whole
 pub refused-by : (whole part : Store) (c : Call) (o : Object) (r : Refusal) → enters c ≡ false → object_of c ≡ Some o → content_at whole o ≡ content_at part o → refused part c ≡ Some r →
@@ -68,7 +68,7 @@ narrowed v w whole part sub f = record { matrices = f.matrices; vectors = f.vect
 pub follows_same : (w : Wants) (whole part : Store) → part ≡ whole → Follows w whole part
 follows_same w whole part e = record { matrices = ap (λ (s : Store). length s.matrices) e; vectors = ap (λ (s : Store). length s.vectors) e; agree = λ o is. ap (λ (s : Store). content_at s o) (sym e) }
 
--- what is wanted behind the calls, where the part holds what their slice wants before them
+-- what is wanted after the calls, where the part holds what their slice wants before them
 module _ (v w : Wants) (cs : List Call) (ts : List (Option Object)) (bs : List Bool) (slice : Slice) (found : IsSliceFor slice w ts cs) (whole part made : Store)
     (targets : ts ≡ targets_of (shapes_of whole) cs) (chosen : bs ≡ slice.chosen.items) (goes : (u : Wants) (s : Store) → GoesOn u s cs ts bs part → HasGoneOver u s cs ts part made) where
   pub goes_over : ((p : Object) → is_wanted slice.wanted p ≡ true → v p ≡ true) → Follows v whole part → HasGoneOver w whole cs ts part made
@@ -79,16 +79,16 @@ module _ (v w : Wants) (cs : List Call) (ts : List (Option Object)) (bs : List B
   })
 
 -- how many calls were made
-pub tasks_none : (s : Store) (o : Object) (cs : List Call) (u : ObjectShapes) → u ≡ shapes_of (after_all s cs) → is_live u o ≡ false → 0 ≡ tasks_of s o cs
-tasks_none s o cs u is gone = by (is_live (shapes_of (after_all s cs)) o) (ap (λ (t : ObjectShapes). is_live t o) (sym is) ∙ gone)
+pub length_none : (s : Store) (o : Object) (cs : List Call) (u : ObjectShapes) → u ≡ shapes_of (after_all s cs) → is_live u o ≡ false → 0 ≡ slice_length s o cs
+length_none s o cs u is gone = by (is_live (shapes_of (after_all s cs)) o) (ap (λ (t : ObjectShapes). is_live t o) (sym is) ∙ gone)
   where
-    by : (b : Bool) → b ≡ false → 0 ≡ (if b then length (tasks_for s o cs) else 0)
+    by : (b : Bool) → b ≡ false → 0 ≡ (if b then length (slice_of s o cs) else 0)
     by true e = cc
     by false e = refl
 
-pub tasks_all : (s : Store) (o : Object) (cs : List Call) (u : ObjectShapes) (n : ℕ) → u ≡ shapes_of (after_all s cs) → is_live u o ≡ true → n ≡ length (tasks_for s o cs) → n ≡ tasks_of s o cs
-tasks_all s o cs u n is live count = by (is_live (shapes_of (after_all s cs)) o) (ap (λ (t : ObjectShapes). is_live t o) (sym is) ∙ live)
+pub length_all : (s : Store) (o : Object) (cs : List Call) (u : ObjectShapes) (n : ℕ) → u ≡ shapes_of (after_all s cs) → is_live u o ≡ true → n ≡ length (slice_of s o cs) → n ≡ slice_length s o cs
+length_all s o cs u n is live count = by (is_live (shapes_of (after_all s cs)) o) (ap (λ (t : ObjectShapes). is_live t o) (sym is) ∙ live)
   where
-    by : (b : Bool) → b ≡ true → n ≡ (if b then length (tasks_for s o cs) else 0)
+    by : (b : Bool) → b ≡ true → n ≡ (if b then length (slice_of s o cs) else 0)
     by true e = count
     by false e = cc

@@ -30,10 +30,10 @@ pub(crate) enum Next {
 pub struct Choice {
     // The place of the first of the calls.
     from: usize,
-    // Of each, whether an object depends on it that is there at the end; none where that was not asked.
+    // Of each, whether an object depends on it that is there at the end; none where all are taken as needed.
     needed: Option<Slice>,
     // Of each, whether the answer depends on it; none where it depends on all that are needed.
-    asked: Option<Slice>,
+    for_answer: Option<Slice>,
     // How much work others may take yet, as a number of sets.
     allowance: u64,
 }
@@ -97,7 +97,7 @@ impl Choice {
         Choice {
             from: 0,
             needed: None,
-            asked: None,
+            for_answer: None,
             allowance: SPARE,
         }
     }
@@ -120,7 +120,7 @@ impl Choice {
         Ok(Choice {
             from,
             needed: Some(slice),
-            asked: None,
+            for_answer: None,
             allowance: SPARE,
         })
     }
@@ -143,29 +143,29 @@ impl Choice {
         let all = Choice::for_all(alloc, calls, source, live, from)?;
         let mut wanted = Wanted::new(alloc);
         wanted.want(object)?;
-        let asked = slice_for(alloc, calls, source, from, wanted)?;
+        let slice = slice_for(alloc, calls, source, from, wanted)?;
         Ok(Choice {
             from,
             needed: all.needed,
-            asked: Some(asked),
+            for_answer: Some(slice),
             allowance: SPARE,
         })
     }
 
     /// Whether the state holds what the answer needs of what was made before. Takes no memory.
     pub fn is_served_by(&self, reached: &Reached) -> bool {
-        let Some(asked) = &self.asked else {
+        let Some(for_answer) = &self.for_answer else {
             return true;
         };
         for number in 0..reached.state().matrices() {
             let object = Object::Matrix(MatrixId(number));
-            if asked.wanted.contains(object) && reached.lacks(object) {
+            if for_answer.wanted.contains(object) && reached.lacks(object) {
                 return false;
             }
         }
         for number in 0..reached.state().vectors() {
             let object = Object::Vector(VectorId(number));
-            if asked.wanted.contains(object) && reached.lacks(object) {
+            if for_answer.wanted.contains(object) && reached.lacks(object) {
                 return false;
             }
         }
@@ -183,10 +183,10 @@ impl Choice {
         if !is_chosen(&needed.chosen, self.from, at) {
             return Next::PassOver;
         }
-        let Some(asked) = &self.asked else {
+        let Some(for_answer) = &self.for_answer else {
             return Next::Make;
         };
-        if is_chosen(&asked.chosen, self.from, at) {
+        if is_chosen(&for_answer.chosen, self.from, at) {
             return Next::Make;
         }
         if may_be_dear(call) && entries_at(alloc, reached, call) / ENTRIES >= self.allowance {
@@ -207,6 +207,6 @@ impl Choice {
 
     /// Whether there may be calls that this answer does not need, and another may. Takes no memory.
     pub(crate) fn leaves_out(&self) -> bool {
-        self.asked.is_some()
+        self.for_answer.is_some()
     }
 }

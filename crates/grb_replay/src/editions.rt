@@ -236,13 +236,7 @@ impl Editions {
     }
 
     /// The same as `advance`, by the latest alone.
-    fn advance_by_latest(
-        &self,
-        calls: &[&Call],
-        state: &mut State,
-        evaluated: usize,
-        room: u32,
-    ) -> usize
+    fn by_latest(&self, calls: &[&Call], state: &mut State, evaluated: usize, room: u32) -> usize
         requires { MayAdvance (map (λ c. c.now) calls.now) room evaluated state.old }
         ensures { IsAdvanced (map (λ c. c.now) calls.now) room evaluated state.old result state.new }
     {
@@ -268,13 +262,7 @@ impl Editions {
     }
 
     /// The same as `advance`, by the cells alone.
-    fn advance_by_cells(
-        &self,
-        calls: &[&Call],
-        state: &mut State,
-        evaluated: usize,
-        room: u32,
-    ) -> usize
+    fn by_cells(&self, calls: &[&Call], state: &mut State, evaluated: usize, room: u32) -> usize
         requires { MayAdvance (map (λ c. c.now) calls.now) room evaluated state.old }
         ensures { IsAdvanced (map (λ c. c.now) calls.now) room evaluated state.old result state.new }
     {
@@ -306,7 +294,7 @@ impl Editions {
         ensures stays { result ≡ evaluated → state.new ≡ state.old }
         ensures assembled { evaluated < result → AreAllAssembled (is_assembled state.new.matrices state.new.vectors) }
     {
-        let reached = self.advance_by_latest(calls, state, evaluated, room);
-        self.advance_by_cells(calls, state, reached, room)
+        let reached = self.by_latest(calls, state, evaluated, room);
+        self.by_cells(calls, state, reached, room)
     }
 }

@@ -39,7 +39,17 @@ pub(crate) fn work_of(call: &Call) -> Work {
         Class::Edits => match call {
             Call::BuildMatrix { tuples, .. } => Work::List(tuples.as_slice().len()),
             Call::BuildVector { tuples, .. } => Work::List(tuples.as_slice().len()),
-            _ => Work::Step,
+            Call::SetMatrix { .. }
+            | Call::SetVector { .. }
+            | Call::RemoveMatrix { .. }
+            | Call::RemoveVector { .. }
+            | Call::ResizeMatrix { .. }
+            | Call::ResizeVector { .. }
+            | Call::ClearMatrix { .. }
+            | Call::ClearVector { .. }
+            | Call::FreeMatrix { .. }
+            | Call::FreeVector { .. } => Work::Step,
+            _ => unreachable!(),
         },
         Class::Makes | Class::Reads(_) | Class::AsksDimensions => Work::Step,
     }

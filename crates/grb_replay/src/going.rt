@@ -3,7 +3,7 @@ ghost use Rattle.std.specs.Prelude.{◌≡◌, ◌+◌, ◌<◌, ◌≤◌, List
 ghost use Rattle.grb_call.specs.declared.call.Call.{Call};
 ghost use Rattle.grb_call.specs.Store.{empty_store, shapes_of};
 ghost use Rattle.grb_slices.specs.Followed.{targets_of};
-ghost use Rattle.grb_replay.specs.Reached.{IsReached, IsReachedIn, IsWholeIn};
+ghost use Rattle.grb_replay.specs.Reached.{IsReachedIn, IsWholeIn};
 
 use crate::choice::{Choice, Next};
 use crate::effort::Effort;
@@ -26,96 +26,18 @@ fn stay(reached: &Reached, base: &mut Option<Reached>, room: u32) -> Result<(), 
     Ok(())
 }
 
-/// Leaves the next call out. `AllocError` where memory is refused; then no call more is gone over.
-fn leave_out<S, C: CallList<S>>(
-    reached: &mut Reached,
-    base: &mut Option<Reached>,
-    calls: &mut C,
-    source: &S,
-    room: u32,
-) -> Result<(), AllocError>
-    requires held { C.is_in source.now calls.old }
-    requires targets { C.target_list calls.old ≡ targets_of (shapes_of empty_store) (C.calls source.now calls.old) }
-    requires few { length (C.calls source.now calls.old) ≤ room }
-    requires next { reached.old.count < length (C.calls source.now calls.old) }
-    requires reached { IsReachedIn room (C.calls source.now calls.old) reached.old }
-    requires base { IfSome base.old (IsWholeIn room (C.calls source.now calls.old)) }
-    ensures same { calls.new ≡ calls.old }
-    ensures reached { IsReachedIn room (C.calls source.now calls.old) reached.new }
-    ensures base { IfSome base.new (IsWholeIn room (C.calls source.now calls.old)) }
-    ensures ok { OnOk result (reached.new.count ≡ reached.old.count + 1) }
-    ensures err { OnErr result (reached.new.count ≡ reached.old.count) }
-{
-    stay(reached, base, room)?;
-    reached.leave(calls, source)
-}
-
-/// Makes the next call, which the answer needs. `AllocError` where memory is refused; then no call more is gone over.
-fn make_needed<S, C: CallList<S>>(
-    reached: &mut Reached,
-    calls: &mut C,
-    source: &S,
-    choice: &mut Choice,
-    effort: &mut Effort,
-) -> Result<(), AllocError>
-    requires held { C.is_in source.now calls.old }
-    requires targets { C.target_list calls.old ≡ targets_of (shapes_of empty_store) (C.calls source.now calls.old) }
-    requires next { reached.old.count < length (C.calls source.now calls.old) }
-    requires reached { IsReached (C.calls source.now calls.old) reached.old }
-    requires room { 0 < reached.old.state.room }
-    ensures same { calls.new ≡ calls.old }
-    ensures reached { IsReached (C.calls source.now calls.old) reached.new }
-    ensures room { reached.old.state.room + reached.old.count ≤ reached.new.state.room + reached.new.count }
-    ensures ok { OnOk result (reached.new.count ≡ reached.old.count + 1) }
-    ensures err { OnErr result (reached.new.count ≡ reached.old.count) }
-{
-    let before = effort.spent();
-    reached.make(calls, source, effort)?;
-    choice.earn(effort.spent().saturating_sub(before));
-    Ok(())
-}
-
-/// Makes the next call, which the answer does not need; where memory is refused to it, it is left out. `AllocError` where memory is refused
-/// to the copy that stays as the base, or to leaving the call out; then no call more is gone over.
-fn try_other<S, C: CallList<S>>(
-    reached: &mut Reached,
-    base: &mut Option<Reached>,
-    calls: &mut C,
-    source: &S,
-    room: u32,
-    choice: &mut Choice,
-    effort: &mut Effort,
-) -> Result<(), AllocError>
-    requires held { C.is_in source.now calls.old }
-    requires targets { C.target_list calls.old ≡ targets_of (shapes_of empty_store) (C.calls source.now calls.old) }
-    requires few { length (C.calls source.now calls.old) ≤ room }
-    requires next { reached.old.count < length (C.calls source.now calls.old) }
-    requires reached { IsReachedIn room (C.calls source.now calls.old) reached.old }
-    requires base { IfSome base.old (IsWholeIn room (C.calls source.now calls.old)) }
-    ensures same { calls.new ≡ calls.old }
-    ensures reached { IsReachedIn room (C.calls source.now calls.old) reached.new }
-    ensures base { IfSome base.new (IsWholeIn room (C.calls source.now calls.old)) }
-    ensures ok { OnOk result (reached.new.count ≡ reached.old.count + 1) }
-    ensures err { OnErr result (reached.new.count ≡ reached.old.count) }
-{
-    let before = effort.spent();
-    if reached.make(calls, source, effort).is_err() {
-        return leave_out(reached, base, calls, source, room);
-    }
-    choice.pay(effort.spent().saturating_sub(before));
-    Ok(())
-}
-
-/// Goes over the next call, as is chosen. `AllocError` where memory is refused to what the answer needs; then no call more is gone over.
+/// Goes over the next call, as is chosen: it is made, or is left out. One that the answer does not need is left out too where memory is
+/// refused to it. `AllocError` where memory is refused to one that the answer needs, to the copy that stays as the base, or to leaving the
+/// call out; then no call more is gone over.
 fn go_over<S, C: CallList<S>>(
     alloc: Global,
+    choice: &mut Choice,
+    effort: &mut Effort,
     reached: &mut Reached,
     base: &mut Option<Reached>,
     calls: &mut C,
     source: &S,
     room: u32,
-    choice: &mut Choice,
-    effort: &mut Effort,
 ) -> Result<(), AllocError>
     requires held { C.is_in source.now calls.old }
     requires targets { C.target_list calls.old ≡ targets_of (shapes_of empty_store) (C.calls source.now calls.old) }
@@ -130,17 +52,28 @@ fn go_over<S, C: CallList<S>>(
     ensures err { OnErr result (reached.new.count ≡ reached.old.count) }
 {
     let at = reached.count();
+    let before = effort.spent();
     match choice.next(alloc, reached, at, calls.call_at(source, at)) {
-        Next::Make => make_needed(reached, calls, source, choice, effort),
-        Next::Try => try_other(reached, base, calls, source, room, choice, effort),
-        Next::LeaveOut => leave_out(reached, base, calls, source, room),
-        Next::PassOver => {
-            if choice.leaves_out() {
-                return leave_out(reached, base, calls, source, room);
+        Next::Make => {
+            reached.make(calls, source, effort)?;
+            choice.earn(effort.spent().saturating_sub(before));
+            return Ok(());
+        }
+        Next::Try => {
+            if reached.make(calls, source, effort).is_ok() {
+                choice.pay(effort.spent().saturating_sub(before));
+                return Ok(());
             }
-            reached.leave(calls, source)
+        }
+        Next::LeaveOut => {}
+        Next::PassOver => {
+            if !choice.leaves_out() {
+                return reached.leave(calls, source);
+            }
         }
     }
+    stay(reached, base, room)?;
+    reached.leave(calls, source)
 }
 
 /// Goes over all calls of the list that it has not gone over, as is chosen, in a history that takes `room` calls. Where it first leaves one
@@ -169,7 +102,7 @@ pub fn go_on<S, C: CallList<S>>(
     ensures err { OnErr result (reached.new.count < length (C.calls source.now calls.old)) }
 {
     'calls: while reached.count() < calls.targets().len() {
-        go_over(alloc, reached, base, calls, source, room, choice, effort)?;
+        go_over(alloc, choice, effort, reached, base, calls, source, room)?;
     }
     Ok(())
 }

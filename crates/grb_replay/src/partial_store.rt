@@ -1,18 +1,14 @@
 //! A state in which the calls of the slice of some objects were made, and no other.
-ghost use Rattle.std.specs.Prelude.{◌≡◌, ◌+◌, ◌<◌, ◌≤◌, ◌^◌, false, true, Some, drop, length, IfOk, OnOk};
+ghost use Rattle.std.specs.Prelude.{◌≡◌, ◌+◌, ◌<◌, ◌≤◌, ◌^◌, false, true, Some, length, IfOk, OnOk};
 ghost use Rattle.std.specs.Option.{option_map, option_map_or};
 ghost use Rattle.grb_call.specs.Kinds.{enters, is_size};
 ghost use Rattle.grb_call.specs.Status.{object_of};
-ghost use Rattle.grb_call.specs.Store.{Store, empty_store, matrix_at, shapes_of, vector_at};
-ghost use Rattle.grb_call.specs.After.{answer};
-ghost use Rattle.grb_call.specs.History.{after_all};
+ghost use Rattle.grb_call.specs.Store.{empty_store, matrix_at, vector_at};
 ghost use Rattle.grb_state.specs.Settled.{AreAllAssembled};
-ghost use Rattle.grb_state.specs.State.{is_assembled};
-ghost use Rattle.grb_slices.specs.Content.{content_at};
-ghost use Rattle.grb_slices.specs.Followed.{Follows, HoldsTasks, targets_of};
-ghost use Rattle.grb_slices.specs.Slice.{entries, sliced};
-ghost use Rattle.grb_slices.specs.SliceFor.{IsSliceFor};
+ghost use Rattle.grb_state.specs.State.{is_assembled, is_assembled_in};
+ghost use Rattle.grb_slices.specs.SliceFor.{IsSliceFrom};
 ghost use Rattle.grb_slices.specs.Wanted.{is_wanted};
+ghost use Rattle.grb_replay.specs.Partial.{AnswersAlike, AreTargetsFrom, FollowsFrom, GoesOnBySlice, GoesOnFrom, HoldsSliceFrom};
 
 use crate::effort::Effort;
 use crate::making::make_chosen;
@@ -74,12 +70,13 @@ impl PartialStore {
         requires room { length (C.calls source.now calls.old) ≤ room + from }
         requires matrices { length whole.now.store.matrices + room < 2 ^ 32 }
         requires vectors { length whole.now.store.vectors + room < 2 ^ 32 }
-        requires targets { drop from (C.target_list calls.old) ≡ targets_of (shapes_of whole.now.store) (drop from (C.calls source.now calls.old)) }
-        requires slice { IsSliceFor slice.now (is_wanted wanted) (drop from (C.target_list calls.old)) (drop from (C.calls source.now calls.old)) }
+        requires targets { AreTargetsFrom from whole.now.store (C.target_list calls.old) (C.calls source.now calls.old) }
+        requires slice { IsSliceFrom from slice.now (is_wanted wanted) (C.target_list calls.old) (C.calls source.now calls.old) }
         ensures same { calls.new ≡ calls.old }
         ensures objects { IfOk result (λ partial. partial.objects ≡ wanted) }
-        ensures follows { IfOk result (λ partial. Follows (is_wanted wanted) (after_all whole.now.store (drop from (C.calls source.now calls.old))) partial.state.store) }
-        ensures tasks { IfOk result (λ partial. HoldsTasks (content_at whole.now.store) (sliced (is_wanted wanted) (entries (drop from (C.target_list calls.old)) (drop from (C.calls source.now calls.old)))).tasks partial.state.store) }
+        ensures follows { IfOk result (λ p. FollowsFrom from (is_wanted wanted) whole.now.store (C.calls source.now calls.old) p) }
+        ensures tasks { IfOk result (λ partial. HoldsSliceFrom from (is_wanted wanted) whole.now.store
+            (C.target_list calls.old) (C.calls source.now calls.old) partial) }
         ensures room { IfOk result (λ partial. room + from ≤ partial.state.room + length (C.calls source.now calls.old)) }
     {
         let mut state = whole.try_clone(room)?;
@@ -113,14 +110,14 @@ impl PartialStore {
         requires count { length (C.target_list calls.old) ≡ length (C.calls source.now calls.old) }
         requires from { from ≤ length (C.calls source.now calls.old) }
         requires room { length (C.calls source.now calls.old) ≤ self.old.state.room + from }
-        requires slice { IsSliceFor slice.now (is_wanted wanted) (drop from (C.target_list calls.old)) (drop from (C.calls source.now calls.old)) }
+        requires slice { IsSliceFrom from slice.now (is_wanted wanted) (C.target_list calls.old) (C.calls source.now calls.old) }
         requires within { (o : Object) → is_wanted slice.now.wanted o ≡ true → is_wanted self.old.objects o ≡ true }
         ensures same { calls.new ≡ calls.old }
         ensures objects { OnOk result (self.new.objects ≡ wanted) }
-        ensures follows { OnOk result ((whole : Store) → drop from (C.target_list calls.old) ≡ targets_of (shapes_of whole) (drop from (C.calls source.now calls.old)) → Follows (is_wanted self.old.objects) whole self.old.state.store
-            → Follows (is_wanted wanted) (after_all whole (drop from (C.calls source.now calls.old))) self.new.state.store) }
-        ensures tasks { OnOk result ((whole : Store) → drop from (C.target_list calls.old) ≡ targets_of (shapes_of whole) (drop from (C.calls source.now calls.old)) → Follows (is_wanted self.old.objects) whole self.old.state.store
-            → HoldsTasks (content_at self.old.state.store) (sliced (is_wanted wanted) (entries (drop from (C.target_list calls.old)) (drop from (C.calls source.now calls.old)))).tasks self.new.state.store) }
+        ensures follows { OnOk result (GoesOnFrom from self.old (is_wanted wanted)
+            (C.target_list calls.old) (C.calls source.now calls.old) self.new) }
+        ensures tasks { OnOk result (GoesOnBySlice from self.old (is_wanted wanted)
+            (C.target_list calls.old) (C.calls source.now calls.old) self.new) }
         ensures room { OnOk result (self.old.state.room + from ≤ self.new.state.room + length (C.calls source.now calls.old)) }
     {
         make_chosen(
@@ -149,7 +146,7 @@ impl PartialStore {
     /// The matrix, as far as it is held. Takes no memory.
     pub fn matrix(&self, a: MatrixId) -> Option<&SparseMatrix>
         ensures stored { option_map (λ matrix. matrix.now.matrix) result ≡ matrix_at self.now.state.store a }
-        ensures assembled { option_map_or (λ matrix. matrix.now.assembled) result true ≡ is_assembled self.now.state.matrices self.now.state.vectors (Object.Matrix a) }
+        ensures assembled { option_map_or (λ matrix. matrix.now.assembled) result true ≡ is_assembled_in self.now.state (Object.Matrix a) }
     {
         self.state.matrix(a)
     }
@@ -157,7 +154,7 @@ impl PartialStore {
     /// The vector, as far as it is held. Takes no memory.
     pub fn vector(&self, v: VectorId) -> Option<&SparseVector>
         ensures stored { option_map (λ vector. vector.now.vector) result ≡ vector_at self.now.state.store v }
-        ensures assembled { option_map_or (λ vector. vector.now.assembled) result true ≡ is_assembled self.now.state.matrices self.now.state.vectors (Object.Vector v) }
+        ensures assembled { option_map_or (λ vector. vector.now.assembled) result true ≡ is_assembled_in self.now.state (Object.Vector v) }
     {
         self.state.vector(v)
     }
@@ -193,12 +190,12 @@ impl PartialStore {
         requires reads { enters call.now ≡ false }
         requires no_size { is_size call.now ≡ false }
         requires about { object_of call.now ≡ Some object }
-        ensures answer { IfOk result (λ given. (whole : Store) → content_at whole object ≡ content_at self.old.state.store object → given ≡ answer whole call.now) }
+        ensures answer { IfOk result (λ given. AnswersAlike self.old.state.store object call.now given) }
         ensures objects { self.new.objects ≡ self.old.objects }
         ensures store { self.new.state.store ≡ self.old.state.store }
         ensures room { self.new.state.room ≡ self.old.state.room }
     {
-        answer_of(&mut self.state, object, call)
+        answer_of(&mut self.state, call, object)
     }
 }
 
@@ -206,13 +203,13 @@ impl PartialStore {
 /// where memory is refused to these; the entries are as before in any case.
 pub(crate) fn answer_of(
     state: &mut State,
-    object: Object,
     call: &Call,
+    object: Object,
 ) -> Result<Result<Reply, Refusal>, AllocError>
     requires reads { enters call.now ≡ false }
     requires no_size { is_size call.now ≡ false }
     requires about { object_of call.now ≡ Some object }
-    ensures answer { IfOk result (λ given. (whole : Store) → content_at whole object ≡ content_at state.old.store object → given ≡ answer whole call.now) }
+    ensures answer { IfOk result (λ given. AnswersAlike state.old.store object call.now given) }
     ensures store { state.new.store ≡ state.old.store }
     ensures room { state.new.room ≡ state.old.room }
 {

@@ -4,13 +4,13 @@ ghost use Rattle.grb_call.specs.declared.call.Call.{Call};
 ghost use Rattle.grb_call.specs.Kinds.{enters, is_size};
 ghost use Rattle.grb_call.specs.Status.{object_of};
 ghost use Rattle.grb_call.specs.Store.{empty_store, shapes_of};
-ghost use Rattle.grb_call.specs.After.{refused, reply_of};
+ghost use Rattle.grb_call.specs.After.{refused};
 ghost use Rattle.grb_call.specs.History.{after_all};
 ghost use Rattle.grb_state.specs.Evaluated.{IsEvaluated};
 ghost use Rattle.grb_slices.specs.Followed.{targets_of};
 ghost use Rattle.grb_slices.specs.Wanted.{is_wanted};
 ghost use Rattle.grb_state.specs.StoredIn.{IsMatrixOf, IsVectorOf};
-ghost use Rattle.grb_replay.specs.Partial.{ArePartial, HoldsMatrix, HoldsVector, IsPartialAt, IsPartialNow};
+ghost use Rattle.grb_replay.specs.Partial.{ArePartial, HoldsMatrix, HoldsVector, IsPartialAt, IsPartialNow, OfAllCalls, reply_after};
 
 use crate::effort::{Amount, Effort};
 use crate::partial_store::PartialStore;
@@ -73,30 +73,33 @@ impl ReadObject {
         self.upto == known && self.store.objects().contains(object)
     }
 
+    /// Its partial store, where that holds the object after just so many calls.
+    fn store_at(&self, known: usize, object: Object) -> Option<&PartialStore>
+        ensures upto { IfSome result (λ store. self.now.upto ≡ known) }
+        ensures holds { IfSome result (λ store. is_wanted self.now.store.objects object ≡ true) }
+        ensures store { IfSome result (λ store. store.now ≡ self.now.store) }
+    {
+        if self.is_at(known, object) {
+            Some(&self.store)
+        } else {
+            None
+        }
+    }
+
     /// The matrix as all share it that hold it, where it is here after just so many calls and no change waits in it.
     fn held_matrix(&self, known: usize, a: MatrixId) -> Option<&Arc<SparseMatrix>>
         ensures { IfSome result (λ matrix. HoldsMatrix self.now known a matrix.now.value) }
     {
-        if !self.is_at(known, Object::Matrix(a)) {
-            return None;
-        }
-        match self.store.held_matrix(a) {
-            Some(matrix) if matrix.is_assembled() => Some(matrix),
-            _ => None,
-        }
+        let matrix = self.store_at(known, Object::Matrix(a))?.held_matrix(a)?;
+        matrix.is_assembled().then_some(matrix)
     }
 
     /// The vector as all share it that hold it, where it is here after just so many calls and no change waits in it.
     fn held_vector(&self, known: usize, v: VectorId) -> Option<&Arc<SparseVector>>
         ensures { IfSome result (λ vector. HoldsVector self.now known v vector.now.value) }
     {
-        if !self.is_at(known, Object::Vector(v)) {
-            return None;
-        }
-        match self.store.held_vector(v) {
-            Some(vector) if vector.is_assembled() => Some(vector),
-            _ => None,
-        }
+        let vector = self.store_at(known, Object::Vector(v))?.held_vector(v)?;
+        vector.is_assembled().then_some(vector)
     }
 }
 
@@ -157,23 +160,19 @@ impl PartialStores {
     /// The matrix as all share it that hold it, as it is after all calls, of which there are so many: where it was read there and no change
     /// waits in it. Takes no memory.
     pub fn held_matrix(&self, known: usize, a: MatrixId) -> Option<&Arc<SparseMatrix>>
-        ensures { (calls : List Call) → ArePartial calls self.now → length calls ≡ known → IfSome result (λ matrix. IsMatrixOf (after_all empty_store calls) a matrix.now.value) }
+        ensures { OfAllCalls self.now known (λ cs. IfSome result (λ matrix. IsMatrixOf (after_all empty_store cs) a matrix.now.value)) }
     {
-        match self.place_of(Object::Matrix(a)) {
-            Some(at) => self.stores[at].held_matrix(known, a),
-            None => None,
-        }
+        let at = self.place_of(Object::Matrix(a))?;
+        self.stores[at].held_matrix(known, a)
     }
 
     /// The vector as all share it that hold it, as it is after all calls, of which there are so many: where it was read there and no change
     /// waits in it. Takes no memory.
     pub fn held_vector(&self, known: usize, v: VectorId) -> Option<&Arc<SparseVector>>
-        ensures { (calls : List Call) → ArePartial calls self.now → length calls ≡ known → IfSome result (λ vector. IsVectorOf (after_all empty_store calls) v vector.now.value) }
+        ensures { OfAllCalls self.now known (λ cs. IfSome result (λ vector. IsVectorOf (after_all empty_store cs) v vector.now.value)) }
     {
-        match self.place_of(Object::Vector(v)) {
-            Some(at) => self.stores[at].held_vector(known, v),
-            None => None,
-        }
+        let at = self.place_of(Object::Vector(v))?;
+        self.stores[at].held_vector(known, v)
     }
 
     /// How much may be spent yet on single objects, while calls that take so much are not evaluated in the store: half of that, since all
@@ -356,7 +355,7 @@ impl PartialStores {
         ensures calls { calls.new ≡ calls.old }
         ensures partial { ArePartial (C.calls source.now calls.old) self.new }
         ensures room { self.new.room ≡ self.old.room }
-        ensures reply { IfOk result (λ given. IfSome given (λ reply. reply ≡ reply_of (after_all empty_store (C.calls source.now calls.old)) call.now)) }
+        ensures reply { IfOk result (λ given. IfSome given (λ reply. reply ≡ reply_after (C.calls source.now calls.old) call.now)) }
     {
         let left = effort.of(left);
         let Some(mut read) = self.store_of(calls, source, state, evaluated, left, object, effort)?

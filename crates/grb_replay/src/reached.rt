@@ -4,16 +4,15 @@
 ghost use Rattle.std.specs.Prelude.{◌≡◌, ◌+◌, ◌<◌, ◌≤◌, ◌^◌, false, true, length, map, slice_get, Some, IfOk, OnErr, OnOk};
 ghost use Rattle.grb_call.specs.Kinds.{enters, is_size};
 ghost use Rattle.grb_call.specs.Status.{object_of};
-ghost use Rattle.grb_call.specs.Store.{Store, empty_store, shapes_of};
-ghost use Rattle.grb_call.specs.After.{answer};
+ghost use Rattle.grb_call.specs.Store.{empty_store, shapes_of};
 ghost use Rattle.grb_call.specs.declared.ids.Object.{Object};
 ghost use Rattle.grb_call.specs.Operands.{objects_read};
 ghost use Rattle.grb_state.specs.Settled.{AreAllAssembled, IsSettled};
 ghost use Rattle.grb_state.specs.State.{is_assembled};
-ghost use Rattle.grb_slices.specs.Content.{content_at};
 ghost use Rattle.grb_slices.specs.Followed.{targets_of};
 ghost use Rattle.grb_slices.specs.Slice.{is_among};
 ghost use Rattle.grb_slices.specs.Wanted.{is_wanted};
+ghost use Rattle.grb_replay.specs.Partial.{AnswersAlike};
 ghost use Rattle.grb_replay.specs.Reached.{IsReached, IsWhole, is_free};
 
 use crate::editions::Editions;
@@ -52,10 +51,7 @@ impl Model for Reached {
 pub(crate) fn is_free(call: &Call) -> bool
     ensures { result ≡ is_free call.now }
 {
-    match call {
-        Call::FreeMatrix { .. } | Call::FreeVector { .. } => true,
-        _ => false,
-    }
+    matches!(call, Call::FreeMatrix { .. } | Call::FreeVector { .. })
 }
 
 /// The object at this place of the list.
@@ -324,11 +320,11 @@ impl Reached {
         requires reads { enters call.now ≡ false }
         requires no_size { is_size call.now ≡ false }
         requires about { object_of call.now ≡ Some object }
-        ensures answer { IfOk result (λ given. (whole : Store) → content_at whole object ≡ content_at self.old.state.store object → given ≡ answer whole call.now) }
+        ensures answer { IfOk result (λ given. AnswersAlike self.old.state.store object call.now given) }
         ensures same { self.new ≡ record self.old { state = self.new.state } }
         ensures store { self.new.state.store ≡ self.old.state.store }
         ensures room { self.new.state.room ≡ self.old.state.room }
     {
-        answer_of(&mut self.state, object, call)
+        answer_of(&mut self.state, call, object)
     }
 }

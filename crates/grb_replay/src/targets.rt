@@ -1,11 +1,10 @@
 //! Which object each call changes, noted once when the call is learnt.
-ghost use Rattle.std.specs.Prelude.{◌≡◌, ◌+◌, ◌<◌, ◌≤◌, ◌^◌, ◌++◌, ◌∷◌, [], List, None, length, drop, map, IfOk};
-ghost use Rattle.grb_call.specs.declared.call.Call.{Call};
+ghost use Rattle.std.specs.Prelude.{◌≡◌, ◌+◌, ◌<◌, ◌≤◌, ◌^◌, ◌++◌, ◌∷◌, [], None, length, map, IfOk};
 ghost use Rattle.grb_call.specs.Refused.{refused_by_shapes, shapes_after};
 ghost use Rattle.grb_slices.specs.Content.{effective_target};
 ghost use Rattle.grb_call.specs.Shapes.{is_live};
-ghost use Rattle.grb_call.specs.Store.{Store, empty_store, shapes_of};
-ghost use Rattle.grb_replay.specs.Targets.{AreTargetsOf};
+ghost use Rattle.grb_call.specs.Store.{empty_store, shapes_of};
+ghost use Rattle.grb_replay.specs.Targets.{WalksOn};
 
 use grb_call::{Call, Object, Shapes};
 use grb_slices::{CallList, target_at, target_of};
@@ -85,7 +84,7 @@ impl Targets {
     /// Goes on over these calls, which come after those walked over. Takes no memory.
     pub fn go_on(&mut self, calls: &[&Call])
         requires room { length calls.now ≤ self.old.shapes.room }
-        ensures walked { (s : Store) (known : List Call) → AreTargetsOf s self.old known → map (λ c. c.now) calls.now ≡ drop (length self.old.targets) known → AreTargetsOf s self.new known × (length self.new.targets ≡ length known) }
+        ensures walked { WalksOn self.old (map (λ c. c.now) calls.now) self.new }
         ensures all { length self.new.targets ≡ length self.old.targets + length calls.now }
         ensures room { length self.new.targets + self.new.shapes.room ≡ length self.old.targets + self.old.shapes.room }
     {

@@ -1,12 +1,7 @@
 //! One object after calls on any store, from only the calls that it depends on.
-ghost use Rattle.std.specs.Prelude.{◌≡◌, ◌+◌, ◌<◌, ◌^◌, false, true, length, map, IfOk, IfSome};
+ghost use Rattle.std.specs.Prelude.{◌≡◌, ◌+◌, ◌<◌, ◌^◌, true, length, map, IfOk, IfSome};
 ghost use Rattle.std.specs.Option.{option_map};
-ghost use Rattle.grb_call.specs.Shapes.{is_live};
-ghost use Rattle.grb_call.specs.Store.{empty_store, shapes_of};
-ghost use Rattle.grb_call.specs.History.{after_all};
-ghost use Rattle.grb_slices.specs.Content.{content_at};
-ghost use Rattle.grb_slices.specs.Followed.{HoldsTasks};
-ghost use Rattle.grb_replay.specs.Held.{held_matrix, held_vector, tasks_for, tasks_of};
+ghost use Rattle.grb_replay.specs.Held.{HoldsSame, IsEmptyWhereGone, IsMadeBySlice, held_matrix, held_vector, slice_length};
 
 use crate::effort::Effort;
 use crate::partial_store::PartialStore;
@@ -54,10 +49,10 @@ pub fn value_of(
     requires matrices { length whole.now.store.matrices + length calls.now < 2 ^ 32 }
     requires vectors { length whole.now.store.vectors + length calls.now < 2 ^ 32 }
     ensures object { IfOk result (λ held. held.object ≡ object) }
-    ensures content { IfOk result (λ held. content_at (after_all whole.now.store (map (λ c. c.now) calls.now)) object ≡ content_at held.state.store object) }
-    ensures slice { IfOk result (λ held. is_live (shapes_of (after_all whole.now.store (map (λ c. c.now) calls.now))) object ≡ true → HoldsTasks (content_at whole.now.store) (tasks_for whole.now.store object (map (λ c. c.now) calls.now)) held.state.store) }
-    ensures gone { IfOk result (λ held. is_live (shapes_of (after_all whole.now.store (map (λ c. c.now) calls.now))) object ≡ false → held.state.store ≡ empty_store) }
-    ensures evaluated { IfOk result (λ held. held.evaluated ≡ tasks_of whole.now.store object (map (λ c. c.now) calls.now)) }
+    ensures content { IfOk result (λ held. HoldsSame whole.now.store object (map (λ c. c.now) calls.now) held.state.store) }
+    ensures slice { IfOk result (λ held. IsMadeBySlice whole.now.store object (map (λ c. c.now) calls.now) held.state.store) }
+    ensures gone { IfOk result (λ held. IsEmptyWhereGone whole.now.store object (map (λ c. c.now) calls.now) held.state.store) }
+    ensures evaluated { IfOk result (λ held. held.evaluated ≡ slice_length whole.now.store object (map (λ c. c.now) calls.now)) }
 {
     let room = calls.len() as u32;
     let mut walk = Targets::of(alloc, whole.shapes(), room)?;

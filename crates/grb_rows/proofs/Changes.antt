@@ -10,18 +10,13 @@ use Rattle.std.proofs.lemmas.Bool.Decides.{nat_tests}
 use lib.Dec.{T}
 use Rattle.grb_core.specs.declared.value.Value.{Value}
 use Rattle.grb_core.specs.Entries.{VectorEntries}
-use Rattle.grb_rows.specs.Pending.{Change, changed_at, changed, last_at}
+use Rattle.grb_rows.specs.Pending.{Change, changed_at, changed, last_at, over}
 
 pub eq_cmp : (q k : ℕ) → eq_by_cmp nat_cmp q k ≡ nat_eq q k
 eq_cmp q k = grind (arith, nat_tests)
 
 eq_back : (q k : ℕ) → eq_by_cmp nat_cmp k q ≡ nat_eq q k
 eq_back q k = grind (arith, nat_tests)
-
--- what is stored where a change, if there is one, goes over a value
-abbrev pub over : Option (Option Value) → Option Value → Option Value
-over None w = w
-over (Some c) w = c
 
 without_self : (b : Bool) (w : Option Value) → cond (not b) w None ≡ cond b None w
 without_self true w = refl

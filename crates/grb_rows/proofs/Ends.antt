@@ -1,5 +1,5 @@
 -- A list in rising order of numbers, and what goes to its end.
-use Rattle.std.proofs.Common.{◌≡◌, ℕ, zero, suc, ◌+◌, ◌<◌, ◌≤◌, Bool, true, false, not, cond, nat_eq, List, [], ◌∷◌, ◌++◌, length, get_or, set, take, Some, None, Option, refl, sym, ap, ◌∙◌, arith}
+use Rattle.std.proofs.Common.{◌≡◌, ℕ, zero, suc, ◌+◌, ◌<◌, ◌≤◌, true, false, not, cond, nat_eq, List, [], ◌∷◌, ◌++◌, length, get_or, take, Some, None, Option, refl, sym, ap, ◌∙◌, arith}
 use Rattle.std.specs.Prelude.{◌&&◌}
 use Rattle.std.specs.List.{AllByRecursion, filter}
 use Rattle.std.specs.List.Sorted.{IsStableByKey, ties}
@@ -15,10 +15,9 @@ use Rattle.grb_core.specs.declared.value.Value.{Value}
 use Rattle.grb_core.specs.Entries.{VectorEntries, without_entry, restricted}
 use Rattle.grb_core.specs.Contents.{is_index_in}
 use Rattle.grb_rows.specs.Pending.{Change, changed_at, changed, last_at}
-use Rattle.grb_rows.specs.Stored.{kept}
 use Rattle.grb_rows.proofs.Places.{first, second, passes}
 
-above : (a k : ℕ) → a < k → nat_cmp k a ≡ Greater
+pub above : (a k : ℕ) → a < k → nat_cmp k a ≡ Greater
 above a k l = grind (arith, nat_tests)
 
 pub lt_of : (a b : ℕ) → T (is_lt (nat_cmp a b)) → a < b
@@ -27,8 +26,11 @@ lt_of a b h = let e : is_lt (nat_cmp a b) ≡ true = passes _ h in grind (arith,
 not_it : (a k : ℕ) → a < k → eq_by_cmp nat_cmp k a ≡ false
 not_it a k l = grind (arith, nat_tests)
 
-tie : (a k : ℕ) → a ≡ k → nat_cmp k a ≡ Equal
+pub tie : (a k : ℕ) → a ≡ k → nat_cmp k a ≡ Equal
 tie a k e = grind (arith, nat_tests)
+
+pub itself : (k : ℕ) → eq_by_cmp nat_cmp k k ≡ true
+itself k = grind (arith, nat_tests)
 
 not_itself : (a b : ℕ) → a ≡ b → eq_by_cmp nat_cmp b a ≡ false → ⊥
 not_itself a b e h = grind (arith, nat_tests)
@@ -45,6 +47,14 @@ module _ {X : Type 0} where
   keys_rise (e ∷ m) d h zero (suc j) l n = below_get e.0 m j d (first _ _ h) (omega arith)
   keys_rise (e ∷ m) d h (suc i) zero l n = absurd (omega arith)
   keys_rise (e ∷ m) d h (suc i) (suc j) l n = keys_rise m d (second _ _ h) i j (omega arith) (omega arith)
+
+  -- what stands at a place is found at its key
+  pub find-key : (m : List (ℕ × X)) (i : ℕ) (d : ℕ × X) → T (is_sorted nat_cmp m) → i < length m → find nat_cmp (get_or m i d).0 m ≡ Some (get_or m i d).1
+  find-key [] i d h l = absurd (omega arith)
+  find-key (e ∷ m) zero d h l = ap (λ b. cond b (Some e.1) (find nat_cmp e.0 m)) (itself e.0)
+  find-key (e ∷ m) (suc i) d h l =
+      ap (λ b. cond b (Some e.1) (find nat_cmp (get_or m i d).0 m)) (not_it e.0 (get_or m i d).0 (below_get e.0 m i d (first _ _ h) (omega arith)))
+      ∙ find-key m i d (second _ _ h) (omega arith)
 
   none_rest : (q : ℕ) (x : ℕ × X) (m : List (ℕ × X)) → find nat_cmp q (x ∷ m) ≡ None → (eq_by_cmp nat_cmp q x.0 ≡ false) × (find nat_cmp q m ≡ None)
   none_rest q x m h =
@@ -68,19 +78,6 @@ module _ {X : Type 0} where
       ap (λ r. by_order r ((k, v) ∷ e ∷ es) ((e.0, v) ∷ es) (e ∷ put nat_cmp k v es)) (above e.0 k h.0)
       ∙ ap (λ (s : List (ℕ × X)). e ∷ s) (put-end k v es h.1)
 
-  pub put-last : (k : ℕ) (v : X) (es : List (ℕ × X)) (n : ℕ) (d : ℕ × X) → T (is_sorted nat_cmp es) → AllByRecursion (λ e. e.0 ≤ k) es → n + 1 ≡ length es → (get_or es n d).0 ≡ k → set es n (k, v) ≡ put nat_cmp k v es
-  put-last k v [] n d h u l t = absurd (omega arith)
-  put-last k v (e ∷ []) zero d h u l t =
-      ap (λ (x : ℕ). (x, v) ∷ []) (sym t)
-      ∙ ap (λ r. by_order r ((k, v) ∷ e ∷ []) ((e.0, v) ∷ []) (e ∷ put nat_cmp k v [])) (sym (tie e.0 k t))
-  put-last k v (e ∷ []) (suc n) d h u l t = absurd (omega arith)
-  put-last k v (e ∷ f ∷ es) zero d h u l t = absurd (omega arith)
-  put-last k v (e ∷ f ∷ es) (suc n) d h u l t =
-      let low : e.0 < f.0 = lt_of e.0 f.0 (first (is_lt (nat_cmp e.0 f.0)) (below_all nat_cmp e.0 es) (first (below_all nat_cmp e.0 (f ∷ es)) (is_sorted nat_cmp (f ∷ es)) h)) in
-      let high : f.0 ≤ k = u.1.0 in
-      ap (λ (s : List (ℕ × X)). e ∷ s) (put-last k v (f ∷ es) n d (second _ _ h) u.1 (omega arith) t)
-      ∙ ap (λ r. by_order r ((k, v) ∷ e ∷ f ∷ es) ((e.0, v) ∷ f ∷ es) (e ∷ put nat_cmp k v (f ∷ es))) (sym (above e.0 k (omega (arith, low, high))))
-
   -- where the last index is another, all are lower
   pub all_lower : (k : ℕ) (es : List (ℕ × X)) (n : ℕ) (d : ℕ × X) → T (is_sorted nat_cmp es) → AllByRecursion (λ e. e.0 ≤ k) es → n + 1 ≡ length es → ((get_or es n d).0 ≡ k → ⊥) → AllByRecursion (λ e. e.0 < k) es
   all_lower k [] n d h u l t = absurd (omega arith)
@@ -95,16 +92,7 @@ module _ {X : Type 0} where
       let high : f.0 ≤ k = u.1.0 in
       (omega (arith, low, high), all_lower k (f ∷ es) n d (second _ _ h) u.1 (omega arith) t)
 
-  -- each part of an entry by itself
-  pub values_put : (B : X → Type 0) (k : ℕ) (v : X) (es : List (ℕ × X)) → B v → AllByRecursion (λ e. B e.1) es → AllByRecursion (λ e. B e.1) (put nat_cmp k v es)
-  values_put B k v [] b h = (b, tt)
-  values_put B k v (e ∷ es) b h =
-      elim (nat_cmp k e.0) as (λ r. AllByRecursion (λ e. B e.1) (by_order r ((k, v) ∷ e ∷ es) ((e.0, v) ∷ es) (e ∷ put nat_cmp k v es))) [
-        | Less ↦ (b, h)
-        | Equal ↦ (b, h.1)
-        | Greater ↦ (h.0, values_put B k v es b h.1)
-      ]
-
+  -- the keys by themselves
   pub keys_put : (A : ℕ → Type 0) (k : ℕ) (v : X) (es : List (ℕ × X)) → A k → AllByRecursion (λ e. A e.0) es → AllByRecursion (λ e. A e.0) (put nat_cmp k v es)
   keys_put A k v [] a h = (a, tt)
   keys_put A k v (e ∷ es) a h =
@@ -119,10 +107,6 @@ module _ {X : Type 0} where
   below_taken k m zero h = tt
   below_taken k [] (suc i) h = tt
   below_taken k (e ∷ m) (suc i) h = (h 0 e (omega arith) (omega arith), below_taken k m i (λ a d l n. h (suc a) d (omega arith) (omega arith)))
-
-  pub weaker : (j k : ℕ) (m : List (ℕ × X)) → j ≤ k → AllByRecursion (λ e. e.0 ≤ j) m → AllByRecursion (λ e. e.0 ≤ k) m
-  weaker j k [] l h = tt
-  weaker j k (e ∷ m) l h = let a = h.0 in (omega (arith, a), weaker j k m l h.1)
 
 -- ---- the last change of each index, after a stable sort
 last_of : List Change → Option (Option Value)
@@ -197,12 +181,6 @@ keys_changed_at x k (Some v) m l h = keys_put (λ a. a < x) k v m l h
 pub keys_changed : (x : ℕ) (cs : List Change) (m : VectorEntries) → AllByRecursion (λ e. e.0 < x) m → AllByRecursion (λ c. c.0 < x) cs → AllByRecursion (λ e. e.0 < x) (changed m cs)
 keys_changed x [] m h g = h
 keys_changed x (c ∷ cs) m h g = keys_changed x cs (changed_at c.0 c.1 m) (keys_changed_at x c.0 c.1 m g.0 h) g.1
-
-pub keys_kept : (x : ℕ) (m : VectorEntries) (ds : List Bool) → AllByRecursion (λ e. e.0 < x) m → AllByRecursion (λ e. e.0 < x) (kept m ds)
-keys_kept x [] ds h = tt
-keys_kept x (e ∷ m) [] h = h
-keys_kept x (e ∷ m) (true ∷ ds) h = keys_kept x m ds h.1
-keys_kept x (e ∷ m) (false ∷ ds) h = (h.0, keys_kept x m ds h.1)
 
 pub not_less : (a b : ℕ) → is_lt (nat_cmp b a) ≡ false → a ≤ b
 not_less a b h = grind (arith, nat_tests)

@@ -1,9 +1,9 @@
 -- Entries as flat lists: indices, values and marks, place by place.
-use Rattle.std.proofs.Common.{◌≡◌, ℕ, zero, suc, ◌<◌, ◌≤◌, Bool, true, false, cond, nat_eq, List, [], ◌∷◌, ◌++◌, length, get_or, set, take, drop, Some, None, Option, refl, sym, ap, subst, ◌∙◌, arith}
+use Rattle.std.proofs.Common.{◌≡◌, ℕ, zero, suc, ◌<◌, ◌≤◌, Bool, true, false, cond, List, [], ◌∷◌, ◌++◌, length, get_or, set, take, drop, Some, None, refl, sym, ap, subst, ◌∙◌, arith}
 use Rattle.std.specs.Prelude.{◌&&◌, map}
 use Rattle.std.specs.List.{AllByRecursion}
-use Rattle.std.specs.declared.cmp.Ordering.TheVariants.{Less, Equal, Greater}
-use Rattle.std.specs.Ordering.{nat_cmp, is_eq, is_lt, eq_by_cmp}
+use Rattle.std.specs.declared.cmp.Ordering.TheVariants.{Less}
+use Rattle.std.specs.Ordering.{nat_cmp, is_lt, eq_by_cmp}
 use Rattle.std.specs.Cmp.{nat_cmp_total, ranked}
 use Rattle.std.specs.FinMap.{find, is_sorted}
 use Rattle.std.specs.FinMap.Entries.{below_all}
@@ -15,11 +15,10 @@ use Rattle.std.proofs.lemmas.Bool.Decides.{nat_tests}
 use lib.Dec.{T}
 use Rattle.grb_core.specs.declared.value.Value.{Value}
 use Rattle.grb_core.specs.Entries.{VectorEntries}
-use Rattle.grb_rows.specs.Stored.{paired, kept}
+use Rattle.grb_rows.specs.Stored.{paired}
 use Rattle.grb_rows.proofs.Places.{first, second, below_at}
-use Rattle.grb_rows.proofs.Changes.{eq_cmp}
 
-both : (a b : Bool) → T a → T b → T (a && b)
+pub both : (a b : Bool) → T a → T b → T (a && b)
 both true b p q = q
 both false b p q = absurd p
 
@@ -80,127 +79,6 @@ rises (e ∷ m) d h zero zero l n = absurd (omega arith)
 rises (e ∷ m) d h zero (suc j) l n = ranked e.0 (get_or m j d).0 Less (sym (below_at nat_cmp_total e.0 m j d (first _ _ h) (omega arith)))
 rises (e ∷ m) d h (suc i) zero l n = absurd (omega arith)
 rises (e ∷ m) d h (suc i) (suc j) l n = rises m d (second _ _ h) i j (omega arith) (omega arith)
-
-none_below : (x : ℕ) (m : VectorEntries) → T (below_all nat_cmp x m) → find nat_cmp x m ≡ None
-none_below x [] h = refl
-none_below x (e ∷ m) h =
-    elim (nat_cmp x e.0) as (λ r. T (is_lt r && below_all nat_cmp x m) → cond (is_eq r) (Some e.1) (find nat_cmp x m) ≡ None) [
-      | Less ↦ λ g. none_below x m g
-      | Equal ↦ λ g. absurd g
-      | Greater ↦ λ g. absurd g
-    ] h
-
-below-kept : (x : ℕ) (m : VectorEntries) (ds : List Bool) → T (below_all nat_cmp x m) → T (below_all nat_cmp x (kept m ds))
-below-kept x [] ds h = tt
-below-kept x (e ∷ m) [] h = h
-below-kept x (e ∷ m) (true ∷ ds) h = below-kept x m ds (second _ _ h)
-below-kept x (e ∷ m) (false ∷ ds) h = both _ _ (first _ _ h) (below-kept x m ds (second _ _ h))
-
-pub is_sorted-kept : (m : VectorEntries) (ds : List Bool) → T (is_sorted nat_cmp m) → T (is_sorted nat_cmp (kept m ds))
-is_sorted-kept [] ds h = tt
-is_sorted-kept (e ∷ m) [] h = h
-is_sorted-kept (e ∷ m) (true ∷ ds) h = is_sorted-kept m ds (second _ _ h)
-is_sorted-kept (e ∷ m) (false ∷ ds) h = both _ _ (below-kept e.0 m ds (first _ _ h)) (is_sorted-kept m ds (second _ _ h))
-
-pub length-kept_le : (m : VectorEntries) (ds : List Bool) → length (kept m ds) ≤ length m
-length-kept_le [] ds = omega arith
-length-kept_le (e ∷ m) [] = omega arith
-length-kept_le (e ∷ m) (true ∷ ds) = omega (arith, length-kept_le m ds)
-length-kept_le (e ∷ m) (false ∷ ds) = omega (arith, length-kept_le m ds)
-
--- where no place is marked, all are kept
-pub none_set : (ds : List Bool) → ds ≡ [] → AllByRecursion (λ d. d ≡ false) ds
-none_set ds is = subst (AllByRecursion (λ d. d ≡ false)) (sym is) tt
-
-pub kept-unmarked : (m : VectorEntries) (ds : List Bool) → AllByRecursion (λ d. d ≡ false) ds → kept m ds ≡ m
-kept-unmarked [] ds h = refl
-kept-unmarked (e ∷ m) [] h = refl
-kept-unmarked (e ∷ m) (true ∷ ds) h = absurd (subst T h.0 tt)
-kept-unmarked (e ∷ m) (false ∷ ds) h = ap (λ (s : VectorEntries). e ∷ s) (kept-unmarked m ds h.1)
-
--- at an index that stands nowhere nothing is kept
-pub find-kept_none : (q : ℕ) (m : VectorEntries) (ds : List Bool) → find nat_cmp q m ≡ None → find nat_cmp q (kept m ds) ≡ None
-find-kept_none q [] ds h = refl
-find-kept_none q (e ∷ m) [] h = h
-find-kept_none q (e ∷ m) (d ∷ ds) h =
-    elim (eq_by_cmp nat_cmp q e.0) as (λ b. eq_by_cmp nat_cmp q e.0 ≡ b → cond b (Some e.1) (find nat_cmp q m) ≡ None → find nat_cmp q (cond d (kept m ds) (e ∷ kept m ds)) ≡ None) [
-      | true ↦ λ t g. absurd (not_none e.1 g)
-      | false ↦ λ t g. elim d as (λ b. find nat_cmp q (cond b (kept m ds) (e ∷ kept m ds)) ≡ None) [
-        | true ↦ find-kept_none q m ds g
-        | false ↦ ap (λ b. cond b (Some e.1) (find nat_cmp q (kept m ds))) t ∙ find-kept_none q m ds g
-      ]
-    ] refl h
-  where
-    not_none : (v : Value) → ◌≡◌ {A = Option Value} (Some v) None → ⊥
-    not_none v e = cc
-
-itself : (k : ℕ) → eq_by_cmp nat_cmp k k ≡ true
-itself k = grind (arith, nat_tests)
-
-other : (a b : ℕ) → a < b → eq_by_cmp nat_cmp b a ≡ false
-other a b l = grind (arith, nat_tests)
-
--- at one that stands at place i, what it has there
-find-place : (m : VectorEntries) (i : ℕ) (d : ℕ × Value) → T (is_sorted nat_cmp m) → i < length m → find nat_cmp (get_or m i d).0 m ≡ Some (get_or m i d).1
-find-place [] i d h l = absurd (omega arith)
-find-place (e ∷ m) zero d h l = ap (λ b. cond b (Some e.1) (find nat_cmp e.0 m)) (itself e.0)
-find-place (e ∷ m) (suc i) d h l =
-    ap (λ b. cond b (Some e.1) (find nat_cmp (get_or m i d).0 m)) (other e.0 (get_or m i d).0 (rises (e ∷ m) d h 0 (suc i) (omega arith) l))
-    ∙ find-place m i d (second _ _ h) (omega arith)
-
--- the same among those that are kept, if it is not marked
-pub find-kept : (m : VectorEntries) (ds : List Bool) (i : ℕ) (d : ℕ × Value) → T (is_sorted nat_cmp m) → i < length m
-    → find nat_cmp (get_or m i d).0 (kept m ds) ≡ cond (get_or ds i false) None (Some (get_or m i d).1)
-find-kept [] ds i d h l = absurd (omega arith)
-find-kept (e ∷ m) [] i d h l = find-place (e ∷ m) i d h l
-find-kept (e ∷ m) (true ∷ ds) zero d h l = none_below e.0 (kept m ds) (below-kept e.0 m ds (first _ _ h))
-find-kept (e ∷ m) (false ∷ ds) zero d h l = ap (λ b. cond b (Some e.1) (find nat_cmp e.0 (kept m ds))) (itself e.0)
-find-kept (e ∷ m) (true ∷ ds) (suc i) d h l = find-kept m ds i d (second _ _ h) (omega arith)
-find-kept (e ∷ m) (false ∷ ds) (suc i) d h l =
-    ap (λ b. cond b (Some e.1) (find nat_cmp (get_or m i d).0 (kept m ds))) (other e.0 (get_or m i d).0 (rises (e ∷ m) d h 0 (suc i) (omega arith) l))
-    ∙ find-kept m ds i d (second _ _ h) (omega arith)
-
-here : (b t x : Bool) (n w s : Option Value) → (t ≡ true → n ≡ None) → cond b n (cond t s n) ≡ cond t (cond b None s) (cond x n (cond t w n))
-here true true x n w s h = h refl
-here true false true n w s h = refl
-here true false false n w s h = refl
-here false true x n w s h = refl
-here false false true n w s h = refl
-here false false false n w s h = refl
-
-there : (x t u : Bool) (a s w : Option Value) → (t ≡ true → u ≡ true → ⊥) → cond x (cond u s a) (cond t w (cond u s a)) ≡ cond u s (cond x a (cond t w a))
-there true t true a s w h = refl
-there true t false a s w h = refl
-there false true true a s w h = absurd (h refl refl)
-there false true false a s w h = refl
-there false false true a s w h = refl
-there false false false a s w h = refl
-
-find-cond : (q : ℕ) (b : Bool) (e : ℕ × Value) (m : VectorEntries) → find nat_cmp q (cond b m (e ∷ m)) ≡ cond b (find nat_cmp q m) (cond (nat_eq q e.0) (Some e.1) (find nat_cmp q m))
-find-cond q true e m = refl
-find-cond q false e m = ap (λ b. cond b (Some e.1) (find nat_cmp q m)) (eq_cmp q e.0)
-
-is_it : (q k : ℕ) → nat_eq q k ≡ true → q ≡ k
-is_it q k h = grind (arith, nat_tests)
-
--- a value and a mark written at one place
-pub find-kept_set : (q : ℕ) (m : VectorEntries) (ds : List Bool) (i : ℕ) (d : ℕ × Value) (v : Value) (b : Bool) → T (is_sorted nat_cmp m) → i < length m → i < length ds
-    → find nat_cmp q (kept (set m i ((get_or m i d).0, v)) (set ds i b)) ≡ cond (nat_eq q (get_or m i d).0) (cond b None (Some v)) (find nat_cmp q (kept m ds))
-find-kept_set q [] ds i d v b h l n = absurd (omega arith)
-find-kept_set q (e ∷ m) [] i d v b h l n = absurd (omega arith)
-find-kept_set q (e ∷ m) (x ∷ ds) zero d v b h l n =
-    find-cond q b (e.0, v) (kept m ds)
-    ∙ here b (nat_eq q e.0) x (find nat_cmp q (kept m ds)) (Some e.1) (Some v) (λ t. ap (λ k. find nat_cmp k (kept m ds)) (is_it q e.0 t) ∙ none_below e.0 (kept m ds) (below-kept e.0 m ds (first _ _ h)))
-    ∙ ap (cond (nat_eq q e.0) (cond b None (Some v))) (sym (find-cond q x e (kept m ds)))
-find-kept_set q (e ∷ m) (x ∷ ds) (suc i) d v b h l n =
-    let above : e.0 < (get_or m i d).0 = rises (e ∷ m) d h 0 (suc i) (omega arith) l in
-    find-cond q x e (kept (set m i ((get_or m i d).0, v)) (set ds i b))
-    ∙ ap (λ w. cond x w (cond (nat_eq q e.0) (Some e.1) w)) (find-kept_set q m ds i d v b (second _ _ h) (omega arith) (omega arith))
-    ∙ there x (nat_eq q e.0) (nat_eq q (get_or m i d).0) (find nat_cmp q (kept m ds)) (cond b None (Some v)) (Some e.1) (λ t u. apart q e.0 (get_or m i d).0 above t u)
-    ∙ ap (cond (nat_eq q (get_or m i d).0) (cond b None (Some v))) (sym (find-cond q x e (kept m ds)))
-  where
-    apart : (q a b : ℕ) → a < b → nat_eq q a ≡ true → nat_eq q b ≡ true → ⊥
-    apart q a b l t u = let s = is_it q a t in let r = is_it q b u in absurd (omega (arith, s, r))
 
 -- an index that stands at no place is not found
 pub find-nowhere : (q : ℕ) (ks : List ℕ) (vs : List Value) → ((k : ℕ) → k < length ks → get_or ks k 0 ≡ q → ⊥) → find nat_cmp q (paired ks vs) ≡ None

@@ -1,76 +1,58 @@
--- What is held where nothing waits, after one change, and with a mark for each entry.
-use Rattle.std.proofs.Common.{◌≡◌, ℕ, ◌+◌, ◌≤◌, Bool, true, false, cond, nat_eq, List, [], ◌∷◌, length, get_or, Option, IsTrue, refl, sym, ap, subst, ◌∙◌, arith}
-use Rattle.std.specs.Prelude.{All, is_some}
-use Rattle.std.specs.List.{AllByRecursion}
+-- What is held where nothing waits, and after one change.
+use Rattle.std.proofs.Common.{◌≡◌, ℕ, ◌+◌, ◌≤◌, Bool, false, cond, nat_eq, List, [], length, Option, IsTrue, refl, sym, ap, subst, ◌∙◌, arith}
+use Rattle.std.specs.Prelude.{IfSome, is_some}
 use Rattle.std.specs.Ordering.{nat_cmp}
 use Rattle.std.specs.FinMap.{find, is_sorted}
-use Rattle.std.proofs.lemmas.List.Elements.{All-nil}
-use Rattle.std.proofs.lemmas.Bool.Decides.{nat_tests}
 use lib.Dec.{T}
 use Rattle.grb_core.specs.declared.value.Value.{Value}
 use Rattle.grb_core.specs.Entries.{VectorEntries}
 use Rattle.grb_rows.specs.Pending.{Change, PendingView, changed_at, changed, last_at, IsChangeOf}
-use Rattle.grb_rows.specs.Stored.{RowView, kept}
+use Rattle.grb_rows.specs.Stored.{RowView}
 use Rattle.grb_rows.specs.Held.{stored, IsLaid, held_view, IsHeld}
+use Rattle.grb_rows.specs.Layers.{IsPlaced}
 use Rattle.grb_rows.proofs.Places.{holds}
 use Rattle.grb_rows.proofs.Changes.{find-changed_at, is_sorted-changed_at, length-changed_at, length-changed_le, same_map}
-use Rattle.grb_rows.proofs.FlatLists.{is_sorted-kept, kept-unmarked, length-kept_le, none_set}
-use Rattle.grb_rows.proofs.LaidOut.{is_sorted-stored}
+use Rattle.grb_rows.proofs.LaidOut.{is_sorted-stored, same_changes}
+use Rattle.grb_rows.proofs.Layered.{placed-same}
 
--- where all is assembled, the rows are the map
-pub stored-assembled : (row : RowView) (ds : List Bool) (p : PendingView) (nvals : ℕ) (a : Bool) → IsHeld row ds p nvals a → a ≡ true → stored row ds p.changes ≡ row.entries
-stored-assembled row ds p nvals a h is =
-    let none = h.settled is in
-    ap (changed (kept row.entries ds)) none.0 ∙ kept-unmarked row.entries ds none.1
-
-kept-whole : (m : VectorEntries) (ds : List Bool) → length (kept m ds) ≡ length m → kept m ds ≡ m
-kept-whole [] ds h = refl
-kept-whole (e ∷ m) [] h = refl
-kept-whole (e ∷ m) (true ∷ ds) h = let few = length-kept_le m ds in absurd (omega (arith, h, few))
-kept-whole (e ∷ m) (false ∷ ds) h = ap (λ (s : VectorEntries). e ∷ s) (kept-whole m ds (omega (arith, h)))
-
--- where no change waits and each entry is there, none is marked, and the rows are the map
-pub stored-settled : (row : RowView) (ds : List Bool) (p : PendingView) (nvals : ℕ) (a : Bool) → IsHeld row ds p nvals a → (p.changes ≡ []) × (nvals ≡ length row.entries) → stored row ds p.changes ≡ row.entries
-stored-settled row ds p nvals a held settled =
-    let none = ap (changed (kept row.entries ds)) settled.0 in
-    none ∙ kept-whole row.entries ds (sym (ap length none) ∙ sym held.counted ∙ settled.1)
-
-pub settled-assembled : (row : RowView) (ds : List Bool) (p : PendingView) (nvals : ℕ) (a : Bool) → IsHeld row ds p nvals a → a ≡ true → (p.changes ≡ []) × (nvals ≡ length row.entries)
-settled-assembled row ds p nvals a held is = ((held.settled is).0, held.counted ∙ ap length (stored-assembled row ds p nvals a held is))
+-- where no change waits, the rows are the map
+pub stored-settled : (row : RowView) (cs : List Change) → cs ≡ [] → stored row cs ≡ row.entries
+stored-settled row cs none = ap (changed row.entries) none
 
 -- there are no more entries than those that were assembled and the changes
-pub length-stored_le : (row : RowView) (ds : List Bool) (cs : List Change) → IsLaid row ds cs → length (stored row ds cs) ≤ length row.entries + length cs
-length-stored_le row ds cs laid =
-    let a = length-changed_le cs (kept row.entries ds) (is_sorted-kept row.entries ds (holds laid.ordered)) in
-    let b = length-kept_le row.entries ds in
-    omega (arith, a, b)
+pub length-stored_le : (row : RowView) (cs : List Change) → IsLaid row cs → length (stored row cs) ≤ length row.entries + length cs
+length-stored_le row cs laid = length-changed_le cs row.entries (holds laid.ordered)
 
--- rows alone, with no mark and no change
-module _ (row : RowView) (ds : List Bool) (unmarked : ds ≡ []) (p : PendingView) (none : p ≡ record { changes = []; reserved = 0 }) where
-  stored-fresh : stored row ds p.changes ≡ row.entries
-  stored-fresh = ap (λ (q : PendingView). changed (kept row.entries ds) q.changes) none ∙ kept-unmarked row.entries ds (none_set ds unmarked)
+-- rows alone, with no change
+module _ (row : RowView) (p : PendingView) (none : p ≡ record { changes = []; places = []; reserved = 0; apart = 0 }) where
+  stored-fresh : stored row p.changes ≡ row.entries
+  stored-fresh = ap (λ (q : PendingView). changed row.entries q.changes) none
 
-  pub view-fresh : (a : Bool) → held_view row ds p a ≡ record { entries = row.entries; domain = row.domain; assembled = a; reserved = 0; pending = 0 }
-  view-fresh a =
-      let few = ap (λ (q : PendingView). length q.changes) none in
-      let left = ap (λ (q : PendingView). q.reserved) none in
-      λ i. record { entries = stored-fresh i; domain = row.domain; assembled = a; reserved = left i; pending = few i }
+  pub view-fresh : (a : Bool) → held_view row p a ≡ record { entries = row.entries; domain = row.domain; assembled = a; reserved = 0; pending = 0 }
+  view-fresh a = ap (λ (q : PendingView). held_view row q a) none
 
-  pub held-fresh : IsTrue (is_sorted nat_cmp row.entries) → (nvals : ℕ) → nvals ≡ length row.entries → (a : Bool) → IsHeld row ds p nvals a
+  pub held-fresh : IsTrue (is_sorted nat_cmp row.entries) → (nvals : ℕ) → nvals ≡ length row.entries → (a : Bool) → IsHeld row p nvals a
   held-fresh ordered nvals count a =
       let gone : p.changes ≡ [] = ap (λ (q : PendingView). q.changes) none in
-      let left : p.reserved ≡ 0 = ap (λ (q : PendingView). q.reserved) none in
-      let n = ap length unmarked in
       record {
-        laid = record {
-          ordered = ordered;
-          apart = λ i d l. ap (last_at (get_or row.entries i d).0) gone;
-          inside = subst (All (IsChangeOf row.domain)) (sym gone) (All-nil (IsChangeOf row.domain));
-        };
-        marked = record { few = omega (arith, n); each = λ l. absurd (omega (arith, l, left, n)) };
+        laid = record { ordered = ordered; inside = λ q. subst (λ (cs : List Change). IfSome (last_at q cs) (λ d. IsChangeOf row.domain (q, d))) (sym gone) tt };
+        placed = subst (λ (q : PendingView). IsPlaced row.entries q.places q.changes) (sym none) (λ k d l. refl);
         counted = count ∙ ap length (sym stored-fresh);
-        settled = λ is. (gone, none_set ds unmarked);
+        settled = λ is. gone;
       }
+
+-- the same last changes in another order
+module _ (row : RowView) (p q : PendingView) (same : (k : ℕ) → last_at k q.changes ≡ last_at k p.changes) (nvals : ℕ) (a : Bool) (held : IsHeld row p nvals a) where
+  pub stored-reordered : stored row q.changes ≡ stored row p.changes
+  stored-reordered = same_changes row.entries q.changes p.changes (holds held.laid.ordered) same
+
+  pub held-reordered : q.places ≡ p.places → (p.changes ≡ [] → q.changes ≡ []) → IsHeld row q nvals a
+  held-reordered places none = record {
+    laid = record { ordered = held.laid.ordered; inside = λ k. subst (λ l. IfSome l (λ d. IsChangeOf row.domain (k, d))) (sym (same k)) (held.laid.inside k) };
+    placed = placed-same row.entries p.places p.changes held.placed q.changes same q.places places;
+    counted = held.counted ∙ ap length (sym stored-reordered);
+    settled = λ t. none (held.settled t);
+  }
 
 -- after one change
 module _ (m n : VectorEntries) (k : ℕ) (c : Option Value) (hm : T (is_sorted nat_cmp m)) (hn : T (is_sorted nat_cmp n)) (found : (q : ℕ) → find nat_cmp q n ≡ cond (nat_eq q k) c (find nat_cmp q m)) where
@@ -80,44 +62,20 @@ module _ (m n : VectorEntries) (k : ℕ) (c : Option Value) (hm : T (is_sorted n
   counts : length n + cond (is_some (find nat_cmp k m)) 1 0 ≡ length m + cond (is_some c) 1 0
   counts = ap (λ (x : VectorEntries). length x + cond (is_some (find nat_cmp k m)) 1 0) is_change ∙ length-changed_at k c m hm
 
-module _ (row : RowView) (ds : List Bool) (p : PendingView) (nvals : ℕ) (a : Bool) (held : IsHeld row ds p nvals a)
-    (new : RowView) (es : List Bool) (q : PendingView) (laid : IsLaid new es q.changes)
-    (k : ℕ) (c : Option Value) (found : (x : ℕ) → find nat_cmp x (stored new es q.changes) ≡ cond (nat_eq x k) c (find nat_cmp x (stored row ds p.changes))) where
-  pub entries-changed : stored new es q.changes ≡ changed_at k c (stored row ds p.changes)
-  entries-changed = is_change (stored row ds p.changes) (stored new es q.changes) k c (is_sorted-stored row ds p.changes (holds held.laid.ordered)) (is_sorted-stored new es q.changes (holds laid.ordered)) found
+module _ (row : RowView) (p : PendingView) (nvals : ℕ) (a : Bool) (held : IsHeld row p nvals a)
+    (new : RowView) (q : PendingView) (laid : IsLaid new q.changes)
+    (k : ℕ) (c : Option Value) (found : (x : ℕ) → find nat_cmp x (stored new q.changes) ≡ cond (nat_eq x k) c (find nat_cmp x (stored row p.changes))) where
+  pub entries-changed : stored new q.changes ≡ changed_at k c (stored row p.changes)
+  entries-changed = is_change (stored row p.changes) (stored new q.changes) k c (is_sorted-stored row p.changes (holds held.laid.ordered)) (is_sorted-stored new q.changes (holds laid.ordered)) found
 
-  pub held-changed : length es ≡ length new.entries → (stood : Bool) → stood ≡ is_some (find nat_cmp k (stored row ds p.changes)) → (count : ℕ) → count + cond stood 1 0 ≡ nvals + cond (is_some c) 1 0 → IsHeld new es q count false
-  held-changed all stood there count is = record {
+  pub held-changed : IsPlaced new.entries q.places q.changes → (stood : Bool) → stood ≡ is_some (find nat_cmp k (stored row p.changes)) → (count : ℕ) → count + cond stood 1 0 ≡ nvals + cond (is_some c) 1 0 → IsHeld new q count false
+  held-changed placed stood there count is = record {
     laid = laid;
-    marked = record { few = omega (arith, all); each = λ l. omega (arith, all) };
+    placed = placed;
     counted =
-        let e = counts (stored row ds p.changes) (stored new es q.changes) k c (is_sorted-stored row ds p.changes (holds held.laid.ordered)) (is_sorted-stored new es q.changes (holds laid.ordered)) found in
+        let e = counts (stored row p.changes) (stored new q.changes) k c (is_sorted-stored row p.changes (holds held.laid.ordered)) (is_sorted-stored new q.changes (holds laid.ordered)) found in
         let f = ap (λ b. count + cond b 1 0) (sym there) ∙ is in
         let n = held.counted in
         omega (arith, e, n, f);
     settled = λ t. cc;
-  }
-
--- a mark for each entry where there was none
-is_zero : (n : ℕ) → nat_eq n 0 ≡ true → n ≡ 0
-is_zero n h = grind (arith, nat_tests)
-
-pub no_mark : (ds : List Bool) (n : ℕ) → nat_eq n 0 ≡ true → n ≡ length ds → ds ≡ []
-no_mark [] n h is = refl
-no_mark (d ∷ ds) n h is = let z = is_zero n h in absurd (omega (arith, z, is))
-
-module _ (row : RowView) (ds : List Bool) (none : ds ≡ []) (es : List Bool) (unset : AllByRecursion (λ d. d ≡ false) es) (p q : PendingView) (same : q.changes ≡ p.changes) where
-  pub stored-marked : stored row es q.changes ≡ stored row ds p.changes
-  stored-marked = ap (stored row es) same ∙ ap (λ (m : VectorEntries). changed m p.changes) (kept-unmarked row.entries es unset ∙ sym (kept-unmarked row.entries ds (none_set ds none)))
-
-  pub held-marked : length es ≡ length row.entries → (nvals : ℕ) (a : Bool) → IsHeld row ds p nvals a → IsHeld row es q nvals a
-  held-marked all nvals a held = record {
-    laid = record {
-      ordered = held.laid.ordered;
-      apart = λ i d l. ap (last_at (get_or row.entries i d).0) same ∙ held.laid.apart i d l;
-      inside = subst (All (IsChangeOf row.domain)) (sym same) held.laid.inside;
-    };
-    marked = record { few = omega (arith, all); each = λ l. omega (arith, all) };
-    counted = held.counted ∙ ap length (sym stored-marked);
-    settled = λ t. (same ∙ (held.settled t).0, unset);
   }

@@ -1,110 +1,92 @@
--- What is found in a row with marks and changes, and after one more write or change.
-use Rattle.std.proofs.Common.{◌≡◌, ℕ, ◌<◌, Bool, true, false, cond, nat_eq, List, [], ◌∷◌, ◌++◌, length, get_or, set, Some, None, Option, refl, sym, ap, subst, ◌∙◌, arith}
-use Rattle.std.specs.Prelude.{All, is_some, IfSome}
+-- What is found in a row with changes, and after one more write or change.
+use Rattle.std.proofs.Common.{◌≡◌, ℕ, ◌<◌, Bool, true, false, cond, nat_eq, List, [], ◌∷◌, length, get_or, set, Some, None, Option, refl, sym, ap, subst, ◌∙◌, arith}
+use Rattle.std.specs.Prelude.{is_some, IfSome}
 use Rattle.std.specs.Ordering.{nat_cmp, is_lt}
 use Rattle.std.specs.Option.{option_or}
-use Rattle.std.specs.FinMap.{find, is_sorted}
-use Rattle.std.specs.FinMap.Entries.{below_all}
+use Rattle.std.specs.Cmp.{nat_cmp_total}
+use Rattle.std.specs.FinMap.{find, put, is_sorted}
+use Rattle.std.specs.FinMap.Entries.{below_all, is_sorted-put, find-put}
 use Rattle.std.proofs.lemmas.Bool.Decides.{nat_tests}
-use Rattle.std.proofs.lemmas.List.{length-set, set-get_or, get_or-set_same, get_or-set_other, get_or_default}
-use Rattle.std.proofs.lemmas.List.Elements.{All-push}
 use lib.Dec.{T}
 use Rattle.grb_core.specs.declared.value.Value.{Value}
 use Rattle.grb_core.specs.declared.value.Value.TheVariants as value
 use Rattle.grb_core.specs.Value.{value_domain}
-use Rattle.std.proofs.lemmas.Bool.{cases_eq}
-use Rattle.std.proofs.Common.{inl, inr}
 use Rattle.grb_core.specs.Entries.{VectorEntries}
-use Rattle.std.specs.Prelude.{not}
-use Rattle.grb_rows.specs.Pending.{Change, changed, last_at, IsChangeOf, value_left}
-use Rattle.grb_rows.specs.Stored.{RowView, kept}
+use Rattle.grb_rows.specs.Pending.{Change, changed, last_at, IsChangeOf, over}
+use Rattle.grb_rows.specs.Stored.{RowView}
 use Rattle.grb_rows.specs.Held.{stored, IsLaid}
-use Rattle.grb_rows.proofs.Places.{first, second, holds, passes}
-use Rattle.grb_rows.proofs.Changes.{over, eq_cmp, find-changed, is_sorted-changed, last_at-push, changed-push, find-changed_at, same_map}
-use Rattle.grb_rows.proofs.FlatLists.{find-kept, find-kept_none, find-kept_set, is_sorted-kept, is_sorted-same_keys}
-use Rattle.grb_rows.proofs.Ends.{nowhere}
+use Rattle.grb_rows.proofs.Places.{first, second, holds, passes, find-at, put-at}
+use Rattle.grb_rows.proofs.Ends.{tie}
+use Rattle.grb_rows.proofs.Changes.{eq_cmp, find-changed, is_sorted-changed, same_map}
 
 is_it : (q k : ℕ) → nat_eq q k ≡ true → q ≡ k
 is_it q k h = grind (arith, nat_tests)
 
-pub is_sorted-stored : (row : RowView) (ds : List Bool) (cs : List Change) → T (is_sorted nat_cmp row.entries) → T (is_sorted nat_cmp (stored row ds cs))
-is_sorted-stored row ds cs h = is_sorted-changed cs (kept row.entries ds) (is_sorted-kept row.entries ds h)
+pub is_sorted-stored : (row : RowView) (cs : List Change) → T (is_sorted nat_cmp row.entries) → T (is_sorted nat_cmp (stored row cs))
+is_sorted-stored row cs h = is_sorted-changed cs row.entries h
 
-module _ (row : RowView) (ds : List Bool) (cs : List Change) (laid : IsLaid row ds cs) (k : ℕ) where
+-- whether something is stored at an index after changes, from what the last one leaves
+pub stands-over : (row : RowView) (cs : List Change) (k : ℕ) (stood : Bool) → stood ≡ is_some (over (last_at k cs) (find nat_cmp k row.entries)) → stood ≡ is_some (find nat_cmp k (stored row cs))
+stands-over row cs k stood is = is ∙ ap is_some (sym (find-changed k cs row.entries))
+
+module _ (row : RowView) (cs : List Change) (laid : IsLaid row cs) (k : ℕ) where
   module _ (i : ℕ) (inside : i < length row.entries) (is : (d : ℕ × Value) → (get_or row.entries i d).0 ≡ k) where
-    no_change : last_at k cs ≡ None
-    no_change = let d : ℕ × Value = (k, value.Bool true) in ap (λ x. last_at x cs) (sym (is d)) ∙ laid.apart i d inside
+    -- where a value stands in the row and no change waits
+    pub stands-stored : last_at k cs ≡ None → true ≡ is_some (find nat_cmp k (stored row cs))
+    stands-stored none =
+        let d : ℕ × Value = (k, value.Bool true) in
+        let stands = ap is_some (find-at nat_cmp_total k row.entries i d (holds laid.ordered) inside (tie k _ (sym (is d)))) in
+        stands-over row cs k true (sym (ap (λ l. is_some (over l (find nat_cmp k row.entries))) none ∙ stands))
 
-    -- at an index that stands in the row
-    pub find-standing : (v : Value) → ((d : ℕ × Value) → v ≡ (get_or row.entries i d).1) → find nat_cmp k (stored row ds cs) ≡ cond (get_or ds i false) None (Some v)
-    find-standing v are =
-        let d : ℕ × Value = (k, v) in
-        find-changed k cs (kept row.entries ds)
-        ∙ ap (λ l. over l (find nat_cmp k (kept row.entries ds))) no_change
-        ∙ ap (λ x. find nat_cmp x (kept row.entries ds)) (sym (is d))
-        ∙ find-kept row.entries ds i d (holds laid.ordered) inside
-        ∙ ap (λ x. cond (get_or ds i false) None (Some x)) (sym (are d))
+    -- after a write of a value where no change waits
+    module _ (v : Value) (new : RowView) (rows : (d : ℕ × Value) → new.entries ≡ set row.entries i ((get_or row.entries i d).0, v)) where
+      is_put : new.entries ≡ put nat_cmp k v row.entries
+      is_put = let d : ℕ × Value = (k, v) in rows d ∙ put-at nat_cmp_total k v row.entries i d (holds laid.ordered) inside (tie k _ (sym (is d)))
 
-    -- after a write of its value and its mark
-    module _ (v : Value) (b : Bool) (new : RowView) (es : List Bool) (rows : (d : ℕ × Value) → new.entries ≡ set row.entries i ((get_or row.entries i d).0, v)) (marks : es ≡ set ds i b) (same : new.domain ≡ row.domain) where
-      pub find-written : i < length ds → (q : ℕ) → find nat_cmp q (stored new es cs) ≡ cond (nat_eq q k) (cond b None (Some v)) (find nat_cmp q (stored row ds cs))
-      find-written among q =
-          let d : ℕ × Value = (k, v) in
-          find-changed q cs (kept new.entries es)
-          ∙ ap (λ (m : VectorEntries). over (last_at q cs) (find nat_cmp q (kept m es))) (rows d)
-          ∙ ap (λ (x : List Bool). over (last_at q cs) (find nat_cmp q (kept (set row.entries i ((get_or row.entries i d).0, v)) x))) marks
-          ∙ ap (over (last_at q cs)) (find-kept_set q row.entries ds i d v b (holds laid.ordered) inside among)
-          ∙ ap (λ x. over (last_at q cs) (cond (nat_eq q x) (cond b None (Some v)) (find nat_cmp q (kept row.entries ds)))) (is d)
-          ∙ past (nat_eq q k) (last_at q cs) (cond b None (Some v)) (find nat_cmp q (kept row.entries ds)) (λ t. ap (λ x. last_at x cs) (is_it q k t) ∙ no_change)
-          ∙ ap (cond (nat_eq q k) (cond b None (Some v))) (sym (find-changed q cs (kept row.entries ds)))
+      pub find-written : last_at k cs ≡ None → (q : ℕ) → find nat_cmp q (stored new cs) ≡ cond (nat_eq q k) (Some v) (find nat_cmp q (stored row cs))
+      find-written none q =
+          find-changed q cs new.entries
+          ∙ ap (λ (m : VectorEntries). over (last_at q cs) (find nat_cmp q m)) is_put
+          ∙ ap (over (last_at q cs)) (find-put nat_cmp nat_cmp_total q k v row.entries ∙ ap (λ b. cond b (Some v) (find nat_cmp q row.entries)) (eq_cmp q k))
+          ∙ past (nat_eq q k) (last_at q cs) (Some v) (find nat_cmp q row.entries) (λ t. ap (λ x. last_at x cs) (is_it q k t) ∙ none)
+          ∙ ap (cond (nat_eq q k) (Some v)) (sym (find-changed q cs row.entries))
         where
           past : (t : Bool) (l : Option (Option Value)) (x w : Option Value) → (t ≡ true → l ≡ None) → over l (cond t x w) ≡ cond t x (over l w)
           past true l x w h = ap (λ y. over y x) (h refl)
           past false l x w h = refl
 
-      pub laid-written : IsLaid new es cs
-      laid-written =
-          let d : ℕ × Value = (k, v) in
-          let long : length new.entries ≡ length row.entries = ap length (rows d) ∙ length-set row.entries i ((get_or row.entries i d).0, v) in
-          record {
-            ordered = passes _ (subst (λ (m : VectorEntries). T (is_sorted nat_cmp m)) (sym (rows d)) (is_sorted-same_keys row.entries i d v (holds laid.ordered)));
-            apart = λ j e l. ap (λ (m : VectorEntries). last_at (get_or m j e).0 cs) (rows d) ∙ kept_key row.entries i j d e v cs laid.apart (omega (arith, l, long));
-            inside = subst (λ x. All (IsChangeOf x) cs) (sym same) laid.inside;
-          }
-        where
-          kept_key : (m : VectorEntries) (i j : ℕ) (d e : ℕ × Value) (v : Value) (cs : List Change) → ((i : ℕ) (d : ℕ × Value) → i < length m → last_at (get_or m i d).0 cs ≡ None) → j < length m → last_at (get_or (set m i ((get_or m i d).0, v)) j e).0 cs ≡ None
-          kept_key m i j d e v cs apart l =
-              elim (cases_eq j i) [
-                | inl t ↦ ap (λ x. last_at (get_or (set m i ((get_or m i d).0, v)) x e).0 cs) t ∙ ap (λ (x : ℕ × Value). last_at x.0 cs) (get_or-set_same m i ((get_or m i d).0, v) e (subst (λ x. x < length m) t l)) ∙ apart i d (subst (λ x. x < length m) t l)
-                | inr t ↦ ap (λ (x : ℕ × Value). last_at x.0 cs) (get_or-set_other m i j ((get_or m i d).0, v) e t) ∙ apart j e l
-              ]
+      pub laid-written : new.domain ≡ row.domain → IsLaid new cs
+      laid-written same = record {
+        ordered = passes _ (subst (λ (m : VectorEntries). T (is_sorted nat_cmp m)) (sym is_put) (is_sorted-put nat_cmp nat_cmp_total k v row.entries (holds laid.ordered)));
+        inside = λ q. subst (λ x. IfSome (last_at q cs) (λ d. IsChangeOf x (q, d))) (sym same) (laid.inside q);
+      }
 
-  module _ (absent : find nat_cmp k row.entries ≡ None) where
-    -- at an index that does not
-    pub find-other : find nat_cmp k (stored row ds cs) ≡ over (last_at k cs) None
-    find-other = find-changed k cs (kept row.entries ds) ∙ ap (over (last_at k cs)) (find-kept_none k row.entries ds absent)
+  -- after one more change
+  module _ (c : Option Value) (fs : List Change) (is : (q : ℕ) → last_at q fs ≡ cond (nat_eq q k) (Some c) (last_at q cs)) where
+    pub find-pushed : (q : ℕ) → find nat_cmp q (stored row fs) ≡ cond (nat_eq q k) c (find nat_cmp q (stored row cs))
+    find-pushed q =
+        find-changed q fs row.entries
+        ∙ ap (λ l. over l (find nat_cmp q row.entries)) (is q)
+        ∙ past (nat_eq q k) (last_at q cs) (find nat_cmp q row.entries)
+        ∙ ap (cond (nat_eq q k) c) (sym (find-changed q cs row.entries))
+      where
+        past : (t : Bool) (l : Option (Option Value)) (w : Option Value) → over (cond t (Some c) l) w ≡ cond t c (over l w)
+        past true l w = refl
+        past false l w = refl
 
-    -- after one more change there
-    pub find-pushed : (c : Option Value) (fs : List Change) → fs ≡ cs ++ (k, c) ∷ [] → (q : ℕ) → find nat_cmp q (stored row ds fs) ≡ cond (nat_eq q k) c (find nat_cmp q (stored row ds cs))
-    find-pushed c fs is q =
-        ap (λ (x : List Change). find nat_cmp q (stored row ds x)) is
-        ∙ ap (find nat_cmp q) (changed-push k c cs (kept row.entries ds))
-        ∙ find-changed_at q k c (stored row ds cs)
-
-    pub laid-pushed : (c : Option Value) (fs : List Change) → fs ≡ cs ++ (k, c) ∷ [] → IfSome c (λ v. value_domain v ≡ row.domain) → IsLaid row ds fs
-    laid-pushed c fs is of_domain = record {
+    pub laid-pushed : IfSome c (λ v. value_domain v ≡ row.domain) → IsLaid row fs
+    laid-pushed of_domain = record {
       ordered = laid.ordered;
-      apart = λ i d l. ap (last_at (get_or row.entries i d).0) is ∙ last_at-push (get_or row.entries i d).0 k c cs
-          ∙ ap (λ b. cond b (Some c) (last_at (get_or row.entries i d).0 cs)) (differs (get_or row.entries i d).0 k (nowhere k row.entries i d absent l)) ∙ laid.apart i d l;
-      inside = subst (All (IsChangeOf row.domain)) (sym is) (All-push (IsChangeOf row.domain) cs (k, c) laid.inside of_domain);
+      inside = λ q. subst (λ l. IfSome l (λ d. IsChangeOf row.domain (q, d))) (sym (is q)) (each (nat_eq q k) q (last_at q cs) (laid.inside q));
     }
       where
-        differs : (q k : ℕ) → (q ≡ k → ⊥) → nat_eq q k ≡ false
-        differs q k h = grind (arith, nat_tests)
+        each : (t : Bool) (q : ℕ) (l : Option (Option Value)) → IfSome l (λ d. IsChangeOf row.domain (q, d)) → IfSome (cond t (Some c) l) (λ d. IsChangeOf row.domain (q, d))
+        each true q l h = of_domain
+        each false q l h = h
 
   -- after a removal where nothing is
-  pub find-same : find nat_cmp k (stored row ds cs) ≡ None → (q : ℕ) → find nat_cmp q (stored row ds cs) ≡ cond (nat_eq q k) None (find nat_cmp q (stored row ds cs))
-  find-same none q = same (nat_eq q k) (find nat_cmp q (stored row ds cs)) (λ t. ap (λ x. find nat_cmp x (stored row ds cs)) (is_it q k t) ∙ none)
+  pub find-same : find nat_cmp k (stored row cs) ≡ None → (q : ℕ) → find nat_cmp q (stored row cs) ≡ cond (nat_eq q k) None (find nat_cmp q (stored row cs))
+  find-same none q = same (nat_eq q k) (find nat_cmp q (stored row cs)) (λ t. ap (λ x. find nat_cmp x (stored row cs)) (is_it q k t) ∙ none)
     where
       same : (t : Bool) (w : Option Value) → (t ≡ true → w ≡ None) → w ≡ cond t None w
       same true w h = h refl
@@ -137,30 +119,6 @@ last_at-sorted q (c ∷ cs) h =
 -- changes that have the same last ones make the same map
 pub same_changes : (m : VectorEntries) (cs ds : List Change) → T (is_sorted nat_cmp m) → ((q : ℕ) → last_at q cs ≡ last_at q ds) → changed m cs ≡ changed m ds
 same_changes m cs ds h is = same_map (changed m cs) (changed m ds) (is_sorted-changed cs m h) (is_sorted-changed ds m h) (λ q. find-changed q cs m ∙ ap (λ l. over l (find nat_cmp q m)) (is q) ∙ sym (find-changed q ds m))
-
--- a write of what is there
-pub unchanged : (m : VectorEntries) (i : ℕ) (f d : ℕ × Value) → i < length m → m ≡ set m i ((get_or m i d).0, (get_or m i f).1)
-unchanged m i f d l = sym (ap (λ (e : ℕ × Value). set m i ((get_or m i d).0, e.1)) (get_or_default m i f d l) ∙ set-get_or m i d)
-
-pub over-nothing : (l : Option (Option Value)) → over l None ≡ value_left l
-over-nothing None = refl
-over-nothing (Some c) = refl
-
-pub is_some-unless : (b : Bool) (v : Value) → is_some (cond b None (Some v)) ≡ not b
-is_some-unless true v = refl
-is_some-unless false v = refl
-
-module _ (row : RowView) (ds : List Bool) (cs : List Change) (laid : IsLaid row ds cs) (k : ℕ) where
-  -- whether something is stored at an index that stands in the row, and at another
-  pub stands-marked : (i : ℕ) → i < length row.entries → ((d : ℕ × Value) → (get_or row.entries i d).0 ≡ k) → (b : Bool) → b ≡ get_or ds i false → not b ≡ is_some (find nat_cmp k (stored row ds cs))
-  stands-marked i inside is b mark =
-      let d : ℕ × Value = (0, value.Bool true) in
-      sym (is_some-unless b (get_or row.entries i d).1)
-      ∙ ap (λ x. is_some (cond x None (Some (get_or row.entries i d).1))) mark
-      ∙ ap is_some (sym (find-standing row ds cs laid k i inside is (get_or row.entries i d).1 (λ e. ap (λ (x : ℕ × Value). x.1) (get_or_default row.entries i d e inside))))
-
-  pub stands-left : find nat_cmp k row.entries ≡ None → is_some (value_left (last_at k cs)) ≡ is_some (find nat_cmp k (stored row ds cs))
-  stands-left absent = ap is_some (sym (find-other row ds cs laid k absent ∙ over-nothing (last_at k cs)))
 
 pub nothing_there : (w : Option Value) → is_some w ≡ false → w ≡ None
 nothing_there None e = refl

@@ -4,6 +4,8 @@ pub mod FlatLists
 pub mod Ends
 pub mod Merging
 pub mod LaidOut
+pub mod Latest
+pub mod Layered
 pub mod CellCodes
 pub mod FlatCells
 pub mod Cut
@@ -13,4 +15,3 @@ pub mod Packing
 pub mod Holding
 pub mod Appending
 pub mod Passed
-pub mod Keeping

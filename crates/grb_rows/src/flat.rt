@@ -1,5 +1,5 @@
 //! Entries as flat lists: the rows that have some, where each begins, and the column and the value of each entry.
-ghost use Rattle.std.specs.Prelude.{◌≡◌, ◌≢◌, ◌+◌, ◌-◌, ◌*◌, ◌/◌, ◌%◌, ◌<◌, ◌≤◌, ◌^◌, ◌++◌, ℕ, [], ◌∷◌, None, true, cond, nat_eq, filter, take, drop, length, map, All, IfOk, IfSome, IfNone, IsTrue, slice_set, slice_index_or, slice_index};
+ghost use Rattle.std.specs.Prelude.{◌≡◌, ◌≢◌, ◌+◌, ◌-◌, ◌*◌, ◌/◌, ◌%◌, ◌<◌, ◌≤◌, ◌^◌, ◌++◌, ℕ, [], ◌∷◌, Some, None, true, cond, nat_eq, filter, take, drop, length, map, All, IfOk, IfSome, IfNone, IsTrue, slice_set, slice_index_or, slice_index};
 ghost use Rattle.std.specs.List.{AllByRecursion};
 ghost use Rattle.std.specs.Ordering.{nat_cmp};
 ghost use Rattle.std.specs.FinMap.{find, is_sorted};
@@ -113,10 +113,21 @@ impl FlatRows {
     /// Where the entry of an index stands, if there is one.
     pub(crate) fn place_of(&self, index: u64) -> Option<usize>
         ensures found { IfSome result (λ at. (at < length self.now.entries) × ((d : ℕ × Stored) → (slice_index_or self.now.entries at d).0 ≡ index)) }
+        ensures stands { IfSome result (λ at. (d : ℕ × Stored) → find nat_cmp index self.now.entries ≡ Some (slice_index_or self.now.entries at d).1) }
         ensures absent { IfNone result (find nat_cmp index self.now.entries ≡ None) }
     {
         match place_in(&self.rows, &self.starts, &self.columns, index) {
             Some(at) => Some(at),
+            None => None,
+        }
+    }
+
+    /// The value at an index, if there is one.
+    pub(crate) fn get(&self, index: u64) -> Option<Value>
+        ensures { result ≡ find nat_cmp index self.now.entries }
+    {
+        match self.place_of(index) {
+            Some(at) => Some(self.value_at(at)),
             None => None,
         }
     }

@@ -1,32 +1,34 @@
-//! What is held of one object: flat lists with marks and changes, how one entry is stored or taken away, and how all are assembled.
-ghost use Rattle.std.specs.Prelude.{◌≡◌, ◌+◌, ◌-◌, ◌<◌, ◌≤◌, ◌^◌, ℕ, [], true, false, if◌then◌else◌, cond, nat_eq, length, slice_index_or, Some, None, All, IfOk, OnOk, OnErr, IsOk, ◌↔◌, IsTrue, is_some};
-ghost use Rattle.std.specs.List.{AllByRecursion};
+//! What is held of one object: flat lists and changes, how one entry is stored or taken away, and how all are assembled.
+ghost use Rattle.std.specs.Prelude.{◌≡◌, ◌+◌, ◌-◌, ◌<◌, ◌≤◌, ◌^◌, ℕ, [], true, false, if◌then◌else◌, cond, nat_eq, length, slice_index_or, Some, None, IfOk, OnOk, OnErr, IsOk, is_some};
 ghost use Rattle.std.specs.Ordering.{nat_cmp};
-ghost use Rattle.std.specs.FinMap.{find, put, is_sorted};
+ghost use Rattle.std.specs.FinMap.{find, put};
+ghost use Rattle.grb_core.specs.declared.value.Value.{Value as Stored};
 ghost use Rattle.grb_core.specs.Value.{value_domain};
 ghost use Rattle.grb_core.specs.Entries.{restricted, without_entry};
 ghost use Rattle.grb_core.specs.Contents.{is_cell_in};
 ghost use Rattle.grb_rows.specs.Cells.{cell_of};
-ghost use Rattle.grb_rows.specs.Held.{stored, IsLaid, IsMarked};
+ghost use Rattle.grb_rows.specs.Held.{stored, IsLaid};
+ghost use Rattle.grb_rows.specs.Layers.{IsPlaced};
+ghost use Rattle.grb_rows.specs.Pending.{changed};
 
+use crate::base::Base;
 use crate::flat::FlatRows;
+use crate::layers::Layers;
 use crate::merge;
 use crate::pending::Pending;
 use grb_core::{Domain, Value};
 use std::alloc::{AllocError, Global};
 use std::marker::Model;
 
-/// What is held of one object: the entries as they were last assembled, which of them are marked as deleted, and the changes that wait.
-/// A cell is named by its number, which of a vector is its index.
+/// What is held of one object: the entries as they were last assembled, and the changes that wait. A cell is named by its number, which of
+/// a vector is its index. Copies share the entries that were assembled, and each has its own changes.
 ///
 /// It keeps its allocator. `reserved` is how many more calls of `set` and `remove` it holds memory for, `assembled` whether no such change
-/// waits to be put in order, and `pending` how many changes it keeps.
+/// waits to be put in order, and `pending` how many changes were made since then at cells that were not stored when it was last assembled.
 pub struct Held {
     /// The entries as they were last assembled.
-    rows: FlatRows,
-    /// Which of them are marked as deleted; empty until a place for a change is reserved.
-    deleted: Vec<bool>,
-    /// What was set and removed since then at other cells.
+    base: Base,
+    /// What was set and removed since then.
     pending: Pending,
     nvals: u64,
     assembled: bool,
@@ -36,8 +38,7 @@ pub struct Held {
 impl Drop for Held {
     fn drop(self) {
         let Held {
-            rows: _,
-            deleted: _,
+            base: _,
             pending: _,
             nvals: _,
             assembled: _,
@@ -50,9 +51,9 @@ impl Model for Held {
 
     ghost Value = { HeldView };
 
-    ghost view = { λ h. held_view h.rows h.deleted.items h.pending h.assembled };
+    ghost view = { λ h. held_view h.base h.pending h.assembled };
 
-    ghost invariant = { λ h. IsHeld h.rows h.deleted.items h.pending h.nvals h.assembled };
+    ghost invariant = { λ h. IsHeld h.base h.pending h.nvals h.assembled };
 }
 
 impl Held {
@@ -60,10 +61,23 @@ impl Held {
     pub fn of(alloc: Global, rows: FlatRows, assembled: bool) -> Held
         ensures { result ≡ record { entries = rows.entries; domain = rows.domain; assembled = assembled; reserved = 0; pending = 0 } }
     {
-        let nvals = rows.len() as u64;
+        Held::over(alloc, Base::own(rows), assembled)
+    }
+
+    /// The same, and copies may share the rows; where memory is refused for that, they copy them.
+    pub fn shareable(alloc: Global, rows: FlatRows, assembled: bool) -> Held
+        ensures { result ≡ record { entries = rows.entries; domain = rows.domain; assembled = assembled; reserved = 0; pending = 0 } }
+    {
+        Held::over(alloc, Base::shareable(rows), assembled)
+    }
+
+    /// The same rows, whether copies may share them or not.
+    fn over(alloc: Global, base: Base, assembled: bool) -> Held
+        ensures { result ≡ record { entries = base.entries; domain = base.domain; assembled = assembled; reserved = 0; pending = 0 } }
+    {
+        let nvals = base.rows().len() as u64;
         Held {
-            rows,
-            deleted: Vec::new(alloc),
+            base,
             pending: Pending::new(alloc),
             nvals,
             assembled,
@@ -79,14 +93,14 @@ impl Held {
 
     /// Its allocator.
     pub fn allocator(&self) -> Global {
-        self.rows.allocator()
+        self.base.rows().allocator()
     }
 
     /// The domain of the values.
     pub fn domain(&self) -> Domain
         ensures { result ≡ self.now.domain }
     {
-        self.rows.domain()
+        self.base.rows().domain()
     }
 
     /// Whether no change waits to be put in order.
@@ -103,29 +117,21 @@ impl Held {
         self.nvals
     }
 
-    /// The number of changes that wait.
+    /// The number of changes since it was last assembled at cells that were not stored then.
     pub fn pending(&self) -> u64
         ensures pending { result ≡ self.now.pending }
         ensures assembled { self.now.assembled ≡ true → result ≡ 0 }
     {
-        self.pending.len() as u64
+        self.pending.apart()
     }
 
     /// The value stored at a cell, if there is one. Takes no memory.
     pub fn get(&self, number: u64) -> Option<Value>
         ensures { result ≡ find nat_cmp number self.now.entries }
     {
-        match self.rows.place_of(number) {
-            Some(at) => {
-                if is_marked(&self.deleted, at) {
-                    return None;
-                }
-                Some(self.rows.value_at(at))
-            }
-            None => match self.pending.latest(number) {
-                Some(change) => change,
-                None => None,
-            },
+        match self.pending.latest(number) {
+            None => self.base.rows().get(number),
+            Some(change) => change,
         }
     }
 
@@ -135,11 +141,30 @@ impl Held {
         ensures entries { result.now.entries ≡ self.now.entries }
         ensures domain { result.now.domain ≡ self.now.domain }
     {
-        &self.rows
+        self.base.rows()
     }
 
-    /// Makes places for `n` calls of `set` or `remove` from now on, in place of those made before, and a deleted mark for each entry, where
-    /// there are none yet. `AllocError` where memory is refused, and then nothing changes.
+    /// What is stored, as the entries that were assembled and the changes over them: nothing is copied, and it takes no memory.
+    pub fn layers(&self) -> Layers<'_>
+        ensures entries { changed result.base.now.entries result.changes.now.entries ≡ self.now.entries }
+        ensures domain { result.base.now.domain ≡ self.now.domain }
+    {
+        Layers {
+            base: self.base.rows(),
+            places: self.pending.places(),
+            changes: self.pending.changes(),
+        }
+    }
+
+    /// Whether so many cells were changed that merging them pays: at least 1,024, and at least a sixteenth of the entries that were
+    /// assembled.
+    pub fn has_many_changes(&self) -> bool {
+        let changes = self.pending.len();
+        changes >= 1_024 && changes.saturating_mul(16) >= self.base.rows().len()
+    }
+
+    /// Makes places for `n` calls of `set` or `remove` from now on, in place of those made before. `AllocError` where memory is refused,
+    /// and then nothing changes.
     pub fn reserve_pending(&mut self, n: u64) -> Result<(), AllocError>
         ensures entries { self.new.entries ≡ self.old.entries }
         ensures domain { self.new.domain ≡ self.old.domain }
@@ -148,14 +173,7 @@ impl Held {
         ensures pending { self.new.pending ≡ self.old.pending }
         ensures err { OnErr result (self.new ≡ self.old) }
     {
-        if self.deleted.is_empty() {
-            let deleted = unmarked(self.rows.allocator(), self.rows.len())?;
-            self.pending.reserve(n)?;
-            self.deleted = deleted;
-            return Ok(());
-        }
-        self.pending.reserve(n)?;
-        Ok(())
+        self.pending.reserve(n)
     }
 
     /// Stores `value` at a cell. Takes no memory, and uses up one reserved place.
@@ -170,14 +188,8 @@ impl Held {
         ensures one_more { self.new.pending ≤ self.old.pending + 1 }
     {
         // there are no more entries than these together, so one more can be counted
-        let _most = (self.rows.len(), self.pending.len());
-        let stood = store(
-            &mut self.rows,
-            &mut self.deleted,
-            &mut self.pending,
-            number,
-            value,
-        );
+        let _most = (self.base.rows().len(), self.pending.len());
+        let stood = store(&mut self.base, &mut self.pending, number, value);
         self.nvals = counted(self.nvals, stood, true);
         self.assembled = false;
     }
@@ -195,37 +207,46 @@ impl Held {
         ensures one_more { self.new.pending ≤ self.old.pending + 1 }
     {
         // there are no more entries than these together, so one more can be counted
-        let _most = (self.rows.len(), self.pending.len());
-        let stood = erase(&self.rows, &mut self.deleted, &mut self.pending, number);
+        let _most = (self.base.rows().len(), self.pending.len());
+        let stood = erase(&self.base, &mut self.pending, number);
         self.nvals = counted(self.nvals, stood, false);
         self.assembled = false;
     }
 
-    /// What is stored, as rows of their own. Where nothing waits, the lists are copied whole.
-    fn merged(&self) -> Result<FlatRows, AllocError>
+    /// What is stored, as rows of their own: the changes merged with the entries.
+    fn merged_rows(&self) -> Result<FlatRows, AllocError>
         ensures entries { IfOk result (λ new. new.entries ≡ self.now.entries) }
         ensures domain { IfOk result (λ new. new.domain ≡ self.now.domain) }
     {
-        if is_settled(&self.rows, &self.pending, self.nvals) {
-            return self.rows.try_clone();
+        let changes = self.pending.in_order(self.allocator())?;
+        merge::merged(self.base.rows(), &changes)
+    }
+
+    /// What is stored, as rows that copies may share. Where nothing waits, they are the same rows.
+    fn merged(&self) -> Result<Base, AllocError>
+        ensures entries { IfOk result (λ new. new.entries ≡ self.now.entries) }
+        ensures domain { IfOk result (λ new. new.domain ≡ self.now.domain) }
+    {
+        if self.pending.is_empty() {
+            return self.base.try_clone();
         }
-        let changes = self.pending.in_order()?;
-        merge::merged(&self.rows, &self.deleted, &changes)
+        let merged = self.merged_rows()?;
+        Ok(Base::shareable(merged))
     }
 
     /// Puts rows in place of all that is held, and gives back what waited with its memory. Takes no memory.
-    fn settle(&mut self, rows: FlatRows, assembled: bool)
-        ensures { self.new ≡ record { entries = rows.entries; domain = rows.domain; assembled = assembled; reserved = 0; pending = 0 } }
+    fn settle(&mut self, base: Base, assembled: bool)
+        ensures { self.new ≡ record { entries = base.entries; domain = base.domain; assembled = assembled; reserved = 0; pending = 0 } }
     {
-        *self = Held::of(rows.allocator(), rows, assembled);
+        *self = Held::over(base.rows().allocator(), base, assembled);
     }
 
     /// Takes away all entries, changes and reserved places. Takes no memory.
     pub fn clear(&mut self)
         ensures { self.new ≡ record { entries = []; domain = self.old.domain; assembled = true; reserved = 0; pending = 0 } }
     {
-        let none = FlatRows::new(self.rows.allocator(), self.rows.domain());
-        self.settle(none, true);
+        let none = FlatRows::new(self.allocator(), self.domain());
+        self.settle(Base::own(none), true);
     }
 
     /// What is stored within `nrows` rows and `ncols` columns, as rows of their own.
@@ -233,10 +254,10 @@ impl Held {
         ensures entries { IfOk result (λ new. new.entries ≡ restricted (λ k. is_cell_in nrows ncols (cell_of k)) self.now.entries) }
         ensures domain { IfOk result (λ new. new.domain ≡ self.now.domain) }
     {
-        if is_settled(&self.rows, &self.pending, self.nvals) {
-            return self.rows.within(nrows, ncols);
+        if self.pending.is_empty() {
+            return self.base.rows().within(nrows, ncols);
         }
-        let whole = self.merged()?;
+        let whole = self.merged_rows()?;
         if whole.is_within(nrows, ncols) {
             return Ok(whole);
         }
@@ -249,131 +270,143 @@ impl Held {
         ensures ok { OnOk result (self.new ≡ record { entries = restricted (λ k. is_cell_in nrows ncols (cell_of k)) self.old.entries; domain = self.old.domain; assembled = self.old.assembled; reserved = 0; pending = 0 }) }
         ensures err { OnErr result (self.new ≡ self.old) }
     {
-        if is_settled(&self.rows, &self.pending, self.nvals) && self.rows.is_within(nrows, ncols) {
-            let alloc = self.allocator();
-            self.deleted = Vec::new(alloc);
-            self.pending = Pending::new(alloc);
+        if self.pending.is_empty() && self.base.rows().is_within(nrows, ncols) {
+            self.pending = Pending::new(self.base.rows().allocator());
             return Ok(());
         }
         let rows = self.merged_within(nrows, ncols)?;
-        self.settle(rows, self.assembled);
+        self.settle(Base::shareable(rows), self.assembled);
         Ok(())
     }
 
-    /// The same entries, with no change that waits and no reserved places. `AllocError` where memory is refused.
+    /// The same entries, with no change that waits and no reserved places. `AllocError` where memory is refused. Where nothing waits it
+    /// shares the entries, if they can be shared, and then copies none of them.
     pub fn try_clone(&self) -> Result<Held, AllocError>
         ensures { IfOk result (λ copy. copy ≡ record { entries = self.now.entries; domain = self.now.domain; assembled = self.now.assembled; reserved = 0; pending = 0 }) }
     {
         let copy = self.merged()?;
-        Ok(Held::of(copy.allocator(), copy, self.assembled))
+        Ok(Held::over(self.allocator(), copy, self.assembled))
     }
 
-    /// Merges the changes with the entries, drops what is marked as deleted, and gives up the reserved places. `AllocError` where memory is
-    /// refused, and then nothing changes. With n entries and p changes it takes time `O(n + p log p)`. Where nothing waits it does none of
-    /// this and takes no memory.
+    /// The same entries and the same changes that wait, with no reserved places: the entries that were assembled are shared, if they can
+    /// be, and the changes copied. `AllocError` where memory is refused, or where 2^63 - 1 objects share the entries.
+    pub fn try_share(&self) -> Result<Held, AllocError>
+        ensures { IfOk result (λ copy. copy ≡ record { entries = self.now.entries; domain = self.now.domain; assembled = self.now.assembled; reserved = 0; pending = self.now.pending }) }
+    {
+        let base = self.base.try_clone()?;
+        let pending = self.pending.try_clone()?;
+        Ok(Held {
+            base,
+            pending,
+            nvals: self.nvals,
+            assembled: self.assembled,
+        })
+    }
+
+    /// Lets copies share the entries that were assembled, from now on; fewer than 64 entries are as cheap to copy, and stay as they are.
+    /// Takes little memory, and none again; where it is refused, copies copy the entries, and nothing else is lost.
+    pub fn make_shareable(&mut self)
+        ensures { self.new ≡ self.old }
+    {
+        if self.base.rows().len() >= 64 {
+            self.base.make_shareable();
+        }
+    }
+
+    /// Merges the changes with the entries, and gives up the reserved places. `AllocError` where memory is refused, and then nothing
+    /// changes. With n entries and p changes it takes time `O(n + p log p)`. Where nothing waits it does none of this and takes no memory.
     pub fn assemble(&mut self) -> Result<(), AllocError>
         ensures ok { OnOk result (self.new ≡ record { entries = self.old.entries; domain = self.old.domain; assembled = true; reserved = 0; pending = 0 }) }
         ensures done { self.old.assembled ≡ true → IsOk result }
         ensures err { OnErr result (self.new ≡ self.old) }
     {
-        if is_settled(&self.rows, &self.pending, self.nvals) {
-            let alloc = self.rows.allocator();
-            self.deleted = Vec::new(alloc);
+        if self.pending.is_empty() {
+            let alloc = self.base.rows().allocator();
             self.pending = Pending::new(alloc);
             self.assembled = true;
             return Ok(());
         }
-        let rows = self.merged()?;
-        self.settle(rows, true);
+        let rows = self.merged_rows()?;
+        self.settle(Base::shareable(rows), true);
         Ok(())
     }
 }
 
-/// Whether nothing waits: there is no change, and as many entries as places, so that none is marked as deleted.
-fn is_settled(rows: &FlatRows, pending: &Pending, nvals: u64) -> bool
-    ensures { result ≡ true ↔ (pending.now.changes ≡ []) × (nvals ≡ length rows.now.entries) }
-{
-    pending.len() == 0 && nvals == rows.len() as u64
-}
-
-/// Whether the entry at a place is marked as deleted. Where there is no mark, none is.
-pub(crate) fn is_marked(deleted: &[bool], at: usize) -> bool
-    ensures { result ≡ slice_index_or deleted.now at false }
-{
-    if at < deleted.len() {
-        return deleted[at];
-    }
-    false
-}
-
 /// Stores `value` at a cell; whether something stood there.
-fn store(
-    rows: &mut FlatRows,
-    deleted: &mut Vec<bool>,
-    pending: &mut Pending,
-    number: u64,
-    value: Value,
-) -> bool
-    requires laid { IsLaid rows.old deleted.old.items pending.old.changes }
-    requires same_domain { value_domain value ≡ rows.old.domain }
+fn store(base: &mut Base, pending: &mut Pending, number: u64, value: Value) -> bool
+    requires laid { IsLaid base.old pending.old.changes }
+    requires placed { IsPlaced base.old.entries pending.old.places pending.old.changes }
+    requires same_domain { value_domain value ≡ base.old.domain }
     requires reserved { 0 < pending.old.reserved }
-    requires marked { IsMarked rows.old deleted.old.items pending.old.reserved }
-    ensures laid { IsLaid rows.new deleted.new.items pending.new.changes }
-    ensures found { (q : ℕ) → find nat_cmp q (stored rows.new deleted.new.items pending.new.changes) ≡ cond (nat_eq q number) (Some value) (find nat_cmp q (stored rows.old deleted.old.items pending.old.changes)) }
-    ensures stood { result ≡ is_some (find nat_cmp number (stored rows.old deleted.old.items pending.old.changes)) }
-    ensures domain { rows.new.domain ≡ rows.old.domain }
+    ensures laid { IsLaid base.new pending.new.changes }
+    ensures placed { IsPlaced base.new.entries pending.new.places pending.new.changes }
+    ensures found { (q : ℕ) → find nat_cmp q (stored base.new pending.new.changes) ≡ cond (nat_eq q number) (Some value) (find nat_cmp q (stored base.old pending.old.changes)) }
+    ensures stood { result ≡ is_some (find nat_cmp number (stored base.old pending.old.changes)) }
+    ensures domain { base.new.domain ≡ base.old.domain }
     ensures reserved { pending.new.reserved + 1 ≡ pending.old.reserved }
-    ensures marked { length deleted.new.items ≡ length rows.new.entries }
-    ensures not_fewer { length pending.old.changes ≤ length pending.new.changes }
-    ensures one_more { length pending.new.changes ≤ length pending.old.changes + 1 }
+    ensures not_fewer { pending.old.apart ≤ pending.new.apart }
+    ensures one_more { pending.new.apart ≤ pending.old.apart + 1 }
 {
-    match rows.place_of(number) {
-        Some(at) => {
-            let was_deleted = is_marked(deleted, at);
-            rows.write(at, value);
-            deleted[at] = false;
-            pending.spend();
-            return !was_deleted;
+    match base.rows().place_of(number) {
+        Some(at) => store_at(base, pending, number, at, value),
+        None => {
+            let stood = pending.leaves_value(number, false);
+            pending.push(number, Some(value), None);
+            stood
+        }
+    }
+}
+
+/// The same at a cell that stands in the rows, at a place: its value is written there, unless a change of the cell waits or another object
+/// shares the rows.
+fn store_at(base: &mut Base, pending: &mut Pending, number: u64, at: usize, value: Value) -> bool
+    requires laid { IsLaid base.old pending.old.changes }
+    requires placed { IsPlaced base.old.entries pending.old.places pending.old.changes }
+    requires same_domain { value_domain value ≡ base.old.domain }
+    requires reserved { 0 < pending.old.reserved }
+    requires within { at < length base.old.entries }
+    requires number { (d : ℕ × Stored) → (slice_index_or base.old.entries at d).0 ≡ number }
+    ensures laid { IsLaid base.new pending.new.changes }
+    ensures placed { IsPlaced base.new.entries pending.new.places pending.new.changes }
+    ensures found { (q : ℕ) → find nat_cmp q (stored base.new pending.new.changes) ≡ cond (nat_eq q number) (Some value) (find nat_cmp q (stored base.old pending.old.changes)) }
+    ensures stood { result ≡ is_some (find nat_cmp number (stored base.old pending.old.changes)) }
+    ensures domain { base.new.domain ≡ base.old.domain }
+    ensures reserved { pending.new.reserved + 1 ≡ pending.old.reserved }
+    ensures not_fewer { pending.old.apart ≤ pending.new.apart }
+    ensures one_more { pending.new.apart ≤ pending.old.apart + 1 }
+{
+    match pending.latest(number) {
+        Some(change) => {
+            pending.push(number, Some(value), Some(at));
+            change.is_some()
         }
         None => {
-            let stood = pending.leaves_value(number);
-            pending.push(number, Some(value));
-            return stood;
+            if base.try_write(at, value) {
+                pending.spend();
+                return true;
+            }
+            pending.push(number, Some(value), Some(at));
+            true
         }
     }
 }
 
 /// Takes away the entry at a cell; whether there was one. Where there was none, no change is added.
-fn erase(rows: &FlatRows, deleted: &mut Vec<bool>, pending: &mut Pending, number: u64) -> bool
-    requires laid { IsLaid rows.now deleted.old.items pending.old.changes }
+fn erase(base: &Base, pending: &mut Pending, number: u64) -> bool
+    requires laid { IsLaid base.now pending.old.changes }
+    requires placed { IsPlaced base.now.entries pending.old.places pending.old.changes }
     requires reserved { 0 < pending.old.reserved }
-    requires marked { IsMarked rows.now deleted.old.items pending.old.reserved }
-    ensures laid { IsLaid rows.now deleted.new.items pending.new.changes }
-    ensures found { (q : ℕ) → find nat_cmp q (stored rows.now deleted.new.items pending.new.changes) ≡ cond (nat_eq q number) None (find nat_cmp q (stored rows.now deleted.old.items pending.old.changes)) }
-    ensures stood { result ≡ is_some (find nat_cmp number (stored rows.now deleted.old.items pending.old.changes)) }
-    ensures absent { find nat_cmp number (stored rows.now deleted.old.items pending.old.changes) ≡ None → pending.new.changes ≡ pending.old.changes }
+    ensures laid { IsLaid base.now pending.new.changes }
+    ensures placed { IsPlaced base.now.entries pending.new.places pending.new.changes }
+    ensures found { (q : ℕ) → find nat_cmp q (stored base.now pending.new.changes) ≡ cond (nat_eq q number) None (find nat_cmp q (stored base.now pending.old.changes)) }
+    ensures stood { result ≡ is_some (find nat_cmp number (stored base.now pending.old.changes)) }
+    ensures absent { find nat_cmp number (stored base.now pending.old.changes) ≡ None → pending.new.apart ≡ pending.old.apart }
     ensures reserved { pending.new.reserved + 1 ≡ pending.old.reserved }
-    ensures marked { length deleted.new.items ≡ length rows.now.entries }
-    ensures not_fewer { length pending.old.changes ≤ length pending.new.changes }
-    ensures one_more { length pending.new.changes ≤ length pending.old.changes + 1 }
+    ensures not_fewer { pending.old.apart ≤ pending.new.apart }
+    ensures one_more { pending.new.apart ≤ pending.old.apart + 1 }
 {
-    match rows.place_of(number) {
-        Some(at) => {
-            let was_deleted = is_marked(deleted, at);
-            deleted[at] = true;
-            pending.spend();
-            return !was_deleted;
-        }
-        None => return pending.remove(number),
-    }
-}
-
-/// A mark for each of `len` entries, none of them set.
-fn unmarked(alloc: Global, len: usize) -> Result<Vec<bool>, AllocError>
-    ensures len { IfOk result (λ marks. length marks.items ≡ len) }
-    ensures unset { IfOk result (λ marks. AllByRecursion (λ d. d ≡ false) marks.items) }
-{
-    vec![in alloc; false; len]
+    let place = base.rows().place_of(number);
+    pending.remove(number, place)
 }
 
 /// The number of entries after a change of one index: whether something was stored there, and whether something is.

@@ -1,98 +1,139 @@
-//! Changes that wait to be assembled: a row of them, oldest first, and the last one of each index in a table.
-ghost use Rattle.std.specs.Prelude.{◌≡◌, ◌+◌, ◌<◌, ◌≤◌, ◌^◌, ◌++◌, ℕ, [], ◌∷◌, None, true, false, length, All, IfOk, OnOk, OnErr, IfSome, IsTrue, is_some};
+//! Changes that wait to be assembled: the last one of each index, in a table.
+ghost use Rattle.std.specs.Prelude.{◌≡◌, ◌+◌, ◌<◌, ◌≤◌, ◌^◌, ℕ, [], Some, None, Option, true, false, cond, nat_eq, length, IfOk, OnOk, OnErr, IsTrue, is_some, is_none, ◌↔◌};
 ghost use Rattle.std.specs.Ordering.{nat_cmp};
-ghost use Rattle.std.specs.FinMap.{find, put, is_sorted};
+ghost use Rattle.std.specs.FinMap.{find, is_sorted};
+ghost use Rattle.grb_core.specs.declared.value.Value.{Value as Stored};
+ghost use Rattle.grb_rows.specs.Pending.{last_at, over};
+ghost use Rattle.grb_rows.specs.Layers.{placed_after};
+ghost use Rattle.std.specs.HashMap.{IsUnique};
+ghost use Rattle.std.specs.List.{IsDistinct};
+ghost use Rattle.std.specs.Map.{keys_of};
 ghost use Rattle.std.specs.Vec.{vec_len, vec_capacity};
-ghost use Rattle.grb_core.specs.declared.domain.Domain.{Domain as D};
-ghost use Rattle.grb_core.specs.Value.{value_domain};
-ghost use Rattle.std.specs.List.{AllByRecursion};
-ghost use Rattle.std.specs.List.Sorted.{IsSortedByKey};
-ghost use Rattle.grb_rows.specs.Pending.{last_at, value_left, IsChangeOf};
 
-use crate::packed;
+use crate::{packed, values};
 use grb_core::Value;
-use std::alloc::{AllocError, Global};
+use std::alloc::{AllocError, AllocFailed, Global};
 use std::collections::HashMap;
 use std::marker::Model;
 
-/// Changes of single indices, in the order in which they came: a value that is stored, or `None` where it is taken away.
+/// The last change of each index that was changed: a value that is stored, or `None` where it is taken away. `places` are those of the
+/// changed indices that stand in the rows that they go over. `apart` changes were of indices at which nothing stood there.
 pub(crate) struct Pending {
-    changes: Vec<(u64, Option<Value>)>,
     latest: HashMap<u64, Option<Value>>,
+    places: Vec<usize>,
     reserved: u64,
+    apart: u64,
 }
 
-/// One call drops the list and the table, in place of one for each wherever changes go.
+/// One call drops the table and the places, in place of one for each of their lists wherever changes go.
 impl Drop for Pending {
     fn drop(self) {
         let Pending {
-            changes: _,
             latest: _,
+            places: _,
             reserved: _,
+            apart: _,
         } = self;
     }
 }
 
 impl Model for Pending {
-    ghost use Rattle.std.specs.Prelude.{ℕ, ◌≡◌, ◌+◌, ◌≤◌, nat_eq};
+    ghost use Rattle.std.specs.Prelude.{◌≡◌, ◌+◌, ◌≤◌, [], nat_eq};
+    ghost use Rattle.std.specs.HashMap.{IsUnique, spare};
     ghost use Rattle.std.specs.Vec.{vec_len, vec_capacity};
-    ghost use Rattle.std.specs.HashMap.{get, spare};
-    ghost use Rattle.grb_rows.specs.Pending.{PendingView, last_at};
+    ghost use Rattle.grb_rows.specs.Pending.{PendingView};
 
     ghost Value = { PendingView };
 
-    ghost view = { λ p. record { changes = p.changes.items; reserved = p.reserved } };
+    ghost view = { λ p. record { changes = p.latest.entries; places = p.places.items; reserved = p.reserved; apart = p.apart } };
 
-    ghost invariant = { λ p. ((q : ℕ) → get nat_eq p.latest q ≡ last_at q p.changes.items) × (vec_len p.changes + p.reserved ≤ vec_capacity p.changes) × (p.reserved ≤ spare p.latest) };
+    ghost invariant = { λ p. IsUnique nat_eq p.latest × (p.reserved ≤ spare p.latest) × (p.latest.entries ≡ [] → p.apart ≡ 0) × (vec_len p.places + p.reserved ≤ vec_capacity p.places) };
 }
 
 impl Pending {
     /// No change, and no place for one. Takes no memory.
     pub fn new(alloc: Global) -> Pending
-        ensures { result ≡ record { changes = []; reserved = 0 } }
+        ensures { result ≡ record { changes = []; places = []; reserved = 0; apart = 0 } }
     {
         Pending {
-            changes: Vec::new(alloc),
             latest: HashMap::new(alloc),
+            places: Vec::new(alloc),
             reserved: 0,
+            apart: 0,
         }
     }
 
-    /// The number of changes.
+    /// The number of indices that were changed.
     pub fn len(&self) -> usize
         ensures len { result ≡ length self.now.changes }
         ensures bound { length self.now.changes < 2 ^ 63 }
     {
-        self.changes.len()
+        self.latest.len()
+    }
+
+    /// Whether there is no change.
+    pub(crate) fn is_empty(&self) -> bool
+        ensures { result ≡ true ↔ (self.now.changes ≡ []) }
+    {
+        self.latest.is_empty()
+    }
+
+    /// The last change of each index.
+    pub(crate) fn changes(&self) -> &HashMap<u64, Option<Value>>
+        ensures changes { result.now.entries ≡ self.now.changes }
+        ensures distinct { IsDistinct nat_eq (keys_of self.now.changes) }
+    {
+        &self.latest
+    }
+
+    /// The places in the rows of the changed indices that stand there, in no order.
+    pub(crate) fn places(&self) -> &[usize]
+        ensures { result.now ≡ self.now.places }
+    {
+        &self.places
+    }
+
+    /// How many changes were of indices at which nothing stood in the rows, those among them that others went over.
+    pub(crate) fn apart(&self) -> u64
+        ensures apart { result ≡ self.now.apart }
+        ensures none { self.now.changes ≡ [] → result ≡ 0 }
+    {
+        self.apart
     }
 
     /// The last change of an index, if there is one.
     pub(crate) fn latest(&self, index: u64) -> Option<Option<Value>>
         ensures { result ≡ last_at index self.now.changes }
     {
+        if self.latest.is_empty() {
+            return None;
+        }
         match self.latest.get(&index) {
             Some(change) => Some(*change),
             None => None,
         }
     }
 
-    /// Whether the last change of an index leaves a value there.
-    pub(crate) fn leaves_value(&self, index: u64) -> bool
-        ensures { result ≡ is_some (value_left (last_at index self.now.changes)) }
+    /// Whether a value is stored at an index, where it is known whether one `stands` in the rows.
+    pub(crate) fn leaves_value(&self, index: u64, stands: bool) -> bool
+        ensures { (w : Option Stored) → is_some w ≡ stands → result ≡ is_some (over (last_at index self.now.changes) w) }
     {
         match self.latest(index) {
             Some(change) => change.is_some(),
-            None => false,
+            None => stands,
         }
     }
 
     /// Makes places for `n` changes from now on, in place of those made before.
     pub fn reserve(&mut self, n: u64) -> Result<(), AllocError>
-        ensures changes { self.new.changes ≡ self.old.changes }
+        ensures last { (q : ℕ) → last_at q self.new.changes ≡ last_at q self.old.changes }
+        ensures none { self.old.changes ≡ [] → self.new.changes ≡ [] }
+        ensures places { self.new.places ≡ self.old.places }
+        ensures apart { self.new.apart ≡ self.old.apart }
         ensures ok { OnOk result (self.new.reserved ≡ n) }
         ensures err { OnErr result (self.new ≡ self.old) }
     {
-        self.changes.reserve(n as usize)?;
+        self.places.reserve(n as usize)?;
         self.latest.reserve(n as usize)?;
         self.reserved = n;
         Ok(())
@@ -102,86 +143,119 @@ impl Pending {
     pub(crate) fn spend(&mut self)
         requires { 0 < self.old.reserved }
         ensures changes { self.new.changes ≡ self.old.changes }
+        ensures places { self.new.places ≡ self.old.places }
+        ensures apart { self.new.apart ≡ self.old.apart }
         ensures reserved { self.new.reserved + 1 ≡ self.old.reserved }
     {
         self.reserved -= 1;
     }
 
-    /// One more change. Takes no memory, and uses up a place.
-    pub(crate) fn push(&mut self, index: u64, change: Option<Value>)
+    /// One more change, of an index of which it is known at which `place` of the rows it stands, if at one: it takes the place of the one
+    /// before. Takes no memory, and uses up a place.
+    pub(crate) fn push(&mut self, index: u64, change: Option<Value>, place: Option<usize>)
         requires { 0 < self.old.reserved }
-        ensures changes { self.new.changes ≡ self.old.changes ++ (index, change) ∷ [] }
+        ensures last { (q : ℕ) → last_at q self.new.changes ≡ cond (nat_eq q index) (Some change) (last_at q self.old.changes) }
+        ensures places { self.new.places ≡ placed_after (last_at index self.old.changes) place self.old.places }
         ensures reserved { self.new.reserved + 1 ≡ self.old.reserved }
+        ensures not_fewer { self.old.apart ≤ self.new.apart }
+        ensures one_more { self.new.apart ≤ self.old.apart + 1 }
     {
-        self.changes.push_reserved((index, change));
-        let _room_was_reserved = self.latest.insert(index, change);
+        let before = self.latest.insert(index, change);
+        list(&mut self.places, is_first(before), place);
         self.reserved -= 1;
+        self.apart = self.apart.saturating_add(u64::from(place.is_none()));
     }
 
-    /// Takes away the value that the last change of an index leaves, if it leaves one; whether it did. Where it did not, no change is
-    /// added. Takes no memory, and uses up a place.
-    pub(crate) fn remove(&mut self, index: u64) -> bool
+    /// Takes away the value that is stored at an index, if there is one, where it is known at which `place` of the rows one stands, if at
+    /// one; whether there was one. Where there was none, no change is added. Takes no memory, and uses up a place.
+    pub(crate) fn remove(&mut self, index: u64, place: Option<usize>) -> bool
         requires { 0 < self.old.reserved }
-        ensures stood { result ≡ is_some (value_left (last_at index self.old.changes)) }
-        ensures removed { result ≡ true → self.new.changes ≡ self.old.changes ++ (index, None) ∷ [] }
-        ensures absent { result ≡ false → self.new.changes ≡ self.old.changes }
+        ensures stood { (w : Option Stored) → is_some w ≡ is_some place → result ≡ is_some (over (last_at index self.old.changes) w) }
+        ensures removed { result ≡ true → (q : ℕ) → last_at q self.new.changes ≡ cond (nat_eq q index) (Some None) (last_at q self.old.changes) }
+        ensures places { result ≡ true → self.new.places ≡ placed_after (last_at index self.old.changes) place self.old.places }
+        ensures absent { result ≡ false → (self.new.changes ≡ self.old.changes) × (self.new.apart ≡ self.old.apart) × (self.new.places ≡ self.old.places) }
         ensures reserved { self.new.reserved + 1 ≡ self.old.reserved }
+        ensures not_fewer { self.old.apart ≤ self.new.apart }
+        ensures one_more { self.new.apart ≤ self.old.apart + 1 }
     {
-        let stood = self.leaves_value(index);
+        let stood = self.leaves_value(index, place.is_some());
         if stood {
-            self.push(index, None);
+            self.push(index, None, place);
             return stood;
         }
         self.spend();
         stood
     }
 
+    /// The same changes, and no place for one more. `AllocError` where memory is refused.
+    pub(crate) fn try_clone(&self) -> Result<Pending, AllocError>
+        ensures { IfOk result (λ copy. copy ≡ record { changes = self.now.changes; places = self.now.places; reserved = 0; apart = self.now.apart }) }
+    {
+        Ok(Pending {
+            latest: copied(&self.latest)?,
+            places: values::copied(*self.places.allocator(), &self.places)?,
+            reserved: 0,
+            apart: self.apart,
+        })
+    }
+
     /// The last change of each index, in rising order of the indices.
-    pub(crate) fn in_order(&self) -> Result<Vec<(u64, Option<Value>)>, AllocError>
+    pub(crate) fn in_order(&self, alloc: Global) -> Result<Vec<(u64, Option<Value>)>, AllocError>
         ensures sorted { IfOk result (λ last. IsTrue (is_sorted nat_cmp last.items)) }
         ensures found { IfOk result (λ last. (q : ℕ) → find nat_cmp q last.items ≡ last_at q self.now.changes) }
-        ensures inside { IfOk result (λ last. (domain : D) → All (IsChangeOf domain) self.now.changes → All (IsChangeOf domain) last.items) }
     {
-        let alloc = *self.changes.allocator();
-        let changes = packed::in_order(alloc, &self.changes)?;
-        last_of_each(alloc, &changes)
+        // no two of the table's indices are equal
+        let _distinct = self.latest.len();
+        let changes = listed(alloc, &self.latest)?;
+        packed::in_order(alloc, &changes)
     }
 }
 
-/// The last change of each index, where those of one index stand together.
-fn last_of_each(
+/// A table of its own with the same changes. `AllocError` where memory is refused.
+fn copied(latest: &HashMap<u64, Option<Value>>) -> Result<HashMap<u64, Option<Value>>, AllocError>
+    ensures unique { IfOk result (IsUnique nat_eq) }
+    ensures entries { IfOk result (λ copy. copy.entries ≡ latest.now.entries) }
+{
+    // no two of the table's indices are equal
+    let _distinct = latest.len();
+    latest.clone()
+}
+
+/// The changes in a table, in no order. `AllocError` where memory is refused.
+fn listed(
     alloc: Global,
-    changes: &[(u64, Option<Value>)],
+    latest: &HashMap<u64, Option<Value>>,
 ) -> Result<Vec<(u64, Option<Value>)>, AllocError>
-    requires rising { IsSortedByKey (λ c. c.0) nat_cmp changes.now }
-    ensures sorted { IfOk result (λ last. IsTrue (is_sorted nat_cmp last.items)) }
-    ensures found { IfOk result (λ last. (q : ℕ) → find nat_cmp q last.items ≡ last_at q changes.now) }
-    ensures inside { IfOk result (λ last. (domain : D) → All (IsChangeOf domain) changes.now → All (IsChangeOf domain) last.items) }
+    ensures { IfOk result (λ all. all.items ≡ latest.now.entries) }
 {
-    let mut last = Vec::with_capacity(alloc, changes.len())?;
-    for change in changes {
-        add(&mut last, *change);
+    let mut all = Vec::with_capacity(alloc, latest.len())?;
+    for (index, change) in latest {
+        all.push((*index, *change))?;
     }
-    Ok(last)
+    Ok(all)
 }
 
-/// Adds a change to those so far, whose indices are none higher: at the last index it takes the place of the change before.
-fn add(last: &mut Vec<(u64, Option<Value>)>, change: (u64, Option<Value>))
-    requires sorted { IsTrue (is_sorted nat_cmp last.old.items) }
-    requires room { vec_len last.old < vec_capacity last.old }
-    requires rising { AllByRecursion (λ c. c.0 ≤ change.0) last.old.items }
-    ensures items { last.new.items ≡ put nat_cmp change.0 change.1 last.old.items }
-    ensures len { vec_len last.new ≤ vec_len last.old + 1 }
-    ensures capacity { vec_capacity last.old ≤ vec_capacity last.new }
+/// Whether a change was put where none was before.
+fn is_first(before: Result<Option<Option<Value>>, AllocFailed<(u64, Option<Value>)>>) -> bool
+    ensures { IfOk before (λ old. result ≡ is_none old) }
 {
-    let end = last.len();
-    if end == 0 {
-        last.push_reserved(change);
+    match before {
+        Ok(old) => old.is_none(),
+        Err(_) => false,
+    }
+}
+
+/// Adds a place to those listed, if there is one, where its index had no change. Takes no memory.
+fn list(places: &mut Vec<usize>, first: bool, place: Option<usize>)
+    requires { vec_len places.old < vec_capacity places.old }
+    ensures items { (before : Option (Option Stored)) → first ≡ is_none before → places.new.items ≡ placed_after before place places.old.items }
+    ensures len { vec_len places.new ≤ vec_len places.old + 1 }
+    ensures capacity { vec_capacity places.old ≤ vec_capacity places.new }
+{
+    if !first {
         return;
     }
-    if last[end - 1].0 == change.0 {
-        last[end - 1] = change;
-        return;
+    if let Some(at) = place {
+        places.push_reserved(at);
     }
-    last.push_reserved(change);
 }

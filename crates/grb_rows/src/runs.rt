@@ -72,6 +72,27 @@ impl FlatRows {
         )
     }
 
+    /// Where the entries begin that come after a cell. Those before `at` come before the cell, and the first from there on is not before
+    /// it; it is in the row `hint` or in the next one.
+    pub(crate) fn place_after(&self, number: u64, at: usize, hint: usize) -> usize
+        requires at { at ≤ length self.now.entries }
+        requires below { (q : ℕ) (d : ℕ × Stored) → q < at → (slice_index_or self.now.entries q d).0 < number }
+        requires above { (q : ℕ) (d : ℕ × Stored) → at ≤ q → q < length self.now.entries → number ≤ (slice_index_or self.now.entries q d).0 }
+        ensures after { at ≤ result }
+        ensures within { result ≤ length self.now.entries }
+        ensures passed { (q : ℕ) (d : ℕ × Stored) → at ≤ q → q < result → (q ≡ at) × ((slice_index_or self.now.entries q d).0 ≡ number) }
+        ensures above { (q : ℕ) (d : ℕ × Stored) → result ≤ q → q < length self.now.entries → number < (slice_index_or self.now.entries q d).0 }
+    {
+        if at == self.len() {
+            return at;
+        }
+        let mut row = hint;
+        if self.index_at(at, &mut row) == number {
+            return at + 1;
+        }
+        at
+    }
+
     /// The entries of others from a place to another, which come after all: each list is copied whole, and the starts are shifted. There
     /// is room for `spare` more then, and `AllocError` where there was none and memory is refused. It tries the row `hint` and the next one
     /// before it searches all, and leaves the last row of these entries in `hint`.

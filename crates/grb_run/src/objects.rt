@@ -1,5 +1,7 @@
 //! The objects that stand for the names of a script.
-ghost use Rattle.std.specs.Prelude.{◌≡◌, OnOk};
+ghost use Rattle.std.specs.Prelude.{◌≡◌, ℕ, List, OnOk};
+ghost use Rattle.std.specs.Option.{option_map};
+ghost use Rattle.grb_call.specs.declared.ids.Object.{Object};
 ghost use Rattle.grb_run.specs.Objects.{matrix_named, vector_named, new_object, made_sort, objects_after};
 
 use crate::reply_line::Answer;
@@ -8,28 +10,50 @@ use grb_script::{Sort, Statement};
 use std::alloc::AllocError;
 
 /// What a name stands for whose matrix was not made: no matrix has this number, so a call of it is refused.
-const NO_MATRIX: MatrixId = MatrixId(0xffff_ffff);
+const NO_MATRIX: MatrixId = MatrixId(u32::MAX);
 
 /// What a name stands for whose vector was not made: no vector has this number, so a call of it is refused.
-const NO_VECTOR: VectorId = VectorId(0xffff_ffff);
+const NO_VECTOR: VectorId = VectorId(u32::MAX);
 
-/// The matrix that a name stands for, where the names so far stand for these objects.
-pub(crate) fn matrix_named(objects: &[Object], name: usize) -> MatrixId
-    ensures { result ≡ matrix_named objects.now name }
-{
-    match objects.get(name) {
-        Some(Object::Matrix(a)) => *a,
-        _ => NO_MATRIX,
+/// The number of an object of one sort, for which a name can stand.
+pub(crate) trait Named: Copy {
+    /// What a name stands for, where the names so far stand for these objects.
+    ghost named: { List Object → ℕ → Self };
+
+    /// What a name stands for, where the names so far stand for these objects.
+    fn named(objects: &[Object], name: usize) -> Self
+        ensures { result ≡ named objects.now name };
+}
+
+impl Named for MatrixId {
+    ghost named = { matrix_named };
+
+    fn named(objects: &[Object], name: usize) -> MatrixId {
+        match objects.get(name) {
+            Some(Object::Matrix(a)) => *a,
+            _ => NO_MATRIX,
+        }
     }
 }
 
-/// The vector that a name stands for, where the names so far stand for these objects.
-pub(crate) fn vector_named(objects: &[Object], name: usize) -> VectorId
-    ensures { result ≡ vector_named objects.now name }
+impl Named for VectorId {
+    ghost named = { vector_named };
+
+    fn named(objects: &[Object], name: usize) -> VectorId {
+        match objects.get(name) {
+            Some(Object::Vector(v)) => *v,
+            _ => NO_VECTOR,
+        }
+    }
+}
+
+/// What the name of a mask stands for, where one is given.
+pub(crate) fn mask_named<I: Named>(objects: &[Object], mask: Option<usize>) -> Option<I>
+    ensures { result ≡ option_map (I.named objects.now) mask }
 {
-    match objects.get(name) {
-        Some(Object::Vector(v)) => *v,
-        _ => NO_VECTOR,
+    match mask {
+        Some(name) => Some(I::named(objects, name)),
+        None => None,
     }
 }
 

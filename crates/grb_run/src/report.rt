@@ -1,6 +1,8 @@
 //! What a program says on standard error, and the status that it ends with.
-ghost use Rattle.std.specs.Prelude.{◌≡◌, ◌⊎◌, ◌<◌, ◌≤◌, is_ok, if◌then◌else◌, map};
+ghost use Rattle.std.specs.Prelude.{◌≡◌, ◌⊎◌, ◌<◌, ◌≤◌, IfOk, is_ok, if◌then◌else◌, map};
+ghost use Rattle.std.specs.Fn.{FnOnceReturnsAt};
 ghost use Rattle.std.specs.IoError.{error_kind};
+ghost use Rattle.std.specs.declared.io.ErrorKind.{ErrorKind};
 ghost use Rattle.grb_order.specs.declared.limits.TheConstants.{MOST_ROOM};
 ghost use Rattle.clap.specs.Words.{kind_of};
 ghost use Rattle.grb_run.specs.CommandLine.{IsExit, status_of_kind, status_of_unread};
@@ -9,7 +11,8 @@ ghost use Rattle.grb_run.specs.declared.arguments.Options.{Options};
 use crate::arguments::Options;
 use crate::command_line::{options, status_of_run, status_of_words};
 use crate::fault::RunFault;
-use std::io;
+use std::rt::Env;
+use std::{env, io};
 
 /// Says on standard error, after the program's name, why a run ended early, and answers the exit status. Where standard error fails too,
 /// the status alone tells.
@@ -60,4 +63,35 @@ pub fn report_unread_words(rt: &impl Eprint, program: &str, error: &io::Error) -
     }
     let _ = eprintln!(rt; "error: a word of the command line is not UTF-8");
     2
+}
+
+/// Gives the words of the command line after the program's name to `run`, and answers the status that it answers.
+fn with_words<R, F>(rt: &R, run: F) -> io::Result<u8>
+where
+    R: Env + AllocGlobal,
+    F: FnOnce(&[&str]) -> u8,
+    requires { F.IsAlwaysCallable run }
+    ensures { IfOk result (λ status. (words : _) × FnOnceReturnsAt F.FnOnce run words status) }
+{
+    let arguments: Vec<String> = env::args(rt)?.skip(1).collect(rt.alloc())?;
+    let words: Vec<&str> = arguments
+        .iter()
+        .map(|word| word.as_str())
+        .collect(rt.alloc())?;
+    Ok(run(&words))
+}
+
+/// Gives the words of the command line after the program's name to `run`, and answers the exit status that it answers. Where they cannot be
+/// read, `run` is not called, and `report_unread_words` says so.
+pub fn run_arguments<R, F>(rt: &R, program: &str, run: F) -> u8
+where
+    R: Env + Eprint + AllocGlobal,
+    F: FnOnce(&[&str]) -> u8,
+    requires { F.IsAlwaysCallable run }
+    ensures exit { ((words : _) × FnOnceReturnsAt F.FnOnce run words result) ⊎ ((kind : ErrorKind) × (result ≡ status_of_unread kind)) }
+{
+    match with_words(rt, run) {
+        Ok(status) => status,
+        Err(error) => report_unread_words(rt, program, &error),
+    }
 }

@@ -4,7 +4,7 @@ ghost use Rattle.grb_context.specs.Answered.{Answered};
 ghost use Rattle.grb_context.specs.Known.{IsPassOf};
 ghost use Rattle.grb_run.specs.Calls.{call_of};
 ghost use Rattle.grb_run.specs.Objects.{made_sort, objects_after};
-ghost use Rattle.grb_run.specs.Sections.{IsLoadTold, IsStepTold, AreTold};
+ghost use Rattle.grb_run.specs.Sections.{IsStepTold, AreTold};
 
 use crate::calls::call_of;
 use crate::gate::Gate;
@@ -13,7 +13,6 @@ use crate::objects::{keep_object, made_sort};
 use crate::reply_line::Answer;
 use grb_call::Object;
 use grb_context::{Context, Pass};
-use grb_market::Loaded;
 use grb_script::Statement;
 use std::alloc::{AllocError, Global};
 
@@ -36,30 +35,9 @@ fn answer_to(
     Ok(answer)
 }
 
-/// Makes and fills the matrix of a load, and keeps it for the next name. Where it is not made, nothing is filled. `AllocError` where memory
-/// is refused to the list of the build, and then no call is made; or to the place of the name, and then the matrix is made and not filled.
-fn answer_to_load(
-    context: &Context,
-    pass: &mut Pass,
-    objects: &mut Vec<Object>,
-    loaded: Loaded,
-) -> Result<Answer, AllocError>
-    requires pass { IsPassOf context.now pass.old }
-    ensures pass { IsPassOf context.now pass.new }
-    ensures told { IfOk result (λ answer. IsLoadTold context.now (record { objects = objects.old.items; pass = pass.old }) loaded answer
-        (record { objects = objects.new.items; pass = pass.new })) }
-{
-    let name = objects.len();
-    let first = making(&loaded);
-    let second = filling(name, loaded)?;
-    let made = answer_to(context, pass, objects, first)?;
-    if made.is_err() {
-        return Ok(made);
-    }
-    answer_to(context, pass, objects, second)
-}
-
-/// Makes the calls of a step. `AllocError` where memory is refused to what is kept of it; calls that were made stay in the store.
+/// Makes the calls of a step: that of a statement; or those that make and fill the matrix of a load, which is kept for the next name. Where
+/// it is not made, nothing is filled. `AllocError` where memory is refused to the list of the build, and then no call is made; or to the
+/// place of the name, and then the call was made, and nothing is filled.
 fn answer_to_step(
     context: &Context,
     pass: &mut Pass,
@@ -73,7 +51,16 @@ fn answer_to_step(
 {
     match step {
         Step::Statement(statement) => answer_to(context, pass, objects, statement),
-        Step::Load(loaded) => answer_to_load(context, pass, objects, loaded),
+        Step::Load(loaded) => {
+            let name = objects.len();
+            let first = making(&loaded);
+            let second = filling(name, loaded)?;
+            let made = answer_to(context, pass, objects, first)?;
+            if made.is_err() {
+                return Ok(made);
+            }
+            answer_to(context, pass, objects, second)
+        }
     }
 }
 

@@ -19,7 +19,7 @@ use Rattle.grb_script.specs.Command.{asking, commands_on}
 use Rattle.grb_script.specs.Names.{Name}
 use Rattle.grb_script.specs.Scope.{section_on, scope_of}
 use Rattle.grb_script.specs.Version.{version_by, says_nothing}
-use Rattle.grb_script.specs.Script.{with_before, numbered_on, asked_at, asked_in_section, thread_part, finally_part, threads_in, finally_in, Sections, sections_in, sections_of}
+use Rattle.grb_script.specs.Script.{with_before, numbered_on, line_commands, section_commands, thread_part, finally_part, threads_in, finally_in, Sections, sections_in, sections_of}
 
 length-with_before : (before lines : List Line) → length (with_before before lines) ≡ length lines
 length-with_before before [] = omega arith
@@ -53,15 +53,15 @@ length-numbered_on number settled names line =
 -- how many commands the thread sections have
 abbrev pub count_of : List (List NumberedCommand) → ℕ
 count_of [] = 0
-count_of (asked ∷ more) = length asked + count_of more
+count_of (commands ∷ more) = length commands + count_of more
 
 -- and all sections
 abbrev pub count_in : Sections → ℕ
 count_in s = length s.main + count_of s.threads + length s.finally
 
-count_with : (own : Option Section) (p : List Line × Line) (more : List (List Line × Line)) (rest : List NumberedCommand) → count_in (sections_in more) ≤ length more → rest ≡ asked_in_section more
-    → length (flat_map asked_at (cond (not (is_some own)) (p ∷ take_while (λ q. not (is_some (section_on q.1))) more) [])) + count_of (thread_part own rest ++ threads_in more) + length (finally_part own rest ++ finally_in more) ≤ length more + 1
-count_with None p more rest few is = omega (arith, few, length-numbered_on (length p.0 + 1) (scope_of p.0).version (scope_of p.0).names p.1, length-append (asked_at p) (asked_in_section more))
+count_with : (own : Option Section) (p : List Line × Line) (more : List (List Line × Line)) (rest : List NumberedCommand) → count_in (sections_in more) ≤ length more → rest ≡ section_commands more
+    → length (flat_map line_commands (cond (not (is_some own)) (p ∷ take_while (λ q. not (is_some (section_on q.1))) more) [])) + count_of (thread_part own rest ++ threads_in more) + length (finally_part own rest ++ finally_in more) ≤ length more + 1
+count_with None p more rest few is = omega (arith, few, length-numbered_on (length p.0 + 1) (scope_of p.0).version (scope_of p.0).names p.1, length-append (line_commands p) (section_commands more))
 count_with (Some (section.Thread k)) p more rest few is = omega (arith, few, ap length is)
 count_with (Some section.Finally) p more rest few is = omega (arith, few, ap length is, length-append rest (finally_in more))
 
@@ -70,8 +70,8 @@ count-le-length [] = omega arith
 count-le-length (p ∷ more) =
     omega (
       arith,
-      ap (λ l. length (flat_map asked_at l)) (take_while-cons (λ q. not (is_some (section_on q.1))) p more),
-      count_with (section_on p.1) p more (asked_in_section more) (count-le-length more) refl,
+      ap (λ l. length (flat_map line_commands l)) (take_while-cons (λ q. not (is_some (section_on q.1))) p more),
+      count_with (section_on p.1) p more (section_commands more) (count-le-length more) refl,
     )
 
 pub length-sections_of : (text : List ℕ) → count_in (sections_of text) ≤ length text + 1

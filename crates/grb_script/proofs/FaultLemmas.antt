@@ -307,7 +307,7 @@ module _ (names : List Name) where
 
   -- whether what a list of names asks for is so
   abbrev are_sorts : List (Word × Sort) → Bool
-  are_sorts asked = list_all (λ p. is_of names p.1 p.0) asked
+  are_sorts commands = list_all (λ p. is_of names p.1 p.0) commands
 
   -- the same of a product
   abbrev product_sorts : Multiply → Option Sort → Option Sort → Option Sort → Option Word → Bool

@@ -20,7 +20,7 @@ use Rattle.grb_script.specs.Command.{commands_in, names_behind_words}
 use Rattle.grb_script.specs.Laws.{version_behind_lines, names_behind_lines, commands_of}
 use Rattle.grb_script.specs.Names.{Name}
 use Rattle.grb_script.specs.Scope.{Scope, at_start, begun, main_behind, with_names, with_version, section_on, scope_of}
-use Rattle.grb_script.specs.Script.{with_before, numbered_on, asked_at, asked_in_section, thread_part, finally_part, threads_in, finally_in, sections_of}
+use Rattle.grb_script.specs.Script.{with_before, numbered_on, line_commands, section_commands, thread_part, finally_part, threads_in, finally_in, sections_of}
 use Rattle.grb_script.specs.ScriptFault.{section_fault, wording_fault, line_fault, first_fault, script_fault}
 use Rattle.grb_script.specs.Version.{version_by, says_nothing}
 use Rattle.grb_script.proofs.ScriptLemmas.{scope_behind_lines-push, in_section}
@@ -109,8 +109,8 @@ record Follows (before : List Line) : Type 0 where
   unthreaded : Unthreaded (scope_of before).section (scope_of before).main (scope_of before).names
 
 -- the line asks for the same
-same-asked : (before : List Line) (line : Line) → Follows before → asked_at (before, line) ≡ numbered_on (length before + 1) (version_behind_lines None before) (names_behind_lines None [] before) line
-same-asked before line f = λ j. numbered_on (length before + 1) (f.settled j) (f.same j) line
+same-commands : (before : List Line) (line : Line) → Follows before → line_commands (before, line) ≡ numbered_on (length before + 1) (version_behind_lines None before) (names_behind_lines None [] before) line
+same-commands before line f = λ j. numbered_on (length before + 1) (f.settled j) (f.same j) line
 
 module _ (before : List Line) (line : Line) (f : Follows before) where
   abbrev scope : Scope
@@ -172,7 +172,7 @@ plain ps = flat_map (λ p. numbered_on (length p.0 + 1) (version_behind_lines No
 
 -- what is asked for in main or in the section where these lines begin, and in 'finally', is what is asked for line by line
 abbrev AreLines : List (List Line × Line) → Type 0
-AreLines ps = asked_in_section ps ++ finally_in ps ≡ plain ps
+AreLines ps = section_commands ps ++ finally_in ps ≡ plain ps
 
 -- where the lines behind this one are so, these are
 by-section : (before : List Line) (line : Line) (more : List Line) → Follows before → line_fault (scope_of before) line ≡ None
@@ -182,20 +182,20 @@ by-section : (before : List Line) (line : Line) (more : List Line) → Follows b
     → AreLines (with_before before (line ∷ more))
 by-section before line more f faultless rest no_threads None is =
     let later = with_before (before ++ line ∷ []) more in
-    let behind = rest (follows-line before line f is) (ap (λ s. thread_part s (asked_in_section later) ++ threads_in later) (sym is) ∙ no_threads) in
-    (λ j. (in_section (before, line) later ∙ ap (λ s. flat_map asked_at (cond (not (is_some s)) ((before, line) ∷ take_while (λ q. not (is_some (section_on q.1))) later) [])) is) j
-    ++ (finally_part (is j) (asked_in_section later) ++ finally_in later))
-    ∙ append_assoc (asked_at (before, line)) (asked_in_section later) (finally_in later)
-    ∙ (λ j. same-asked before line f j ++ behind j)
+    let behind = rest (follows-line before line f is) (ap (λ s. thread_part s (section_commands later) ++ threads_in later) (sym is) ∙ no_threads) in
+    (λ j. (in_section (before, line) later ∙ ap (λ s. flat_map line_commands (cond (not (is_some s)) ((before, line) ∷ take_while (λ q. not (is_some (section_on q.1))) later) [])) is) j
+    ++ (finally_part (is j) (section_commands later) ++ finally_in later))
+    ∙ append_assoc (line_commands (before, line)) (section_commands later) (finally_in later)
+    ∙ (λ j. same-commands before line f j ++ behind j)
 by-section before line more f faultless rest no_threads (Some (section.Thread k)) is =
     let later = with_before (before ++ line ∷ []) more in
-    let some : asked_in_section later ∷ threads_in later ≡ [] = ap (λ s. thread_part s (asked_in_section later) ++ threads_in later) (sym is) ∙ no_threads in
+    let some : section_commands later ∷ threads_in later ≡ [] = ap (λ s. thread_part s (section_commands later) ++ threads_in later) (sym is) ∙ no_threads in
     cc
 by-section before line more f faultless rest no_threads (Some section.Finally) is =
     let later = with_before (before ++ line ∷ []) more in
-    let behind = rest (follows-finally before line f is faultless) (ap (λ s. thread_part s (asked_in_section later) ++ threads_in later) (sym is) ∙ no_threads) in
-    (λ j. (in_section (before, line) later ∙ ap (λ s. flat_map asked_at (cond (not (is_some s)) ((before, line) ∷ take_while (λ q. not (is_some (section_on q.1))) later) [])) is) j
-    ++ (finally_part (is j) (asked_in_section later) ++ finally_in later))
+    let behind = rest (follows-finally before line f is faultless) (ap (λ s. thread_part s (section_commands later) ++ threads_in later) (sym is) ∙ no_threads) in
+    (λ j. (in_section (before, line) later ∙ ap (λ s. flat_map line_commands (cond (not (is_some s)) ((before, line) ∷ take_while (λ q. not (is_some (section_on q.1))) later) [])) is) j
+    ++ (finally_part (is j) (section_commands later) ++ finally_in later))
     ∙ (λ j. sym (asks-nothing before line f is faultless) j ++ behind j)
 
 from-here : (before lines : List Line) (number : ℕ) → Follows before → first_fault number (with_before before lines) ≡ None → threads_in (with_before before lines) ≡ []

@@ -16,11 +16,11 @@ use Rattle.grb_words.specs.Section.{section_of}
 use Rattle.grb_words.specs.Version.{is_version_two}
 use Rattle.grb_words.specs.Word.{numeral_value}
 use Rattle.grb_script.specs.declared.command.Command.{Command}
-use Rattle.grb_script.specs.declared.line.LineMeaning.TheVariants as said
+use Rattle.grb_script.specs.declared.line.LineMeaning.TheVariants as meaning
 use Rattle.grb_script.specs.declared.names.Sort.{Sort}
 use Rattle.grb_script.specs.declared.names.Sort.TheVariants as sort
 use Rattle.grb_script.specs.declared.scope.Scope.{Scope as Kept}
-use Rattle.grb_script.specs.Command.{asking, names_asked, names_behind_load, names_behind_words, IsAsked}
+use Rattle.grb_script.specs.Command.{asking, names_made, names_behind_load, names_behind_words, IsAsked}
 use Rattle.grb_script.specs.Names.{Name, sort_of}
 use Rattle.grb_script.specs.Reading.{names_behind}
 use Rattle.grb_script.specs.LineMeaning.{IsRead}
@@ -105,12 +105,12 @@ names_behind_load-extends : (names : List Name) (load : Option (Word × Word)) �
 names_behind_load-extends names None = same names
 names_behind_load-extends names (Some load) = ((load.0, sort.Matrix) ∷ [], refl)
 
-one_of : (names : List Name) (b : Bool) (loaded said : List Name) → Extends names loaded → Extends names said → Extends names (if b then loaded else said)
-one_of names true loaded said l s = l
-one_of names false loaded said l s = s
+one_of : (names : List Name) (b : Bool) (loaded meaning : List Name) → Extends names loaded → Extends names meaning → Extends names (if b then loaded else meaning)
+one_of names true loaded meaning l s = l
+one_of names false loaded meaning l s = s
 
-names_asked-extends : (version : Version) (names : List Name) (words : List Word) → Extends names (names_asked version names words)
-names_asked-extends version names words = one_of names (is_load words) _ _ (names_behind_load-extends names (load_of words)) (names_behind-extends names (form_of version words))
+names_made-extends : (version : Version) (names : List Name) (words : List Word) → Extends names (names_made version names words)
+names_made-extends version names words = one_of names (is_load words) _ _ (names_behind_load-extends names (load_of words)) (names_behind-extends names (form_of version words))
 
 main_behind-same : (here : Option Section) (count : ℕ) (names : List Name) → main_kept here count names ≡ main_behind here (main_kept here count names) names
 main_behind-same None count names = refl
@@ -144,27 +144,27 @@ module _ (scope : Kept) (words : List Word) (version : Version) (is : version �
     behind =
         versioned-here
         ∙ (λ j. record { version = here.version; section = scope.section; main = main_behind-same scope.section scope.main scope.names j; names = scope.names })
-        ∙ (λ j. with_names here (if sym h j then scope.names else names_asked (version_by scope.version words) scope.names words))
+        ∙ (λ j. with_names here (if sym h j then scope.names else names_made (version_by scope.version words) scope.names words))
         ∙ (λ j. option_map_or (begun here) (sym (section_of-silent scope.version words h) j) (with_names here (names_behind_words scope.version scope.names words)));
   }
 
   -- words that say something and begin no section
   module _ (stays : says_nothing scope.version words ≡ false) where
     module _ (begins : is_section words ≡ false) where
-      pub wording_fault-asked : wording_fault (seen scope) words ≡ result_err (asking version scope.names words)
-      wording_fault-asked =
+      pub wording_fault-read : wording_fault (seen scope) words ≡ result_err (asking version scope.names words)
+      wording_fault-read =
           (λ j. if stays j then None else (if begins j then section_fault (version_by scope.version words) scope.section (section_of words) else result_err (asking (sym is j) scope.names words)))
 
-      module _ (command : Command) (names : List Name) (kept : IsKept scope) (asked : IsAsked version scope.names words command names) where
+      module _ (command : Command) (names : List Name) (kept : IsKept scope) (commands : IsAsked version scope.names words command names) where
         -- as the scope is kept when the names are made too
         abbrev behind_command : Kept
         behind_command = record { version = Some version; section = scope.section; main = scope.main; names = names }
 
         extends : Extends scope.names names
-        extends = let e = names_asked-extends version scope.names words in (e.0, asked.behind ∙ e.1)
+        extends = let e = names_made-extends version scope.names words in (e.0, commands.behind ∙ e.1)
 
-        pub asked-IsKept : IsKept behind_command
-        asked-IsKept = let e = extends in omega (arith, kept, ap length e.1, length-append scope.names e.0)
+        pub commands-IsKept : IsKept behind_command
+        commands-IsKept = let e = extends in omega (arith, kept, ap length e.1, length-append scope.names e.0)
 
         behind_command-with_names : seen behind_command ≡ with_names here names
         behind_command-with_names =
@@ -172,16 +172,16 @@ module _ (scope : Kept) (words : List Word) (version : Version) (is : version �
 
         behind-words : names ≡ names_behind_words scope.version scope.names words
         behind-words =
-            asked.behind ∙ ap (λ v. names_asked v scope.names words) is
-            ∙ ap (λ b. if b then scope.names else names_asked (version_by scope.version words) scope.names words) (sym stays)
+            commands.behind ∙ ap (λ v. names_made v scope.names words) is
+            ∙ ap (λ b. if b then scope.names else names_made (version_by scope.version words) scope.names words) (sym stays)
 
-        pub asked-IsRead : IsRead (seen scope) words (Some (said.Command command)) (seen behind_command)
-        asked-IsRead = record {
-          faultless = wording_fault-asked ∙ ap result_err asked.says;
+        pub commands-IsRead : IsRead (seen scope) words (Some (meaning.Command command)) (seen behind_command)
+        commands-IsRead = record {
+          faultless = wording_fault-read ∙ ap result_err commands.says;
           says = (
             section_of-other words begins,
             ap (λ b. if b then [] else option_to_list (result_ok (asking (version_by scope.version words) scope.names words))) stays
-                ∙ ap (λ v. option_to_list (result_ok (asking v scope.names words))) (sym is) ∙ ap (λ r. option_to_list (result_ok r)) asked.says,
+                ∙ ap (λ v. option_to_list (result_ok (asking v scope.names words))) (sym is) ∙ ap (λ r. option_to_list (result_ok r)) commands.says,
           );
           behind =
               behind_command-with_names ∙ ap (with_names here) behind-words

@@ -41,8 +41,8 @@ asking version names words =
     if is_load words then asks_load (loading names (load_of words)) else asks_statement (reading names (form_of version words))
 
 -- the names that stand behind these words
-abbrev pub names_asked : Version → List Name → List Word → List Name
-names_asked version names words = if is_load words then names_behind_load names (load_of words) else names_behind names (form_of version words)
+abbrev pub names_made : Version → List Name → List Word → List Name
+names_made version names words = if is_load words then names_behind_load names (load_of words) else names_behind names (form_of version words)
 
 -- what the words of a line ask for, if they ask for something, by the version that the lines before it settled
 abbrev pub commands_in : Option Version → List Name → List Word → List Command
@@ -53,7 +53,7 @@ commands_on settled names line = commands_in settled names (words_of line.bytes)
 
 -- the names that stand behind the words of a line
 abbrev pub names_behind_words : Option Version → List Name → List Word → List Name
-names_behind_words settled names words = if says_nothing settled words then names else names_asked (version_by settled words) names words
+names_behind_words settled names words = if says_nothing settled words then names else names_made (version_by settled words) names words
 
 -- this is the path that a load asks for, and these are the names behind it
 pub record IsLoading (names : List Name) (load : Option (Word × Word)) (path : Word) (after : List Name) : Type 0 where
@@ -68,7 +68,7 @@ IsWhyUnloaded names load unread.OutOfMemory = Unit {0}
 -- this is what words ask for, and these are the names behind them
 pub record IsAsked (version : Version) (names : List Name) (words : List Word) (c : Command) (after : List Name) : Type 0 where
   pub says : asking version names words ≡ Ok c
-  pub behind : after ≡ names_asked version names words
+  pub behind : after ≡ names_made version names words
 
 -- why words were not read: this is wrong with them, or memory was refused
 abbrev pub IsWhyUnasked : Version → List Name → List Word → Unread → Type 0

@@ -119,16 +119,16 @@ abbrev pub mask_sorts : Sort → Option Word → List (Word × Sort)
 mask_sorts s mask = option_to_list (option_map (λ name. (name, s)) mask)
 
 -- the names whose sort the form says, with that sort
-abbrev pub asked_sorts : Form → List (Word × Sort)
-asked_sorts (RemoveForm name p) = (name, sort_by p) ∷ []
-asked_sorts (GetForm name p) = (name, sort_by p) ∷ []
-asked_sorts (ResizeForm name p) = (name, sort_by p) ∷ []
-asked_sorts (SetForm name p x) = (name, sort_by p) ∷ []
-asked_sorts (ProductForm multiply.Mxv w a u semiring o) = (w, sort.Vector) ∷ (a, sort.Matrix) ∷ (u, sort.Vector) ∷ mask_sorts sort.Vector o.mask
-asked_sorts (ProductForm multiply.Vxm w u a semiring o) = (w, sort.Vector) ∷ (u, sort.Vector) ∷ (a, sort.Matrix) ∷ mask_sorts sort.Vector o.mask
-asked_sorts (ProductForm multiply.Mxm c a b semiring o) = (c, sort.Matrix) ∷ (a, sort.Matrix) ∷ (b, sort.Matrix) ∷ mask_sorts sort.Matrix o.mask
-asked_sorts (ReduceForm w a monoid o) = (w, sort.Vector) ∷ (a, sort.Matrix) ∷ mask_sorts sort.Vector o.mask
-asked_sorts _ = []
+abbrev pub read_sorts : Form → List (Word × Sort)
+read_sorts (RemoveForm name p) = (name, sort_by p) ∷ []
+read_sorts (GetForm name p) = (name, sort_by p) ∷ []
+read_sorts (ResizeForm name p) = (name, sort_by p) ∷ []
+read_sorts (SetForm name p x) = (name, sort_by p) ∷ []
+read_sorts (ProductForm multiply.Mxv w a u semiring o) = (w, sort.Vector) ∷ (a, sort.Matrix) ∷ (u, sort.Vector) ∷ mask_sorts sort.Vector o.mask
+read_sorts (ProductForm multiply.Vxm w u a semiring o) = (w, sort.Vector) ∷ (u, sort.Vector) ∷ (a, sort.Matrix) ∷ mask_sorts sort.Vector o.mask
+read_sorts (ProductForm multiply.Mxm c a b semiring o) = (c, sort.Matrix) ∷ (a, sort.Matrix) ∷ (b, sort.Matrix) ∷ mask_sorts sort.Matrix o.mask
+read_sorts (ReduceForm w a monoid o) = (w, sort.Vector) ∷ (a, sort.Matrix) ∷ mask_sorts sort.Vector o.mask
+read_sorts _ = []
 
 -- the values of a build are whole groups for an object of this sort
 abbrev pub are_groups : List Value → Sort → Bool
@@ -142,7 +142,7 @@ form_has_sorts names (BuildForm name dup values) = option_map_or (are_groups val
 form_has_sorts names (EwiseForm w output left right op o) =
     list_all (is_of names sort.Matrix) (output ∷ left ∷ right ∷ option_to_list o.mask)
     || (list_all (is_of names sort.Vector) (output ∷ left ∷ right ∷ option_to_list o.mask) && not o.descriptor.tran)
-form_has_sorts names form = list_all (λ p. is_of names p.1 p.0) (asked_sorts form)
+form_has_sorts names form = list_all (λ p. is_of names p.1 p.0) (read_sorts form)
 
 abbrev pub has_sorts : List Name → Sense → Bool
 has_sorts names (StatementWords form) = option_map_or (form_has_sorts names) form true

@@ -22,33 +22,33 @@ abbrev pub numbered_on : ℕ → Option Version → List Name → Line → List 
 numbered_on number settled names line = map (λ c. record { line = number; command = c }) (commands_on settled names line)
 
 -- what a line asks for behind the lines before it, which count from 1
-abbrev pub asked_at : List Line × Line → List NumberedCommand
-asked_at p = numbered_on (length p.0 + 1) (scope_of p.0).version (scope_of p.0).names p.1
+abbrev pub line_commands : List Line × Line → List NumberedCommand
+line_commands p = numbered_on (length p.0 + 1) (scope_of p.0).version (scope_of p.0).names p.1
 
 -- what lines ask for, up to the first that begins a section
-abbrev pub asked_in_section : List (List Line × Line) → List NumberedCommand
-asked_in_section lines = flat_map asked_at (take_while (λ p. not (is_some (section_on p.1))) lines)
+abbrev pub section_commands : List (List Line × Line) → List NumberedCommand
+section_commands lines = flat_map line_commands (take_while (λ p. not (is_some (section_on p.1))) lines)
 
 -- this, if it is asked for in a thread section, or in 'finally'
 abbrev pub thread_part : Option Section → List NumberedCommand → List (List NumberedCommand)
-thread_part (Some (section.Thread k)) asked = asked ∷ []
-thread_part (Some section.Finally) asked = []
-thread_part None asked = []
+thread_part (Some (section.Thread k)) commands = commands ∷ []
+thread_part (Some section.Finally) commands = []
+thread_part None commands = []
 
 abbrev pub finally_part : Option Section → List NumberedCommand → List NumberedCommand
-finally_part (Some (section.Thread k)) asked = []
-finally_part (Some section.Finally) asked = asked
-finally_part None asked = []
+finally_part (Some (section.Thread k)) commands = []
+finally_part (Some section.Finally) commands = commands
+finally_part None commands = []
 
 -- what each thread section of these lines asks for, in their order
 abbrev pub threads_in : List (List Line × Line) → List (List NumberedCommand)
 threads_in [] = []
-threads_in (p ∷ more) = thread_part (section_on p.1) (asked_in_section more) ++ threads_in more
+threads_in (p ∷ more) = thread_part (section_on p.1) (section_commands more) ++ threads_in more
 
 -- what stands behind 'finally' in these lines asks for
 abbrev pub finally_in : List (List Line × Line) → List NumberedCommand
 finally_in [] = []
-finally_in (p ∷ more) = finally_part (section_on p.1) (asked_in_section more) ++ finally_in more
+finally_in (p ∷ more) = finally_part (section_on p.1) (section_commands more) ++ finally_in more
 
 -- what a script asks for, by its sections
 pub record Sections : Type 0 where
@@ -62,7 +62,7 @@ nothing = record { main = []; threads = []; finally = [] }
 
 -- what these lines ask for, the first of which stands in main
 abbrev pub sections_in : List (List Line × Line) → Sections
-sections_in lines = record { main = asked_in_section lines; threads = threads_in lines; finally = finally_in lines }
+sections_in lines = record { main = section_commands lines; threads = threads_in lines; finally = finally_in lines }
 
 -- what a text asks for
 abbrev pub sections_of : List ℕ → Sections
@@ -70,15 +70,15 @@ sections_of text = sections_in (with_before [] (lines_of text))
 
 -- a script as it is read, by its lists
 abbrev pub listed : Script → Sections
-listed script = record { main = script.main.items; threads = map (λ asked. asked.items) script.threads.items; finally = script.finally.items }
+listed script = record { main = script.main.items; threads = map (λ commands. commands.items) script.threads.items; finally = script.finally.items }
 
 -- what one section asks for, or main, as a part of a script
 abbrev pub main_part : Option Section → List NumberedCommand → List NumberedCommand
-main_part None asked = asked
-main_part (Some section) asked = []
+main_part None commands = commands
+main_part (Some section) commands = []
 
 abbrev pub part_of : Option Section → List NumberedCommand → Sections
-part_of section asked = record { main = main_part section asked; threads = thread_part section asked; finally = finally_part section asked }
+part_of section commands = record { main = main_part section commands; threads = thread_part section commands; finally = finally_part section commands }
 
 -- what two parts ask for, the second behind the first
 abbrev pub joined : Sections → Sections → Sections

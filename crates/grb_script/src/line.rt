@@ -66,7 +66,7 @@ fn read_words(
     scope: &mut Scope,
 ) -> Result<Option<LineMeaning>, Unread>
     requires kept { IsKept scope.old }
-    ensures read { IfOk result (λ said. IsRead (seen scope.old) (map (λ word. word.now) words.now) said (seen scope.new)) }
+    ensures read { IfOk result (λ meaning. IsRead (seen scope.old) (map (λ word. word.now) words.now) meaning (seen scope.new)) }
     ensures kept { OnOk result (IsKept scope.new) }
     ensures fault { IfErr result (IsWhyNotRead (seen scope.old) (map (λ word. word.now) words.now)) }
 {
@@ -94,7 +94,7 @@ pub(crate) fn read_line(
 ) -> Result<Option<LineMeaning>, ReadFault>
     requires kept { IsKept scope.old }
     ensures faultless { OnOk result (line_fault (seen scope.old) (ended bytes.now) ≡ None) }
-    ensures read { IfOk result (λ said. IsRead (seen scope.old) (words_of bytes.now) said (seen scope.new)) }
+    ensures read { IfOk result (λ meaning. IsRead (seen scope.old) (words_of bytes.now) meaning (seen scope.new)) }
     ensures kept { OnOk result (IsKept scope.new) }
     ensures fault { IfErr result (IsWhyLineUnread number (seen scope.old) (ended bytes.now)) }
 {
@@ -103,7 +103,7 @@ pub(crate) fn read_line(
     }
     let words = words(alloc, bytes)?;
     match read_words(alloc, &words, scope) {
-        Ok(said) => Ok(said),
+        Ok(meaning) => Ok(meaning),
         Err(unread) => Err(fault_at(number, unread)),
     }
 }

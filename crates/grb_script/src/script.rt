@@ -29,43 +29,43 @@ pub struct Script {
     pub finally: Vec<NumberedCommand>,
 }
 
-/// Adds the commands of a section to a script, and empties their list. `AllocError` where memory is refused; what the script asks for then,
+/// Adds the commands of a section to a script, and empties their list. `AllocError` where memory is refused; what the script has then,
 /// no clause says.
 fn end_section(
     alloc: Global,
     script: &mut Script,
     section: Option<Section>,
-    asked: &mut Vec<NumberedCommand>,
+    commands: &mut Vec<NumberedCommand>,
 ) -> Result<(), AllocError>
-    ensures added { OnOk result (listed script.new ≡ joined (listed script.old) (part_of section asked.old.items)) }
-    ensures emptied { OnOk result (asked.new.items ≡ []) }
+    ensures added { OnOk result (listed script.new ≡ joined (listed script.old) (part_of section commands.old.items)) }
+    ensures emptied { OnOk result (commands.new.items ≡ []) }
 {
     match section {
-        None => script.main.append(asked),
-        Some(Section::Finally) => script.finally.append(asked),
+        None => script.main.append(commands),
+        Some(Section::Finally) => script.finally.append(commands),
         Some(Section::Thread(_)) => {
-            let thread = mem::replace(asked, Vec::new(alloc));
+            let thread = mem::replace(commands, Vec::new(alloc));
             script.threads.push(thread).map_err(AllocError::from)
         }
     }
 }
 
 /// Takes in the line of this number, which stands in this section: its command joins those of the section so far. `AllocError` where memory
-/// is refused; what the script asks for then, no clause says.
+/// is refused; what the script has then, no clause says.
 fn take(
     alloc: Global,
     script: &mut Script,
     section: Option<Section>,
-    asked: &mut Vec<NumberedCommand>,
+    commands: &mut Vec<NumberedCommand>,
     number: u64,
-    said: Option<LineMeaning>,
+    meaning: Option<LineMeaning>,
 ) -> Result<(), AllocError>
-    ensures { OnOk result (IsTaken number section said (listed script.old) asked.old.items (listed script.new) asked.new.items) }
+    ensures { OnOk result (IsTaken number section meaning (listed script.old) commands.old.items (listed script.new) commands.new.items) }
 {
-    match said {
+    match meaning {
         None => Ok(()),
-        Some(LineMeaning::Section(_)) => end_section(alloc, script, section, asked),
-        Some(LineMeaning::Command(command)) => asked
+        Some(LineMeaning::Section(_)) => end_section(alloc, script, section, commands),
+        Some(LineMeaning::Command(command)) => commands
             .push(NumberedCommand {
                 line: number,
                 command,
@@ -78,20 +78,20 @@ fn take(
 fn take_line(
     alloc: Global,
     script: &mut Script,
-    asked: &mut Vec<NumberedCommand>,
+    commands: &mut Vec<NumberedCommand>,
     scope: &mut Scope,
     number: u64,
     line: &[u8],
 ) -> Result<(), ReadFault>
     requires kept { IsKept scope.old }
     ensures faultless { OnOk result (line_fault (seen scope.old) (ended line.now) ≡ None) }
-    ensures taken { OnOk result (IsLineTaken number (seen scope.old) (words_of line.now) (listed script.old) asked.old.items (seen scope.new) (listed script.new) asked.new.items) }
+    ensures taken { OnOk result (IsLineTaken number (seen scope.old) (words_of line.now) (listed script.old) commands.old.items (seen scope.new) (listed script.new) commands.new.items) }
     ensures kept { OnOk result (IsKept scope.new) }
     ensures fault { IfErr result (IsWhyLineUnread number (seen scope.old) (ended line.now)) }
 {
     let section = scope.section;
-    let said = read_line(alloc, number, line, scope)?;
-    Ok(take(alloc, script, section, asked, number, said)?)
+    let meaning = read_line(alloc, number, line, scope)?;
+    Ok(take(alloc, script, section, commands, number, meaning)?)
 }
 
 /// Reads the lines of a text into a script without commands, by a list of commands that is empty. `OutOfMemory` where memory is refused;
@@ -100,13 +100,13 @@ fn read_lines(
     alloc: Global,
     text: &[u8],
     script: &mut Script,
-    asked: &mut Vec<NumberedCommand>,
+    commands: &mut Vec<NumberedCommand>,
     scope: &mut Scope,
 ) -> Result<(), ReadFault>
     requires start { seen scope.old ≡ at_start }
     requires kept { IsKept scope.old }
     requires none { listed script.old ≡ nothing }
-    requires none_asked { asked.old.items ≡ [] }
+    requires no_commands { commands.old.items ≡ [] }
     ensures read { OnOk result ((script_fault text.now ≡ None) × (listed script.new ≡ sections_of text.now)) }
     ensures few { OnOk result (length script.new.threads.items ≤ most_threads versions.Two) }
     ensures fault { IfErr result (IsWhyTextUnread text.now) }
@@ -117,11 +117,11 @@ fn read_lines(
         let Some((line, after)) = next_line(rest) else {
             return Err(fault(number, FaultKind::UnendedLine));
         };
-        take_line(alloc, script, asked, scope, number, line)?;
+        take_line(alloc, script, commands, scope, number, line)?;
         rest = after;
         number += 1;
     }
-    Ok(end_section(alloc, script, scope.section, asked)?)
+    Ok(end_section(alloc, script, scope.section, commands)?)
 }
 
 /// What a script asks for, section by section and line by line, or its first fault. Takes time linear in the text. `OutOfMemory` where
@@ -141,7 +141,7 @@ pub fn read_script(alloc: Global, text: &[u8]) -> Result<Script, ReadFault>
         threads: Vec::new(alloc),
         finally: Vec::new(alloc),
     };
-    let mut asked = Vec::new(alloc);
-    read_lines(alloc, text, &mut script, &mut asked, &mut scope)?;
+    let mut commands = Vec::new(alloc);
+    read_lines(alloc, text, &mut script, &mut commands, &mut scope)?;
     Ok(script)
 }

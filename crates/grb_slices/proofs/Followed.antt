@@ -19,7 +19,7 @@ use Rattle.grb_slices.specs.Content.{MatrixContent, VectorContent, content_at, t
 use Rattle.grb_slices.specs.Slice.{Wants, Make, is_among, wants_before, with_content}
 use Rattle.grb_slices.specs.Steps.{AgreeOn}
 use Rattle.grb_slices.specs.Followed.{Follows, part_after}
-use Rattle.grb_slices.specs.Wanted.{is_chosen, wants_behind}
+use Rattle.grb_slices.specs.Wanted.{is_chosen, wants_before_entry}
 use Rattle.grb_slices.proofs.Effects.{own, other, effective, frame}
 use Rattle.grb_slices.proofs.Refusals.{same_refusal}
 use Rattle.grb_slices.proofs.Wants.{is_same_object-self, is_same_object-true, read_before, other_before}
@@ -261,10 +261,10 @@ module _ (w : Wants) (s t : Store) (c : Call) where
   by_want o target true wanted follows = follows_chosen w s t c o target follows
   by_want o target false unwanted follows = unmade o (output_of c) target unwanted refl follows
 
-  by_target : (u : Option Object) → effective_target (shapes_of s) c ≡ u → Follows (wants_behind w u c) s t → Follows w (after s c) (part_after (is_chosen w u) u c t)
+  by_target : (u : Option Object) → effective_target (shapes_of s) c ≡ u → Follows (wants_before_entry w u c) s t → Follows w (after s c) (part_after (is_chosen w u) u c t)
   by_target None target follows = follows_none w s t c target follows
   by_target (Some o) target follows = by_want o target (w o) refl follows
 
-pub follows_next : (w : Wants) (s t : Store) (c : Call) → Follows (wants_behind w (effective_target (shapes_of s) c) c) s t →
+pub follows_next : (w : Wants) (s t : Store) (c : Call) → Follows (wants_before_entry w (effective_target (shapes_of s) c) c) s t →
     Follows w (after s c) (part_after (is_chosen w (effective_target (shapes_of s) c)) (effective_target (shapes_of s) c) c t)
 follows_next w s t c follows = by_target w s t c (effective_target (shapes_of s) c) refl follows

@@ -13,10 +13,10 @@ use Rattle.grb_call.proofs.ShapesAfter.{shapes_of-after}
 use Rattle.grb_slices.specs.Content.{Contents, content_at, effective_target, outcome}
 use Rattle.grb_slices.specs.Slice.{Step, Entry, Make, Wants, entries, evaluated, sliced, wants_before, with_content}
 use Rattle.grb_slices.specs.Steps.{steps_of}
-use Rattle.grb_slices.specs.Wanted.{is_chosen, wants_behind}
+use Rattle.grb_slices.specs.Wanted.{is_chosen, wants_before_entry}
 use Rattle.grb_slices.specs.Followed.{Follows, GoesOn, HasGoneOver, part_after, targets_of}
 use Rattle.grb_slices.proofs.Followed.{follows_next, made_there, placed_same, same_wants, taken_there}
-use Rattle.grb_slices.proofs.Walked.{sliced_behind}
+use Rattle.grb_slices.proofs.Walked.{sliced_before}
 
 first_of : {X : Type 0} (x y : X) (xs ys : List X) → ◌≡◌ {A = List X} (x ∷ xs) (y ∷ ys) → x ≡ y
 first_of x y xs ys e = cc
@@ -30,13 +30,13 @@ goes_next w s part c cs t ts b bs goes =
     let target : t ≡ effective_target (shapes_of s) c = first_of t _ ts _ goes.targets_are in
     let v : Wants = (sliced w (entries ts cs)).wanted in
     let chose : b ≡ is_chosen v t = first_of b _ bs _ goes.chosen_are in
-    let before : Follows (wants_behind v t c) s part = same_wants (sliced w (Entry t c ∷ entries ts cs)).wanted (wants_behind v t c) s part (sliced_behind w t c (entries ts cs)) goes.follows in
+    let before : Follows (wants_before_entry v t c) s part = same_wants (sliced w (Entry t c ∷ entries ts cs)).wanted (wants_before_entry v t c) s part (sliced_before w t c (entries ts cs)) goes.follows in
     record {
       targets_are = rest_of t _ ts _ goes.targets_are ∙ ap (λ (u : ObjectShapes). targets_of u cs) (sym (shapes_of-after s c));
       chosen_are = rest_of b _ bs _ goes.chosen_are;
       follows = subst (λ (d : Bool). Follows v (after s c) (part_after d t c part)) (sym chose)
           (subst (λ (u : Option Object). Follows v (after s c) (part_after (is_chosen v u) u c part)) (sym target)
-          (follows_next v s part c (subst (λ (u : Option Object). Follows (wants_behind v u c) s part) target before)));
+          (follows_next v s part c (subst (λ (u : Option Object). Follows (wants_before_entry v u c) s part) target before)));
     }
 
 pub drop_at : {X : Type 0} (xs : List X) (k : ℕ) (d : X) → k < length xs → drop k xs ≡ get_or xs k d ∷ drop (suc k) xs
@@ -91,9 +91,9 @@ goes_end w s part cs ts bs n e same goes =
     (subst (λ (x : List Step). Follows (sliced w x).wanted (after_all s (take n cs)) part)
     (ap (λ (x : List Call). entries (drop n ts) x) (drop_all cs n e) ∙ ap (λ (x : List (Option Object)). entries x []) (drop_all ts n (e ∙ sym same))) goes.follows)
 
--- what the part holds goes over, by the tasks to come, into what is to be held at the end
+-- what the part holds goes over, by the elements of the slice to come, into what is to be held at the end
 abbrev pub HasCome : Wants → Contents → List (Option Object) → List Call → Store → Type 0
-HasCome w end ts cs part = evaluated (content_at part) (sliced w (entries ts cs)).tasks ≡ end
+HasCome w end ts cs part = evaluated (content_at part) (sliced w (entries ts cs)).elements ≡ end
 
 -- an entry without a target, one whose target is not wanted, and one that is made
 module _ (w : Wants) (end : Contents) (s part : Store) (c : Call) (xs : List Step) where
@@ -105,20 +105,20 @@ module _ (w : Wants) (end : Contents) (s part : Store) (c : Call) (xs : List Ste
   unmade o (Some q) = refl
 
   made : (o : Object) → effective_target (shapes_of s) c ≡ Some o → Follows (wants_before v o (Make c)) s part →
-      evaluated (with_content (content_at part) o (outcome (content_at part) c)) (sliced w xs).tasks ≡ end → evaluated (content_at (after part c)) (sliced w xs).tasks ≡ end
+      evaluated (with_content (content_at part) o (outcome (content_at part) c)) (sliced w xs).elements ≡ end → evaluated (content_at (after part c)) (sliced w xs).elements ≡ end
   made o target follows come =
       let there = taken_there v s part c o target follows in
-      ap (λ (r : Contents). evaluated r (sliced w xs).tasks) (λ i p. made_there part c o there.0 there.1 p i) ∙ come
+      ap (λ (r : Contents). evaluated r (sliced w xs).elements) (λ i p. made_there part c o there.0 there.1 p i) ∙ come
 
   by_want : (o : Object) → effective_target (shapes_of s) c ≡ Some o → (b : Bool) → v o ≡ b →
       Follows (if b then wants_before v o (Make c) else v) s part →
-      evaluated (content_at part) (if b then (record { wanted = wants_before v o (Make c); tasks = (o, Make c) ∷ (sliced w xs).tasks }) else sliced w xs).tasks ≡ end →
-      evaluated (content_at (part_after b (Some o) c part)) (sliced w xs).tasks ≡ end
+      evaluated (content_at part) (if b then (record { wanted = wants_before v o (Make c); elements = (o, Make c) ∷ (sliced w xs).elements }) else sliced w xs).elements ≡ end →
+      evaluated (content_at (part_after b (Some o) c part)) (sliced w xs).elements ≡ end
   by_want o target true wanted follows come = made o target follows come
-  by_want o target false unwanted follows come = ap (λ (r : Contents). evaluated r (sliced w xs).tasks) (unmade o (output_of c)) ∙ come
+  by_want o target false unwanted follows come = ap (λ (r : Contents). evaluated r (sliced w xs).elements) (unmade o (output_of c)) ∙ come
 
-  by_target : (t : Option Object) → effective_target (shapes_of s) c ≡ t → Follows (wants_behind v t c) s part → evaluated (content_at part) (sliced w (Entry t c ∷ xs)).tasks ≡ end →
-      evaluated (content_at (part_after (is_chosen v t) t c part)) (sliced w xs).tasks ≡ end
+  by_target : (t : Option Object) → effective_target (shapes_of s) c ≡ t → Follows (wants_before_entry v t c) s part → evaluated (content_at part) (sliced w (Entry t c ∷ xs)).elements ≡ end →
+      evaluated (content_at (part_after (is_chosen v t) t c part)) (sliced w xs).elements ≡ end
   by_target None target follows come = come
   by_target (Some o) target follows come = by_want o target (v o) refl follows come
 
@@ -128,7 +128,7 @@ comes_next w end s part c cs t ts b bs goes come =
     let target : t ≡ effective_target (shapes_of s) c = first_of t _ ts _ goes.targets_are in
     let xs : List Step = entries ts cs in
     let chose : b ≡ is_chosen (sliced w xs).wanted t = first_of b _ bs _ goes.chosen_are in
-    let before : Follows (wants_behind (sliced w xs).wanted t c) s part = same_wants (sliced w (Entry t c ∷ xs)).wanted (wants_behind (sliced w xs).wanted t c) s part (sliced_behind w t c xs) goes.follows in
+    let before : Follows (wants_before_entry (sliced w xs).wanted t c) s part = same_wants (sliced w (Entry t c ∷ xs)).wanted (wants_before_entry (sliced w xs).wanted t c) s part (sliced_before w t c xs) goes.follows in
     subst (λ (d : Bool). HasCome w end ts cs (part_after d t c part)) (sym chose) (by_target w end s part c xs t (sym target) before come)
 
 -- at each place of the lists
@@ -149,12 +149,12 @@ comes_at w end s part cs ts bs k c t b within same_t same_b ec et eb goes come =
 -- at the end of the lists the calls were gone over
 pub has_gone_over : (w : Wants) (s old new : Store) (cs : List Call) (ts : List (Option Object)) (bs : List Bool) (n : ℕ) → n ≡ length cs → length ts ≡ length cs →
     GoesOn w (after_all s (take n cs)) (drop n cs) (drop n ts) (drop n bs) new →
-    HasCome w (evaluated (content_at old) (sliced w (entries ts cs)).tasks) (drop n ts) (drop n cs) new → HasGoneOver w s cs ts old new
+    HasCome w (evaluated (content_at old) (sliced w (entries ts cs)).elements) (drop n ts) (drop n cs) new → HasGoneOver w s cs ts old new
 has_gone_over w s old new cs ts bs n e same goes come = record {
   follows = goes_end w s new cs ts bs n e same goes;
-  tasks =
+  slice =
       let none : entries (drop n ts) (drop n cs) ≡ [] = ap (λ (x : List Call). entries (drop n ts) x) (drop_all cs n e) ∙ ap (λ (x : List (Option Object)). entries x []) (drop_all ts n (e ∙ sym same)) in
-      let held : content_at new ≡ evaluated (content_at old) (sliced w (entries ts cs)).tasks = subst (λ (x : List Step). evaluated (content_at new) (sliced w x).tasks ≡ evaluated (content_at old) (sliced w (entries ts cs)).tasks) none come in
+      let held : content_at new ≡ evaluated (content_at old) (sliced w (entries ts cs)).elements = subst (λ (x : List Step). evaluated (content_at new) (sliced w x).elements ≡ evaluated (content_at old) (sliced w (entries ts cs)).elements) none come in
       λ o. ap (λ (r : Contents). r o) held;
 }
 

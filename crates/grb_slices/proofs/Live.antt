@@ -1,4 +1,4 @@
--- What is wanted before a list of calls is there, where what is wanted behind them is.
+-- What is wanted before a list of calls is there, where what is wanted after them is.
 use Rattle.std.proofs.Common.{◌≡◌, ◌≢◌, Bool, true, false, not, ◌&&◌, ◌||◌, if◌then◌else◌, List, [], ◌∷◌, refl, sym, ap, subst, ◌∙◌, Option, Some, None, option_map, is_some}
 use Rattle.std.specs.List.{list_all, list_any}
 use Rattle.grb_core.specs.declared.refusal.Refusal.{Refusal}
@@ -17,9 +17,9 @@ use Rattle.grb_call.specs.Operands.{objects_read}
 use Rattle.grb_slices.specs.Content.{MatrixContent, VectorContent, content_at, effective_target}
 use Rattle.grb_slices.specs.Slice.{Step, Wants, is_among, sliced}
 use Rattle.grb_slices.specs.Steps.{steps_of}
-use Rattle.grb_slices.specs.Wanted.{wants_behind}
+use Rattle.grb_slices.specs.Wanted.{wants_before_entry}
 use Rattle.grb_slices.proofs.Effects.{other, effective}
-use Rattle.grb_slices.proofs.Walked.{sliced_behind}
+use Rattle.grb_slices.proofs.Walked.{sliced_before}
 use Rattle.grb_slices.proofs.Wants.{is_same_object-self, is_same_object-true}
 
 some_map : {X Y : Type 0} (f : X → Y) (o : Option X) → is_some (option_map f o) ≡ is_some o
@@ -89,7 +89,7 @@ module _ (s : Store) (c : Call) (v : Wants) (live : (o : Object) → v o ≡ tru
     | false ↦ λ _ h. other_wanted p target h
   ] refl e
 
-  live_before : (t : Option Object) → effective_target (shapes_of s) c ≡ t → wants_behind v t c o ≡ true → is_live (shapes_of s) o ≡ true
+  live_before : (t : Option Object) → effective_target (shapes_of s) c ≡ t → wants_before_entry v t c o ≡ true → is_live (shapes_of s) o ≡ true
   live_before None target wanted = stays (λ is. none_is o (sym target ∙ is)) wanted
   live_before (Some p) target wanted = elim (v p) as (λ b. v p ≡ b → (if b then (λ q. is_among (objects_read c) q || (if is_same_object p q then false else v q)) else v) o ≡ true → is_live (shapes_of s) o ≡ true) [
     | true ↦ λ _ h. chosen_before p target h
@@ -103,4 +103,4 @@ wanted_live w (c ∷ cs) s live o e =
     let t : Option Object = effective_target (shapes_of s) c in let xs : List Step = steps_of (shapes_after (shapes_of s) c) cs in
     live_before s c (sliced w xs).wanted
     (λ p wanted. wanted_live w cs (after s c) live p (subst (λ (u : ObjectShapes). (sliced w (steps_of u cs)).wanted p ≡ true) (sym (shapes_of-after s c)) wanted))
-    o t refl (sym (sliced_behind w t c xs o) ∙ e)
+    o t refl (sym (sliced_before w t c xs o) ∙ e)

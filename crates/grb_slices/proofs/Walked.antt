@@ -7,7 +7,7 @@ use Rattle.std.proofs.lemmas.Option.{get_or_from_slice_get}
 use Rattle.grb_call.specs.declared.call.Call.{Call}
 use Rattle.grb_call.specs.declared.ids.Object.{Object}
 use Rattle.grb_slices.specs.Slice.{Step, Entry, Make, Wants, wants_before, choices, entries, sliced}
-use Rattle.grb_slices.specs.Wanted.{is_chosen, wants_behind}
+use Rattle.grb_slices.specs.Wanted.{is_chosen, wants_before_entry}
 
 -- lists
 module _ {X : Type 0} where
@@ -26,23 +26,23 @@ module _ {X : Type 0} where
   get_or-map f (x ∷ xs) (suc k) d = get_or-map f xs k d
 
 -- what is wanted before an entry, and whether it is chosen, are matters of what is wanted after it
-pub sliced_behind : (w : Wants) (t : Option Object) (c : Call) (xs : List Step) (p : Object) →
-    (sliced w (Entry t c ∷ xs)).wanted p ≡ wants_behind (sliced w xs).wanted t c p
-sliced_behind w None c xs p = refl
-sliced_behind w (Some o) c xs p = if_wanted ((sliced w xs).wanted o)
+pub sliced_before : (w : Wants) (t : Option Object) (c : Call) (xs : List Step) (p : Object) →
+    (sliced w (Entry t c ∷ xs)).wanted p ≡ wants_before_entry (sliced w xs).wanted t c p
+sliced_before w None c xs p = refl
+sliced_before w (Some o) c xs p = if_wanted ((sliced w xs).wanted o)
   where
-    if_wanted : (b : Bool) → (if b then (record { wanted = wants_before (sliced w xs).wanted o (Make c); tasks = (o, Make c) ∷ (sliced w xs).tasks }) else sliced w xs).wanted p
+    if_wanted : (b : Bool) → (if b then (record { wanted = wants_before (sliced w xs).wanted o (Make c); elements = (o, Make c) ∷ (sliced w xs).elements }) else sliced w xs).wanted p
         ≡ (if b then wants_before (sliced w xs).wanted o (Make c) else (sliced w xs).wanted) p
     if_wanted true = refl
     if_wanted false = refl
 
--- one more task, where the entry is chosen
-counts : (w : Wants) (t : Option Object) (c : Call) (xs : List Step) (n : ℕ) → n ≡ length (sliced w xs).tasks →
-    (if is_chosen (sliced w xs).wanted t then n + 1 else n) ≡ length (sliced w (Entry t c ∷ xs)).tasks
+-- one more element, where the entry is chosen
+counts : (w : Wants) (t : Option Object) (c : Call) (xs : List Step) (n : ℕ) → n ≡ length (sliced w xs).elements →
+    (if is_chosen (sliced w xs).wanted t then n + 1 else n) ≡ length (sliced w (Entry t c ∷ xs)).elements
 counts w None c xs n e = e
 counts w (Some o) c xs n e = if_chosen ((sliced w xs).wanted o)
   where
-    if_chosen : (b : Bool) → (if b then n + 1 else n) ≡ length (if b then (record { wanted = wants_before (sliced w xs).wanted o (Make c); tasks = (o, Make c) ∷ (sliced w xs).tasks }) else sliced w xs).tasks
+    if_chosen : (b : Bool) → (if b then n + 1 else n) ≡ length (if b then (record { wanted = wants_before (sliced w xs).wanted o (Make c); elements = (o, Make c) ∷ (sliced w xs).elements }) else sliced w xs).elements
     if_chosen true = omega (arith, e)
     if_chosen false = e
 
@@ -50,9 +50,9 @@ chosen_same : (w v : Wants) → ((p : Object) → w p ≡ v p) → (t : Option O
 chosen_same w v same None = refl
 chosen_same w v same (Some o) = same o
 
-behind_same : (w v : Wants) → ((p : Object) → w p ≡ v p) → (t : Option Object) (c : Call) (p : Object) → wants_behind w t c p ≡ wants_behind v t c p
-behind_same w v same None c p = same p
-behind_same w v same (Some o) c p =
+before_same : (w v : Wants) → ((p : Object) → w p ≡ v p) → (t : Option Object) (c : Call) (p : Object) → wants_before_entry w t c p ≡ wants_before_entry v t c p
+before_same w v same None c p = same p
+before_same w v same (Some o) c p =
     ap (λ b. (if b then wants_before w o (Make c) else w) p) (same o) ∙ by_want (v o)
   where
     by_want : (b : Bool) → (if b then wants_before w o (Make c) else w) p ≡ (if b then wants_before v o (Make c) else v) p
@@ -72,9 +72,9 @@ entries-length [] (c ∷ cs) same = absurd (omega (arith, same))
 entries-length (t ∷ ts) [] same = absurd (omega (arith, same))
 entries-length (t ∷ ts) (c ∷ cs) same = ap suc (entries-length ts cs (omega (arith, same)))
 
--- the walk has gone back to a place: what it has chosen behind the place, and what is wanted there
+-- the walk has gone back to a place: what it has chosen after the place, and what is wanted there
 pub record IsWalked (w : Wants) (xs : List Step) (at : ℕ) (chosen : List Bool) (count : ℕ) (wanted : Wants) : Type 0 where
-  pub count_is : count ≡ length (sliced w (drop at xs)).tasks
+  pub count_is : count ≡ length (sliced w (drop at xs)).elements
   pub chosen_is : drop at chosen ≡ choices w (drop at xs)
   pub wanted_is : (p : Object) → wanted p ≡ (sliced w (drop at xs)).wanted p
 
@@ -83,13 +83,13 @@ pub walk_begins : (w v : Wants) (ts : List (Option Object)) (cs : List Call) (ch
 walk_begins w v ts cs chosen same count wanted =
     let none : drop (length cs) (entries ts cs) ≡ [] = ap (λ n. drop n (entries ts cs)) (sym (entries-length ts cs same)) ∙ drop-length (entries ts cs) in
     record {
-      count_is = sym (ap (λ (ys : List Step). length (sliced w ys).tasks) none);
+      count_is = sym (ap (λ (ys : List Step). length (sliced w ys).elements) none);
       chosen_is = ap (λ n. drop n chosen) (sym count) ∙ (drop-length chosen ∙ sym (ap (choices w) none));
       wanted_is = λ p. wanted p ∙ sym (ap (λ (ys : List Step). (sliced w ys).wanted p) none);
     }
 
 pub walk_goes : (w v u : Wants) (ts : List (Option Object)) (cs : List Call) (k : ℕ) (c : Call) (chosen : List Bool) (n : ℕ) (b : Bool) → length ts ≡ length cs → k < length cs → length chosen ≡ length cs →
-    get_or cs k c ≡ c → IsWalked w (entries ts cs) (suc k) chosen n v → b ≡ is_chosen v (get_or ts k None) → ((p : Object) → u p ≡ wants_behind v (get_or ts k None) c p) →
+    get_or cs k c ≡ c → IsWalked w (entries ts cs) (suc k) chosen n v → b ≡ is_chosen v (get_or ts k None) → ((p : Object) → u p ≡ wants_before_entry v (get_or ts k None) c p) →
     IsWalked w (entries ts cs) k (set chosen k b) (if b then n + 1 else n) u
 walk_goes w v u ts cs k c chosen n b same within count is walked chose goes =
     let t = get_or ts k None in
@@ -97,14 +97,14 @@ walk_goes w v u ts cs k c chosen n b same within count is walked chose goes =
     let here = entries_at ts cs k c same within is in
     record {
       count_is = ap (λ d. if d then n + 1 else n) (chose ∙ chosen_same v (sliced w rest).wanted walked.wanted_is t)
-          ∙ (counts w t c rest n walked.count_is ∙ sym (ap (λ (ys : List Step). length (sliced w ys).tasks) here));
+          ∙ (counts w t c rest n walked.count_is ∙ sym (ap (λ (ys : List Step). length (sliced w ys).elements) here));
       chosen_is = drop-set chosen k b (omega (arith, within, count))
           ∙ (ap (λ d. d ∷ drop (suc k) chosen) (chose ∙ chosen_same v (sliced w rest).wanted walked.wanted_is t)
           ∙ (ap (λ ds. option_map_or (sliced w rest).wanted t false ∷ ds) walked.chosen_is ∙ sym (ap (choices w) here)));
-      wanted_is = λ p. goes p ∙ (behind_same v (sliced w rest).wanted walked.wanted_is t c p ∙ (sym (sliced_behind w t c rest p) ∙ sym (ap (λ (ys : List Step). (sliced w ys).wanted p) here)));
+      wanted_is = λ p. goes p ∙ (before_same v (sliced w rest).wanted walked.wanted_is t c p ∙ (sym (sliced_before w t c rest p) ∙ sym (ap (λ (ys : List Step). (sliced w ys).wanted p) here)));
     }
 
--- and never more than the entries behind
+-- and never more than the entries after
 pub walk_count : (k m n : ℕ) (b : Bool) → n + suc k ≤ m → (if b then n + 1 else n) + k ≤ m
 walk_count k m n true h = omega (arith, h)
 walk_count k m n false h = omega (arith, h)
@@ -115,9 +115,9 @@ call_there [] n h = absurd (omega arith)
 call_there (c ∷ cs) zero h = (c, refl)
 call_there (c ∷ cs) (suc n) h = call_there cs n (omega arith)
 
--- and at that place of what stands behind an earlier one
-pub call_behind : (cs : List Call) (from at : ℕ) (c : Call) → from ≤ at → slice_get cs at ≡ Some c → get_or (drop from cs) (at - from) c ≡ c
-call_behind cs from at c le is = get_or-drop from cs (at - from) c ∙ (ap (λ (n : ℕ). get_or cs n c) (omega (arith, le)) ∙ get_or_from_slice_get cs at c c is)
+-- and at that place of what stands after an earlier one
+pub call_in_rest : (cs : List Call) (from at : ℕ) (c : Call) → from ≤ at → slice_get cs at ≡ Some c → get_or (drop from cs) (at - from) c ≡ c
+call_in_rest cs from at c le is = get_or-drop from cs (at - from) c ∙ (ap (λ (n : ℕ). get_or cs n c) (omega (arith, le)) ∙ get_or_from_slice_get cs at c c is)
 
 -- a call that is lent
 pub lent_call : {X : Type 0} (f : X → Call) (xs : List X) (k : ℕ) (d : X) → d ≡ get_or xs k d → get_or (map f xs) k (f d) ≡ f d

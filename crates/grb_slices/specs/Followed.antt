@@ -12,7 +12,7 @@ use Rattle.grb_call.specs.Store.{Store, shapes_of, with_place}
 use Rattle.grb_call.specs.After.{after}
 use Rattle.grb_call.specs.History.{after_all}
 use Rattle.grb_slices.specs.Content.{Contents, content_at, effective_target}
-use Rattle.grb_slices.specs.Slice.{Task, Wants, choices, entries, evaluated, sliced}
+use Rattle.grb_slices.specs.Slice.{Element, Wants, choices, entries, evaluated, sliced}
 use Rattle.grb_slices.specs.Steps.{AgreeOn}
 
 pub record Follows (w : Wants) (whole part : Store) : Type 0 where
@@ -48,12 +48,12 @@ pub record GoesOn (w : Wants) (whole : Store) (calls : List Call) (targets : Lis
   pub chosen_are : chosen ≡ choices w (entries targets calls)
   pub follows : Follows (sliced w (entries targets calls)).wanted whole part
 
--- each object holds what the tasks, and nothing else, make of what the objects held before
-abbrev pub HoldsTasks : Contents → List Task → Store → Type 0
-HoldsTasks before tasks part = (o : Object) → content_at part o ≡ evaluated before tasks o
+-- each object holds what the elements of a slice, and nothing else, make of what the objects held before
+abbrev pub HoldsSlice : Contents → List Element → Store → Type 0
+HoldsSlice before elements part = (o : Object) → content_at part o ≡ evaluated before elements o
 
--- these calls with these targets, which come on the whole store, were gone over on a part: it holds what is wanted behind them, and it was
+-- these calls with these targets, which come on the whole store, were gone over on a part: it holds what is wanted after them, and it was
 -- changed by the calls of their slice alone
 pub record HasGoneOver (w : Wants) (whole : Store) (calls : List Call) (targets : List (Option Object)) (old new : Store) : Type 0 where
   pub follows : Follows w (after_all whole calls) new
-  pub tasks : HoldsTasks (content_at old) (sliced w (entries targets calls)).tasks new
+  pub slice : HoldsSlice (content_at old) (sliced w (entries targets calls)).elements new

@@ -28,13 +28,13 @@ OutcomeReadsItsObjects = (r t : Contents) (c : Call) → AgreeOn (is_among (obje
 -- what one object holds after all calls is what evaluating its slice gives
 abbrev pub SliceIsEnough : Type 0
 SliceIsEnough = (s : Store) (cs : List Call) (o : Object) →
-    evaluated (content_at s) (sliced (is_same_object o) (steps_of (shapes_of s) cs)).tasks o ≡ content_at (after_all s cs) o
+    evaluated (content_at s) (sliced (is_same_object o) (steps_of (shapes_of s) cs)).elements o ≡ content_at (after_all s cs) o
 
 -- so it is of several objects at once, from contents that hold only what is wanted before the entries, and with what was evaluated
 -- earlier recalled at its place
 abbrev pub SliceIsEnoughFor : Type 0
 SliceIsEnoughFor = (s : Store) (cs : List Call) (w : Wants) (xs : List Step) (r : Contents) → AreSteps s cs xs → AgreeOn (sliced w xs).wanted (content_at s) r →
-    AgreeOn w (content_at (after_all s cs)) (evaluated r (sliced w xs).tasks)
+    AgreeOn w (content_at (after_all s cs)) (evaluated r (sliced w xs).elements)
 
 -- what was evaluated stays so when more calls come, and more may be known of these
 abbrev pub EntriesStayEvaluated : Type 0

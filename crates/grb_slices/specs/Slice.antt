@@ -21,8 +21,8 @@ pub data Origin : Type 0 where
   Recall : Content → Origin
 
 -- an element of a slice
-abbrev pub Task : Type 0
-Task = Object × Origin
+abbrev pub Element : Type 0
+Element = Object × Origin
 
 -- which objects are wanted at a place
 abbrev pub Wants : Type 0
@@ -43,18 +43,18 @@ wants_before w o d p = is_among (needs d) p || (if is_same_object o p then false
 -- the objects wanted before the entries, and their slice
 pub record Sliced : Type 0 where
   pub wanted : Wants
-  pub tasks : List Task
+  pub elements : List Element
 
 -- a deed belongs to the slice where its object is wanted after it
 abbrev pub chosen : Object → Origin → Sliced → Sliced
-chosen o d rest = if rest.wanted o then (record { wanted = wants_before rest.wanted o d; tasks = (o, d) ∷ rest.tasks }) else rest
+chosen o d rest = if rest.wanted o then (record { wanted = wants_before rest.wanted o d; elements = (o, d) ∷ rest.elements }) else rest
 
 abbrev pub sliced_step : Step → Sliced → Sliced
 sliced_step (Entry t c) rest = option_map_or (λ o. chosen o (Make c) rest) t rest
 sliced_step (Known o x) rest = chosen o (Recall x) rest
 
 abbrev pub sliced : Wants → List Step → Sliced
-sliced w [] = record { wanted = w; tasks = [] }
+sliced w [] = record { wanted = w; elements = [] }
 sliced w (x ∷ xs) = sliced_step x (sliced w xs)
 
 abbrev pub result_of : Contents → Origin → Option Content
@@ -65,8 +65,8 @@ result_of r (Recall x) = Some x
 abbrev pub with_content : Contents → Object → Option Content → Contents
 with_content r o x p = if is_same_object o p then x else r p
 
--- what the objects hold after the tasks
-abbrev pub evaluated : Contents → List Task → Contents
+-- what the objects hold after the elements
+abbrev pub evaluated : Contents → List Element → Contents
 evaluated r [] = r
 evaluated r (t ∷ ts) = evaluated (with_content r t.0 (result_of r t.1)) ts
 

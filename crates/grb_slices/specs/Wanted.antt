@@ -51,6 +51,6 @@ abbrev pub is_chosen : Wants → Option Object → Bool
 is_chosen w t = option_map_or w t false
 
 -- what is wanted before the entry
-abbrev pub wants_behind : Wants → Option Object → Call → Wants
-wants_behind w None c = w
-wants_behind w (Some o) c = if w o then wants_before w o (Make c) else w
+abbrev pub wants_before_entry : Wants → Option Object → Call → Wants
+wants_before_entry w None c = w
+wants_before_entry w (Some o) c = if w o then wants_before w o (Make c) else w

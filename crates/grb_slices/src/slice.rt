@@ -1,9 +1,9 @@
 //! The calls that one answer needs, chosen from the last call back to the first.
-ghost use Rattle.std.specs.Prelude.{◌≡◌, ◌+◌, ◌<◌, ◌≤◌, ◌^◌, ℕ, Some, if◌then◌else◌, drop, length, slice_get, IfOk, OnOk};
+ghost use Rattle.std.specs.Prelude.{◌≡◌, ◌+◌, ◌<◌, ◌≤◌, ◌^◌, ℕ, Some, if◌then◌else◌, length, slice_get, IfOk, OnOk};
 ghost use Rattle.grb_call.specs.declared.call.Call.{Call};
 ghost use Rattle.grb_call.specs.declared.ids.Object.{Object};
-ghost use Rattle.grb_slices.specs.SliceFor.{IsSliceFor};
-ghost use Rattle.grb_slices.specs.Wanted.{is_chosen, is_wanted, wants_behind};
+ghost use Rattle.grb_slices.specs.SliceFor.{IsSliceFrom};
+ghost use Rattle.grb_slices.specs.Wanted.{is_chosen, is_wanted, wants_before_entry};
 
 use crate::calls::CallList;
 use crate::wanted::Wanted;
@@ -42,7 +42,7 @@ fn go_back_at<S, C: CallList<S>>(
     requires at { at < length (C.calls source.now calls.old) }
     ensures same { calls.new ≡ calls.old }
     ensures chosen { IfOk result (λ chosen. chosen ≡ is_chosen (is_wanted wanted.old) target) }
-    ensures wanted { OnOk result ((call : Call) → slice_get (C.calls source.now calls.old) at ≡ Some call → (o : Object) → is_wanted wanted.new o ≡ wants_behind (is_wanted wanted.old) target call o) }
+    ensures wanted { OnOk result ((call : Call) → slice_get (C.calls source.now calls.old) at ≡ Some call → (o : Object) → is_wanted wanted.new o ≡ wants_before_entry (is_wanted wanted.old) target call o) }
 {
     let Some(object) = target else {
         return Ok(false);
@@ -67,7 +67,7 @@ pub fn slice_for<S, C: CallList<S>>(
     requires targets { length (C.target_list calls.old) ≡ length (C.calls source.now calls.old) }
     requires from { from ≤ length (C.calls source.now calls.old) }
     ensures same { calls.new ≡ calls.old }
-    ensures slice { IfOk result (λ slice. IsSliceFor slice (is_wanted wanted) (drop from (C.target_list calls.old)) (drop from (C.calls source.now calls.old))) }
+    ensures slice { IfOk result (λ s. IsSliceFrom from s (is_wanted wanted) (C.target_list calls.old) (C.calls source.now calls.old)) }
 {
     let mut wanted = wanted;
     let mut at = calls.targets().len();

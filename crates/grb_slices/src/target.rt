@@ -1,21 +1,33 @@
 //! The object that a call changes, where it is not refused.
-ghost use Rattle.std.specs.Prelude.{◌≡◌};
+ghost use Rattle.std.specs.Prelude.{◌≡◌, Some};
+ghost use Rattle.grb_call.specs.Kinds.{class_of};
 ghost use Rattle.grb_slices.specs.Content.{effective_target, target_of};
 
-use grb_call::{Call, MatrixId, Object, Shapes, VectorId, check};
+use grb_call::{Call, Class, MatrixId, Object, Shapes, VectorId, check};
+
+/// The object that the call makes, on objects of these shapes, where it is not refused.
+fn next_object(shapes: &Shapes, call: &Call) -> Object
+    requires { class_of call.now ≡ Class.Makes }
+    ensures { Some result ≡ target_of shapes.now.objects call.now }
+{
+    match call {
+        Call::NewMatrix { .. } | Call::DupMatrix { .. } => {
+            Object::Matrix(MatrixId(shapes.matrices()))
+        }
+        Call::NewVector { .. } | Call::DupVector { .. } => {
+            Object::Vector(VectorId(shapes.vectors()))
+        }
+        _ => unreachable!(),
+    }
+}
 
 /// The object that the call changes or makes, on objects of these shapes, where it is not refused. Takes no memory.
 pub fn target_of(shapes: &Shapes, call: &Call) -> Option<Object>
     ensures { result ≡ target_of shapes.now.objects call.now }
 {
-    match call {
-        Call::NewMatrix { .. } | Call::DupMatrix { .. } => {
-            Some(Object::Matrix(MatrixId(shapes.matrices())))
-        }
-        Call::NewVector { .. } | Call::DupVector { .. } => {
-            Some(Object::Vector(VectorId(shapes.vectors())))
-        }
-        _ => call.output(),
+    match call.class() {
+        Class::Makes => Some(next_object(shapes, call)),
+        Class::Edits | Class::Operates | Class::Reads(_) | Class::AsksDimensions => call.output(),
     }
 }
 

@@ -3,7 +3,7 @@ ghost use Rattle.std.specs.Prelude.{true, Some, slice_get, ◌≡◌, ◌<◌, �
 ghost use Rattle.grb_call.specs.Status.{is_same_object};
 ghost use Rattle.grb_call.specs.declared.ids.Object.{Object};
 ghost use Rattle.grb_slices.specs.Slice.{is_among};
-ghost use Rattle.grb_slices.specs.Wanted.{HasPlace, HavePlaces, KeepsPlaces, LacksMark, LacksOne, is_chosen, is_wanted, marked, wants_behind};
+ghost use Rattle.grb_slices.specs.Wanted.{HasPlace, HavePlaces, KeepsPlaces, LacksMark, LacksOne, is_chosen, is_wanted, marked, wants_before_entry};
 
 use grb_call::{Call, Object, objects_read};
 use std::alloc::{AllocError, Global};
@@ -203,7 +203,7 @@ impl Wanted {
     /// Source: Weiser, "Program slicing", 1981; over calls own.
     pub fn go_back(&mut self, target: Option<Object>, call: &Call) -> Result<bool, AllocError>
         ensures chosen { IfOk result (λ chosen. chosen ≡ is_chosen (is_wanted self.old) target) }
-        ensures wanted { OnOk result ((o : Object) → is_wanted self.new o ≡ wants_behind (is_wanted self.old) target call.now o) }
+        ensures wanted { OnOk result ((o : Object) → is_wanted self.new o ≡ wants_before_entry (is_wanted self.old) target call.now o) }
         ensures err { OnErr result ((o : Object) → is_wanted self.new o ≡ is_wanted self.old o) }
     {
         let Some(object) = target else {

@@ -12,7 +12,7 @@ mod matrix_tuples;
 mod tuples;
 mod vector;
 
-pub use grb_rows::FlatRows;
+pub use grb_rows::{FlatRows, Layers};
 pub use iter::{Entries, EntriesByIndex, Row};
 pub use matrix::SparseMatrix;
 pub use vector::SparseVector;

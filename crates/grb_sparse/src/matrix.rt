@@ -6,12 +6,13 @@ ghost use Rattle.grb_core.specs.Entries.{cell_cmp, cells_of, nvals_of, without_e
 ghost use Rattle.grb_core.specs.Monoid.{monoid_domain};
 ghost use Rattle.grb_core.specs.Results.{row_of};
 ghost use Rattle.grb_rows.specs.Cells.{decoded};
+ghost use Rattle.grb_rows.specs.Pending.{changed};
 ghost use Rattle.grb_core.specs.Contents.{IsDimension, IsMatrix, edited_matrix, resized_matrix};
 
 use crate::iter::{Entries, Row};
 use crate::{matrix_tuples, tuples};
 use grb_core::{Domain, Monoid, Value};
-use grb_rows::{FlatRows, Held, code};
+use grb_rows::{FlatRows, Held, Layers, code};
 use std::alloc::{AllocError, Global};
 use std::marker::Model;
 
@@ -19,7 +20,7 @@ use std::marker::Model;
 /// row and a column, both from 0 on.
 ///
 /// It keeps its allocator. `reserved` is how many more calls of `set` and `remove` it holds memory for, `assembled` whether no
-/// such change waits to be put in order, and `pending` how many pending tuples and pending removals it keeps.
+/// such change waits to be put in order, and `pending` how many pending tuples and pending removals were added since it was last assembled.
 ///
 /// Source: GraphBLAS C API 2.0, "Matrices".
 pub struct SparseMatrix {
@@ -119,8 +120,8 @@ impl SparseMatrix {
     /// Makes places for `n` calls of `set` or `remove` from now on, in place of those made before. `AllocError` where memory is
     /// refused, and then nothing changes.
     ///
-    /// It makes room for as many pending tuples and removals, and a deleted mark for each entry, where there are none yet. Room grows by
-    /// std's amortized `reserve`, so that `reserve_pending(1)` before each of n calls of `set` copies O(n) of them in all.
+    /// It makes room for as many pending tuples and removals. Room grows by std's amortized `reserve`, so that `reserve_pending(1)`
+    /// before each of n calls of `set` copies O(n) of them in all.
     ///
     /// Source: own.
     pub fn reserve_pending(&mut self, n: u64) -> Result<(), AllocError>
@@ -133,7 +134,8 @@ impl SparseMatrix {
         self.held.reserve_pending(n)
     }
 
-    /// How many pending tuples and pending removals it keeps. Takes no memory.
+    /// How many pending tuples and pending removals were added since it was last assembled: changes at places that stored nothing
+    /// then. Takes no memory.
     ///
     /// Source: own.
     pub fn pending(&self) -> u64
@@ -228,6 +230,54 @@ impl SparseMatrix {
         })
     }
 
+    /// A matrix with the same entries and the same changes that wait, and with no reserved places: one to change in place of this one. The
+    /// entries that were assembled last are shared, if `make_shareable`, `build` or `assemble` let copies share them, and only the changes
+    /// are copied. `AllocError` where memory is refused; then nothing is made.
+    ///
+    /// Source: own.
+    pub fn try_share(&self) -> Result<SparseMatrix, AllocError>
+        ensures matrix { IfOk result (λ copy. copy.matrix ≡ self.now.matrix) }
+        ensures assembled { IfOk result (λ copy. copy.assembled ≡ self.now.assembled) }
+        ensures reserved { IfOk result (λ copy. copy.reserved ≡ 0) }
+        ensures pending { IfOk result (λ copy. copy.pending ≡ self.now.pending) }
+    {
+        let held = self.held.try_share()?;
+        Ok(SparseMatrix {
+            nrows: self.nrows,
+            ncols: self.ncols,
+            held,
+        })
+    }
+
+    /// What is stored, as the entries that were assembled last and the changes over them, by the numbers of their cells: nothing is copied,
+    /// and it takes no memory.
+    ///
+    /// Source: own.
+    pub fn layers(&self) -> Layers<'_>
+        ensures entries { decoded (changed result.base.now.entries result.changes.now.entries) ≡ self.now.matrix.entries }
+        ensures domain { result.base.now.domain ≡ self.now.matrix.domain }
+    {
+        self.held.layers()
+    }
+
+    /// Whether so many cells were changed that merging them pays: at least 1,024, and at least a sixteenth of the entries that were
+    /// assembled last. Takes no memory.
+    ///
+    /// Source: own.
+    pub fn has_many_changes(&self) -> bool {
+        self.held.has_many_changes()
+    }
+
+    /// Lets copies share the entries that were assembled last, from now on; fewer than 64 are as cheap to copy, and stay as they are. It
+    /// takes little memory, and none again; where that is refused, copies have entries of their own.
+    ///
+    /// Source: own.
+    pub fn make_shareable(&mut self)
+        ensures { self.new ≡ self.old }
+    {
+        self.held.make_shareable();
+    }
+
     /// Stores the tuples of a row, a column and a value in a matrix that stores nothing; the values of one place are combined by
     /// `dup`. `AllocError` where memory is refused, and then nothing changes. It sorts a copy of the tuples, unless they are in order.
     ///
@@ -246,13 +296,13 @@ impl SparseMatrix {
     {
         let alloc = self.held.allocator();
         let built = matrix_tuples::build(alloc, tuples, dup)?;
-        self.held = Held::of(alloc, built, true);
+        self.held = Held::shareable(alloc, built, true);
         Ok(())
     }
 
-    /// Merges the pending tuples and removals with the entries, drops what is marked as deleted, and gives up the reserved places.
-    /// `AllocError` where memory is refused, and then nothing changes. With n entries and p changes it takes time `O(n + p log p)`. Where
-    /// nothing waits it does none of this and takes no memory.
+    /// Merges the pending tuples and removals with the entries, and gives up the reserved places. `AllocError` where memory is
+    /// refused, and then nothing changes. With n entries and p changes it takes time `O(n + p log p)`. Where nothing waits it does
+    /// none of this and takes no memory.
     ///
     /// Source: GraphBLAS C API 2.0, `GrB_wait`.
     pub fn assemble(&mut self) -> Result<(), AllocError>

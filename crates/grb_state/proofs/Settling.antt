@@ -18,8 +18,6 @@ module _ (assembled : Object → Bool) where
 
   -- a call that reads no entries asks nothing
   pub settled_alone : (c : Call) → reads_entries (class_of c) ≡ false → IsSettled assembled c
-  settled_alone (call.ReduceMatrix a monoid) none = cc
-  settled_alone (call.ReduceVector v monoid) none = cc
   settled_alone (call.WaitMatrix a mode) none = cc
   settled_alone (call.WaitVector v mode) none = cc
   settled_alone _ none = tt

@@ -1,5 +1,5 @@
--- believed: What a reading call asks of the objects before it is answered (own; `GrB_wait` of GraphBLAS C API 2.0, and what the
--- totals ask for).
+-- believed: What a reading call asks of the objects before it is answered (own; `GrB_wait` of GraphBLAS C API 2.0). A wait alone asks for
+-- something: a get, a count and a total read changes where they wait.
 use Rattle.std.specs.Prelude.{◌≡◌, Bool, true, false}
 use Rattle.grb_call.specs.declared.call.Call.{Call}
 use Rattle.grb_call.specs.declared.call.Call.TheVariants as call
@@ -17,18 +17,14 @@ abbrev pub HasWaited : (Object → Bool) → Object → WaitMode → Type 0
 HasWaited assembled o Complete = assembled o ≡ true
 HasWaited assembled o Materialize = AreAllAssembled assembled
 
--- no change waits in what the call reads as a whole, nor in what it waits for
+-- no change waits in what the call waits for
 abbrev pub IsSettled : (Object → Bool) → Call → Type 0
-IsSettled assembled (call.ReduceMatrix a monoid) = assembled (Matrix a) ≡ true
-IsSettled assembled (call.ReduceVector v monoid) = assembled (Vector v) ≡ true
 IsSettled assembled (call.WaitMatrix a mode) = HasWaited assembled (Matrix a) mode
 IsSettled assembled (call.WaitVector v mode) = HasWaited assembled (Vector v) mode
 IsSettled assembled _ = Unit {0}
 
 -- whether the call asks for that of any object
 abbrev pub settles : Call → Bool
-settles (call.ReduceMatrix a monoid) = true
-settles (call.ReduceVector v monoid) = true
 settles (call.WaitMatrix a mode) = true
 settles (call.WaitVector v mode) = true
 settles _ = false

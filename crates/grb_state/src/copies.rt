@@ -2,7 +2,7 @@
 ghost use Rattle.std.specs.Prelude.{◌≡◌, ◌+◌, ◌<◌, ◌^◌, true, length, IfOk};
 ghost use Rattle.std.specs.Option.{option_map, option_map_or};
 ghost use Rattle.grb_call.specs.Store.{matrix_at, shapes_of, vector_at};
-ghost use Rattle.grb_state.specs.State.{count_in, is_assembled};
+ghost use Rattle.grb_state.specs.State.{count_in, is_assembled_in};
 
 use crate::objects::Objects;
 use crate::places::{held_of, object_of};
@@ -41,7 +41,7 @@ impl State {
     /// The matrix, if it was made and not freed. Takes no memory.
     pub fn matrix(&self, a: MatrixId) -> Option<&SparseMatrix>
         ensures stored { option_map (λ matrix. matrix.now.matrix) result ≡ matrix_at self.now.store a }
-        ensures assembled { option_map_or (λ matrix. matrix.now.assembled) result true ≡ is_assembled self.now.matrices self.now.vectors (Object.Matrix a) }
+        ensures assembled { option_map_or (λ matrix. matrix.now.assembled) result true ≡ is_assembled_in self.now (Object.Matrix a) }
     {
         object_of(&self.objects.matrices, a)
     }
@@ -49,7 +49,7 @@ impl State {
     /// The vector, if it was made and not freed. Takes no memory.
     pub fn vector(&self, v: VectorId) -> Option<&SparseVector>
         ensures stored { option_map (λ vector. vector.now.vector) result ≡ vector_at self.now.store v }
-        ensures assembled { option_map_or (λ vector. vector.now.assembled) result true ≡ is_assembled self.now.matrices self.now.vectors (Object.Vector v) }
+        ensures assembled { option_map_or (λ vector. vector.now.assembled) result true ≡ is_assembled_in self.now (Object.Vector v) }
     {
         object_of(&self.objects.vectors, v)
     }
@@ -58,7 +58,7 @@ impl State {
     /// stays what it is; a state that changes its matrix while another holds it changes a copy. Takes no memory.
     pub fn held_matrix(&self, a: MatrixId) -> Option<&Arc<SparseMatrix>>
         ensures stored { option_map (λ matrix. matrix.now.value.matrix) result ≡ matrix_at self.now.store a }
-        ensures assembled { option_map_or (λ matrix. matrix.now.value.assembled) result true ≡ is_assembled self.now.matrices self.now.vectors (Object.Matrix a) }
+        ensures assembled { option_map_or (λ matrix. matrix.now.value.assembled) result true ≡ is_assembled_in self.now (Object.Matrix a) }
     {
         held_of(&self.objects.matrices, a)
     }
@@ -66,7 +66,7 @@ impl State {
     /// The vector as all share it that hold it, if it was made and not freed, as [`State::held_matrix`] gives a matrix. Takes no memory.
     pub fn held_vector(&self, v: VectorId) -> Option<&Arc<SparseVector>>
         ensures stored { option_map (λ vector. vector.now.value.vector) result ≡ vector_at self.now.store v }
-        ensures assembled { option_map_or (λ vector. vector.now.value.assembled) result true ≡ is_assembled self.now.matrices self.now.vectors (Object.Vector v) }
+        ensures assembled { option_map_or (λ vector. vector.now.value.assembled) result true ≡ is_assembled_in self.now (Object.Vector v) }
     {
         held_of(&self.objects.vectors, v)
     }

@@ -1,8 +1,7 @@
 //! The store of the objects that are there, without the numbers of those that were freed.
 ghost use Rattle.std.specs.Prelude.{◌≡◌, ◌<◌, ◌≤◌, ◌^◌, length, IfOk, vec_capacity};
 ghost use Rattle.grb_state.specs.Live.{live, live_store};
-ghost use Rattle.grb_state.specs.Settled.{AreAllAssembled};
-ghost use Rattle.grb_state.specs.State.{is_assembled};
+ghost use Rattle.grb_state.specs.State.{AreAllAssembledIn};
 
 use crate::objects::Objects;
 use crate::shared::{Places, share_place};
@@ -79,7 +78,7 @@ impl State {
     /// refused to the places (own).
     pub fn live(&self) -> Result<State, AllocError>
         ensures store { IfOk result (λ copy. copy.store ≡ live_store self.now.store) }
-        ensures assembled { IfOk result (λ copy. AreAllAssembled (is_assembled self.now.matrices self.now.vectors) → AreAllAssembled (is_assembled copy.matrices copy.vectors)) }
+        ensures assembled { IfOk result (λ copy. AreAllAssembledIn self.now → AreAllAssembledIn copy) }
     {
         let alloc = *self.objects.matrices.allocator();
         Ok(State {

@@ -5,7 +5,7 @@ ghost use Rattle.grb_call.specs.Store.{empty_store};
 ghost use Rattle.grb_state.specs.Fits.{FitsMatrix, ends_matrix};
 ghost use Rattle.grb_state.specs.State.{stored_matrix};
 
-use crate::stored_object::StoredObject;
+use crate::stored_object::{MANY, StoredObject};
 use grb_call::{Call, MatrixId};
 use grb_sparse::SparseMatrix;
 use std::alloc::{AllocError, Global};
@@ -62,11 +62,19 @@ impl StoredObject for SparseMatrix {
             let (nrows, ncols) = self.dims();
             return Ok(SparseMatrix::new(alloc, self.domain(), nrows, ncols));
         }
-        self.try_clone()
+        self.try_share()
+    }
+
+    fn make_shareable(&mut self) {
+        self.make_shareable();
     }
 
     fn is_assembled(&self) -> bool {
         self.is_assembled()
+    }
+
+    fn has_many_changes(&self) -> bool {
+        self.has_many_changes() || MANY <= self.layers().places.len()
     }
 
     fn assemble(&mut self) -> Result<(), AllocError> {

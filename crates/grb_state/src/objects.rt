@@ -6,7 +6,7 @@ ghost use Rattle.grb_call.specs.After.{changed, refused};
 ghost use Rattle.grb_state.specs.Objects.{store_of, places_of, HasPlaces, IsAssembledIn};
 
 use crate::operations::operate;
-use crate::places::{assemble, dup, edit};
+use crate::places::{assemble, dup, edit, has_many_changes};
 use crate::shared::{Places, SharedObject};
 use grb_call::{Call, Class, Object};
 use grb_sparse::{SparseMatrix, SparseVector};
@@ -33,6 +33,14 @@ impl Objects {
         match object {
             Object::Matrix(a) => assemble(&mut self.matrices, a),
             Object::Vector(v) => assemble(&mut self.vectors, v),
+        }
+    }
+
+    /// Whether so many changes wait in the object that it pays to do them. Takes no memory.
+    pub(crate) fn has_many_changes(&self, object: Object) -> bool {
+        match object {
+            Object::Matrix(a) => has_many_changes(&self.matrices, a),
+            Object::Vector(v) => has_many_changes(&self.vectors, v),
         }
     }
 

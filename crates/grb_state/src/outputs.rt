@@ -16,6 +16,22 @@ use grb_ops::{
 use grb_sparse::{SparseMatrix, SparseVector};
 use std::alloc::AllocError;
 
+/// What the operation writes into its output, of which the mask is of the sort `$sort`. For each operation stands what it computes with and
+/// the sort of each input, in their order, and what computes and writes it.
+macro_rules! operated {
+    ($call:ident, $objects:ident, $sort:ident, $alloc:ident, $output:ident;
+     $($name:ident { $with:ident, $($input:ident in $places:ident),* } => $operate:ident,)*) => {
+        match $call {
+            $(Call::$name { mask, accum, $with, $($input,)* d, .. } => {
+                let inside = lent_mask(&$objects.$sort, *mask);
+                $(let $input = lent(&$objects.$places, *$input);)*
+                $operate($alloc, $output, inside, *accum, *$with, $($input,)* *d)
+            })*
+            _ => unreachable!(),
+        }
+    };
+}
+
 /// The matrix that the operation leaves of its output `c`. `AllocError` where memory is refused.
 pub(crate) fn operated_matrix(
     objects: &Objects,
@@ -30,51 +46,11 @@ pub(crate) fn operated_matrix(
 {
     let alloc = *objects.matrices.allocator();
     let output = lent(&objects.matrices, c);
-    match call {
-        Call::EwiseAddMatrix {
-            mask,
-            accum,
-            op,
-            a,
-            b,
-            d,
-            ..
-        } => {
-            let inside = lent_mask(&objects.matrices, *mask);
-            let first = lent(&objects.matrices, *a);
-            let second = lent(&objects.matrices, *b);
-            ewise_add_matrix(alloc, output, inside, *accum, *op, first, second, *d)
-        }
-        Call::EwiseMultMatrix {
-            mask,
-            accum,
-            op,
-            a,
-            b,
-            d,
-            ..
-        } => {
-            let inside = lent_mask(&objects.matrices, *mask);
-            let first = lent(&objects.matrices, *a);
-            let second = lent(&objects.matrices, *b);
-            ewise_mult_matrix(alloc, output, inside, *accum, *op, first, second, *d)
-        }
-        Call::Mxm {
-            mask,
-            accum,
-            semiring,
-            a,
-            b,
-            d,
-            ..
-        } => {
-            let inside = lent_mask(&objects.matrices, *mask);
-            let first = lent(&objects.matrices, *a);
-            let second = lent(&objects.matrices, *b);
-            mxm(alloc, output, inside, *accum, *semiring, first, second, *d)
-        }
-        _ => unreachable!(),
-    }
+    operated!(call, objects, matrices, alloc, output;
+        EwiseAddMatrix { op, a in matrices, b in matrices } => ewise_add_matrix,
+        EwiseMultMatrix { op, a in matrices, b in matrices } => ewise_mult_matrix,
+        Mxm { semiring, a in matrices, b in matrices } => mxm,
+    )
 }
 
 /// The vector that the operation leaves of its output `w`. `AllocError` where memory is refused.
@@ -91,75 +67,11 @@ pub(crate) fn operated_vector(
 {
     let alloc = *objects.vectors.allocator();
     let output = lent(&objects.vectors, w);
-    match call {
-        Call::EwiseAddVector {
-            mask,
-            accum,
-            op,
-            u,
-            v,
-            d,
-            ..
-        } => {
-            let inside = lent_mask(&objects.vectors, *mask);
-            let first = lent(&objects.vectors, *u);
-            let second = lent(&objects.vectors, *v);
-            ewise_add_vector(alloc, output, inside, *accum, *op, first, second, *d)
-        }
-        Call::EwiseMultVector {
-            mask,
-            accum,
-            op,
-            u,
-            v,
-            d,
-            ..
-        } => {
-            let inside = lent_mask(&objects.vectors, *mask);
-            let first = lent(&objects.vectors, *u);
-            let second = lent(&objects.vectors, *v);
-            ewise_mult_vector(alloc, output, inside, *accum, *op, first, second, *d)
-        }
-        Call::Mxv {
-            mask,
-            accum,
-            semiring,
-            a,
-            u,
-            d,
-            ..
-        } => {
-            let inside = lent_mask(&objects.vectors, *mask);
-            let matrix = lent(&objects.matrices, *a);
-            let vector = lent(&objects.vectors, *u);
-            mxv(alloc, output, inside, *accum, *semiring, matrix, vector, *d)
-        }
-        Call::Vxm {
-            mask,
-            accum,
-            semiring,
-            u,
-            a,
-            d,
-            ..
-        } => {
-            let inside = lent_mask(&objects.vectors, *mask);
-            let vector = lent(&objects.vectors, *u);
-            let matrix = lent(&objects.matrices, *a);
-            vxm(alloc, output, inside, *accum, *semiring, vector, matrix, *d)
-        }
-        Call::ReduceRows {
-            mask,
-            accum,
-            monoid,
-            a,
-            d,
-            ..
-        } => {
-            let inside = lent_mask(&objects.vectors, *mask);
-            let matrix = lent(&objects.matrices, *a);
-            reduce_rows(alloc, output, inside, *accum, *monoid, matrix, *d)
-        }
-        _ => unreachable!(),
-    }
+    operated!(call, objects, vectors, alloc, output;
+        EwiseAddVector { op, u in vectors, v in vectors } => ewise_add_vector,
+        EwiseMultVector { op, u in vectors, v in vectors } => ewise_mult_vector,
+        Mxv { semiring, a in matrices, u in vectors } => mxv,
+        Vxm { semiring, u in vectors, a in matrices } => vxm,
+        ReduceRows { monoid, a in matrices } => reduce_rows,
+    )
 }

@@ -181,6 +181,14 @@ pub(crate) fn assemble<T: StoredObject>(places: &mut Places<T>, id: T::Id) -> Re
     assemble_at(places, T::number(id) as usize)
 }
 
+/// Whether so many changes wait in the object with this number that it pays to do them. Takes no memory.
+pub(crate) fn has_many_changes<T: StoredObject>(places: &Places<T>, id: T::Id) -> bool {
+    match object_of(places, id) {
+        Some(object) => object.has_many_changes(),
+        None => false,
+    }
+}
+
 /// Assembles each object. `AllocError` where memory is refused; the entries are as before in any case.
 pub(crate) fn assemble_all<T: StoredObject>(places: &mut Places<T>) -> Result<(), AllocError>
     ensures same { contents_at T.contents places.new.items ≡ contents_at T.contents places.old.items }
@@ -193,7 +201,8 @@ pub(crate) fn assemble_all<T: StoredObject>(places: &mut Places<T>) -> Result<()
     Ok(())
 }
 
-/// Puts the object in the place of the one with this number. `AllocError` where memory is refused; then each is as before.
+/// Puts the object in the place of the one with this number; copies may share its entries. `AllocError` where memory is refused; then each
+/// is as before.
 pub(crate) fn put<T: StoredObject>(
     places: &mut Places<T>,
     id: T::Id,
@@ -203,6 +212,8 @@ pub(crate) fn put<T: StoredObject>(
     ensures err { OnErr result (places.new.items ≡ places.old.items) }
     ensures capacity { vec_capacity places.new ≡ vec_capacity places.old }
 {
+    let mut object = object;
+    object.make_shareable();
     let shared = SharedObject::new(*places.allocator(), object)?;
     if let Some(place) = places.get_mut(T::number(id) as usize) {
         *place = Some(shared);

@@ -1,4 +1,4 @@
-//! Objects behind an `Arc`, as a state holds them: a share takes no memory and copies no entry.
+//! Objects in an `Arc` each, as a state holds them: a share takes no memory and copies no entry.
 ghost use Rattle.std.specs.Prelude.{◌≡◌, ◌+◌, ◌<◌, ◌≤◌, ◌^◌, IfOk, length, vec_capacity};
 
 use std::alloc::{AllocError, Global};

@@ -90,14 +90,35 @@ impl State {
         object_of(&self.objects.vectors, v).map_or(0, |vector| vector.nvals())
     }
 
-    /// Whether the call is a build of an object that stores an entry.
-    fn has_old_entries(&self, call: &Call) -> bool
+    /// Whether the call, which edits an object, is a build of one that stores an entry.
+    fn is_build_over_entries(&self, call: &Call) -> bool
+        requires { class_of call.now ≡ Class.Edits }
         ensures { result ≡ has_old_entries self.now.store call.now }
     {
         match call {
             Call::BuildMatrix { a, .. } => self.nvals_matrix(*a) != 0,
             Call::BuildVector { v, .. } => self.nvals_vector(*v) != 0,
-            _ => false,
+            Call::ClearMatrix { .. }
+            | Call::ClearVector { .. }
+            | Call::FreeMatrix { .. }
+            | Call::FreeVector { .. }
+            | Call::RemoveMatrix { .. }
+            | Call::RemoveVector { .. }
+            | Call::ResizeMatrix { .. }
+            | Call::ResizeVector { .. }
+            | Call::SetMatrix { .. }
+            | Call::SetVector { .. } => false,
+            _ => unreachable!(),
+        }
+    }
+
+    /// Whether the call is a build of an object that stores an entry.
+    fn has_old_entries(&self, call: &Call) -> bool
+        ensures { result ≡ has_old_entries self.now.store call.now }
+    {
+        match call.class() {
+            Class::Edits => self.is_build_over_entries(call),
+            Class::Makes | Class::Operates | Class::Reads(_) | Class::AsksDimensions => false,
         }
     }
 
@@ -152,7 +173,18 @@ impl State {
         assemble_all(&mut self.objects.vectors)
     }
 
-    /// Does the changes that wait in the one object of which the call asks, where it reads more of it than an entry or their number.
+    /// Does the changes that wait in the object, if they are so many that totals are dear which read them where they wait. Where memory is
+    /// refused, they wait on.
+    fn assemble_many(&mut self, object: Object)
+        ensures store { self.new.store ≡ self.old.store }
+        ensures room { self.new.room ≡ self.old.room }
+    {
+        if self.objects.has_many_changes(object) {
+            let _refused = self.complete(object);
+        }
+    }
+
+    /// Does the changes that wait in the one object of which the call asks, where it waits for it; for a total, where they are many.
     /// `AllocError` where memory is refused.
     fn settle_object(&mut self, call: &Call) -> Result<(), AllocError>
         requires reads { class_of call.now ≡ Class.Reads Extent.Object }
@@ -166,16 +198,22 @@ impl State {
             | Call::GetVector { .. }
             | Call::NvalsMatrix { .. }
             | Call::NvalsVector { .. } => Ok(()),
-            Call::ReduceMatrix { a, .. } => self.complete(Object::Matrix(*a)),
-            Call::ReduceVector { v, .. } => self.complete(Object::Vector(*v)),
+            Call::ReduceMatrix { a, .. } => {
+                self.assemble_many(Object::Matrix(*a));
+                Ok(())
+            }
+            Call::ReduceVector { v, .. } => {
+                self.assemble_many(Object::Vector(*v));
+                Ok(())
+            }
             Call::WaitMatrix { a, .. } => self.complete(Object::Matrix(*a)),
             Call::WaitVector { v, .. } => self.complete(Object::Vector(*v)),
             _ => unreachable!(),
         }
     }
 
-    /// Does the changes that are to be done before a reading call is answered: those of the object of a total, and those that a wait
-    /// asks for. The entries are as before in any case. `AllocError` where memory is refused, which a get or a count never is.
+    /// Does the changes that are to be done before a reading call is answered: those that a wait asks for. The entries are as before in any
+    /// case. `AllocError` where memory is refused, which a get, a count or a total never is.
     pub fn settle(&mut self, call: &Call) -> Result<(), AllocError>
         ensures store { self.new.store ≡ self.old.store }
         ensures room { self.new.room ≡ self.old.room }
@@ -192,7 +230,6 @@ impl State {
     /// All values that the matrix stores, combined by the monoid.
     fn total_of_matrix(&self, a: MatrixId, monoid: Monoid) -> Value
         requires accepted { refused self.now.store (Call.ReduceMatrix a monoid) ≡ None }
-        requires assembled { is_assembled self.now.matrices self.now.vectors (Object.Matrix a) ≡ true }
         ensures { result ≡ reduce_of monoid (matrix_entries self.now.store a) }
     {
         reduce_matrix(lent(&self.objects.matrices, a), monoid)
@@ -201,7 +238,6 @@ impl State {
     /// All values that the vector stores, combined by the monoid.
     fn total_of_vector(&self, v: VectorId, monoid: Monoid) -> Value
         requires accepted { refused self.now.store (Call.ReduceVector v monoid) ≡ None }
-        requires assembled { is_assembled self.now.matrices self.now.vectors (Object.Vector v) ≡ true }
         ensures { result ≡ reduce_of monoid (vector_entries self.now.store v) }
     {
         reduce_vector(lent(&self.objects.vectors, v), monoid)

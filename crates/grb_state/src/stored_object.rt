@@ -5,6 +5,10 @@ ghost use Rattle.grb_call.specs.declared.call.Call.{Call};
 use grb_call::Call;
 use std::alloc::{AllocError, Global};
 
+/// How many entries that are changed or taken away are many, however large the object is: a total looks through their places for each 8,192
+/// entries.
+pub(crate) const MANY: usize = 16_384;
+
 /// An object of a sort that a state holds in places.
 pub(crate) trait StoredObject: Drop {
     /// What names an object of the sort.
@@ -46,16 +50,23 @@ pub(crate) trait StoredObject: Drop {
         ensures ok { OnOk result (contents self.new ≡ after call.now (contents self.old)) }
         ensures err { OnErr result (contents self.new ≡ contents self.old) };
 
-    /// An object to change as the call says in place of this one, which others hold: a copy, or one without entries where the call clears
-    /// it. `AllocError` where memory is refused.
+    /// An object to change as the call says in place of this one, which others hold: a copy that shares the entries that were assembled, or
+    /// one without entries where the call clears it. `AllocError` where memory is refused.
     fn copy_to_change(&self, alloc: Global, call: &Call) -> Result<Self, AllocError>
         requires { fits call.now (contents self.now) }
         ensures fits { IfOk result (λ copy. fits call.now (contents copy)) }
         ensures after { IfOk result (λ copy. after call.now (contents copy) ≡ after call.now (contents self.now)) };
 
+    /// Lets copies share the entries from now on. Where memory is refused, copies have entries of their own.
+    fn make_shareable(&mut self)
+        ensures same { contents self.new ≡ contents self.old };
+
     /// Whether no change waits in the object. Takes no memory.
     fn is_assembled(&self) -> bool
         ensures { result ≡ is_assembled self.now };
+
+    /// Whether so many changes wait that it pays to do them. Takes no memory.
+    fn has_many_changes(&self) -> bool;
 
     /// Does the changes that wait in the object. `AllocError` where memory is refused; its entries are as before in any case.
     fn assemble(&mut self) -> Result<(), AllocError>

@@ -5,7 +5,7 @@ ghost use Rattle.grb_call.specs.Store.{empty_store};
 ghost use Rattle.grb_state.specs.Fits.{FitsVector, ends_vector};
 ghost use Rattle.grb_state.specs.State.{stored_vector};
 
-use crate::stored_object::StoredObject;
+use crate::stored_object::{MANY, StoredObject};
 use grb_call::{Call, VectorId};
 use grb_sparse::SparseVector;
 use std::alloc::{AllocError, Global};
@@ -61,11 +61,19 @@ impl StoredObject for SparseVector {
         if let Call::ClearVector { .. } = call {
             return Ok(SparseVector::new(alloc, self.domain(), self.dims()));
         }
-        self.try_clone()
+        self.try_share()
+    }
+
+    fn make_shareable(&mut self) {
+        self.make_shareable();
     }
 
     fn is_assembled(&self) -> bool {
         self.is_assembled()
+    }
+
+    fn has_many_changes(&self) -> bool {
+        self.has_many_changes() || MANY <= self.layers().places.len()
     }
 
     fn assemble(&mut self) -> Result<(), AllocError> {

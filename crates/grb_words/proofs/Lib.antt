@@ -1,3 +1,4 @@
+pub mod Collected
 pub mod IndicesLemmas
 pub mod LoadLemmas
 pub mod NumberLemmas

@@ -2,10 +2,12 @@
 ghost use Rattle.std.specs.Prelude.{◌≡◌, IfOk, map};
 ghost use Rattle.grb_words.specs.Line.{words_of, has_allowed_bytes, is_skipped, is_section, is_load};
 
+use smallvec::SmallVec;
 use std::alloc::{AllocError, Global};
 
-/// The words of a line, which one or more spaces part. `AllocError` where memory is refused; then nothing is made.
-pub fn words(alloc: Global, line: &[u8]) -> Result<Vec<&[u8]>, AllocError>
+/// The words of a line, which one or more spaces part. Up to 8 of them take no memory. `AllocError` where memory is refused; then nothing is
+/// made.
+pub fn words(alloc: Global, line: &[u8]) -> Result<SmallVec<&[u8], 8>, AllocError>
     ensures { IfOk result (λ words. map (λ word. word.now) words.items ≡ words_of line.now) }
 {
     line.split(|b| *b == b' ')

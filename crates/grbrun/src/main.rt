@@ -10,13 +10,13 @@ ghost use Rattle.std.specs.Prelude.{◌<◌, ◌≤◌};
 ghost use Rattle.grb_order.specs.declared.limits.TheConstants.{MOST_ROOM};
 
 use grb_run::{
-    FileSource, OpenGate, Options, OutputSink, RunFault, report_unread_words, run_script, run_words,
+    FileSource, OpenGate, Options, OutputSink, RunFault, run_arguments, run_script, run_words,
 };
+use std::io;
 use std::process::ExitCode;
-use std::rt::{Env, Files};
+use std::rt::Files;
 use std::sync::Wait;
 use std::thread::Threads;
-use std::{env, io};
 
 /// The name that the program gives itself in what it tells.
 const PROGRAM: &str = "grbrun";
@@ -41,27 +41,19 @@ fn run<R: Files + Print + AllocGlobal + Threads + Wait + Sync>(
     )
 }
 
-/// Runs the program on its arguments, of which the first is its name.
-fn run_arguments<R>(rt: &R) -> io::Result<u8>
+/// Does what these words after the program's name ask for, and answers the exit status.
+fn run_by_words<R>(rt: &R, words: &[&str]) -> u8
 where
-    R: Env + Files + Print + Eprint + AllocGlobal + Threads + Wait + Sync,
+    R: Files + Print + Eprint + AllocGlobal + Threads + Wait + Sync,
 {
-    let arguments: Vec<String> = env::args(rt)?.skip(1).collect(rt.alloc())?;
-    let words: Vec<&str> = arguments
-        .iter()
-        .map(|word| word.as_str())
-        .collect(rt.alloc())?;
     let run_with = |options: Options<'_>|
         requires room { (0 < options.room) × (options.room ≤ MOST_ROOM) }
     { run(rt, options) };
-    Ok(run_words(rt, PROGRAM, &words, run_with))
+    run_words(rt, PROGRAM, words, run_with)
 }
 
 /// Runs the program by the words of its command line, and ends with the status of that.
 fn main(rt: HostRuntime) -> ExitCode {
-    let status = match run_arguments(&rt) {
-        Ok(status) => status,
-        Err(error) => report_unread_words(&rt, PROGRAM, &error),
-    };
-    ExitCode::from(status)
+    let run_by = |words: &[&str]| run_by_words(&rt, words);
+    ExitCode::from(run_arguments(&rt, PROGRAM, run_by))
 }

@@ -79,33 +79,18 @@ fn push_semiring(text: &mut String, words: &[&[u8]]) -> Result<(), AllocError> {
     Ok(())
 }
 
-/// Appends what the names that a line uses stand for.
+/// Appends what these names stand for, which stand on the line of this number.
 fn push_names(
     alloc: Global,
     told: &mut String,
     text: &[u8],
     number: u64,
-    words: &[&[u8]],
+    asked: &[&[u8]],
 ) -> Result<(), AllocError> {
     let names = names_at(alloc, text, number)?;
-    for name in names_used(alloc, words)? {
+    for name in asked {
         let elsewhere = line_that_makes(alloc, text, name)?;
         push_name(told, &names, name, elsewhere)?;
-    }
-    Ok(())
-}
-
-/// Appends what the name stands for that a line makes.
-fn push_taken(
-    alloc: Global,
-    told: &mut String,
-    text: &[u8],
-    number: u64,
-    words: &[&[u8]],
-) -> Result<(), AllocError> {
-    if let Some(name) = name_made(words) {
-        let names = names_at(alloc, text, number)?;
-        push_name(told, &names, name, None)?;
     }
     Ok(())
 }
@@ -127,10 +112,15 @@ pub(crate) fn told_of_fault(
             "  a byte other than 0x20 to 0x7E is shown as \\xNN\n",
         )?,
         FaultKind::Section | FaultKind::Statement => push_form(&mut told, &words)?,
-        FaultKind::NameTaken => push_taken(alloc, &mut told, text, fault.line, &words)?,
+        FaultKind::NameTaken => {
+            if let Some(name) = name_made(&words) {
+                push_names(alloc, &mut told, text, fault.line, &[name])?;
+            }
+        }
         FaultKind::UnknownName | FaultKind::WrongKind => {
             push_form(&mut told, &words)?;
-            push_names(alloc, &mut told, text, fault.line, &words)?;
+            let used = names_used(alloc, &words)?;
+            push_names(alloc, &mut told, text, fault.line, &used)?;
         }
         FaultKind::Semiring => {
             push_form(&mut told, &words)?;

@@ -25,14 +25,14 @@ use crate::ends::{tell_end, tell_refusals};
 use crate::gate::TraceGate;
 use grb_market::put_all;
 use grb_run::{
-    FileSource, Options, OutputSink, RunFault, options, report_run, report_unread_words,
-    report_words, run_script,
+    FileSource, Options, OutputSink, RunFault, options, report_run, report_words, run_arguments,
+    run_script,
 };
+use std::io;
 use std::process::ExitCode;
-use std::rt::{Clock, Env, Files};
+use std::rt::{Clock, Files};
 use std::sync::Wait;
 use std::thread::Threads;
-use std::{env, io};
 
 /// The name that the program gives itself in what it tells.
 const PROGRAM: &str = "grbtrace";
@@ -81,26 +81,18 @@ where
     status
 }
 
-/// Runs the program on its arguments, of which the first is its name.
-fn run_arguments<R>(rt: &R) -> io::Result<u8>
+/// Does what these words after the program's name ask for, and answers the exit status.
+fn run_by_words<R>(rt: &R, words: &[&str]) -> u8
 where
-    R: Clock + Env + Files + Print + Eprint + AllocGlobal + Threads + Wait + Sync,
+    R: Clock + Files + Print + Eprint + AllocGlobal + Threads + Wait + Sync,
 {
-    let arguments: Vec<String> = env::args(rt)?.skip(1).collect(rt.alloc())?;
-    let words: Vec<&str> = arguments
-        .iter()
-        .map(|word| word.as_str())
-        .collect(rt.alloc())?;
-    match options(rt.alloc(), PROGRAM, &words) {
-        Ok(options) => Ok(run_options(rt, options)),
-        Err(error) => Ok(report_words(rt, PROGRAM, &error)),
+    match options(rt.alloc(), PROGRAM, words) {
+        Ok(options) => run_options(rt, options),
+        Err(error) => report_words(rt, PROGRAM, &error),
     }
 }
 
 fn main(rt: HostRuntime) -> ExitCode {
-    let status = match run_arguments(&rt) {
-        Ok(status) => status,
-        Err(error) => report_unread_words(&rt, PROGRAM, &error),
-    };
-    ExitCode::from(status)
+    let run_by = |words: &[&str]| run_by_words(&rt, words);
+    ExitCode::from(run_arguments(&rt, PROGRAM, run_by))
 }

@@ -1,14 +1,13 @@
 //! What an answer needs of the known calls: the reply to a call that only reads one object.
 ghost use Rattle.std.specs.Prelude.{◌≡◌, ◌<◌, ◌≤◌, false, true, None, Some, length, All, IfOk, IfSome, OnErr};
 ghost use Rattle.grb_records.specs.Token.{IsOf};
-ghost use Rattle.grb_call.specs.Kinds.{enters, is_size};
-ghost use Rattle.grb_call.specs.Status.{object_of};
 ghost use Rattle.grb_call.specs.After.{refused, reply_of};
 ghost use Rattle.grb_call.specs.History.{store_of};
 ghost use Rattle.grb_slices.specs.Wanted.{is_wanted};
 ghost use Rattle.grb_replay.specs.Reached.{IsWhole};
 ghost use Rattle.grb_pass.specs.Evaluated.{IsEvaluatedFor};
 ghost use Rattle.grb_pass.specs.Known.{known};
+ghost use Rattle.grb_pass.specs.Replying.{IsGiven, ReadsObject};
 
 use super::Evaluated;
 use super::exchange::MANY;
@@ -51,15 +50,8 @@ impl Evaluated {
     ) -> Result<Option<Reply>, AllocError>
         requires evaluated { IsEvaluatedFor reader.old self.old }
         requires of { All (IsOf records.now) reader.old.shown }
-        requires reads { enters call.now ≡ false }
-        requires no_size { is_size call.now ≡ false }
-        requires about { object_of call.now ≡ Some object }
-        requires accepted { refused (store_of (known reader.old)) call.now ≡ None }
-        ensures same { reader.new ≡ reader.old }
-        ensures evaluated { IsEvaluatedFor reader.new self.new }
-        ensures made { length (known reader.old) ≤ reader.old.settled → self.new.made ≡ self.old.made }
-        ensures reply { IfOk result (λ given. IfSome given (λ reply. reply ≡ reply_of (store_of (known reader.old)) call.now)) }
-        ensures unsettled { OnErr result (reader.old.settled < length (known reader.old)) }
+        requires call { ReadsObject (store_of (known reader.old)) object call.now }
+        ensures { IsGiven reader.old reader.new self.old self.new call.now result }
     {
         if self.reached.count() >= reader.known() as usize || !self.reached.is_whole() {
             return Ok(None);
@@ -79,7 +71,8 @@ impl Evaluated {
 
     /// Whether the store has gone over all known calls, and does not lack the object.
     pub(super) fn holds(&self, reader: &Reader, object: Object) -> bool
-        ensures held { result ≡ true → (length (known reader.now) ≤ self.now.reached.count) × (is_wanted self.now.reached.lacking object ≡ false) }
+        ensures all { result ≡ true → length (known reader.now) ≤ self.now.reached.count }
+        ensures held { result ≡ true → is_wanted self.now.reached.lacking object ≡ false }
         ensures left { result ≡ false → IsWhole self.now.reached → length (known reader.now) ≤ self.now.reached.count → ⊥ }
     {
         self.reached.count() >= reader.known() as usize && !self.reached.lacks(object)
@@ -164,10 +157,7 @@ impl Evaluated {
         call: &Call,
     ) -> Result<Option<Reply>, AllocError>
         requires evaluated { IsEvaluatedFor reader.now self.old }
-        requires reads { enters call.now ≡ false }
-        requires no_size { is_size call.now ≡ false }
-        requires about { object_of call.now ≡ Some object }
-        requires accepted { refused (store_of (known reader.now)) call.now ≡ None }
+        requires call { ReadsObject (store_of (known reader.now)) object call.now }
         ensures evaluated { IsEvaluatedFor reader.now self.new }
         ensures made { self.new.made ≡ self.old.made }
         ensures reply { IfOk result (λ given. IfSome given (λ reply. reply ≡ reply_of (store_of (known reader.now)) call.now)) }
@@ -194,15 +184,8 @@ impl Evaluated {
     ) -> Result<Option<Reply>, AllocError>
         requires evaluated { IsEvaluatedFor reader.old self.old }
         requires of { All (IsOf records.now) reader.old.shown }
-        requires reads { enters call.now ≡ false }
-        requires no_size { is_size call.now ≡ false }
-        requires about { object_of call.now ≡ Some object }
-        requires accepted { refused (store_of (known reader.old)) call.now ≡ None }
-        ensures same { reader.new ≡ reader.old }
-        ensures evaluated { IsEvaluatedFor reader.new self.new }
-        ensures made { length (known reader.old) ≤ reader.old.settled → self.new.made ≡ self.old.made }
-        ensures reply { IfOk result (λ given. IfSome given (λ reply. reply ≡ reply_of (store_of (known reader.old)) call.now)) }
-        ensures unsettled { OnErr result (reader.old.settled < length (known reader.old)) }
+        requires call { ReadsObject (store_of (known reader.old)) object call.now }
+        ensures { IsGiven reader.old reader.new self.old self.new call.now result }
     {
         let reply = self.reply_of_partial(records, reader, object, call)?;
         if reply.is_some() {

@@ -1,10 +1,10 @@
 //! An object as it is after all known calls, for those who share it: where it lies, with no change left that waits.
-ghost use Rattle.std.specs.Prelude.{◌≡◌, ◌<◌, is_some, length, true, MatchOption};
+ghost use Rattle.std.specs.Prelude.{MatchOption};
 ghost use Rattle.grb_call.specs.History.{store_of};
-ghost use Rattle.grb_call.specs.Store.{matrix_at, vector_at};
 ghost use Rattle.grb_state.specs.StoredIn.{IsMatrixOf, IsVectorOf};
 ghost use Rattle.grb_pass.specs.Evaluated.{IsEvaluatedFor};
 ghost use Rattle.grb_pass.specs.Known.{known};
+ghost use Rattle.grb_pass.specs.Settled.{MayLackMatrix, MayLackVector};
 
 use super::Evaluated;
 use crate::reader::Reader;
@@ -17,7 +17,7 @@ impl Evaluated {
     /// and no change waits in it.
     fn matrix_in_store(&self, reader: &Reader, a: MatrixId) -> Option<&Arc<SparseMatrix>>
         requires evaluated { IsEvaluatedFor reader.now self.now }
-        ensures { MatchOption result (is_some (matrix_at (store_of (known reader.now)) a) ≡ true → reader.now.settled < length (known reader.now)) (λ matrix. IsMatrixOf (store_of (known reader.now)) a matrix.now.value) }
+        ensures { MatchOption result (MayLackMatrix reader.now a) (λ matrix. IsMatrixOf (store_of (known reader.now)) a matrix.now.value) }
     {
         if !self.holds(reader, Object::Matrix(a)) {
             return None;
@@ -37,7 +37,7 @@ impl Evaluated {
     /// The vector as it is after all known calls, from the store, as [`Evaluated::matrix_in_store`] gives a matrix.
     fn vector_in_store(&self, reader: &Reader, v: VectorId) -> Option<&Arc<SparseVector>>
         requires evaluated { IsEvaluatedFor reader.now self.now }
-        ensures { MatchOption result (is_some (vector_at (store_of (known reader.now)) v) ≡ true → reader.now.settled < length (known reader.now)) (λ vector. IsVectorOf (store_of (known reader.now)) v vector.now.value) }
+        ensures { MatchOption result (MayLackVector reader.now v) (λ vector. IsVectorOf (store_of (known reader.now)) v vector.now.value) }
     {
         if !self.holds(reader, Object::Vector(v)) {
             return None;
@@ -58,7 +58,7 @@ impl Evaluated {
     /// None where it was evaluated in neither, or a change waits in it. Evaluates nothing, and takes no memory.
     pub(crate) fn held_matrix(&self, reader: &Reader, a: MatrixId) -> Option<&Arc<SparseMatrix>>
         requires evaluated { IsEvaluatedFor reader.now self.now }
-        ensures { MatchOption result (is_some (matrix_at (store_of (known reader.now)) a) ≡ true → reader.now.settled < length (known reader.now)) (λ matrix. IsMatrixOf (store_of (known reader.now)) a matrix.now.value) }
+        ensures { MatchOption result (MayLackMatrix reader.now a) (λ matrix. IsMatrixOf (store_of (known reader.now)) a matrix.now.value) }
     {
         match self.objects.held_matrix(reader.known() as usize, a) {
             Some(matrix) => Some(matrix),
@@ -69,7 +69,7 @@ impl Evaluated {
     /// The vector as all share it that hold it, as [`Evaluated::held_matrix`] gives a matrix.
     pub(crate) fn held_vector(&self, reader: &Reader, v: VectorId) -> Option<&Arc<SparseVector>>
         requires evaluated { IsEvaluatedFor reader.now self.now }
-        ensures { MatchOption result (is_some (vector_at (store_of (known reader.now)) v) ≡ true → reader.now.settled < length (known reader.now)) (λ vector. IsVectorOf (store_of (known reader.now)) v vector.now.value) }
+        ensures { MatchOption result (MayLackVector reader.now v) (λ vector. IsVectorOf (store_of (known reader.now)) v vector.now.value) }
     {
         match self.objects.held_vector(reader.known() as usize, v) {
             Some(vector) => Some(vector),

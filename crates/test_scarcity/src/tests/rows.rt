@@ -99,11 +99,22 @@ fn what_is_settled_is_read_without_memory(rt: HostRuntime) -> Result<(), AllocEr
     Ok(())
 }
 
+/// A changed entry, a new one and one that was removed are read where they wait.
+#[test]
+fn a_total_over_changes_takes_no_memory(rt: HostRuntime) -> Result<(), AllocError> {
+    let script =
+        "vector v uint64 4\nset v 0 5\nset v 2 7\nwait v materialize\nset v 1 6\nset v 0 4\nremove v 2\nget v 1\nfinally\ntotal v plus\n";
+    let answers = [Ok(Reply::Value(Value::Uint64(10)))];
+    let settled = expect_starved(&rt, 128, script, &answers, &answers)?;
+    same(&rt, settled, 3, "the settled calls");
+    Ok(())
+}
+
 /// The first wait leaves its store, and the second has nothing to evaluate, and nothing more is left so soon.
 #[test]
 fn a_wait_that_leaves_nothing_takes_no_memory(rt: HostRuntime) -> Result<(), AllocError> {
     let script =
-        "vector v uint64 4\nset v 0 5\nwait v materialize\nset v 1 6\ntotal v plus\nfinally\nwait v materialize\n";
+        "vector v uint64 4\nset v 0 5\nwait v materialize\nset v 1 6\nwait v complete\nfinally\nwait v materialize\n";
     let settled = expect_starved(&rt, 128, script, &[DONE], &[DONE])?;
     same(&rt, settled, 3, "the settled calls");
     Ok(())

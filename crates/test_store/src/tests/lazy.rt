@@ -165,6 +165,27 @@ fn a_wait_after_few_calls_leaves_its_store_to_the_other_passes(
     run(&rt, 512, &FEW)
 }
 
+/// One pass has made two calls when another makes a third and waits. A wait of the first at the same point takes the store that was left,
+/// and makes nothing.
+static TAKEN: [Row; 11] = [
+    (P, Asks(NewVector(Domain::Uint64, 2), MADE)),
+    (P, Asks(SetVector(FIRST, 0, FIVE), DONE)),
+    (Q, Meets(P)),
+    (Q, Asks(GetVector(FIRST, 0), IS_5)),
+    (Q, Made(2)),
+    (P, Asks(SetVector(FIRST, 1, SIX), DONE)),
+    (P, Asks(WaitVector(FIRST, WaitMode::Materialize), DONE)),
+    (P, Made(3)),
+    (Q, Asks(WaitVector(FIRST, WaitMode::Materialize), DONE)),
+    (Q, Made(0)),
+    (Q, Settled(3)),
+];
+
+#[test]
+fn a_wait_takes_what_another_pass_settled_at_its_point(rt: HostRuntime) -> Result<(), AllocError> {
+    run(&rt, 512, &TAKEN)
+}
+
 /// A wait for one object makes its calls, and settles none; a read then makes nothing.
 static COMPLETED: [Row; 7] = [
     (P, Asks(NewVector(Domain::Uint64, 4), MADE)),

@@ -1,5 +1,9 @@
-use Rattle.std.proofs.Common.{◌≡◌, ℕ, List, ◌++◌, length, take, ap, ◌∙◌, arith}
+use Rattle.std.proofs.Common.{◌≡◌, ℕ, List, ◌++◌, length, take, sym, ap, subst, ◌∙◌, arith}
+use Rattle.std.specs.Prelude.{All}
 use Rattle.std.proofs.lemmas.List.{take-append-le, take_all}
+use Rattle.grb_core.specs.Value.{IsValueOf}
+use Rattle.grb_core.specs.Entries.{MatrixEntries}
+use Rattle.grb_ewise.proofs.Made.{cells_are}
 use Rattle.grb_ewise.proofs.rows.merge_rows.Goals as goal
 
 -- of a list that was lent as a slice, the first n are those of the slice
@@ -46,3 +50,8 @@ returns-clause-ordered g c =
     let values_are : c.truncate-2.new.self.items ≡ take n values = c.truncate-2.ensures.items
     ∙ lent n c.in_ok-values.values.len values _ (omega (arith, c.fill_rows-count.auto.values, ap length c.as_mut_slice-2.ensures.value, c.in_ok-values.values.ok.0)) in
     rw (c.keep.ensures.entries, columns_are, values_are) c.fill_rows-count.ensures.ordered
+
+pub returns-clause-of_domain : goal.returns-clause-of_domain
+returns-clause-of_domain g c =
+    subst (λ (m : MatrixEntries). All (λ e. IsValueOf g.T.Scalar.domain e.1) m) (sym c.keep.ensures.entries)
+    (cells_are g.T.Scalar.value g.T.Scalar.domain _ c.truncate-2.new.self.items c.as_slice.result.now c.as_slice.ensures.value c.show.ensures)

@@ -20,7 +20,7 @@ take_word-k-requires-clause-in_range g c t h =
     let words = c.args.words.now in
     let w = c.words.w in
     let later = c.words.invariant.taken.later w (omega arith) in
-    let inside = bit_in_range (marks_of n words) words w t c.requires.bits (subst (λ x. x < 2 ^ 64) later (c.type_inv.words w).fits) (subst (λ x. has_bit x t ≡ true) later h) in
+    let inside = bit_in_range (marks_of n words) words w t c.requires.sound.bits (subst (λ x. x < 2 ^ 64) later (c.type_inv.words w).fits) (subst (λ x. has_bit x t ≡ true) later h) in
     omega (arith, inside, length-marks_of words n)
 
 pub words-preserved : goal.words-preserved
@@ -29,18 +29,25 @@ words-preserved g c =
     record {
       k = omega (arith, done.most);
       within = omega (arith, done.within);
-      taken = taken_more g.T.Scalar.value (identity_of g.M.MonoidOver.monoid) (name_in c.args.names.now) c.args.words.now c.args.sums.now c.requires.bits c.requires.clear c.words.w
+      taken = taken_more g.T.Scalar.value (identity_of g.M.MonoidOver.monoid) (name_in c.args.names.now) c.args.words.now c.args.sums.now c.requires.sound.bits c.requires.sound.clear c.words.w
           c.words.k c.take_word-k.result c.words.words c.words.columns c.take_word-k.new.columns c.words.sums c.take_word-k.new.sums c.words.values c.take_word-k.new.values
           c.words.invariant.taken (omega arith) done.entries (λ t l h. done.clear t l h) done.stay done.above;
     }
 
-pub returns-clause-entries : goal.returns-clause-entries
-returns-clause-entries g c =
-    taken_entries g.T.Scalar.value (identity_of g.M.MonoidOver.monoid) (name_in c.args.names.now) c.args.words.now c.args.sums.now c.words.w _ _ _ _ _ c.words.invariant.taken (omega arith)
-
-pub returns-clause-none : goal.returns-clause-none
-returns-clause-none g c u =
-    taken_zeros g.T.Scalar.value (identity_of g.M.MonoidOver.monoid) (name_in c.args.names.now) c.args.words.now c.args.sums.now c.words.w _ _ _ _ _ c.words.invariant.taken (omega arith) u
-
-pub returns-clause-clear : goal.returns-clause-clear
-returns-clause-clear g c p l = c.words.invariant.taken.clear p (omega (arith, l)) (omega (arith, l))
+pub returns : goal.returns
+returns g c =
+    let tv = g.T.Scalar.value in
+    let v = identity_of g.M.MonoidOver.monoid in
+    let name = name_in c.args.names.now in
+    let held = c.words.invariant.taken in
+    record {
+      entries = taken_entries tv v name c.args.words.now c.args.sums.now c.words.w _ _ _ _ _ held (omega arith);
+      most = c.words.invariant.within;
+      ready = record {
+        long = omega arith;
+        enough = omega arith;
+        words_few = omega arith;
+        none = taken_zeros tv v name c.args.words.now c.args.sums.now c.words.w _ _ _ _ _ held (omega arith);
+        clear = λ p l. held.clear p (omega (arith, l)) (omega (arith, l));
+      };
+    }

@@ -1,39 +1,44 @@
-use Prim.{search}
-use Rattle.std.proofs.Common.{rules, ◌≡◌, ◌+◌, ◌++◌, ◌∷◌, [], ap, sym, subst, ◌∙◌, take}
-use Rattle.std.specs.Prelude.{map}
-use Rattle.std.proofs.lemmas.List.{map_more}
+use Rattle.std.proofs.Common.{◌≡◌, ◌++◌, ◌+◌, ◌-◌, ◌∙◌, List, ap, sym, subst, take, drop, length, arith}
+use Rattle.std.specs.Prelude.{All, map}
+use Rattle.std.proofs.lemmas.List.{take_all, length-drop}
+use Rattle.grb_core.specs.declared.domain.Domain.{Domain}
 use Rattle.grb_core.specs.declared.value.Value.{Value}
 use Rattle.grb_core.specs.Value.{IsValueOf}
-use Rattle.grb_core.specs.Operator.{value_of_op}
-use Rattle.grb_core.specs.Monoid.{monoid_op, monoid_domain}
-use Rattle.grb_products.proofs.Folds.{IsFolding, folded_more, met_terminal}
+use Rattle.grb_core.specs.Monoid.{monoid_domain}
+use Rattle.grb_core.specs.Fold.{fold_of}
+use Rattle.grb_products.proofs.Folds.{IsFolding, folded_block, folded_parts, folded_final, values_parted, values_later}
 use Rattle.grb_products.proofs.folding.fold_values.Goals as goal
 
-pub values-preserved : goal.values-preserved
-values-preserved g c =
+pub returns-then-is_final : goal.returns-then-is_final
+returns-then-is_final g c =
     let tv = g.T.Scalar.value in
     let m = g.M.MonoidOver.monoid in
     let vs = c.args.values.now in
-    let i = c.values.x-index in
-    let x = c.x-item.result in
-    let so_far = map tv (take i vs) in
-    let read : tv c.read-value.result ≡ tv x = ap tv c.read-value.ensures.same in
-    let more : map tv (take (i + 1) vs) ≡ so_far ++ tv x ∷ [] = map_more tv vs i x c.values-test.true ∙ ap (λ v. so_far ++ tv v ∷ []) (sym c.x-item.is) in
-    let is : IsValueOf (monoid_domain m) (tv x) = subst (λ d. IsValueOf d (tv x)) (sym g.met.M.MonoidOver.same_domain) c.read-value.ensures.of_domain in
-    subst (λ us. IsFolding m us (tv c.add-sum.result)) (sym more)
-    (folded_more m so_far (tv c.values.sum) (tv x) (tv c.add-sum.result) c.values.invariant is
-    (◌∙◌ {b = value_of_op (monoid_op m) (tv c.values.sum) (tv c.read-value.result)} c.add-sum.ensures (ap (value_of_op (monoid_op m) (tv c.values.sum)) read)))
+    let at = c.whole.at in
+    let is : All (λ x. IsValueOf (monoid_domain m) (tv x)) vs = subst (λ (d : Domain). All (λ x. IsValueOf d (tv x)) vs) (sym g.met.M.MonoidOver.same_domain) c.read_all.ensures in
+    folded_final m (map tv (take at vs)) (map tv (drop at vs)) (tv c.whole.sum) c.whole.invariant.1 (values_later m tv vs at is) (c.is_final.ensures c.if-is_final.true)
+    ∙ ap (fold_of m) (sym (values_parted m tv vs at is))
 
-pub returns-then-is_terminal : goal.returns-then-is_terminal
-returns-then-is_terminal g c =
+pub whole-preserved : goal.whole-preserved
+whole-preserved g c =
     let tv = g.T.Scalar.value in
     let m = g.M.MonoidOver.monoid in
-    let x = c.x-item.result in
-    let is : IsValueOf (monoid_domain m) (tv x) = subst (λ d. IsValueOf d (tv x)) (sym g.met.M.MonoidOver.same_domain) c.read-value.ensures.of_domain in
-    let stays : (v : Value) → value_of_op (monoid_op m) (tv x) v ≡ tv x =
-    subst (λ y. (v : Value) → value_of_op (monoid_op m) (tv y) v ≡ tv y) c.read-value.ensures.same (c.is_terminal.ensures c.if-is_terminal.true) in
-    ◌∙◌ {b = tv x} (ap tv c.read-value.ensures.same)
-    (met_terminal m tv c.args.values.now c.values.x-index x (tv c.values.sum) c.values.invariant is stays c.values-test.true c.x-item.is)
+    let vs = c.args.values.now in
+    let at = c.whole.at in
+    let is : All (λ x. IsValueOf (monoid_domain m) (tv x)) vs = subst (λ (d : Domain). All (λ x. IsValueOf d (tv x)) vs) (sym g.met.M.MonoidOver.same_domain) c.read_all.ensures in
+    let room = c.whole-test.true in (
+      omega (arith, room, c.whole.invariant.0),
+      folded_block m tv vs at 256 (tv c.whole.sum) (tv c.fold_block.result) (tv c.add-sum.result) is c.whole.invariant.1
+          (subst (λ n. tv c.fold_block.result ≡ fold_of m (map tv (take n (drop at vs)))) (let e : (at + 256) - at ≡ 256 = omega arith in e) c.fold_block.ensures) c.add-sum.ensures,
+    )
 
-pub values-init : goal.values-init
-values-init g c = search rules
+pub returns : goal.returns
+returns g c =
+    let tv = g.T.Scalar.value in
+    let m = g.M.MonoidOver.monoid in
+    let vs = c.args.values.now in
+    let at = c.whole.at in
+    let is : All (λ x. IsValueOf (monoid_domain m) (tv x)) vs = subst (λ (d : Domain). All (λ x. IsValueOf d (tv x)) vs) (sym g.met.M.MonoidOver.same_domain) c.read_all.ensures in
+    let rest : IsFolding m (map tv (drop at vs)) (tv c.fold_each.result) = record { is_sum = c.fold_each.ensures ∙ ap (λ us. fold_of m (map tv us)) (take_all (length vs - at) (drop at vs) (let e = length-drop at vs in omega (arith, e))); of_domain = values_later m tv vs at is } in
+    let all = folded_parts m (map tv (take at vs)) (map tv (drop at vs)) (tv c.whole.sum) (tv c.fold_each.result) (tv c.add.result) c.whole.invariant.1 rest c.add.ensures in
+    all.is_sum ∙ ap (fold_of m) (sym (values_parted m tv vs at is))

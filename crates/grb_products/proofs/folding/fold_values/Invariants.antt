@@ -1,8 +1,11 @@
-use Rattle.std.proofs.Common.{take}
+use Rattle.std.proofs.Common.{◌≤◌, ◌-◌, length, take}
 use Rattle.std.specs.Prelude.{map}
 use Rattle.grb_products.proofs.Folds.{IsFolding}
 use Rattle.grb_products.proofs.folding.fold_values.Given as goal
 
--- the values so far
-abbrev pub invariant-values : goal.invariant-values
-invariant-values g l = IsFolding g.M.MonoidOver.monoid (map g.T.Scalar.value (take l.x-index l.values)) (g.T.Scalar.value l.sum)
+-- the blocks so far
+abbrev pub invariant-whole : goal.invariant-whole
+invariant-whole g l = (l.at ≤ length l.values) × IsFolding g.M.MonoidOver.monoid (map g.T.Scalar.value (take l.at l.values)) (g.T.Scalar.value l.sum)
+
+abbrev pub decreases-whole : goal.decreases-whole
+decreases-whole g l = length l.values - l.at

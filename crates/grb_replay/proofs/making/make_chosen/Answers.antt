@@ -9,7 +9,7 @@ use Rattle.grb_call.specs.History.{after_all}
 use Rattle.grb_slices.specs.Content.{Contents, content_at}
 use Rattle.grb_slices.specs.Followed.{GoesOn}
 use Rattle.grb_slices.specs.Slice.{entries, evaluated, sliced}
-use Rattle.grb_slices.proofs.Walked.{call_behind, call_there}
+use Rattle.grb_slices.proofs.Walked.{call_in_rest, call_there}
 use Rattle.grb_slices.proofs.Going.{HasCome, comes_at, goes_at, goes_target, has_gone_over, inside_default}
 use Rattle.grb_replay.proofs.making.make_chosen.Goals as goal
 
@@ -30,7 +30,7 @@ places-preserved g c =
     let same_t : length ts ≡ length cs = length-drop from targets ∙ (ap (λ m. m - from) c.requires.targets ∙ sym size) in
     let same_b : length bs ≡ length cs = omega (arith, c.requires.chosen, size) in
     let within : k < length cs = omega (arith, size, near, c.places.invariant.begun) in
-    let ec : get_or cs k call ≡ call = call_behind all from at call c.places.invariant.begun there.1 in
+    let ec : get_or cs k call ≡ call = call_in_rest all from at call c.places.invariant.begun there.1 in
     let et : get_or ts k t ≡ t = inside_default ts k t None (omega (arith, within, same_t)) ∙ t_is in
     let eb : get_or bs k b ≡ b = inside_default bs k b false (omega (arith, within, same_b)) in
     let next : suc k ≡ (at + 1) - from = omega (arith, c.places.invariant.begun) in
@@ -39,7 +39,7 @@ places-preserved g c =
       begun = omega (arith, c.places.invariant.begun);
       room = omega (arith, c.places.invariant.room, c.in_ok-make_one.ensures.room);
       come = λ w whole goes.
-          let end : Contents = evaluated (content_at c.args.state.now.store) (sliced w (entries ts cs)).tasks in
+          let end : Contents = evaluated (content_at c.args.state.now.store) (sliced w (entries ts cs)).elements in
           let now : GoesOn w (after_all whole (take k cs)) (drop k cs) (drop k ts) (drop k bs) c.places.state.store = c.places.invariant.goes w whole goes in
           let target = goes_target w whole c.places.state.store cs ts bs k call t within same_t ec et now in
           let made = c.in_ok-make_one.ensures.store call (after_all whole (take k cs)) lent target now.follows.matrices now.follows.vectors in

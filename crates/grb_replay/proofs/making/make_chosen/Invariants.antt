@@ -13,7 +13,7 @@ invariant-places g l = record {
   begun : l.fn.from ≤ l.at;
   room : l.initial.state.room + l.fn.from ≤ l.state.room + l.at;
   come : (w : Wants) (whole : Store) → GoesOn w whole (drop l.fn.from (g.C.CallList.calls l.source l.initial.calls)) (drop l.fn.from (g.C.CallList.target_list l.initial.calls)) l.chosen l.initial.state.store →
-      HasCome w (evaluated (content_at l.initial.state.store) (sliced w (entries (drop l.fn.from (g.C.CallList.target_list l.initial.calls)) (drop l.fn.from (g.C.CallList.calls l.source l.initial.calls)))).tasks)
+      HasCome w (evaluated (content_at l.initial.state.store) (sliced w (entries (drop l.fn.from (g.C.CallList.target_list l.initial.calls)) (drop l.fn.from (g.C.CallList.calls l.source l.initial.calls)))).elements)
       (drop (l.at - l.fn.from) (drop l.fn.from (g.C.CallList.target_list l.initial.calls))) (drop (l.at - l.fn.from) (drop l.fn.from (g.C.CallList.calls l.source l.initial.calls))) l.state.store;
   goes : (w : Wants) (whole : Store) → GoesOn w whole (drop l.fn.from (g.C.CallList.calls l.source l.initial.calls)) (drop l.fn.from (g.C.CallList.target_list l.initial.calls)) l.chosen l.initial.state.store →
       GoesOn w (after_all whole (take (l.at - l.fn.from) (drop l.fn.from (g.C.CallList.calls l.source l.initial.calls)))) (drop (l.at - l.fn.from) (drop l.fn.from (g.C.CallList.calls l.source l.initial.calls)))

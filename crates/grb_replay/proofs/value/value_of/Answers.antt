@@ -8,14 +8,14 @@ use Rattle.grb_call.specs.Store.{Store, shapes_of}
 use Rattle.grb_call.specs.History.{after_all}
 use Rattle.grb_slices.specs.Content.{content_at}
 use Rattle.grb_slices.specs.Followed.{targets_of}
-use Rattle.grb_slices.specs.Slice.{Task, evaluated}
+use Rattle.grb_slices.specs.Slice.{Element, evaluated}
 use Rattle.grb_slices.specs.SliceFor.{IsSliceFor}
 use Rattle.grb_slices.specs.Wanted.{Marks, is_wanted}
 use Rattle.grb_slices.proofs.Walked.{or_nothing}
 use Rattle.grb_slices.proofs.Wants.{is_same_object-self}
 use Rattle.grb_replay.specs.Targets.{WalkedCalls}
 use Rattle.grb_replay.proofs.NextTarget.{walked_all}
-use Rattle.grb_replay.proofs.Valued.{not_there, tasks_all, tasks_are, tasks_none}
+use Rattle.grb_replay.proofs.Valued.{not_there, length_all, slice_is, length_none}
 use Rattle.grb_replay.proofs.value.value_of.Goals as goal
 
 pub returns-then-not-contains-clause-content : goal.returns-then-not-contains-clause-content
@@ -39,7 +39,7 @@ returns-then-not-contains-clause-evaluated c =
     let s : Store = c.args.whole.now.store in let cs : List Call = map (λ a. a.now) c.args.calls.now in
     let shaped = (walked_all s c.in_ok-walk.walk c.go_on.new.self cs c.in_ok-walk.ensures.targets (c.in_ok-walk.ensures.shapes ∙ c.shapes.ensures) (c.go_on.ensures.walked s)).1 in
     let out : c.contains.result ≡ false = search rules in
-    tasks_none s c.args.object cs c.go_on.new.self.shapes.objects shaped (sym c.contains.ensures ∙ out)
+    length_none s c.args.object cs c.go_on.new.self.shapes.objects shaped (sym c.contains.ensures ∙ out)
 
 pub of-requires-2-clause-targets : goal.of-requires-2-clause-targets
 of-requires-2-clause-targets c =
@@ -66,7 +66,7 @@ returns-clause-slice c live p =
     let one : (q : Object) → is_wanted c.want.new.self q ≡ is_same_object o q = λ q. c.in_ok-want.ensures.ok q ∙ or_nothing (is_same_object o q) (is_wanted c.new-wanted.result q) (c.new-wanted.ensures q) in
     let targets : c.slice_for.new.calls.targets ≡ targets_of (shapes_of s) cs = ap (λ (t : WalkedCalls). t.targets) c.in_ok-slice.ensures.same ∙ walked in
     ap (λ (r : Store). content_at r p) c.in_ok-complete.ensures.store ∙ (c.in_ok-store.ensures.tasks p
-    ∙ ap (λ (ts : List Task). evaluated (content_at s) ts p) (tasks_are o s cs c.slice_for.new.calls.targets (is_wanted c.want.new.self) one targets))
+    ∙ ap (λ (ts : List Element). evaluated (content_at s) ts p) (slice_is o s cs c.slice_for.new.calls.targets (is_wanted c.want.new.self) one targets))
 
 pub returns-clause-gone : goal.returns-clause-gone
 returns-clause-gone c gone =
@@ -83,5 +83,5 @@ returns-clause-evaluated c =
     let live : c.contains.result ≡ true = search rules in
     let one : (q : Object) → is_wanted c.in_ok-try_clone.field-0 q ≡ is_same_object o q =
     λ q. ap (λ (m : Marks). is_wanted m q) c.in_ok-try_clone.ensures ∙ (c.in_ok-want.ensures.ok q ∙ or_nothing (is_same_object o q) (is_wanted c.new-wanted.result q) (c.new-wanted.ensures q)) in
-    tasks_all s o cs c.go_on.new.self.shapes.objects c.in_ok-slice.slice.count walked.1 (sym c.contains.ensures ∙ live)
-    (c.in_ok-slice.ensures.slice.count ∙ ap length (tasks_are o s cs c.go_on.new.self.targets (is_wanted c.in_ok-try_clone.field-0) one walked.0))
+    length_all s o cs c.go_on.new.self.shapes.objects c.in_ok-slice.slice.count walked.1 (sym c.contains.ensures ∙ live)
+    (c.in_ok-slice.ensures.slice.count ∙ ap length (slice_is o s cs c.go_on.new.self.targets (is_wanted c.in_ok-try_clone.field-0) one walked.0))

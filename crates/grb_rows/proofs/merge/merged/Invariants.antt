@@ -6,9 +6,9 @@ use Rattle.grb_rows.proofs.merge.merged.Given as goal
 abbrev pub invariant-loop-j : goal.invariant-loop-j
 invariant-loop-j l = record {
   i : l.i ≤ length l.row.entries;
-  entries : l.new.entries ≡ so_far l.row.entries l.deleted.items l.changes.items l.i l.j;
-  row_below : RowBelow l.row.entries l.deleted.items l.changes.items l.i l.j;
-  changes_below : ChangesBelow l.row.entries l.deleted.items l.changes.items l.i l.j;
+  entries : l.new.entries ≡ so_far l.row.entries l.changes.items l.i l.j;
+  row_below : RowBelow l.row.entries l.changes.items l.i l.j;
+  changes_below : ChangesBelow l.row.entries l.changes.items l.i l.j;
   domain : l.new.domain ≡ l.row.domain;
   room : length l.changes.items - l.j ≤ l.new.room;
 }

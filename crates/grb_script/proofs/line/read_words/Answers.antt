@@ -3,7 +3,7 @@ use Rattle.std.proofs.Common.{◌≡◌, false, rules}
 use Rattle.grb_words.specs.Line.{is_section}
 use Rattle.grb_words.proofs.TupleLemmas.{now_of}
 use Rattle.grb_script.specs.Version.{says_nothing}
-use Rattle.grb_script.proofs.ScopeLemmas.{silent-IsRead, asked-IsRead, asked-IsKept}
+use Rattle.grb_script.proofs.ScopeLemmas.{silent-IsRead, commands-IsRead, commands-IsKept}
 use Rattle.grb_script.proofs.line.read_words.Goals as goal
 
 pub returns-then-is_silent-clause-read : goal.returns-then-is_silent-clause-read
@@ -15,11 +15,11 @@ returns-clause-read c =
     let words = now_of c.args.words.now in
     let stays : says_nothing c.args.scope.now.version words ≡ false = search rules in
     let begins : is_section words ≡ false = search rules in
-    asked-IsRead c.args.scope.now words c.version_by-version.result c.version_by-version.ensures stays begins c.in_ok-command.command c.read_command.new.names c.requires.kept c.in_ok-command.ensures.read
+    commands-IsRead c.args.scope.now words c.version_by-version.result c.version_by-version.ensures stays begins c.in_ok-command.command c.read_command.new.names c.requires.kept c.in_ok-command.ensures.read
 
 pub returns-clause-kept : goal.returns-clause-kept
 returns-clause-kept c =
     let words = now_of c.args.words.now in
     let stays : says_nothing c.args.scope.now.version words ≡ false = search rules in
     let begins : is_section words ≡ false = search rules in
-    asked-IsKept c.args.scope.now words c.version_by-version.result c.version_by-version.ensures stays begins c.in_ok-command.command c.read_command.new.names c.requires.kept c.in_ok-command.ensures.read
+    commands-IsKept c.args.scope.now words c.version_by-version.result c.version_by-version.ensures stays begins c.in_ok-command.command c.read_command.new.names c.requires.kept c.in_ok-command.ensures.read

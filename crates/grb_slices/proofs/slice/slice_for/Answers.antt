@@ -6,8 +6,8 @@ use Rattle.std.proofs.lemmas.List.{get_or-drop}
 use Rattle.grb_call.specs.declared.call.Call.{Call}
 use Rattle.grb_call.specs.declared.ids.Object.{Object}
 use Rattle.grb_slices.specs.Slice.{entries}
-use Rattle.grb_slices.specs.Wanted.{is_chosen, is_wanted, wants_behind}
-use Rattle.grb_slices.proofs.Walked.{IsWalked, call_behind, call_there, walk_begins, walk_goes, walk_count}
+use Rattle.grb_slices.specs.Wanted.{is_chosen, is_wanted, wants_before_entry}
+use Rattle.grb_slices.proofs.Walked.{IsWalked, call_in_rest, call_there, walk_begins, walk_goes, walk_count}
 use Rattle.grb_slices.proofs.slice.slice_for.Goals as goal
 
 pub back-init : goal.back-init
@@ -17,7 +17,7 @@ back-init g c =
     let end = length c.targets-at.result.now in
     let n : end ≡ length all = ap length c.targets-at.ensures ∙ c.requires.targets in
     let count : length c.in_ok-chosen.chosen.items ≡ end - from = search rules in
-    let behind : length cs ≡ end - from = length-drop from all ∙ ap (λ m. m - from) (sym n) in
+    let rest : length cs ≡ end - from = length-drop from all ∙ ap (λ m. m - from) (sym n) in
     let same : length ts ≡ length cs = length-drop from (g.C.CallList.target_list c.args.calls.now) ∙ (ap (λ m. m - from) c.requires.targets ∙ sym (length-drop from all)) in
     record {
       same = refl;
@@ -25,8 +25,8 @@ back-init g c =
       within = omega (arith, n);
       size = omega (arith, count, n, c.requires.from);
       few = omega (arith, n);
-      walked = subst (λ m. IsWalked (is_wanted c.args.wanted) (entries ts cs) m c.in_ok-chosen.chosen.items 0 (is_wanted c.args.wanted)) behind
-          (walk_begins (is_wanted c.args.wanted) (is_wanted c.args.wanted) ts cs c.in_ok-chosen.chosen.items same (count ∙ sym behind) (λ p. refl));
+      walked = subst (λ m. IsWalked (is_wanted c.args.wanted) (entries ts cs) m c.in_ok-chosen.chosen.items 0 (is_wanted c.args.wanted)) rest
+          (walk_begins (is_wanted c.args.wanted) (is_wanted c.args.wanted) ts cs c.in_ok-chosen.chosen.items same (count ∙ sym rest) (λ p. refl));
     }
 
 pub back-preserved : goal.back-preserved
@@ -53,8 +53,8 @@ back-preserved g c =
       walked = subst (λ n. IsWalked (is_wanted c.args.wanted) (entries ts cs) k (set c.back.chosen.items k c.in_ok-is_chosen.is_chosen) n (is_wanted c.go_back_at.new.wanted)) (sym c.counted-count.ensures)
           (walk_goes (is_wanted c.args.wanted) (is_wanted c.back.wanted) (is_wanted c.go_back_at.new.wanted) ts cs k call c.back.chosen.items c.back.count c.in_ok-is_chosen.is_chosen
           same (omega (arith, size, near, c.back-test.true)) (omega (arith, c.back.invariant.size, size, c.back.invariant.begun))
-          (call_behind all from place call (omega (arith, c.back-test.true)) there.1)
+          (call_in_rest all from place call (omega (arith, c.back-test.true)) there.1)
           (subst (λ n. IsWalked (is_wanted c.args.wanted) (entries ts cs) n c.back.chosen.items c.back.count (is_wanted c.back.wanted)) (omega (arith, c.back-test.true)) c.back.invariant.walked)
           (subst (λ t. c.in_ok-is_chosen.is_chosen ≡ is_chosen (is_wanted c.back.wanted) t) (sym target) c.in_ok-is_chosen.ensures.chosen)
-          (λ p. subst (λ t. is_wanted c.go_back_at.new.wanted p ≡ wants_behind (is_wanted c.back.wanted) t call p) (sym target) (c.in_ok-is_chosen.ensures.wanted call lent p)));
+          (λ p. subst (λ t. is_wanted c.go_back_at.new.wanted p ≡ wants_before_entry (is_wanted c.back.wanted) t call p) (sym target) (c.in_ok-is_chosen.ensures.wanted call lent p)));
     }

@@ -17,15 +17,15 @@ lent_mask-inside-requires c =
     let tests = add_matrix-tests (stored ms vs) c.args.c f.mask f.accum f.op f.a f.b f.d of.accepted in
     matrix_mask-there ms vs c.args.c f.mask f.accum f.op f.a f.b tests
 
-pub lent-first-requires : goal.lent-first-requires
-lent-first-requires c =
+pub lent-a-requires : goal.lent-a-requires
+lent-a-requires c =
     let f = c.in-EwiseAddMatrix in let ms = c.args.objects.now.matrices.items in let vs = c.args.objects.now.vectors.items in
     let of = matrix_call ms vs c.args.call.now c.requires.accepted c.requires.assembled (λ x. call.EwiseAddMatrix x f.mask f.accum f.op f.a f.b f.d) f.c c.args.c f.is refl c.requires.output in
     let tests = add_matrix-tests (stored ms vs) c.args.c f.mask f.accum f.op f.a f.b f.d of.accepted in
     matrix_first-there ms vs c.args.c f.mask f.accum f.op f.a f.b tests
 
-pub lent-second-requires : goal.lent-second-requires
-lent-second-requires c =
+pub lent-b-requires : goal.lent-b-requires
+lent-b-requires c =
     let f = c.in-EwiseAddMatrix in let ms = c.args.objects.now.matrices.items in let vs = c.args.objects.now.vectors.items in
     let of = matrix_call ms vs c.args.call.now c.requires.accepted c.requires.assembled (λ x. call.EwiseAddMatrix x f.mask f.accum f.op f.a f.b f.d) f.c c.args.c f.is refl c.requires.output in
     let tests = add_matrix-tests (stored ms vs) c.args.c f.mask f.accum f.op f.a f.b f.d of.accepted in
@@ -50,14 +50,14 @@ ewise_add_matrix-requires-clause-a c =
     let f = c.in-EwiseAddMatrix in let ms = c.args.objects.now.matrices.items in let vs = c.args.objects.now.vectors.items in
     let of = matrix_call ms vs c.args.call.now c.requires.accepted c.requires.assembled (λ x. call.EwiseAddMatrix x f.mask f.accum f.op f.a f.b f.d) f.c c.args.c f.is refl c.requires.output in
     let tests = add_matrix-tests (stored ms vs) c.args.c f.mask f.accum f.op f.a f.b f.d of.accepted in
-    ewise_matrix_first ms vs c.args.c f.mask f.accum f.op f.a f.b tests of.assembled c.lent-output.result.now c.lent-output.ensures c.lent-first.result.now c.lent-first.ensures
+    ewise_matrix_first ms vs c.args.c f.mask f.accum f.op f.a f.b tests of.assembled c.lent-output.result.now c.lent-output.ensures c.lent-a.result.now c.lent-a.ensures
 
 pub ewise_add_matrix-requires-clause-b : goal.ewise_add_matrix-requires-clause-b
 ewise_add_matrix-requires-clause-b c =
     let f = c.in-EwiseAddMatrix in let ms = c.args.objects.now.matrices.items in let vs = c.args.objects.now.vectors.items in
     let of = matrix_call ms vs c.args.call.now c.requires.accepted c.requires.assembled (λ x. call.EwiseAddMatrix x f.mask f.accum f.op f.a f.b f.d) f.c c.args.c f.is refl c.requires.output in
     let tests = add_matrix-tests (stored ms vs) c.args.c f.mask f.accum f.op f.a f.b f.d of.accepted in
-    ewise_matrix_second ms vs c.args.c f.mask f.accum f.op f.a f.b tests of.assembled c.lent-output.result.now c.lent-output.ensures c.lent-second.result.now c.lent-second.ensures
+    ewise_matrix_second ms vs c.args.c f.mask f.accum f.op f.a f.b tests of.assembled c.lent-output.result.now c.lent-output.ensures c.lent-b.result.now c.lent-b.ensures
 
 pub returns-in-EwiseAddMatrix : goal.returns-in-EwiseAddMatrix
 returns-in-EwiseAddMatrix c =
@@ -65,7 +65,7 @@ returns-in-EwiseAddMatrix c =
     let of = matrix_call ms vs c.args.call.now c.requires.accepted c.requires.assembled (λ x. call.EwiseAddMatrix x f.mask f.accum f.op f.a f.b f.d) f.c c.args.c f.is refl c.requires.output in
     let same_mask = lent_matrix_entries ms vs (λ m. m.now) f.mask c.lent_mask-inside.result c.lent_mask-inside.ensures in
     if_ok _ _ c.ewise_add_matrix.result (λ made is. matrix_left_as (stored ms vs) c.args.call.now _ of.is c.args.c (Some made.matrix) (add_matrix-left ms vs c.args.c f.mask f.accum f.op f.a f.b f.d
-    c.lent-output.result.now c.lent-first.result.now c.lent-second.result.now c.lent-output.ensures c.lent-first.ensures c.lent-second.ensures _ same_mask made.matrix is)) c.ewise_add_matrix.ensures.matrix
+    c.lent-output.result.now c.lent-a.result.now c.lent-b.result.now c.lent-output.ensures c.lent-a.ensures c.lent-b.ensures _ same_mask made.matrix is)) c.ewise_add_matrix.ensures.matrix
 
 pub lent_mask-inside-requires-in-EwiseMultMatrix : goal.lent_mask-inside-requires-in-EwiseMultMatrix
 lent_mask-inside-requires-in-EwiseMultMatrix c =
@@ -74,15 +74,15 @@ lent_mask-inside-requires-in-EwiseMultMatrix c =
     let tests = mult_matrix-tests (stored ms vs) c.args.c f.mask f.accum f.op f.a f.b f.d of.accepted in
     matrix_mask-there ms vs c.args.c f.mask f.accum f.op f.a f.b tests
 
-pub lent-first-requires-in-EwiseMultMatrix : goal.lent-first-requires-in-EwiseMultMatrix
-lent-first-requires-in-EwiseMultMatrix c =
+pub lent-a-requires-in-EwiseMultMatrix : goal.lent-a-requires-in-EwiseMultMatrix
+lent-a-requires-in-EwiseMultMatrix c =
     let f = c.in-EwiseMultMatrix in let ms = c.args.objects.now.matrices.items in let vs = c.args.objects.now.vectors.items in
     let of = matrix_call ms vs c.args.call.now c.requires.accepted c.requires.assembled (λ x. call.EwiseMultMatrix x f.mask f.accum f.op f.a f.b f.d) f.c c.args.c f.is refl c.requires.output in
     let tests = mult_matrix-tests (stored ms vs) c.args.c f.mask f.accum f.op f.a f.b f.d of.accepted in
     matrix_first-there ms vs c.args.c f.mask f.accum f.op f.a f.b tests
 
-pub lent-second-requires-in-EwiseMultMatrix : goal.lent-second-requires-in-EwiseMultMatrix
-lent-second-requires-in-EwiseMultMatrix c =
+pub lent-b-requires-in-EwiseMultMatrix : goal.lent-b-requires-in-EwiseMultMatrix
+lent-b-requires-in-EwiseMultMatrix c =
     let f = c.in-EwiseMultMatrix in let ms = c.args.objects.now.matrices.items in let vs = c.args.objects.now.vectors.items in
     let of = matrix_call ms vs c.args.call.now c.requires.accepted c.requires.assembled (λ x. call.EwiseMultMatrix x f.mask f.accum f.op f.a f.b f.d) f.c c.args.c f.is refl c.requires.output in
     let tests = mult_matrix-tests (stored ms vs) c.args.c f.mask f.accum f.op f.a f.b f.d of.accepted in
@@ -107,14 +107,14 @@ ewise_mult_matrix-requires-clause-a c =
     let f = c.in-EwiseMultMatrix in let ms = c.args.objects.now.matrices.items in let vs = c.args.objects.now.vectors.items in
     let of = matrix_call ms vs c.args.call.now c.requires.accepted c.requires.assembled (λ x. call.EwiseMultMatrix x f.mask f.accum f.op f.a f.b f.d) f.c c.args.c f.is refl c.requires.output in
     let tests = mult_matrix-tests (stored ms vs) c.args.c f.mask f.accum f.op f.a f.b f.d of.accepted in
-    ewise_matrix_first ms vs c.args.c f.mask f.accum f.op f.a f.b tests of.assembled c.lent-output.result.now c.lent-output.ensures c.lent-first-in-EwiseMultMatrix.result.now c.lent-first-in-EwiseMultMatrix.ensures
+    ewise_matrix_first ms vs c.args.c f.mask f.accum f.op f.a f.b tests of.assembled c.lent-output.result.now c.lent-output.ensures c.lent-a-in-EwiseMultMatrix.result.now c.lent-a-in-EwiseMultMatrix.ensures
 
 pub ewise_mult_matrix-requires-clause-b : goal.ewise_mult_matrix-requires-clause-b
 ewise_mult_matrix-requires-clause-b c =
     let f = c.in-EwiseMultMatrix in let ms = c.args.objects.now.matrices.items in let vs = c.args.objects.now.vectors.items in
     let of = matrix_call ms vs c.args.call.now c.requires.accepted c.requires.assembled (λ x. call.EwiseMultMatrix x f.mask f.accum f.op f.a f.b f.d) f.c c.args.c f.is refl c.requires.output in
     let tests = mult_matrix-tests (stored ms vs) c.args.c f.mask f.accum f.op f.a f.b f.d of.accepted in
-    ewise_matrix_second ms vs c.args.c f.mask f.accum f.op f.a f.b tests of.assembled c.lent-output.result.now c.lent-output.ensures c.lent-second-in-EwiseMultMatrix.result.now c.lent-second-in-EwiseMultMatrix.ensures
+    ewise_matrix_second ms vs c.args.c f.mask f.accum f.op f.a f.b tests of.assembled c.lent-output.result.now c.lent-output.ensures c.lent-b-in-EwiseMultMatrix.result.now c.lent-b-in-EwiseMultMatrix.ensures
 
 pub returns-in-EwiseMultMatrix : goal.returns-in-EwiseMultMatrix
 returns-in-EwiseMultMatrix c =
@@ -122,7 +122,7 @@ returns-in-EwiseMultMatrix c =
     let of = matrix_call ms vs c.args.call.now c.requires.accepted c.requires.assembled (λ x. call.EwiseMultMatrix x f.mask f.accum f.op f.a f.b f.d) f.c c.args.c f.is refl c.requires.output in
     let same_mask = lent_matrix_entries ms vs (λ m. m.now) f.mask c.lent_mask-inside-in-EwiseMultMatrix.result c.lent_mask-inside-in-EwiseMultMatrix.ensures in
     if_ok _ _ c.ewise_mult_matrix.result (λ made is. matrix_left_as (stored ms vs) c.args.call.now _ of.is c.args.c (Some made.matrix) (mult_matrix-left ms vs c.args.c f.mask f.accum f.op f.a f.b f.d
-    c.lent-output.result.now c.lent-first-in-EwiseMultMatrix.result.now c.lent-second-in-EwiseMultMatrix.result.now c.lent-output.ensures c.lent-first-in-EwiseMultMatrix.ensures c.lent-second-in-EwiseMultMatrix.ensures _ same_mask made.matrix is)) c.ewise_mult_matrix.ensures.matrix
+    c.lent-output.result.now c.lent-a-in-EwiseMultMatrix.result.now c.lent-b-in-EwiseMultMatrix.result.now c.lent-output.ensures c.lent-a-in-EwiseMultMatrix.ensures c.lent-b-in-EwiseMultMatrix.ensures _ same_mask made.matrix is)) c.ewise_mult_matrix.ensures.matrix
 
 pub lent_mask-inside-requires-in-Mxm : goal.lent_mask-inside-requires-in-Mxm
 lent_mask-inside-requires-in-Mxm c =
@@ -130,14 +130,14 @@ lent_mask-inside-requires-in-Mxm c =
     let of = matrix_call ms vs c.args.call.now c.requires.accepted c.requires.assembled (λ x. call.Mxm x f.mask f.accum f.semiring f.a f.b f.d) f.c c.args.c f.is refl c.requires.output in
     mxm_mask-there ms vs c.args.c f.mask f.accum f.semiring f.a f.b f.d of.accepted
 
-pub lent-first-requires-in-Mxm : goal.lent-first-requires-in-Mxm
-lent-first-requires-in-Mxm c =
+pub lent-a-requires-in-Mxm : goal.lent-a-requires-in-Mxm
+lent-a-requires-in-Mxm c =
     let f = c.in-Mxm in let ms = c.args.objects.now.matrices.items in let vs = c.args.objects.now.vectors.items in
     let of = matrix_call ms vs c.args.call.now c.requires.accepted c.requires.assembled (λ x. call.Mxm x f.mask f.accum f.semiring f.a f.b f.d) f.c c.args.c f.is refl c.requires.output in
     mxm_first-there ms vs c.args.c f.mask f.accum f.semiring f.a f.b f.d of.accepted
 
-pub lent-second-requires-in-Mxm : goal.lent-second-requires-in-Mxm
-lent-second-requires-in-Mxm c =
+pub lent-b-requires-in-Mxm : goal.lent-b-requires-in-Mxm
+lent-b-requires-in-Mxm c =
     let f = c.in-Mxm in let ms = c.args.objects.now.matrices.items in let vs = c.args.objects.now.vectors.items in
     let of = matrix_call ms vs c.args.call.now c.requires.accepted c.requires.assembled (λ x. call.Mxm x f.mask f.accum f.semiring f.a f.b f.d) f.c c.args.c f.is refl c.requires.output in
     mxm_second-there ms vs c.args.c f.mask f.accum f.semiring f.a f.b f.d of.accepted
@@ -160,8 +160,8 @@ mxm-requires-clause-a c =
     let f = c.in-Mxm in let ms = c.args.objects.now.matrices.items in let vs = c.args.objects.now.vectors.items in
     let of = matrix_call ms vs c.args.call.now c.requires.accepted c.requires.assembled (λ x. call.Mxm x f.mask f.accum f.semiring f.a f.b f.d) f.c c.args.c f.is refl c.requires.output in
     let are = mxm_are ms vs c.args.c f.mask f.accum f.semiring f.a f.b f.d of.accepted c.lent-output.result.now c.lent-output.ensures in
-    let second = matrix_input ms vs f.b c.lent-second-in-Mxm.result.now c.lent-second-in-Mxm.ensures _ _ _ are.second of.assembled.1.1.0 in
-    let first = turned_input ms vs f.a c.lent-first-in-Mxm.result.now c.lent-first-in-Mxm.ensures f.d.tran _ _ _ are.first of.assembled.1.0 in
+    let second = matrix_input ms vs f.b c.lent-b-in-Mxm.result.now c.lent-b-in-Mxm.ensures _ _ _ are.second of.assembled.1.1.0 in
+    let first = turned_input ms vs f.a c.lent-a-in-Mxm.result.now c.lent-a-in-Mxm.ensures f.d.tran _ _ _ are.first of.assembled.1.0 in
     record { assembled = first.assembled; domain = first.domain; rows = first.rows; columns = first.columns ∙ sym second.rows }
 
 pub mxm-requires-clause-b : goal.mxm-requires-clause-b
@@ -169,7 +169,7 @@ mxm-requires-clause-b c =
     let f = c.in-Mxm in let ms = c.args.objects.now.matrices.items in let vs = c.args.objects.now.vectors.items in
     let of = matrix_call ms vs c.args.call.now c.requires.accepted c.requires.assembled (λ x. call.Mxm x f.mask f.accum f.semiring f.a f.b f.d) f.c c.args.c f.is refl c.requires.output in
     let are = mxm_are ms vs c.args.c f.mask f.accum f.semiring f.a f.b f.d of.accepted c.lent-output.result.now c.lent-output.ensures in
-    let second = matrix_input ms vs f.b c.lent-second-in-Mxm.result.now c.lent-second-in-Mxm.ensures _ _ _ are.second of.assembled.1.1.0 in
+    let second = matrix_input ms vs f.b c.lent-b-in-Mxm.result.now c.lent-b-in-Mxm.ensures _ _ _ are.second of.assembled.1.1.0 in
     record { assembled = second.assembled; domain = second.domain; rows = refl; columns = second.columns }
 
 pub returns-in-Mxm : goal.returns-in-Mxm
@@ -178,4 +178,4 @@ returns-in-Mxm c =
     let of = matrix_call ms vs c.args.call.now c.requires.accepted c.requires.assembled (λ x. call.Mxm x f.mask f.accum f.semiring f.a f.b f.d) f.c c.args.c f.is refl c.requires.output in
     let same_mask = lent_matrix_entries ms vs (λ m. m.now) f.mask c.lent_mask-inside-in-Mxm.result c.lent_mask-inside-in-Mxm.ensures in
     if_ok _ _ c.mxm.result (λ made is. matrix_left_as (stored ms vs) c.args.call.now _ of.is c.args.c (Some made.matrix) (mxm-left ms vs c.args.c f.mask f.accum f.semiring f.a f.b f.d of.accepted
-    c.lent-output.result.now c.lent-first-in-Mxm.result.now c.lent-second-in-Mxm.result.now c.lent-output.ensures c.lent-first-in-Mxm.ensures c.lent-second-in-Mxm.ensures _ same_mask made.matrix is)) c.mxm.ensures.matrix
+    c.lent-output.result.now c.lent-a-in-Mxm.result.now c.lent-b-in-Mxm.result.now c.lent-output.ensures c.lent-a-in-Mxm.ensures c.lent-b-in-Mxm.ensures _ same_mask made.matrix is)) c.mxm.ensures.matrix

@@ -17,15 +17,15 @@ lent_mask-inside-requires c =
     let tests = add_vector-tests (stored ms vs) c.args.w f.mask f.accum f.op f.u f.v f.d of.accepted in
     vector_mask-there ms vs c.args.w f.mask f.accum f.op f.u f.v tests
 
-pub lent-first-requires : goal.lent-first-requires
-lent-first-requires c =
+pub lent-u-requires : goal.lent-u-requires
+lent-u-requires c =
     let f = c.in-EwiseAddVector in let ms = c.args.objects.now.matrices.items in let vs = c.args.objects.now.vectors.items in
     let of = vector_call ms vs c.args.call.now c.requires.accepted c.requires.assembled (λ x. call.EwiseAddVector x f.mask f.accum f.op f.u f.v f.d) f.w c.args.w f.is refl c.requires.output in
     let tests = add_vector-tests (stored ms vs) c.args.w f.mask f.accum f.op f.u f.v f.d of.accepted in
     vector_first-there ms vs c.args.w f.mask f.accum f.op f.u f.v tests
 
-pub lent-second-requires : goal.lent-second-requires
-lent-second-requires c =
+pub lent-v-requires : goal.lent-v-requires
+lent-v-requires c =
     let f = c.in-EwiseAddVector in let ms = c.args.objects.now.matrices.items in let vs = c.args.objects.now.vectors.items in
     let of = vector_call ms vs c.args.call.now c.requires.accepted c.requires.assembled (λ x. call.EwiseAddVector x f.mask f.accum f.op f.u f.v f.d) f.w c.args.w f.is refl c.requires.output in
     let tests = add_vector-tests (stored ms vs) c.args.w f.mask f.accum f.op f.u f.v f.d of.accepted in
@@ -50,14 +50,14 @@ ewise_add_vector-requires-clause-u c =
     let f = c.in-EwiseAddVector in let ms = c.args.objects.now.matrices.items in let vs = c.args.objects.now.vectors.items in
     let of = vector_call ms vs c.args.call.now c.requires.accepted c.requires.assembled (λ x. call.EwiseAddVector x f.mask f.accum f.op f.u f.v f.d) f.w c.args.w f.is refl c.requires.output in
     let tests = add_vector-tests (stored ms vs) c.args.w f.mask f.accum f.op f.u f.v f.d of.accepted in
-    ewise_vector_first ms vs c.args.w f.mask f.accum f.op f.u f.v tests of.assembled c.lent-output.result.now c.lent-output.ensures c.lent-first.result.now c.lent-first.ensures
+    ewise_vector_first ms vs c.args.w f.mask f.accum f.op f.u f.v tests of.assembled c.lent-output.result.now c.lent-output.ensures c.lent-u.result.now c.lent-u.ensures
 
 pub ewise_add_vector-requires-clause-v : goal.ewise_add_vector-requires-clause-v
 ewise_add_vector-requires-clause-v c =
     let f = c.in-EwiseAddVector in let ms = c.args.objects.now.matrices.items in let vs = c.args.objects.now.vectors.items in
     let of = vector_call ms vs c.args.call.now c.requires.accepted c.requires.assembled (λ x. call.EwiseAddVector x f.mask f.accum f.op f.u f.v f.d) f.w c.args.w f.is refl c.requires.output in
     let tests = add_vector-tests (stored ms vs) c.args.w f.mask f.accum f.op f.u f.v f.d of.accepted in
-    ewise_vector_second ms vs c.args.w f.mask f.accum f.op f.u f.v tests of.assembled c.lent-output.result.now c.lent-output.ensures c.lent-second.result.now c.lent-second.ensures
+    ewise_vector_second ms vs c.args.w f.mask f.accum f.op f.u f.v tests of.assembled c.lent-output.result.now c.lent-output.ensures c.lent-v.result.now c.lent-v.ensures
 
 pub returns-in-EwiseAddVector : goal.returns-in-EwiseAddVector
 returns-in-EwiseAddVector c =
@@ -65,7 +65,7 @@ returns-in-EwiseAddVector c =
     let of = vector_call ms vs c.args.call.now c.requires.accepted c.requires.assembled (λ x. call.EwiseAddVector x f.mask f.accum f.op f.u f.v f.d) f.w c.args.w f.is refl c.requires.output in
     let same_mask = lent_vector_entries ms vs (λ m. m.now) f.mask c.lent_mask-inside.result c.lent_mask-inside.ensures in
     if_ok _ _ c.ewise_add_vector.result (λ made is. vector_left_as (stored ms vs) c.args.call.now _ of.is c.args.w (Some made.vector) (add_vector-left ms vs c.args.w f.mask f.accum f.op f.u f.v f.d
-    c.lent-output.result.now c.lent-first.result.now c.lent-second.result.now c.lent-output.ensures c.lent-first.ensures c.lent-second.ensures _ same_mask made.vector is)) c.ewise_add_vector.ensures.vector
+    c.lent-output.result.now c.lent-u.result.now c.lent-v.result.now c.lent-output.ensures c.lent-u.ensures c.lent-v.ensures _ same_mask made.vector is)) c.ewise_add_vector.ensures.vector
 
 pub lent_mask-inside-requires-in-EwiseMultVector : goal.lent_mask-inside-requires-in-EwiseMultVector
 lent_mask-inside-requires-in-EwiseMultVector c =
@@ -74,15 +74,15 @@ lent_mask-inside-requires-in-EwiseMultVector c =
     let tests = mult_vector-tests (stored ms vs) c.args.w f.mask f.accum f.op f.u f.v f.d of.accepted in
     vector_mask-there ms vs c.args.w f.mask f.accum f.op f.u f.v tests
 
-pub lent-first-requires-in-EwiseMultVector : goal.lent-first-requires-in-EwiseMultVector
-lent-first-requires-in-EwiseMultVector c =
+pub lent-u-requires-in-EwiseMultVector : goal.lent-u-requires-in-EwiseMultVector
+lent-u-requires-in-EwiseMultVector c =
     let f = c.in-EwiseMultVector in let ms = c.args.objects.now.matrices.items in let vs = c.args.objects.now.vectors.items in
     let of = vector_call ms vs c.args.call.now c.requires.accepted c.requires.assembled (λ x. call.EwiseMultVector x f.mask f.accum f.op f.u f.v f.d) f.w c.args.w f.is refl c.requires.output in
     let tests = mult_vector-tests (stored ms vs) c.args.w f.mask f.accum f.op f.u f.v f.d of.accepted in
     vector_first-there ms vs c.args.w f.mask f.accum f.op f.u f.v tests
 
-pub lent-second-requires-in-EwiseMultVector : goal.lent-second-requires-in-EwiseMultVector
-lent-second-requires-in-EwiseMultVector c =
+pub lent-v-requires-in-EwiseMultVector : goal.lent-v-requires-in-EwiseMultVector
+lent-v-requires-in-EwiseMultVector c =
     let f = c.in-EwiseMultVector in let ms = c.args.objects.now.matrices.items in let vs = c.args.objects.now.vectors.items in
     let of = vector_call ms vs c.args.call.now c.requires.accepted c.requires.assembled (λ x. call.EwiseMultVector x f.mask f.accum f.op f.u f.v f.d) f.w c.args.w f.is refl c.requires.output in
     let tests = mult_vector-tests (stored ms vs) c.args.w f.mask f.accum f.op f.u f.v f.d of.accepted in
@@ -107,14 +107,14 @@ ewise_mult_vector-requires-clause-u c =
     let f = c.in-EwiseMultVector in let ms = c.args.objects.now.matrices.items in let vs = c.args.objects.now.vectors.items in
     let of = vector_call ms vs c.args.call.now c.requires.accepted c.requires.assembled (λ x. call.EwiseMultVector x f.mask f.accum f.op f.u f.v f.d) f.w c.args.w f.is refl c.requires.output in
     let tests = mult_vector-tests (stored ms vs) c.args.w f.mask f.accum f.op f.u f.v f.d of.accepted in
-    ewise_vector_first ms vs c.args.w f.mask f.accum f.op f.u f.v tests of.assembled c.lent-output.result.now c.lent-output.ensures c.lent-first-in-EwiseMultVector.result.now c.lent-first-in-EwiseMultVector.ensures
+    ewise_vector_first ms vs c.args.w f.mask f.accum f.op f.u f.v tests of.assembled c.lent-output.result.now c.lent-output.ensures c.lent-u-in-EwiseMultVector.result.now c.lent-u-in-EwiseMultVector.ensures
 
 pub ewise_mult_vector-requires-clause-v : goal.ewise_mult_vector-requires-clause-v
 ewise_mult_vector-requires-clause-v c =
     let f = c.in-EwiseMultVector in let ms = c.args.objects.now.matrices.items in let vs = c.args.objects.now.vectors.items in
     let of = vector_call ms vs c.args.call.now c.requires.accepted c.requires.assembled (λ x. call.EwiseMultVector x f.mask f.accum f.op f.u f.v f.d) f.w c.args.w f.is refl c.requires.output in
     let tests = mult_vector-tests (stored ms vs) c.args.w f.mask f.accum f.op f.u f.v f.d of.accepted in
-    ewise_vector_second ms vs c.args.w f.mask f.accum f.op f.u f.v tests of.assembled c.lent-output.result.now c.lent-output.ensures c.lent-second-in-EwiseMultVector.result.now c.lent-second-in-EwiseMultVector.ensures
+    ewise_vector_second ms vs c.args.w f.mask f.accum f.op f.u f.v tests of.assembled c.lent-output.result.now c.lent-output.ensures c.lent-v-in-EwiseMultVector.result.now c.lent-v-in-EwiseMultVector.ensures
 
 pub returns-in-EwiseMultVector : goal.returns-in-EwiseMultVector
 returns-in-EwiseMultVector c =
@@ -122,7 +122,7 @@ returns-in-EwiseMultVector c =
     let of = vector_call ms vs c.args.call.now c.requires.accepted c.requires.assembled (λ x. call.EwiseMultVector x f.mask f.accum f.op f.u f.v f.d) f.w c.args.w f.is refl c.requires.output in
     let same_mask = lent_vector_entries ms vs (λ m. m.now) f.mask c.lent_mask-inside-in-EwiseMultVector.result c.lent_mask-inside-in-EwiseMultVector.ensures in
     if_ok _ _ c.ewise_mult_vector.result (λ made is. vector_left_as (stored ms vs) c.args.call.now _ of.is c.args.w (Some made.vector) (mult_vector-left ms vs c.args.w f.mask f.accum f.op f.u f.v f.d
-    c.lent-output.result.now c.lent-first-in-EwiseMultVector.result.now c.lent-second-in-EwiseMultVector.result.now c.lent-output.ensures c.lent-first-in-EwiseMultVector.ensures c.lent-second-in-EwiseMultVector.ensures _ same_mask made.vector is)) c.ewise_mult_vector.ensures.vector
+    c.lent-output.result.now c.lent-u-in-EwiseMultVector.result.now c.lent-v-in-EwiseMultVector.result.now c.lent-output.ensures c.lent-u-in-EwiseMultVector.ensures c.lent-v-in-EwiseMultVector.ensures _ same_mask made.vector is)) c.ewise_mult_vector.ensures.vector
 
 pub lent_mask-inside-requires-in-Mxv : goal.lent_mask-inside-requires-in-Mxv
 lent_mask-inside-requires-in-Mxv c =
@@ -130,14 +130,14 @@ lent_mask-inside-requires-in-Mxv c =
     let of = vector_call ms vs c.args.call.now c.requires.accepted c.requires.assembled (λ x. call.Mxv x f.mask f.accum f.semiring f.a f.u f.d) f.w c.args.w f.is refl c.requires.output in
     mxv_mask-there ms vs c.args.w f.mask f.accum f.semiring f.a f.u f.d of.accepted
 
-pub lent-matrix-requires : goal.lent-matrix-requires
-lent-matrix-requires c =
+pub lent-a-requires : goal.lent-a-requires
+lent-a-requires c =
     let f = c.in-Mxv in let ms = c.args.objects.now.matrices.items in let vs = c.args.objects.now.vectors.items in
     let of = vector_call ms vs c.args.call.now c.requires.accepted c.requires.assembled (λ x. call.Mxv x f.mask f.accum f.semiring f.a f.u f.d) f.w c.args.w f.is refl c.requires.output in
     mxv_matrix-there ms vs c.args.w f.mask f.accum f.semiring f.a f.u f.d of.accepted
 
-pub lent-vector-requires : goal.lent-vector-requires
-lent-vector-requires c =
+pub lent-u-requires-in-Mxv : goal.lent-u-requires-in-Mxv
+lent-u-requires-in-Mxv c =
     let f = c.in-Mxv in let ms = c.args.objects.now.matrices.items in let vs = c.args.objects.now.vectors.items in
     let of = vector_call ms vs c.args.call.now c.requires.accepted c.requires.assembled (λ x. call.Mxv x f.mask f.accum f.semiring f.a f.u f.d) f.w c.args.w f.is refl c.requires.output in
     mxv_vector-there ms vs c.args.w f.mask f.accum f.semiring f.a f.u f.d of.accepted
@@ -160,8 +160,8 @@ mxv-requires-clause-a c =
     let f = c.in-Mxv in let ms = c.args.objects.now.matrices.items in let vs = c.args.objects.now.vectors.items in
     let of = vector_call ms vs c.args.call.now c.requires.accepted c.requires.assembled (λ x. call.Mxv x f.mask f.accum f.semiring f.a f.u f.d) f.w c.args.w f.is refl c.requires.output in
     let are = mxv_are ms vs c.args.w f.mask f.accum f.semiring f.a f.u f.d of.accepted c.lent-output.result.now c.lent-output.ensures in
-    let second = vector_input ms vs f.u c.lent-vector.result.now c.lent-vector.ensures _ _ are.vector of.assembled.1.1.0 in
-    let first = turned_input ms vs f.a c.lent-matrix.result.now c.lent-matrix.ensures f.d.tran _ _ _ are.matrix of.assembled.1.0 in
+    let second = vector_input ms vs f.u c.lent-u-in-Mxv.result.now c.lent-u-in-Mxv.ensures _ _ are.vector of.assembled.1.1.0 in
+    let first = turned_input ms vs f.a c.lent-a.result.now c.lent-a.ensures f.d.tran _ _ _ are.matrix of.assembled.1.0 in
     record { assembled = first.assembled; domain = first.domain; rows = first.rows; columns = first.columns ∙ sym second.same_size }
 
 pub mxv-requires-clause-u : goal.mxv-requires-clause-u
@@ -169,7 +169,7 @@ mxv-requires-clause-u c =
     let f = c.in-Mxv in let ms = c.args.objects.now.matrices.items in let vs = c.args.objects.now.vectors.items in
     let of = vector_call ms vs c.args.call.now c.requires.accepted c.requires.assembled (λ x. call.Mxv x f.mask f.accum f.semiring f.a f.u f.d) f.w c.args.w f.is refl c.requires.output in
     let are = mxv_are ms vs c.args.w f.mask f.accum f.semiring f.a f.u f.d of.accepted c.lent-output.result.now c.lent-output.ensures in
-    let second = vector_input ms vs f.u c.lent-vector.result.now c.lent-vector.ensures _ _ are.vector of.assembled.1.1.0 in
+    let second = vector_input ms vs f.u c.lent-u-in-Mxv.result.now c.lent-u-in-Mxv.ensures _ _ are.vector of.assembled.1.1.0 in
     record { assembled = second.assembled; domain = second.domain; same_size = refl }
 
 pub returns-in-Mxv : goal.returns-in-Mxv
@@ -178,7 +178,7 @@ returns-in-Mxv c =
     let of = vector_call ms vs c.args.call.now c.requires.accepted c.requires.assembled (λ x. call.Mxv x f.mask f.accum f.semiring f.a f.u f.d) f.w c.args.w f.is refl c.requires.output in
     let same_mask = lent_vector_entries ms vs (λ m. m.now) f.mask c.lent_mask-inside-in-Mxv.result c.lent_mask-inside-in-Mxv.ensures in
     if_ok _ _ c.mxv.result (λ made is. vector_left_as (stored ms vs) c.args.call.now _ of.is c.args.w (Some made.vector) (mxv-left ms vs c.args.w f.mask f.accum f.d c.lent-output.result.now c.lent-output.ensures _ same_mask made.vector f.semiring f.a f.u
-    c.lent-matrix.result.now c.lent-vector.result.now c.lent-matrix.ensures c.lent-vector.ensures is)) c.mxv.ensures.vector
+    c.lent-a.result.now c.lent-u-in-Mxv.result.now c.lent-a.ensures c.lent-u-in-Mxv.ensures is)) c.mxv.ensures.vector
 
 pub lent_mask-inside-requires-in-Vxm : goal.lent_mask-inside-requires-in-Vxm
 lent_mask-inside-requires-in-Vxm c =
@@ -186,14 +186,14 @@ lent_mask-inside-requires-in-Vxm c =
     let of = vector_call ms vs c.args.call.now c.requires.accepted c.requires.assembled (λ x. call.Vxm x f.mask f.accum f.semiring f.u f.a f.d) f.w c.args.w f.is refl c.requires.output in
     vxm_mask-there ms vs c.args.w f.mask f.accum f.semiring f.u f.a f.d of.accepted
 
-pub lent-matrix-requires-in-Vxm : goal.lent-matrix-requires-in-Vxm
-lent-matrix-requires-in-Vxm c =
+pub lent-a-requires-in-Vxm : goal.lent-a-requires-in-Vxm
+lent-a-requires-in-Vxm c =
     let f = c.in-Vxm in let ms = c.args.objects.now.matrices.items in let vs = c.args.objects.now.vectors.items in
     let of = vector_call ms vs c.args.call.now c.requires.accepted c.requires.assembled (λ x. call.Vxm x f.mask f.accum f.semiring f.u f.a f.d) f.w c.args.w f.is refl c.requires.output in
     vxm_matrix-there ms vs c.args.w f.mask f.accum f.semiring f.u f.a f.d of.accepted
 
-pub lent-vector-requires-in-Vxm : goal.lent-vector-requires-in-Vxm
-lent-vector-requires-in-Vxm c =
+pub lent-u-requires-in-Vxm : goal.lent-u-requires-in-Vxm
+lent-u-requires-in-Vxm c =
     let f = c.in-Vxm in let ms = c.args.objects.now.matrices.items in let vs = c.args.objects.now.vectors.items in
     let of = vector_call ms vs c.args.call.now c.requires.accepted c.requires.assembled (λ x. call.Vxm x f.mask f.accum f.semiring f.u f.a f.d) f.w c.args.w f.is refl c.requires.output in
     vxm_vector-there ms vs c.args.w f.mask f.accum f.semiring f.u f.a f.d of.accepted
@@ -216,7 +216,7 @@ vxm-requires-clause-u c =
     let f = c.in-Vxm in let ms = c.args.objects.now.matrices.items in let vs = c.args.objects.now.vectors.items in
     let of = vector_call ms vs c.args.call.now c.requires.accepted c.requires.assembled (λ x. call.Vxm x f.mask f.accum f.semiring f.u f.a f.d) f.w c.args.w f.is refl c.requires.output in
     let are = vxm_are ms vs c.args.w f.mask f.accum f.semiring f.u f.a f.d of.accepted c.lent-output.result.now c.lent-output.ensures in
-    let first = vector_input ms vs f.u c.lent-vector-in-Vxm.result.now c.lent-vector-in-Vxm.ensures _ _ are.vector of.assembled.1.0 in
+    let first = vector_input ms vs f.u c.lent-u-in-Vxm.result.now c.lent-u-in-Vxm.ensures _ _ are.vector of.assembled.1.0 in
     record { assembled = first.assembled; domain = first.domain; same_size = refl }
 
 pub vxm-requires-clause-a : goal.vxm-requires-clause-a
@@ -224,8 +224,8 @@ vxm-requires-clause-a c =
     let f = c.in-Vxm in let ms = c.args.objects.now.matrices.items in let vs = c.args.objects.now.vectors.items in
     let of = vector_call ms vs c.args.call.now c.requires.accepted c.requires.assembled (λ x. call.Vxm x f.mask f.accum f.semiring f.u f.a f.d) f.w c.args.w f.is refl c.requires.output in
     let are = vxm_are ms vs c.args.w f.mask f.accum f.semiring f.u f.a f.d of.accepted c.lent-output.result.now c.lent-output.ensures in
-    let first = vector_input ms vs f.u c.lent-vector-in-Vxm.result.now c.lent-vector-in-Vxm.ensures _ _ are.vector of.assembled.1.0 in
-    let second = matrix_input ms vs f.a c.lent-matrix-in-Vxm.result.now c.lent-matrix-in-Vxm.ensures _ _ _ are.matrix of.assembled.1.1.0 in
+    let first = vector_input ms vs f.u c.lent-u-in-Vxm.result.now c.lent-u-in-Vxm.ensures _ _ are.vector of.assembled.1.0 in
+    let second = matrix_input ms vs f.a c.lent-a-in-Vxm.result.now c.lent-a-in-Vxm.ensures _ _ _ are.matrix of.assembled.1.1.0 in
     record { assembled = second.assembled; domain = second.domain; rows = second.rows ∙ sym first.same_size; columns = second.columns }
 
 pub returns-in-Vxm : goal.returns-in-Vxm
@@ -234,7 +234,7 @@ returns-in-Vxm c =
     let of = vector_call ms vs c.args.call.now c.requires.accepted c.requires.assembled (λ x. call.Vxm x f.mask f.accum f.semiring f.u f.a f.d) f.w c.args.w f.is refl c.requires.output in
     let same_mask = lent_vector_entries ms vs (λ m. m.now) f.mask c.lent_mask-inside-in-Vxm.result c.lent_mask-inside-in-Vxm.ensures in
     if_ok _ _ c.vxm.result (λ made is. vector_left_as (stored ms vs) c.args.call.now _ of.is c.args.w (Some made.vector) (vxm-left ms vs c.args.w f.mask f.accum f.d c.lent-output.result.now c.lent-output.ensures _ same_mask made.vector f.semiring f.u f.a
-    c.lent-vector-in-Vxm.result.now c.lent-matrix-in-Vxm.result.now c.lent-vector-in-Vxm.ensures c.lent-matrix-in-Vxm.ensures is)) c.vxm.ensures.vector
+    c.lent-u-in-Vxm.result.now c.lent-a-in-Vxm.result.now c.lent-u-in-Vxm.ensures c.lent-a-in-Vxm.ensures is)) c.vxm.ensures.vector
 
 pub lent_mask-inside-requires-in-ReduceRows : goal.lent_mask-inside-requires-in-ReduceRows
 lent_mask-inside-requires-in-ReduceRows c =
@@ -242,8 +242,8 @@ lent_mask-inside-requires-in-ReduceRows c =
     let of = vector_call ms vs c.args.call.now c.requires.accepted c.requires.assembled (λ x. call.ReduceRows x f.mask f.accum f.monoid f.a f.d) f.w c.args.w f.is refl c.requires.output in
     rows_mask-there ms vs c.args.w f.mask f.accum f.monoid f.a f.d of.accepted
 
-pub lent-matrix-requires-in-ReduceRows : goal.lent-matrix-requires-in-ReduceRows
-lent-matrix-requires-in-ReduceRows c =
+pub lent-a-requires-in-ReduceRows : goal.lent-a-requires-in-ReduceRows
+lent-a-requires-in-ReduceRows c =
     let f = c.in-ReduceRows in let ms = c.args.objects.now.matrices.items in let vs = c.args.objects.now.vectors.items in
     let of = vector_call ms vs c.args.call.now c.requires.accepted c.requires.assembled (λ x. call.ReduceRows x f.mask f.accum f.monoid f.a f.d) f.w c.args.w f.is refl c.requires.output in
     rows_matrix-there ms vs c.args.w f.mask f.accum f.monoid f.a f.d of.accepted
@@ -266,7 +266,7 @@ reduce_rows-requires-clause-a c =
     let f = c.in-ReduceRows in let ms = c.args.objects.now.matrices.items in let vs = c.args.objects.now.vectors.items in
     let of = vector_call ms vs c.args.call.now c.requires.accepted c.requires.assembled (λ x. call.ReduceRows x f.mask f.accum f.monoid f.a f.d) f.w c.args.w f.is refl c.requires.output in
     let are = rows_are ms vs c.args.w f.mask f.accum f.monoid f.a f.d of.accepted c.lent-output.result.now c.lent-output.ensures in
-    let first = turned_input ms vs f.a c.lent-matrix-in-ReduceRows.result.now c.lent-matrix-in-ReduceRows.ensures f.d.tran _ _ _ are.matrix of.assembled.1.0 in
+    let first = turned_input ms vs f.a c.lent-a-in-ReduceRows.result.now c.lent-a-in-ReduceRows.ensures f.d.tran _ _ _ are.matrix of.assembled.1.0 in
     record { assembled = first.assembled; domain = first.domain; rows = first.rows; columns = refl }
 
 pub returns-in-ReduceRows : goal.returns-in-ReduceRows
@@ -275,4 +275,4 @@ returns-in-ReduceRows c =
     let of = vector_call ms vs c.args.call.now c.requires.accepted c.requires.assembled (λ x. call.ReduceRows x f.mask f.accum f.monoid f.a f.d) f.w c.args.w f.is refl c.requires.output in
     let same_mask = lent_vector_entries ms vs (λ m. m.now) f.mask c.lent_mask-inside-in-ReduceRows.result c.lent_mask-inside-in-ReduceRows.ensures in
     if_ok _ _ c.reduce_rows.result (λ made is. vector_left_as (stored ms vs) c.args.call.now _ of.is c.args.w (Some made.vector) (rows-left ms vs c.args.w f.mask f.accum f.d c.lent-output.result.now c.lent-output.ensures _ same_mask made.vector f.monoid f.a
-    c.lent-matrix-in-ReduceRows.result.now c.lent-matrix-in-ReduceRows.ensures is)) c.reduce_rows.ensures.vector
+    c.lent-a-in-ReduceRows.result.now c.lent-a-in-ReduceRows.ensures is)) c.reduce_rows.ensures.vector

@@ -9,9 +9,9 @@ use Rattle.grb_pass.proofs.evaluated.Evaluated.matrix_in_store.Goals as goal
 
 pub returns-then-is_assembled : goal.returns-then-is_assembled
 returns-then-is_assembled c =
-    let e : EvaluatedView = c.args.self.now in let held = c.holds.ensures.held c.if-not-holds.false in
+    let e : EvaluatedView = c.args.self.now in let holds = c.if-not-holds.false in
     let state : c.state.result.now ≡ e.reached.state = c.state.ensures ∙ ap (λ (x : EvaluatedView). x.reached.state) c.self.view_is in
-    matrix_found c.args.reader.now e.reached c.requires.evaluated.store c.args.a c.in-Some.matrix.now.value held.0 held.1
+    matrix_found c.args.reader.now e.reached c.requires.evaluated.store c.args.a c.in-Some.matrix.now.value (c.holds.ensures.all holds) (c.holds.ensures.held holds)
     (c.in-Some.ensures.stored ∙ ap (λ (s : RoomyStore). matrix_at s.store c.args.a) state)
     (sym (ap (λ (m : SparseMatrixView). m.assembled) c.deref.ensures) ∙ (sym c.is_assembled.ensures ∙ c.if-is_assembled.true))
 

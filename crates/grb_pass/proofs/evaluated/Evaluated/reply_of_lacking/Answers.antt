@@ -14,8 +14,8 @@ use Rattle.grb_pass.proofs.evaluated.Evaluated.reply_of_lacking.Goals as goal
 pub returns-clause-reply : goal.returns-clause-reply
 returns-clause-reply c =
     let p = c.args.reader.now in let o = c.args.object in let call = c.args.call.now in let whole = store_of (known p) in
-    let held = c.holds.ensures.held c.if-not-holds.false in
+    let holds = c.if-not-holds.false in
     let content : content_at whole o ≡ content_at c.args.self.now.reached.state.store o =
-    held_content (calls_of (known p)) c.args.self.now.reached o c.requires.evaluated.store.at.reached held.1 (omega (arith, held.0, length-calls_of (known p))) in
+    held_content (calls_of (known p)) c.args.self.now.reached o c.requires.evaluated.store.at.reached (c.holds.ensures.held holds) (omega (arith, c.holds.ensures.all holds, length-calls_of (known p))) in
     let given : c.in_ok-reply.field-0 ≡ answer whole call = c.in_ok-reply.ensures.answer whole (content ∙ ap (λ (e : EvaluatedView). content_at e.reached.state.store o) (sym c.self.view_is)) in
-    replied whole call c.in-Ok.reply c.requires.accepted (subst (λ (r : Result Reply Refusal). r ≡ answer whole call) c.in-Ok.is given)
+    replied whole call c.in-Ok.reply c.requires.call.accepted (subst (λ (r : Result Reply Refusal). r ≡ answer whole call) c.in-Ok.is given)

@@ -1,17 +1,19 @@
-use Rattle.std.proofs.Common.{◌≡◌, ap, ◌∙◌}
+use Rattle.std.proofs.Common.{◌≡◌, ap, sym, subst, ◌∙◌}
 use Rattle.grb_call.specs.declared.call.Call.{Call}
 use Rattle.grb_call.specs.declared.reply.Reply.TheVariants.{Count}
-use Rattle.grb_call.specs.After.{refused, reply_of}
+use Rattle.grb_call.specs.After.{reply_of}
 use Rattle.grb_call.specs.History.{store_of}
 use Rattle.grb_pass.specs.Known.{known}
 use Rattle.grb_pass.specs.Reading.{count_of_output}
-use Rattle.grb_pass.proofs.Checking.{count_accepted, count_replied}
+use Rattle.grb_pass.specs.Replying.{ReadsStore}
+use Rattle.grb_pass.proofs.Checking.{count_accepted, count_reads, count_replied}
 use Rattle.grb_pass.proofs.pass.Pass.count_of_output.Goals as goal
 
-pub reply_of_entries-requires-clause-accepted : goal.reply_of_entries-requires-clause-accepted
-reply_of_entries-requires-clause-accepted c =
-    let s = store_of (known c.args.self.now) in
-    ap (λ (q : Call). refused s q) c.count_call.ensures ∙ count_accepted s c.args.call.now c.requires.build c.requires.accepted
+pub reply_of_entries-requires-clause-call : goal.reply_of_entries-requires-clause-call
+reply_of_entries-requires-clause-call c =
+    let s = store_of (known c.args.self.now) in let call = c.args.call.now in
+    let reads = count_reads call c.requires.build in
+    subst (ReadsStore s) (sym c.count_call.ensures) (record { reads = reads.0; no_size = reads.1; accepted = count_accepted s call c.requires.build c.requires.accepted })
 
 pub unreachable-requires : goal.unreachable-requires
 unreachable-requires c =

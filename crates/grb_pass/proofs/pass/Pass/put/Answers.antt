@@ -18,4 +18,4 @@ returns-clause-index c = small_put c.put.result _ c.self.inside.row.next _ c.arg
 
 pub invariant_of-self : goal.invariant_of-self
 invariant_of-self c =
-    let p = c.self.inside in record { step = c.self.invariant.step; own = own_wider p.row.next c.put.new.self.next p.reader.view c.put.ensures.behind c.self.invariant.own }
+    let p = c.self.inside in record { step = c.self.invariant.step; own = own_wider p.row.next c.put.new.self.next p.reader.view c.put.ensures.later c.self.invariant.own }

@@ -35,14 +35,14 @@ returns-in_err-check-clause-caught_up c =
 pub returns-clause-explains : goal.returns-clause-explains
 returns-clause-explains c =
     let room = room_of c.args.self.now.order in let new = c.reply.new.self in let call = c.args.call.now in
-    let is = explains_evaluated room _ c.learn.new.reader new c.in_ok-learn.field-0 call _ c.in_ok-learn.ensures.finds c.reply.ensures.same c.reply.result c.learn.ensures.learns c.requires.reads (sym c.check.ensures ∙ c.in_ok-check.was) c.reply.ensures.reply c.reply.ensures.memory c.reply.ensures.unsettled in
+    let is = explains_evaluated room _ c.learn.new.reader new c.in_ok-learn.field-0 call _ c.in_ok-learn.ensures.finds c.reply.ensures.replied.same c.reply.result c.learn.ensures.learns c.requires.reads (sym c.check.ensures ∙ c.in_ok-check.was) c.reply.ensures.replied.reply c.reply.ensures.memory c.reply.ensures.replied.unsettled in
     subst (λ (y : Knowing × Answer). ExplainsAnswer room y.0 new call y.1) (λ i. (c.pass.view_is i, sym c.or.ensures i)) is
 
 pub returns-clause-caught_up : goal.returns-clause-caught_up
 returns-clause-caught_up c =
     let room = room_of c.args.self.now.order in let new = c.reply.new.self in let call = c.args.call.now in
     subst (λ (r : Answer). IsCaughtUp (ground_of r) new) (sym c.or.ensures)
-    (known_evaluated room c.pass.inside.reader c.learn.new.reader new c.in_ok-learn.field-0 call c.in_ok-check.field-0 c.in_ok-learn.ensures.finds c.reply.ensures.same c.reply.result)
+    (known_evaluated room c.pass.inside.reader c.learn.new.reader new c.in_ok-learn.field-0 call c.in_ok-check.field-0 c.in_ok-learn.ensures.finds c.reply.ensures.replied.same c.reply.result)
 
 pub returns-in_err-learn-clause-counts : goal.returns-in_err-learn-clause-counts
 returns-in_err-learn-clause-counts c = (subst (λ (old : Knowing). CountsCall (room_of c.args.self.now.order) old c.learn.new.reader) c.pass.view_is (counts_looked (room_of c.args.self.now.order) c.pass.inside.reader c.learn.new.reader c.learn.ensures.learns c.learn.ensures.counts (ap (λ (p : Knowing). p.steps) c.pass.view_is ∙ c.requires.begun) c.learn.ensures.looks))
@@ -51,7 +51,7 @@ pub returns-in_err-check-clause-counts : goal.returns-in_err-check-clause-counts
 returns-in_err-check-clause-counts c = (subst (λ (old : Knowing). CountsCall (room_of c.args.self.now.order) old c.learn.new.reader) c.pass.view_is (counts_looked (room_of c.args.self.now.order) c.pass.inside.reader c.learn.new.reader c.learn.ensures.learns c.learn.ensures.counts (ap (λ (p : Knowing). p.steps) c.pass.view_is ∙ c.requires.begun) c.learn.ensures.looks))
 
 pub returns-clause-counts : goal.returns-clause-counts
-returns-clause-counts c = subst (λ (p : Knowing). CountsCall (room_of c.args.self.now.order) c.args.pass.now p) (sym c.reply.ensures.same) (counts_alike (room_of c.args.self.now.order) c.args.pass.now c.learn.new.reader c.learn.new.reader.statuses c.reply.new.self.settled c.reply.new.self.made (subst (λ (old : Knowing). CountsCall (room_of c.args.self.now.order) old c.learn.new.reader) c.pass.view_is (counts_looked (room_of c.args.self.now.order) c.pass.inside.reader c.learn.new.reader c.learn.ensures.learns c.learn.ensures.counts (ap (λ (p : Knowing). p.steps) c.pass.view_is ∙ c.requires.begun) c.learn.ensures.looks)))
+returns-clause-counts c = subst (λ (p : Knowing). CountsCall (room_of c.args.self.now.order) c.args.pass.now p) (sym c.reply.ensures.replied.same) (counts_alike (room_of c.args.self.now.order) c.args.pass.now c.learn.new.reader c.learn.new.reader.statuses c.reply.new.self.settled c.reply.new.self.made (subst (λ (old : Knowing). CountsCall (room_of c.args.self.now.order) old c.learn.new.reader) c.pass.view_is (counts_looked (room_of c.args.self.now.order) c.pass.inside.reader c.learn.new.reader c.learn.ensures.learns c.learn.ensures.counts (ap (λ (p : Knowing). p.steps) c.pass.view_is ∙ c.requires.begun) c.learn.ensures.looks)))
 
 pub returns-in_err-learn-clause-looks : goal.returns-in_err-learn-clause-looks
 returns-in_err-learn-clause-looks c = subst (λ (old : Knowing). LooksOnce old c.learn.new.reader) c.pass.view_is (looks_once (room_of c.args.self.now.order) c.pass.inside.reader c.learn.new.reader c.learn.ensures.counts (ap (λ (p : Knowing). p.steps) c.pass.view_is ∙ c.requires.begun) c.learn.ensures.looks)
@@ -60,22 +60,22 @@ pub returns-in_err-check-clause-looks : goal.returns-in_err-check-clause-looks
 returns-in_err-check-clause-looks c = subst (λ (old : Knowing). LooksOnce old c.learn.new.reader) c.pass.view_is (looks_once (room_of c.args.self.now.order) c.pass.inside.reader c.learn.new.reader c.learn.ensures.counts (ap (λ (p : Knowing). p.steps) c.pass.view_is ∙ c.requires.begun) c.learn.ensures.looks)
 
 pub returns-clause-looks : goal.returns-clause-looks
-returns-clause-looks c = subst (λ (p : Knowing). LooksOnce c.args.pass.now p) (sym c.reply.ensures.same) (subst (λ (old : Knowing). LooksOnce old c.learn.new.reader) c.pass.view_is (looks_once (room_of c.args.self.now.order) c.pass.inside.reader c.learn.new.reader c.learn.ensures.counts (ap (λ (p : Knowing). p.steps) c.pass.view_is ∙ c.requires.begun) c.learn.ensures.looks))
+returns-clause-looks c = subst (λ (p : Knowing). LooksOnce c.args.pass.now p) (sym c.reply.ensures.replied.same) (subst (λ (old : Knowing). LooksOnce old c.learn.new.reader) c.pass.view_is (looks_once (room_of c.args.self.now.order) c.pass.inside.reader c.learn.new.reader c.learn.ensures.counts (ap (λ (p : Knowing). p.steps) c.pass.view_is ∙ c.requires.begun) c.learn.ensures.looks))
 
 pub returns-clause-pass : goal.returns-clause-pass
-returns-clause-pass c = pass_same c.args.self.now c.learn.new.reader c.reply.new.self (ap (λ (p : Knowing). p.order) c.reply.ensures.same) (ap (λ (p : Knowing). p.shown) c.reply.ensures.same) c.learn.ensures.pass
+returns-clause-pass c = pass_same c.args.self.now c.learn.new.reader c.reply.new.self (ap (λ (p : Knowing). p.order) c.reply.ensures.replied.same) (ap (λ (p : Knowing). p.shown) c.reply.ensures.replied.same) c.learn.ensures.pass
 
 pub returns-clause-steady : goal.returns-clause-steady
-returns-clause-steady c = subst IsSteady (sym c.reply.ensures.same) (steady_alike c.learn.new.reader c.learn.new.reader.statuses c.reply.new.self.settled c.reply.new.self.made c.learn.ensures.steady)
+returns-clause-steady c = subst IsSteady (sym c.reply.ensures.replied.same) (steady_alike c.learn.new.reader c.learn.new.reader.statuses c.reply.new.self.settled c.reply.new.self.made c.learn.ensures.steady)
 
 pub returns-clause-statuses : goal.returns-clause-statuses
-returns-clause-statuses c = ap (λ (p : Knowing). p.statuses) c.reply.ensures.same ∙ c.learn.ensures.learns.statuses ∙ ap (λ (p : Knowing). p.statuses) c.pass.view_is
+returns-clause-statuses c = ap (λ (p : Knowing). p.statuses) c.reply.ensures.replied.same ∙ c.learn.ensures.learns.statuses ∙ ap (λ (p : Knowing). p.statuses) c.pass.view_is
 
 pub returns-clause-settled : goal.returns-clause-settled
 returns-clause-settled c =
     let new = c.reply.new.self in
     subst (λ (r : Answer). new.settled ≡ settled_after c.args.call.now r (length (known new)) c.args.pass.now.settled) (sym c.or.ensures)
-    (settled_read c.learn.new.reader new c.args.call.now c.reply.result c.args.pass.now.settled c.reply.ensures.same (c.learn.ensures.learns.settled ∙ ap (λ (p : Knowing). p.settled) c.pass.view_is) c.reply.ensures.settled c.reply.ensures.err)
+    (settled_read c.learn.new.reader new c.args.call.now c.reply.result c.args.pass.now.settled c.reply.ensures.replied.same (c.learn.ensures.learns.settled ∙ ap (λ (p : Knowing). p.settled) c.pass.view_is) c.reply.ensures.replied.settled c.reply.ensures.replied.err)
 
 pub returns-in_err-learn-clause-settled : goal.returns-in_err-learn-clause-settled
 returns-in_err-learn-clause-settled c =
@@ -107,7 +107,7 @@ invariant_of-pass-2 c =
     state_learns c.pass.inside.reader c.learn.new.reader c.pass.inside.evaluated c.pass.inside.row.next order c.learn.ensures.learns c.learn.ensures.made c.pass.invariant
 
 pub returns-clause-made : goal.returns-clause-made
-returns-clause-made c none = read_none c.learn.new.reader c.reply.new.self c.args.call.now c.args.pass.now.settled c.reply.ensures.same (c.learn.ensures.learns.settled ∙ ap (λ (p : Knowing). p.settled) c.pass.view_is) (by_shapes-ok (store_of (known c.learn.new.reader)) c.args.call.now c.in_ok-check.field-0 (sym c.check.ensures ∙ c.in_ok-check.was)) c.reply.ensures.size c.reply.ensures.made none ∙ (c.learn.ensures.made ∙ ap (λ (p : Knowing). p.made) c.pass.view_is)
+returns-clause-made c none = read_none c.learn.new.reader c.reply.new.self c.args.call.now c.args.pass.now.settled c.reply.ensures.replied.same (c.learn.ensures.learns.settled ∙ ap (λ (p : Knowing). p.settled) c.pass.view_is) (by_shapes-ok (store_of (known c.learn.new.reader)) c.args.call.now c.in_ok-check.field-0 (sym c.check.ensures ∙ c.in_ok-check.was)) c.reply.ensures.size c.reply.ensures.replied.made none ∙ (c.learn.ensures.made ∙ ap (λ (p : Knowing). p.made) c.pass.view_is)
 
 pub returns-in_err-learn-clause-made : goal.returns-in_err-learn-clause-made
 returns-in_err-learn-clause-made c none = c.learn.ensures.made ∙ ap (λ (p : Knowing). p.made) c.pass.view_is

@@ -10,7 +10,7 @@ use Rattle.grb_slices.specs.SliceFor.{IsSliceFor}
 use Rattle.grb_slices.specs.Wanted.{is_wanted}
 use Rattle.grb_replay.specs.declared.plan.Plan.{Plan}
 use Rattle.grb_replay.specs.Partial.{PartialStoresView}
-use Rattle.grb_replay.proofs.Partial.{count_all, partial_onward, targets_behind_are}
+use Rattle.grb_replay.proofs.Partial.{count_all, partial_onward, targets_of_rest_are}
 use Rattle.grb_replay.proofs.partial_stores.PartialStores.anew.Goals as goal
 
 pub plan_anew-requires-clause-targets : goal.plan_anew-requires-clause-targets
@@ -26,7 +26,7 @@ of-requires-clause-targets g c =
     let known : List Call = g.C.CallList.calls c.args.source.now c.args.calls.now in let ws : List (Option Object) = g.C.CallList.target_list c.args.calls.now in
     let e = c.args.evaluated in let s = c.args.state.now.store in
     subst (λ l. drop e (g.C.CallList.target_list l) ≡ targets_of (shapes_of s) (drop e (g.C.CallList.calls c.args.source.now l))) (sym c.in_ok-plan.ensures.calls)
-    (targets_behind_are known e ws c.requires.targets s c.requires.state.store_is)
+    (targets_of_rest_are known e ws c.requires.targets s c.requires.state.store_is)
 
 pub of-requires-clause-slice : goal.of-requires-clause-slice
 of-requires-clause-slice g c =

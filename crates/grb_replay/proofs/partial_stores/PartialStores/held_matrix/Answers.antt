@@ -7,8 +7,8 @@ use Rattle.grb_replay.specs.Partial.{HoldsMatrix, PartialStoresView}
 use Rattle.grb_replay.proofs.HeldNow.{if_some, held_matrix_now}
 use Rattle.grb_replay.proofs.partial_stores.PartialStores.held_matrix.Goals as goal
 
-pub returns-in-Some : goal.returns-in-Some
-returns-in-Some c = λ known partial all.
+pub returns : goal.returns
+returns c = λ known partial all.
     if_some (λ m. HoldsMatrix c.index.result.now c.args.known c.args.a m.now.value) (λ m. IsMatrixOf (after_all empty_store known) c.args.a m.now.value)
-    (λ m. held_matrix_now known c.args.self.now partial c.in-Some.at c.index.result.now (c.index.ensures ∙ ap (λ (ks : PartialStoresView). slice_index_or ks.stores c.in-Some.at c.index.result.now) c.self.view_is) c.in-Some.ensures c.args.known all c.args.a m.now.value)
+    (λ m. held_matrix_now known c.args.self.now partial c.in_ok-at.at c.index.result.now (c.index.ensures ∙ ap (λ (ks : PartialStoresView). slice_index_or ks.stores c.in_ok-at.at c.index.result.now) c.self.view_is) c.in_ok-at.ensures c.args.known all c.args.a m.now.value)
     c.held_matrix.result c.held_matrix.ensures

@@ -9,7 +9,7 @@ use Rattle.grb_slices.specs.SliceFor.{IsSliceFor}
 use Rattle.grb_slices.specs.Wanted.{is_wanted}
 use Rattle.grb_replay.specs.declared.plan.Plan.{Plan}
 use Rattle.grb_replay.specs.Partial.{IsPartialAt}
-use Rattle.grb_replay.proofs.Partial.{count_all, partial_onward, targets_behind_are}
+use Rattle.grb_replay.proofs.Partial.{count_all, partial_onward, targets_of_rest_are}
 use Rattle.grb_replay.proofs.partial_stores.PartialStores.onward.Goals as goal
 
 pub plan_onward-requires-clause-targets : goal.plan_onward-requires-clause-targets
@@ -34,7 +34,7 @@ returns-clause-now g c =
     let whole : Store = after_all empty_store (take at known) in
     let count : length c.targets-known.result.now ≡ length known = ap length c.targets-known.ensures ∙ count_all known at ws c.requires.targets in
     let wanted : is_wanted found.wanted c.args.object ≡ true = subst (λ (o : Option Plan). IfSome o (λ f. is_wanted f.wanted c.args.object ≡ true)) c.in-Some.is c.in_ok-plan.ensures.object in
-    let targets = targets_behind_are known at ws c.requires.targets whole refl in
+    let targets = targets_of_rest_are known at ws c.requires.targets whole refl in
     let there = c.in_ok-plan.ensures.calls in
     let follows : Follows (is_wanted found.wanted) (after_all whole (drop at known)) c.go_on.new.self.state.store =
     subst (λ l. Follows (is_wanted found.wanted) (after_all whole (drop at (g.C.CallList.calls c.args.source.now l))) c.go_on.new.self.state.store) there

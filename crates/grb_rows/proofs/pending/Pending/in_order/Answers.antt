@@ -1,19 +1,30 @@
-use Rattle.std.proofs.Common.{◌∙◌, ap, sym, subst}
-use Rattle.std.specs.List.{All}
-use Rattle.std.proofs.lemmas.List.Sorted.{All-permutation}
-use Rattle.std.proofs.lemmas.Result.{IfOk-weaker}
-use Rattle.grb_rows.specs.Pending.{PendingView, last_at, IsChangeOf}
+use Rattle.std.proofs.Common.{◌≡◌, ◌∙◌, ℕ, List, nat_eq, ap, sym, subst, arith}
+use Rattle.std.specs.List.{IsDistinct}
+use Rattle.std.specs.Map.{keys_of}
+use Rattle.std.proofs.lemmas.Bool.Decides.{nat_tests}
+use Rattle.std.proofs.lemmas.List.Sorted.{IsPermutation-map}
+use Rattle.std.proofs.lemmas.Map.Keys.{IsDistinct-IsPermutation}
+use Rattle.grb_rows.specs.Pending.{Change, PendingView, last_at}
+use Rattle.grb_rows.proofs.Places.{both_if_ok, holds, passes}
 use Rattle.grb_rows.proofs.Ends.{last_at-stable}
+use Rattle.grb_rows.proofs.LaidOut.{last_at-sorted}
+use Rattle.grb_rows.proofs.Latest.{is_sorted-distinct}
 use Rattle.grb_rows.proofs.pending.Pending.in_order.Goals as goal
+
+flip : (x y : ℕ) → nat_eq x y ≡ nat_eq y x
+flip x y = grind (arith, nat_tests)
+
+pub returns-clause-sorted : goal.returns-clause-sorted
+returns-clause-sorted c =
+    let xs = c.deref.result.now in
+    let is : xs ≡ c.self.inside.latest.entries = c.deref.ensures.value ∙ c.in_ok-changes.ensures in
+    let distinct = subst (λ (es : List Change). IsDistinct nat_eq (keys_of es)) (sym is) c.self.invariant.0 in
+    both_if_ok c.in_order.result (λ ys moved sorted. passes _ (is_sorted-distinct ys.items sorted
+    (IsDistinct-IsPermutation nat_eq flip (keys_of xs) (keys_of ys.items) (IsPermutation-map (λ (e : Change). e.0) xs ys.items moved) distinct))) c.in_order.ensures.permutation c.in_order.ensures.sorted
 
 pub returns-clause-found : goal.returns-clause-found
 returns-clause-found c =
-    let stable = rw c.deref.ensures.value at c.in_ok-changes.ensures.stable in
-    IfOk-weaker c.last_of_each.result _ _ (λ last h q. h q ∙ ap (last_at q) c.deref-2.ensures.value ∙ last_at-stable _ _ stable q ∙ ap (λ (v : PendingView). last_at q v.changes) c.self.view_is) c.last_of_each.ensures.found
-
-pub returns-clause-inside : goal.returns-clause-inside
-returns-clause-inside c =
-    let moved = rw c.deref.ensures.value at c.in_ok-changes.ensures.permutation in
-    IfOk-weaker c.last_of_each.result _ _ (λ last h domain all.
-    h domain (subst (All (IsChangeOf domain)) (sym c.deref-2.ensures.value)
-    (All-permutation (IsChangeOf domain) _ _ moved (subst (λ (v : PendingView). All (IsChangeOf domain) v.changes) (sym c.self.view_is) all)))) c.last_of_each.ensures.inside
+    let xs = c.deref.result.now in
+    let is : xs ≡ c.self.inside.latest.entries = c.deref.ensures.value ∙ c.in_ok-changes.ensures in
+    both_if_ok c.in_order.result (λ ys sorted stable q. sym (last_at-sorted q ys.items (holds sorted)) ∙ last_at-stable xs ys.items stable q ∙ ap (last_at q) is ∙ ap (λ (v : PendingView). last_at q v.changes) c.self.view_is)
+    (returns-clause-sorted c) c.in_order.ensures.stable

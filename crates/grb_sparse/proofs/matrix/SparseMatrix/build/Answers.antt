@@ -34,8 +34,8 @@ invariant_of-self c =
     let ordered : IsTrue (is_sorted cell_cmp built) = subst IsTrue (sym (is_sorted-decoded rows_built.entries)) (ordered_built c.args.dup (coded_entries (cells_of c.args.tuples.now)) rows_built.entries c.in_ok-built.ensures.entries) in
     let of_domain : All (λ e. IsValueOf (monoid_domain c.args.dup) e.1) built =
     All-map (λ (e : Cell × Value). IsValueOf (monoid_domain c.args.dup) e.1) (λ (e : ℕ × Value). (cell_of e.0, e.1)) rows_built.entries (λ k d l. c.in_ok-built.ensures.of_domain k d l) in
-    let to : matrix_of i.nrows i.ncols c.of.result ≡ edited_matrix (λ _. built) a =
-    ap (matrix_of i.nrows i.ncols) c.of.ensures ∙ matrix_held rows_built.domain i.held.domain i.nrows i.ncols built (c.in_ok-built.ensures.domain ∙ same) in
+    let to : matrix_of i.nrows i.ncols c.shareable.result ≡ edited_matrix (λ _. built) a =
+    ap (matrix_of i.nrows i.ncols) c.shareable.ensures ∙ matrix_held rows_built.domain i.held.domain i.nrows i.ncols built (c.in_ok-built.ensures.domain ∙ same) in
     subst IsMatrix (sym to) (IsMatrix-built a c.args.dup c.args.tuples.now built c.self.invariant rows columns is ordered of_domain same)
 
 pub returns-clause-matrix : goal.returns-clause-matrix
@@ -48,6 +48,6 @@ returns-clause-matrix c =
     let small = dimension-fits i.ncols c.self.invariant.ncols in
     let is : decoded rows_built.entries ≡ built_from cell_cmp c.args.dup (cells_of c.args.tuples.now) =
     ap decoded c.in_ok-built.ensures.entries ∙ built_numbered c.args.dup c.args.tuples.now (λ k d l. let b = columns k d l in omega (arith, b, small)) in
-    ap (matrix_of i.nrows i.ncols) c.of.ensures ∙ matrix_held rows_built.domain i.held.domain i.nrows i.ncols (decoded rows_built.entries) (c.in_ok-built.ensures.domain ∙ same)
+    ap (matrix_of i.nrows i.ncols) c.shareable.ensures ∙ matrix_held rows_built.domain i.held.domain i.nrows i.ncols (decoded rows_built.entries) (c.in_ok-built.ensures.domain ∙ same)
     ∙ ap (λ (m : MatrixEntries). edited_matrix (λ _. m) a) is
     ∙ ap (λ (v : SparseMatrixView). edited_matrix (λ _. built_from cell_cmp c.args.dup (cells_of c.args.tuples.now)) v.matrix) c.self.view_is

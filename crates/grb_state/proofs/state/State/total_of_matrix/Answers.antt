@@ -13,11 +13,11 @@ lent-requires c =
     let accepted : refused (stored ms vs) (call.ReduceMatrix a monoid) ≡ None = ap (λ (x : RoomyStore). refused x.store (call.ReduceMatrix a monoid)) c.self.view_is ∙ c.requires.accepted in
     matrix_total-there ms vs a monoid accepted
 
-pub reduce_matrix-requires-clause-domain : goal.reduce_matrix-requires-clause-domain
-reduce_matrix-requires-clause-domain c =
+pub reduce_matrix-requires : goal.reduce_matrix-requires
+reduce_matrix-requires c =
     let a = c.args.a in let monoid = c.args.monoid in let ms = c.self.inside.objects.matrices.items in let vs = c.self.inside.objects.vectors.items in
     let accepted : refused (stored ms vs) (call.ReduceMatrix a monoid) ≡ None = ap (λ (x : RoomyStore). refused x.store (call.ReduceMatrix a monoid)) c.self.view_is ∙ c.requires.accepted in
-    matrix_total-domain ms vs a monoid accepted c.lent.result.now c.lent.ensures
+    record { domain = matrix_total-domain ms vs a monoid accepted c.lent.result.now c.lent.ensures }
 
 pub returns : goal.returns
 returns c =

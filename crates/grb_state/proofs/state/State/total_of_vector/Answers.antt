@@ -13,11 +13,11 @@ lent-requires c =
     let accepted : refused (stored ms vs) (call.ReduceVector v monoid) ≡ None = ap (λ (x : RoomyStore). refused x.store (call.ReduceVector v monoid)) c.self.view_is ∙ c.requires.accepted in
     vector_total-there ms vs v monoid accepted
 
-pub reduce_vector-requires-clause-domain : goal.reduce_vector-requires-clause-domain
-reduce_vector-requires-clause-domain c =
+pub reduce_vector-requires : goal.reduce_vector-requires
+reduce_vector-requires c =
     let v = c.args.v in let monoid = c.args.monoid in let ms = c.self.inside.objects.matrices.items in let vs = c.self.inside.objects.vectors.items in
     let accepted : refused (stored ms vs) (call.ReduceVector v monoid) ≡ None = ap (λ (x : RoomyStore). refused x.store (call.ReduceVector v monoid)) c.self.view_is ∙ c.requires.accepted in
-    vector_total-domain ms vs v monoid accepted c.lent.result.now c.lent.ensures
+    record { domain = vector_total-domain ms vs v monoid accepted c.lent.result.now c.lent.ensures }
 
 pub returns : goal.returns
 returns c =

@@ -1,0 +1,51 @@
+use Rattle.std.proofs.Common.{◌<◌, ℕ, List, refl, ap, sym, ◌∙◌, length, get_or, arith}
+use Rattle.std.proofs.lemmas.List.Elements.{recursion_from_All}
+use Rattle.grb_core.specs.Semiring.{SemiringParts}
+use Rattle.grb_core.specs.Entries.{VectorEntries}
+use Rattle.grb_kernels.specs.Typed.{entries_of}
+use Rattle.grb_rows.specs.Cells.{decoded}
+use Rattle.grb_mxm.specs.Open.{marked_from}
+use Rattle.grb_mxm.specs.Rows.{name_in, product_row}
+use Rattle.grb_mxm.specs.Bits.{marks_of}
+use Rattle.grb_mxm.proofs.Cleared.{none_marked}
+use Rattle.grb_mxm.proofs.MarksOf.{length-marks_of, none_of_zeros, zeros_are_marks}
+use Rattle.grb_mxm.proofs.OpenRow.{open_row}
+use Rattle.grb_mxm.proofs.ProductRows.{row_of-mxm}
+use Rattle.grb_mxm.proofs.Touched.{none_touched}
+use Rattle.grb_mxm.proofs.whole_rows.WholeRowsRowMaker.make.Goals as goal
+
+pub sum_row-requires-clause-sound : goal.sum_row-requires-clause-sound
+sum_row-requires-clause-sound g c =
+    let work = c.args.work.now in
+    let ready = c.requires.ready in
+    record {
+      enough = omega (arith, ready.long, ready.enough);
+      words_few = ready.words_few;
+      bits = zeros_are_marks work.words.items ready.none (length work.sums.items);
+      clear = λ p l n. ready.clear p l;
+      listed = none_touched work.words.items work.touched.items ready.none;
+    }
+
+pub sum_row-requires-clause-none : goal.sum_row-requires-clause-none
+sum_row-requires-clause-none g c p =
+    let work = c.args.work.now in
+    none_marked g.T.Scalar.value (marks_of (length work.sums.items) work.words.items) work.sums.items (none_of_zeros work.words.items c.requires.ready.none (length work.sums.items)) p
+
+pub returns-clause-entries : goal.returns-clause-entries
+returns-clause-entries g c =
+    let tv = g.T.Scalar.value in
+    let s : SemiringParts = record { monoid = g.M.MonoidOver.monoid; op = g.O.Operator.op } in
+    let a = c.args.self.now.a.now.lists.now in
+    let b = c.args.self.now.b.now in
+    let names = b.names.now in
+    let first = c.row.result in
+    let made = c.sum_row.new.sums in
+    let words = made.words.items in
+    let sums = made.sums.items in
+    c.take_row.ensures.entries
+    ∙ ap (λ (ws : List ℕ). marked_from tv (name_in names) 0 (marks_of (length c.as_mut_slice-3.result.now) ws) c.as_mut_slice-3.result.now) c.as_mut_slice.ensures.value
+    ∙ ap (λ (ss : List g.row.T.Denot). marked_from tv (name_in names) 0 (marks_of (length ss) words) ss) c.as_mut_slice-3.ensures.value
+    ∙ open_row tv (length names) (name_in names) b.ranks.now (marks_of (length sums) words) sums s (entries_of tv first.indices.now first.values.now) (decoded b.lists.now.entries)
+    b.rising first.rising (omega (arith, length-marks_of words (length sums), c.sum_row.ensures.width)) b.named (recursion_from_All (λ r. r < length names) b.ranks.now b.in_range) (λ p l. c.sum_row.ensures.sums p l refl)
+    ∙ ap (λ (x : VectorEntries). product_row s x (decoded b.lists.now.entries)) c.row.ensures
+    ∙ sym (row_of-mxm s (decoded a.entries) (decoded b.lists.now.entries) (get_or a.rows c.args.place 0))

@@ -1,0 +1,185 @@
+//! The product of two matrices.
+ghost use Rattle.std.specs.Prelude.{◌≡◌, ◌<◌, ℕ, length, true, All, IsTrue, IfOk, IfSome, if◌then◌else◌, false};
+ghost use Rattle.std.specs.Option.{option_map};
+ghost use Rattle.std.specs.FinMap.{is_sorted};
+ghost use Rattle.grb_core.specs.Operator.{op_domain};
+ghost use Rattle.grb_core.specs.Monoid.{monoid_domain};
+ghost use Rattle.grb_core.specs.Entries.{cell_cmp};
+ghost use Rattle.grb_core.specs.Contents.{IsMatrix, edited_matrix};
+ghost use Rattle.grb_core.specs.Mask.{is_inside};
+ghost use Rattle.grb_core.specs.Written.{written};
+ghost use Rattle.grb_core.specs.Results.{mxm_of, turned};
+ghost use Rattle.grb_rows.specs.Cells.{decoded, IsFlat};
+ghost use Rattle.grb_ewise.specs.Rows.{flat_entries};
+ghost use Rattle.grb_ewise.specs.Premises.{IsMatrixInput, IsMatrixOutput};
+ghost use Rattle.grb_mxm.specs.Rows.{AreRows, selected_product, bounding};
+
+use crate::factors::Factors;
+use crate::rows::MadeRows;
+use grb_call::Descriptor;
+use grb_core::{BinaryOp, Domain, Semiring};
+use grb_ewise::{Stored, transposed, write_masked_matrix};
+use grb_products::{Folded, MatrixRows, by_semiring, lend_matrix};
+use grb_rows::FlatRows;
+use grb_sparse::SparseMatrix;
+use std::alloc::{AllocError, Global};
+
+/// The product of two matrices whose values are of one Rust type, at the cells that a mask selects; at all cells, where there is no mask.
+/// `AllocError` where memory is refused; then nothing is made.
+fn multiply_by<T: Stored + Folded + Drop>(
+    alloc: Global,
+    semiring: Semiring,
+    structure: bool,
+    mask: Option<&FlatRows>,
+    a: MatrixRows<T>,
+    b: MatrixRows<T>,
+) -> Result<MadeRows<T>, AllocError>
+    requires monoid_domain { monoid_domain semiring.monoid ≡ T.domain }
+    requires op_domain { op_domain semiring.op ≡ T.domain }
+    requires mask_ordered { IfSome mask (λ m. IsTrue (is_sorted cell_cmp (decoded m.now.entries))) }
+    requires mask_in_range { IfSome mask (λ m. All (λ e. e.0.1 < b.ncols) (decoded m.now.entries)) }
+    ensures { IfOk result (λ made. AreRows T.value made.rows.items made.starts.items made.columns.items made.values.items (selected_product semiring structure (option_map (λ m. decoded m.now.entries) mask.entry) (decoded a.entry.lists.now.entries) (decoded b.entry.lists.now.entries))) }
+{
+    let factors: Factors<T> = Factors {
+        alloc,
+        structure,
+        mask,
+        a,
+        b,
+    };
+    by_semiring(semiring, factors)
+}
+
+/// The matrix of these rows. They are not copied.
+fn keep_rows<T: Stored>(alloc: Global, nrows: u64, ncols: u64, made: MadeRows<T>) -> SparseMatrix
+    requires flat { IsFlat made.rows.items made.starts.items made.columns.items }
+    requires same { length made.values.items ≡ length made.columns.items }
+    requires whole { IsMatrix (record { domain = T.domain; nrows = nrows; ncols = ncols; entries = flat_entries T.value made.rows.items made.starts.items made.columns.items made.values.items }) }
+    ensures matrix { result.matrix ≡ record { domain = T.domain; nrows = nrows; ncols = ncols; entries = flat_entries T.value made.rows.items made.starts.items made.columns.items made.values.items } }
+    ensures assembled { result.assembled ≡ true }
+{
+    let lists = T::keep(made.rows, made.starts, made.columns, made.values);
+    SparseMatrix::from_lists(alloc, nrows, ncols, lists)
+}
+
+/// The product of two matrices at the cells that a mask selects, as a matrix; at all cells, where there is no mask. `AllocError` where
+/// memory is refused; then nothing is made.
+fn product(
+    alloc: Global,
+    semiring: Semiring,
+    structure: bool,
+    mask: Option<&FlatRows>,
+    a: &SparseMatrix,
+    b: &SparseMatrix,
+) -> Result<SparseMatrix, AllocError>
+    requires a { IsMatrixInput false (op_domain semiring.op) a.now.matrix.nrows b.now.matrix.nrows a.now }
+    requires b { IsMatrixInput false (op_domain semiring.op) b.now.matrix.nrows b.now.matrix.ncols b.now }
+    requires mask_ordered { IfSome mask (λ m. IsTrue (is_sorted cell_cmp (decoded m.now.entries))) }
+    requires mask_in_range { IfSome mask (λ m. All (λ e. e.0.1 < b.now.matrix.ncols) (decoded m.now.entries)) }
+    ensures matrix { IfOk result (λ made. made.matrix ≡ record { domain = a.now.matrix.domain; nrows = a.now.matrix.nrows; ncols = b.now.matrix.ncols; entries = selected_product semiring structure (option_map (λ m. decoded m.now.entries) mask.entry) a.now.matrix.entries b.now.matrix.entries }) }
+    ensures assembled { IfOk result (λ made. made.assembled ≡ true) }
+{
+    let (nrows, _inner) = a.dims();
+    let (_rows, ncols) = b.dims();
+    match semiring.domain() {
+        Domain::Bool => {
+            let (first, second) = (lend_matrix(a), lend_matrix(b));
+            let made = multiply_by::<bool>(alloc, semiring, structure, mask, first, second)?;
+            Ok(keep_rows::<bool>(alloc, nrows, ncols, made))
+        }
+        Domain::Uint64 => {
+            let (first, second) = (lend_matrix(a), lend_matrix(b));
+            let made = multiply_by::<u64>(alloc, semiring, structure, mask, first, second)?;
+            Ok(keep_rows::<u64>(alloc, nrows, ncols, made))
+        }
+    }
+}
+
+/// The flat lists of a mask that bounds the product; none, where there is no mask or its complement is meant.
+fn bounding_lists(mask: Option<&SparseMatrix>, comp: bool) -> Option<&FlatRows>
+    requires assembled { IfSome mask (λ m. m.now.assembled ≡ true) }
+    ensures ordered { IfSome result (λ m. IsTrue (is_sorted cell_cmp (decoded m.now.entries))) }
+    ensures in_range { (n : ℕ) → IfSome mask.entry (λ m. m.now.matrix.ncols ≡ n) → IfSome result (λ m. All (λ e. e.0.1 < n) (decoded m.now.entries)) }
+    ensures entries { option_map (λ m. decoded m.now.entries) result ≡ bounding comp (option_map (λ m. m.now.matrix.entries) mask.entry) }
+{
+    if comp {
+        return None;
+    }
+    match mask {
+        None => None,
+        Some(mask) => Some(mask.lists()),
+    }
+}
+
+/// The same with the first matrix transposed, where `tran` says so. Where it does not, nothing is copied. `AllocError` where memory is
+/// refused; then nothing is made.
+fn turned_product(
+    alloc: Global,
+    semiring: Semiring,
+    structure: bool,
+    tran: bool,
+    mask: Option<&FlatRows>,
+    a: &SparseMatrix,
+    b: &SparseMatrix,
+) -> Result<SparseMatrix, AllocError>
+    requires a { IsMatrixInput tran (op_domain semiring.op) (if tran then a.now.matrix.ncols else a.now.matrix.nrows) b.now.matrix.nrows a.now }
+    requires b { IsMatrixInput false (op_domain semiring.op) b.now.matrix.nrows b.now.matrix.ncols b.now }
+    requires mask_ordered { IfSome mask (λ m. IsTrue (is_sorted cell_cmp (decoded m.now.entries))) }
+    requires mask_in_range { IfSome mask (λ m. All (λ e. e.0.1 < b.now.matrix.ncols) (decoded m.now.entries)) }
+    ensures matrix { IfOk result (λ made. made.matrix ≡ record { domain = a.now.matrix.domain; nrows = (if tran then a.now.matrix.ncols else a.now.matrix.nrows); ncols = b.now.matrix.ncols; entries = selected_product semiring structure (option_map (λ m. decoded m.now.entries) mask.entry) (turned tran a.now.matrix.entries) b.now.matrix.entries }) }
+    ensures assembled { IfOk result (λ made. made.assembled ≡ true) }
+{
+    if tran {
+        let first = transposed(alloc, a)?;
+        return product(alloc, semiring, structure, mask, &first, b);
+    }
+    product(alloc, semiring, structure, mask, a, b)
+}
+
+/// The product of two matrices: at each row of `a` and each column of `b` the fold, by the semiring's monoid, of what its operator makes of
+/// both values where both are stored, and nothing where there is no such place; written into `output` by the accumulator, the mask and the
+/// descriptor. `AllocError` where memory is refused; then nothing is made, and `output` is as before.
+///
+/// - `output`: the old output, which is read.
+/// - `mask`: which cells may be written, read as `descriptor` says; `None` for all, or with `comp` for none.
+/// - `accum`: combines the old value and the computed one where both are there; `None` for the computed one alone.
+/// - `semiring`: its operator multiplies, its monoid adds up the products.
+/// - `a`, `b`: the first and the second input; the value of `a` comes first in a product.
+/// - `descriptor`: how the mask is read, whether what lies outside of it is removed, and whether `a` is read transposed.
+///
+/// All are of one domain, the mask aside; `b` has one row for each column of `a`, and the output and the mask have the rows of `a` and the
+/// columns of `b`. Where the descriptor says `tran`, `a` stands here for its transposed, which is made first, as `grb_ewise::transposed`
+/// does; else nothing is copied.
+///
+/// A mask that is given and not complemented bounds the work: sums are made at the cells that it selects alone, for the
+/// rows in which it stores something, in time in proportion to the products that are looked at and to the mask's entries. Else time is in
+/// proportion to the products that there are; for a row of `a` with many of them, one step for 64 columns is added.
+///
+/// Work arrays of one place for each column are made where that is no more than 8 times the entries of `a` and `b`; else the columns in
+/// which `b` or the mask stores something are numbered first, by a sort and a binary search for each entry. A row is found by a table that
+/// is no longer than 8 times the entries, else by a binary search. Memory is in proportion to the entries of all and of the product.
+///
+/// Source: GraphBLAS C API 2.0, "mxm".
+pub fn mxm(
+    alloc: Global,
+    output: &SparseMatrix,
+    mask: Option<&SparseMatrix>,
+    accum: Option<BinaryOp>,
+    semiring: Semiring,
+    a: &SparseMatrix,
+    b: &SparseMatrix,
+    descriptor: Descriptor,
+) -> Result<SparseMatrix, AllocError>
+    requires output { IsMatrixOutput output.now mask accum }
+    requires semiring_domain { op_domain semiring.op ≡ output.now.matrix.domain }
+    requires a { IsMatrixInput descriptor.tran output.now.matrix.domain output.now.matrix.nrows b.now.matrix.nrows a.now }
+    requires b { IsMatrixInput false output.now.matrix.domain b.now.matrix.nrows output.now.matrix.ncols b.now }
+    ensures matrix { IfOk result (λ made. made.matrix ≡ edited_matrix (λ c. written cell_cmp (is_inside cell_cmp descriptor.structure descriptor.comp (option_map (λ m. m.now.matrix.entries) mask.entry)) descriptor.replace accum c (mxm_of semiring (turned descriptor.tran a.now.matrix.entries) b.now.matrix.entries)) output.now.matrix) }
+    ensures assembled { IfOk result (λ made. made.assembled ≡ true) }
+{
+    let bound = bounding_lists(mask, descriptor.comp);
+    let (structure, tran) = (descriptor.structure, descriptor.tran);
+    let computed = turned_product(alloc, semiring, structure, tran, bound, a, b)?;
+    let made = write_masked_matrix(alloc, output, mask, accum, descriptor, computed)?;
+    Ok(made)
+}

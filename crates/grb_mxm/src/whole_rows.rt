@@ -1,0 +1,123 @@
+//! The rows of the product of two matrices, all of whose cells are computed.
+ghost use Rattle.std.specs.Prelude.{◌≤◌, length, IfOk};
+ghost use Rattle.grb_core.specs.Monoid.{identity_of};
+ghost use Rattle.grb_core.specs.Results.{mxm_of};
+ghost use Rattle.grb_rows.specs.Cells.{decoded};
+ghost use Rattle.grb_mxm.specs.Rows.{AreRows};
+ghost use Rattle.grb_mxm.specs.Bits.{IsCleared};
+
+use crate::bits::take_row;
+use crate::gustavson::sum_row;
+use crate::open_sums::OpenSums;
+use crate::ranked::RankedRows;
+use crate::rows::{MadeRows, RowMaker, make_rows};
+use grb_ewise::Stored;
+use grb_kernels::Operator;
+use grb_products::{MatrixRows, MonoidOver};
+use std::alloc::{AllocError, Global};
+use std::marker::PhantomData;
+
+/// Memory is reserved for at most so many entries of the product for each entry of both matrices. Where the product has more, its lists
+/// grow as they are written.
+const RESERVED_FOR_ONE_ENTRY: usize = 8;
+
+/// A row's words are listed while they are fewer than one in so many of all. So a walk over all words takes at most as many steps for each
+/// word that the row touched, and the list that is sorted is short beside it.
+const WORDS_FOR_ONE_LISTED: usize = 16;
+
+/// All cells of the product of two matrices.
+#[derive(Drop)]
+struct WholeRows<'a, T: Stored, M, O> {
+    a: &'a MatrixRows<'a, T>,
+    b: &'a RankedRows<'a, T>,
+    of: PhantomData<(M, O)>,
+}
+
+impl<'a, T: Stored + Drop, M: MonoidOver<T>, O: Operator<T>> RowMaker<T>
+    for WholeRows<'a, T, M, O> {
+    type Work = OpenSums<T>;
+
+    ghost makes = { λ rows. mxm_of (record { monoid = M.monoid; op = O.op }) (decoded rows.a.now.lists.now.entries) (decoded rows.b.now.lists.now.entries) };
+
+    ghost listed = { λ rows. rows.a.now.lists.now.rows };
+
+    ghost most = { λ rows. length rows.b.now.names.now };
+
+    ghost ready = { λ rows work. IsCleared T.value (identity_of M.monoid) (length rows.b.now.names.now) work.sums.items work.words.items };
+
+    fn work(&self, alloc: Global) -> Result<OpenSums<T>, AllocError> {
+        let count = self.b.names.len();
+        let words = vec![in alloc; 0u64; count / 64 + 1]?;
+        let touched = vec![in alloc; 0usize; words.len() / WORDS_FOR_ONE_LISTED + 1]?;
+        let sums = vec![in alloc; M::identity(); count]?;
+        Ok(OpenSums {
+            sums,
+            words,
+            touched,
+            count: 0,
+        })
+    }
+
+    fn width(&self) -> usize {
+        self.b.names.len()
+    }
+
+    fn numbers(&self) -> &[u32] {
+        self.a.lists.rows()
+    }
+
+    fn make(
+        &self,
+        place: usize,
+        work: &mut OpenSums<T>,
+        columns: &mut [u32],
+        values: &mut [T],
+    ) -> usize {
+        work.count = 0;
+        sum_row::<T, M, O, OpenSums<T>>(&T::row(self.a.lists, place), self.b, work);
+        take_row::<T, M>(
+            self.b.names,
+            work.words.as_mut_slice(),
+            work.touched.as_mut_slice(),
+            work.count,
+            work.sums.as_mut_slice(),
+            columns,
+            values,
+        )
+    }
+}
+
+/// How many products there are, if they are fewer than `most`; else `most`. A product makes one entry of the result, or is added to one.
+fn products_up_to<T: Stored>(a: &MatrixRows<T>, b: &RankedRows<T>, most: usize) -> usize
+    ensures { result ≤ most }
+{
+    let columns = a.lists.columns();
+    let mut count = 0;
+    for i in 0..columns.len() {
+        let row = (&*b).row(columns[i]);
+        count += row.indices.len().min(most - count);
+        if count == most {
+            return most;
+        }
+    }
+    count
+}
+
+/// The product of two matrices by a monoid and an operator as types. Takes memory to work in, some places for each name, and for the
+/// result. `AllocError` where that is refused; then nothing is made.
+pub(crate) fn multiply_whole<T: Stored + Drop, M: MonoidOver<T>, O: Operator<T>>(
+    alloc: Global,
+    a: &MatrixRows<T>,
+    b: &RankedRows<T>,
+) -> Result<MadeRows<T>, AllocError>
+    ensures { IfOk result (λ made. AreRows T.value made.rows.items made.starts.items made.columns.items made.values.items (mxm_of (record { monoid = M.monoid; op = O.op }) (decoded a.now.lists.now.entries) (decoded b.now.lists.now.entries))) }
+{
+    let most = (a.lists.len() + b.lists.len()).saturating_mul(RESERVED_FOR_ONE_ENTRY);
+    let room = products_up_to(a, b, most);
+    let rows: WholeRows<T, M, O> = WholeRows {
+        a,
+        b,
+        of: PhantomData,
+    };
+    make_rows(alloc, &rows, room)
+}

@@ -1,0 +1,171 @@
+//! Each row of a matrix, or of its transposed, folded to one value.
+ghost use Rattle.std.specs.Prelude.{◌≡◌, true, refl, if◌then◌else◌, IfOk, All, ◌<◌};
+ghost use Rattle.std.specs.Ordering.{nat_cmp};
+ghost use Rattle.std.specs.Option.{option_map};
+ghost use Rattle.grb_core.specs.Monoid.{monoid_domain};
+ghost use Rattle.grb_core.specs.Entries.{values_of};
+ghost use Rattle.grb_core.specs.Fold.{fold_of_some};
+ghost use Rattle.grb_core.specs.Contents.{edited_vector};
+ghost use Rattle.grb_core.specs.Mask.{is_inside};
+ghost use Rattle.grb_core.specs.Written.{written};
+ghost use Rattle.grb_core.specs.Results.{reduce_rows_of, turned};
+ghost use Rattle.grb_kernels.specs.Typed.{entries_of};
+ghost use Rattle.grb_ewise.specs.Premises.{IsMatrixInput, IsVectorOutput};
+ghost use Rattle.grb_rows.specs.Cells.{decoded};
+
+use crate::choice::{ByMonoid, Folded};
+use crate::column_folds::fold_columns;
+use crate::folding::fold_values;
+use crate::matrix_rows::{MatrixRows, lend_matrix};
+use crate::monoids::MonoidOver;
+use crate::rows::{RowRule, made_rows};
+use grb_call::Descriptor;
+use grb_core::{BinaryOp, Domain, Monoid};
+use grb_ewise::{Stored, keep_bools, keep_numbers, write_masked_vector};
+use grb_kernels::{EntryList, Scalar};
+use grb_sparse::{SparseMatrix, SparseVector};
+use std::alloc::{AllocError, Global};
+use std::marker::PhantomData;
+
+/// The fold of a row.
+#[derive(Drop)]
+struct Sum<M> {
+    /// Columns are below this.
+    ncols: u64,
+    of: PhantomData<M>,
+}
+
+impl<T: Stored + Folded, M: MonoidOver<T>> RowRule<T> for Sum<M> {
+    ghost reads = { λ rule. rule.ncols };
+
+    ghost gives = { λ rule. λ x. fold_of_some M.monoid (values_of x) };
+
+    fn row(&self, _columns: &[u32], values: &[T]) -> (T, bool) {
+        (fold_values::<T, M>(values), !values.is_empty())
+    }
+
+    ghost none = { λ rule. refl };
+}
+
+/// Each row folded by a monoid as a type; each column, where `tran` says that the matrix is read transposed. `AllocError` where memory is
+/// refused; then nothing is made.
+fn fold_rows<T: Stored + Folded + Drop, M: MonoidOver<T>>(
+    alloc: Global,
+    tran: bool,
+    rows: &MatrixRows<T>,
+) -> Result<EntryList<T>, AllocError>
+    ensures { IfOk result (λ made. entries_of T.value made.indices.items made.values.items ≡ reduce_rows_of M.monoid (turned tran (decoded rows.now.lists.now.entries))) }
+{
+    if tran {
+        let made = fold_columns::<T, M>(alloc, rows)?;
+        return Ok(made);
+    }
+    let rule: Sum<M> = Sum {
+        ncols: rows.ncols,
+        of: PhantomData,
+    };
+    let made = made_rows(alloc, &rule, rows.lists)?;
+    Ok(made)
+}
+
+/// A matrix whose rows are folded by whichever monoid; its columns, where `tran` says that it is read transposed.
+#[derive(Drop)]
+struct Rows<'a, T: Scalar> {
+    alloc: Global,
+    tran: bool,
+    rows: MatrixRows<'a, T>,
+}
+
+impl<'a, T: Stored + Folded + Drop> ByMonoid<T> for Rows<'a, T> {
+    type Output = Result<EntryList<T>, AllocError>;
+
+    ghost Gives = { λ r monoid result. IfOk result (λ made. entries_of T.value made.indices.items made.values.items ≡ reduce_rows_of monoid (turned r.tran (decoded r.rows.lists.now.entries))) };
+
+    /// The folds of the rows, by a monoid as a type. `AllocError` where memory is refused; then nothing is made.
+    fn by<M: MonoidOver<T>>(self) -> Result<EntryList<T>, AllocError> {
+        fold_rows::<T, M>(self.alloc, self.tran, &self.rows)
+    }
+}
+
+/// Each row folded by a monoid; each column, where `tran` says that the matrix is read transposed. `AllocError` where memory is refused;
+/// then nothing is made.
+fn fold_rows_by<T: Stored + Folded + Drop>(
+    alloc: Global,
+    monoid: Monoid,
+    tran: bool,
+    rows: MatrixRows<T>,
+) -> Result<EntryList<T>, AllocError>
+    requires monoid_domain { monoid_domain monoid ≡ T.domain }
+    ensures { IfOk result (λ made. entries_of T.value made.indices.items made.values.items ≡ reduce_rows_of monoid (turned tran (decoded rows.entry.lists.now.entries))) }
+{
+    T::choose_monoid(monoid, Rows { alloc, tran, rows })
+}
+
+/// The number of rows of a matrix with these dimensions; of its columns, where it is read transposed.
+fn turned_rows(tran: bool, nrows: u64, ncols: u64) -> u64
+    ensures { result ≡ (if tran then ncols else nrows) }
+{
+    if tran { ncols } else { nrows }
+}
+
+/// The folds of the rows of a matrix, which `tran` has read transposed, as a vector. `AllocError` where memory is refused; then nothing is
+/// made.
+fn row_folds(
+    alloc: Global,
+    monoid: Monoid,
+    tran: bool,
+    a: &SparseMatrix,
+) -> Result<SparseVector, AllocError>
+    requires assembled { a.now.assembled ≡ true }
+    requires domain { monoid_domain monoid ≡ a.now.matrix.domain }
+    ensures vector { IfOk result (λ made. made.vector ≡ record { domain = a.now.matrix.domain; size = (if tran then a.now.matrix.ncols else a.now.matrix.nrows); entries = reduce_rows_of monoid (turned tran a.now.matrix.entries) }) }
+    ensures assembled { IfOk result (λ made. made.assembled ≡ true) }
+{
+    let (nrows, ncols) = a.dims();
+    let size = turned_rows(tran, nrows, ncols);
+    match a.domain() {
+        Domain::Bool => {
+            let entries = fold_rows_by::<bool>(alloc, monoid, tran, lend_matrix(a))?;
+            keep_bools(alloc, size, entries)
+        }
+        Domain::Uint64 => {
+            let entries = fold_rows_by::<u64>(alloc, monoid, tran, lend_matrix(a))?;
+            keep_numbers(alloc, size, entries)
+        }
+    }
+}
+
+/// Reduction of a matrix to a vector: at each row that stores something its values combined by the monoid, and nothing elsewhere; written
+/// into `output` by the accumulator, the mask and the descriptor. With the descriptor's `tran` the matrix is read transposed, and so each
+/// column is combined. `AllocError` where memory is refused; then nothing is made, and `output` is as before.
+///
+/// - `output`: the old output, which is read.
+/// - `mask`: which indices may be written, read as `descriptor` says; `None` for all, or with `comp` for none.
+/// - `accum`: combines the old value and the computed one where both are there; `None` for the computed one alone.
+/// - `monoid`: combines the values of a row.
+/// - `a`: the matrix.
+/// - `descriptor`: how the mask is read, whether what lies outside of it is removed, and whether `a` is read transposed.
+///
+/// All are of one domain, the mask aside, and the output and the mask have one place for each row of `a`; for each column, with `tran`.
+/// Time and memory are in proportion to the stored entries. With `tran` they are read once, and there is memory for a sum at each column;
+/// where the columns are more than 8 times the entries, at each that stores something: these are sorted first, and searched for each entry.
+///
+/// Source: GraphBLAS C API 2.0, "reduce", of a matrix to a vector.
+pub fn reduce_rows(
+    alloc: Global,
+    output: &SparseVector,
+    mask: Option<&SparseVector>,
+    accum: Option<BinaryOp>,
+    monoid: Monoid,
+    a: &SparseMatrix,
+    descriptor: Descriptor,
+) -> Result<SparseVector, AllocError>
+    requires output { IsVectorOutput output.now mask accum }
+    requires monoid_domain { monoid_domain monoid ≡ output.now.vector.domain }
+    requires a { IsMatrixInput descriptor.tran output.now.vector.domain output.now.vector.size (if descriptor.tran then a.now.matrix.nrows else a.now.matrix.ncols) a.now }
+    ensures vector { IfOk result (λ made. made.vector ≡ edited_vector (λ w. written nat_cmp (is_inside nat_cmp descriptor.structure descriptor.comp (option_map (λ m. m.now.vector.entries) mask.entry)) descriptor.replace accum w (reduce_rows_of monoid (turned descriptor.tran a.now.matrix.entries))) output.now.vector) }
+    ensures assembled { IfOk result (λ made. made.assembled ≡ true) }
+{
+    let computed = row_folds(alloc, monoid, descriptor.tran, a)?;
+    write_masked_vector(alloc, output, mask, accum, descriptor, computed)
+}
