@@ -219,9 +219,9 @@ static void forget(void)
 
 /* ---- The store --------------------------------------------------------------------------------- */
 
-/* The graph, with its edges turned round, below the diagonal, of truth values, and the vectors. */
+/* The graph, with its edges turned round, below the diagonal, of truth values, those turned round, and the vectors. */
 static TrB_Pass pass = TRB_PASS_INIT;
-static TrB_Matrix a, b, l, t;
+static TrB_Matrix a, b, l, t, back;
 static TrB_Vector u, some, single;
 
 static TrB_Matrix matrix_of(const Tuples *tuples)
@@ -229,6 +229,14 @@ static TrB_Matrix matrix_of(const Tuples *tuples)
     TrB_Matrix c;
     OK(TrB_Matrix_new(&pass, &c, TrB_UINT64, vertices, vertices));
     OK(TrB_Matrix_build_UINT64(&pass, c, tuples->rows, tuples->columns, tuples->values, tuples->nvals, TrB_PLUS));
+    return c;
+}
+
+static TrB_Matrix truths_at(const Tuples *tuples)
+{
+    TrB_Matrix c;
+    OK(TrB_Matrix_new(&pass, &c, TrB_BOOL, vertices, vertices));
+    OK(TrB_Matrix_build_BOOL(&pass, c, tuples->rows, tuples->columns, truths, tuples->nvals, TrB_LOR));
     return c;
 }
 
@@ -247,8 +255,8 @@ static void load(void)
     a = matrix_of(&graph);
     b = matrix_of(&turned);
     l = matrix_of(&below);
-    OK(TrB_Matrix_new(&pass, &t, TrB_BOOL, vertices, vertices));
-    OK(TrB_Matrix_build_BOOL(&pass, t, graph.rows, graph.columns, truths, graph.nvals, TrB_LOR));
+    t = truths_at(&graph);
+    back = truths_at(&turned);
     u = vector_of(&full);
     some = vector_of(&few);
     single = vector_of(&one);
@@ -449,14 +457,24 @@ static TrB_Vector first_vertex(void)
     return w;
 }
 
+static TrB_Info push_front(TrB_Vector front, TrB_Vector seen)
+{
+    return TrB_vxm(&pass, front, seen, TrB_NO_ACCUM, TrB_LOR_LAND, front, t, TrB_STRUCTURE | TrB_COMP | TrB_REPLACE);
+}
+
+static TrB_Info pull_front(TrB_Vector front, TrB_Vector seen)
+{
+    return TrB_mxv(&pass, front, seen, TrB_NO_ACCUM, TrB_LOR_LAND, back, front, TrB_STRUCTURE | TrB_COMP | TrB_REPLACE);
+}
+
 /* From vertex 0, front by front. What was seen is the mask, so it is left out. */
-static double our_search(Outcome *outcome)
+static double search(TrB_Info (*next)(TrB_Vector front, TrB_Vector seen), Outcome *outcome)
 {
     TrB_Vector front = first_vertex(), seen = first_vertex();
     uint64_t fronts = 0, count = 1;
     double start = now();
     for (uint64_t round = 1; count > 0; round++) {
-        OK(TrB_vxm(&pass, front, seen, TrB_NO_ACCUM, TrB_LOR_LAND, front, t, TrB_STRUCTURE | TrB_COMP | TrB_REPLACE));
+        OK(next(front, seen));
         OK(TrB_Vector_eWiseAdd(&pass, seen, TrB_NO_VECTOR, TrB_NO_ACCUM, TrB_LOR, seen, front, TrB_DEFAULT));
         OK(TrB_Vector_nvals(&pass, &count, front));
         fronts += round * count;
@@ -476,6 +494,9 @@ static double our_search(Outcome *outcome)
     OK(TrB_Vector_free(&pass, seen));
     return seconds;
 }
+
+static double our_search(Outcome *outcome) { return search(push_front, outcome); }
+static double our_pull(Outcome *outcome) { return search(pull_front, outcome); }
 
 static double our_entries(Outcome *outcome)
 {
@@ -600,6 +621,8 @@ static const Line lines[] = {
     {"build", our_build, BESIDE(their_build), hand_build},
     {"mxm plus.times", our_mxm, BESIDE(their_mxm), hand_mxm},
     {"mxm lor.land", our_mxm_bool, BESIDE(their_mxm_bool), hand_mxm_bool},
+    {"mxm plus.times, theirs unsorted", our_mxm, BESIDE(their_mxm_unsorted), NULL},
+    {"mxm lor.land, theirs unsorted", our_mxm_bool, BESIDE(their_mxm_bool_unsorted), NULL},
     {"mxm of triangles, masked", our_triangles, BESIDE(their_triangles), hand_triangles},
     {"mxv plus.times", our_mxv, BESIDE(their_mxv), hand_mxv},
     {"mxv min.plus", our_mxv_min, BESIDE(their_mxv_min), hand_mxv_min},
@@ -612,6 +635,7 @@ static const Line lines[] = {
     {"reduce rows", our_reduce, BESIDE(their_reduce), hand_reduce},
     {"total", our_total, BESIDE(their_total), hand_total},
     {"breadth-first search", our_search, BESIDE(their_search), hand_search},
+    {"the same by mxv", our_pull, BESIDE(their_pull), hand_search},
     {"20 rounds of shortest paths", our_paths, BESIDE(their_paths), hand_paths},
     {"all entries", our_entries, BESIDE(their_entries), NULL},
     {"set and get, a turn", our_turns, BESIDE(their_turns), NULL},

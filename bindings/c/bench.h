@@ -99,6 +99,6 @@ void load_theirs(void);
 void unload_theirs(void);
 Round their_build, their_mxm, their_mxm_bool, their_triangles, their_mxv, their_mxv_min, their_vxm, their_vxm_few;
 Round their_vxm_one, their_add, their_mult, their_masked_add, their_reduce, their_total, their_search, their_paths;
-Round their_entries, their_turns, their_service;
+Round their_mxm_unsorted, their_mxm_bool_unsorted, their_pull, their_entries, their_turns, their_service;
 
 #endif

@@ -13,8 +13,8 @@
 /* The call is made. */
 #define DONE(call) check_statement((call) == GrB_SUCCESS, #call, __FILE__, __LINE__)
 
-/* The graph, with its edges turned round, below the diagonal, of truth values, and the vectors. */
-static GrB_Matrix a, b, l, t;
+/* The graph, with its edges turned round, below the diagonal, of truth values, those turned round, and the vectors. */
+static GrB_Matrix a, b, l, t, back;
 static GrB_Vector u, some, single;
 
 static GrB_Matrix matrix_of(const Tuples *tuples)
@@ -22,6 +22,15 @@ static GrB_Matrix matrix_of(const Tuples *tuples)
     GrB_Matrix c;
     DONE(GrB_Matrix_new(&c, GrB_UINT64, vertices, vertices));
     DONE(GrB_Matrix_build_UINT64(c, tuples->rows, tuples->columns, tuples->values, tuples->nvals, GrB_PLUS_UINT64));
+    DONE(GrB_Matrix_wait(c, GrB_MATERIALIZE));
+    return c;
+}
+
+static GrB_Matrix truths_at(const Tuples *tuples)
+{
+    GrB_Matrix c;
+    DONE(GrB_Matrix_new(&c, GrB_BOOL, vertices, vertices));
+    DONE(GrB_Matrix_build_BOOL(c, tuples->rows, tuples->columns, truths, tuples->nvals, GrB_LOR));
     DONE(GrB_Matrix_wait(c, GrB_MATERIALIZE));
     return c;
 }
@@ -51,9 +60,8 @@ void load_theirs(void)
     a = matrix_of(&graph);
     b = matrix_of(&turned);
     l = matrix_of(&below);
-    DONE(GrB_Matrix_new(&t, GrB_BOOL, vertices, vertices));
-    DONE(GrB_Matrix_build_BOOL(t, graph.rows, graph.columns, truths, graph.nvals, GrB_LOR));
-    DONE(GrB_Matrix_wait(t, GrB_MATERIALIZE));
+    t = truths_at(&graph);
+    back = truths_at(&turned);
     u = vector_of(&full);
     some = vector_of(&few);
     single = vector_of(&one);
@@ -65,6 +73,7 @@ void unload_theirs(void)
     DONE(GrB_Matrix_free(&b));
     DONE(GrB_Matrix_free(&l));
     DONE(GrB_Matrix_free(&t));
+    DONE(GrB_Matrix_free(&back));
     DONE(GrB_Vector_free(&u));
     DONE(GrB_Vector_free(&some));
     DONE(GrB_Vector_free(&single));
@@ -91,12 +100,15 @@ static void see_vector(GrB_Vector w, Outcome *outcome)
     free_tuples(&found);
 }
 
-/* Times a call that writes this matrix, with all of its work, and frees the matrix. */
-static double time_in(GrB_Matrix c, GrB_Info (*make)(GrB_Matrix c), Outcome *outcome)
+/* Times a call that writes this matrix, and frees the matrix. All of its work is done then, or rows may be left out
+ * of order, as a product leaves them until they are asked for. */
+static double time_in(GrB_Matrix c, GrB_Info (*make)(GrB_Matrix c), bool is_sorted, Outcome *outcome)
 {
     double start = now();
     DONE(make(c));
-    DONE(GrB_Matrix_wait(c, GrB_MATERIALIZE));
+    if (is_sorted) {
+        DONE(GrB_Matrix_wait(c, GrB_MATERIALIZE));
+    }
     DONE(GrB_Matrix_nvals(&outcome->nvals, c));
     double seconds = now() - start;
     see_matrix(c, outcome);
@@ -104,11 +116,18 @@ static double time_in(GrB_Matrix c, GrB_Info (*make)(GrB_Matrix c), Outcome *out
     return seconds;
 }
 
+static double time_unsorted(GrB_Info (*make)(GrB_Matrix c), GrB_Type type, Outcome *outcome)
+{
+    GrB_Matrix c;
+    DONE(GrB_Matrix_new(&c, type, vertices, vertices));
+    return time_in(c, make, false, outcome);
+}
+
 static double time_matrix(GrB_Info (*make)(GrB_Matrix c), GrB_Type type, Outcome *outcome)
 {
     GrB_Matrix c;
     DONE(GrB_Matrix_new(&c, type, vertices, vertices));
-    return time_in(c, make, outcome);
+    return time_in(c, make, true, outcome);
 }
 
 /* Times a call that writes a new vector, with all of its work. */
@@ -205,6 +224,8 @@ static GrB_Info make_paths(GrB_Vector w)
 double their_build(Outcome *outcome) { return time_matrix(make_build, GrB_UINT64, outcome); }
 double their_mxm(Outcome *outcome) { return time_matrix(make_mxm, GrB_UINT64, outcome); }
 double their_mxm_bool(Outcome *outcome) { return time_matrix(make_mxm_bool, GrB_BOOL, outcome); }
+double their_mxm_unsorted(Outcome *outcome) { return time_unsorted(make_mxm, GrB_UINT64, outcome); }
+double their_mxm_bool_unsorted(Outcome *outcome) { return time_unsorted(make_mxm_bool, GrB_BOOL, outcome); }
 double their_triangles(Outcome *outcome) { return time_matrix(make_triangles, GrB_UINT64, outcome); }
 double their_add(Outcome *outcome) { return time_matrix(make_add, GrB_UINT64, outcome); }
 double their_mult(Outcome *outcome) { return time_matrix(make_mult, GrB_UINT64, outcome); }
@@ -221,7 +242,7 @@ double their_masked_add(Outcome *outcome)
     GrB_Matrix c;
     DONE(GrB_Matrix_dup(&c, a));
     DONE(GrB_Matrix_wait(c, GrB_MATERIALIZE));
-    return time_in(c, make_masked_add, outcome);
+    return time_in(c, make_masked_add, true, outcome);
 }
 
 double their_total(Outcome *outcome)
@@ -243,13 +264,23 @@ static GrB_Vector first_vertex(void)
     return w;
 }
 
-double their_search(Outcome *outcome)
+static GrB_Info push_front(GrB_Vector front, GrB_Vector seen)
+{
+    return GrB_vxm(front, seen, NULL, GrB_LOR_LAND_SEMIRING_BOOL, front, t, GrB_DESC_RSC);
+}
+
+static GrB_Info pull_front(GrB_Vector front, GrB_Vector seen)
+{
+    return GrB_mxv(front, seen, NULL, GrB_LOR_LAND_SEMIRING_BOOL, back, front, GrB_DESC_RSC);
+}
+
+static double search(GrB_Info (*next)(GrB_Vector front, GrB_Vector seen), Outcome *outcome)
 {
     GrB_Vector front = first_vertex(), seen = first_vertex();
     uint64_t fronts = 0, count = 1;
     double start = now();
     for (uint64_t round = 1; count > 0; round++) {
-        DONE(GrB_vxm(front, seen, NULL, GrB_LOR_LAND_SEMIRING_BOOL, front, t, GrB_DESC_RSC));
+        DONE(next(front, seen));
         DONE(GrB_Vector_eWiseAdd_BinaryOp(seen, NULL, NULL, GrB_LOR, seen, front, NULL));
         DONE(GrB_Vector_nvals(&count, front));
         fronts += round * count;
@@ -262,6 +293,9 @@ double their_search(Outcome *outcome)
     DONE(GrB_Vector_free(&seen));
     return seconds;
 }
+
+double their_search(Outcome *outcome) { return search(push_front, outcome); }
+double their_pull(Outcome *outcome) { return search(pull_front, outcome); }
 
 /* ---- Reads and sets ---------------------------------------------------------------------------- */
 

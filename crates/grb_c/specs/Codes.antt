@@ -1,7 +1,7 @@
 -- believed: What the numbers of the C interface stand for: GraphBLAS C API 2.0, "Error model", for the statuses, of which OrderFull is
 -- own, and its header for domains, modes and three of the descriptor's bits; the bit of a transposed input and the numbers of operators
 -- and monoids are own.
-use Rattle.std.specs.Prelude.{ℕ, ◌/◌, ◌%◌, ◌<◌, nat_lt, ℤ, pos, negsuc, Bool, true, false, ◌==◌, if◌then◌else◌, Option, Some, None, Result, Ok, Err}
+use Rattle.std.specs.Prelude.{ℕ, ◌/◌, ◌%◌, nat_lt, ℤ, pos, negsuc, Bool, true, false, ◌==◌, if◌then◌else◌, Option, Some, None, Result, Ok, Err}
 use Rattle.std.specs.Option.{option_map}
 use Rattle.grb_core.specs.declared.domain.Domain.{Domain}
 use Rattle.grb_core.specs.declared.domain.Domain.TheVariants as domain
@@ -13,7 +13,6 @@ use Rattle.grb_core.specs.declared.refusal.Refusal.{Refusal}
 use Rattle.grb_core.specs.declared.refusal.Refusal.TheVariants as refusal
 use Rattle.grb_core.specs.declared.refusal.Info.{Info}
 use Rattle.grb_core.specs.declared.refusal.Info.TheVariants as info
-use Rattle.grb_core.specs.declared.value.Value.{Value}
 use Rattle.grb_core.specs.declared.value.Value.TheVariants as value
 use Rattle.grb_core.specs.Semiring.{SemiringParts}
 use Rattle.grb_core.specs.Operator.{op_domain}
@@ -23,7 +22,6 @@ use Rattle.grb_call.specs.declared.descriptor.WaitMode.{WaitMode}
 use Rattle.grb_call.specs.declared.descriptor.WaitMode.TheVariants as mode
 use Rattle.grb_call.specs.declared.ids.MatrixId.{MatrixId}
 use Rattle.grb_call.specs.declared.ids.VectorId.{VectorId}
-use Rattle.grb_call.specs.declared.reply.Reply.{Reply}
 use Rattle.grb_call.specs.declared.reply.Reply.TheVariants as reply
 use Rattle.grb_context.specs.Explains.{Answer}
 

@@ -1,5 +1,5 @@
 -- believed: What a contract sees of a handle, and what one export does with it (own).
-use Rattle.std.specs.Prelude.{◌≡◌, ◌≤◌, length, ℕ, ℤ, ◌==◌, Bool, true, false, Option, Some, None, Result, Ok, Err}
+use Rattle.std.specs.Prelude.{◌≡◌, ◌≤◌, length, ℕ, ℤ, ◌==◌, Bool, true, false, Option, Some, None, Result, Err}
 use Rattle.grb_core.specs.declared.refusal.Refusal.{Refusal}
 use Rattle.grb_core.specs.declared.refusal.Refusal.TheVariants.{UninitializedObject}
 use Rattle.grb_core.specs.declared.refusal.Info.{Info}
@@ -33,21 +33,11 @@ pub record Puts {X : Type 0} (status : Answer → ℤ) (out : Answer → X → X
   pub code_is : code ≡ status answer
   pub out_is : after ≡ out answer before
 
--- The same of a call that is decoded: where a number stands for nothing, the code says so, and nothing else happens
-abbrev pub Calls : {X : Type 0} → (Answer → ℤ) → (Answer → X → X) → Option Opened → Option Opened → Result Call ℤ → ℤ → X → X → Type 0
-Calls status out old new (Ok c) code before after = Puts status out old new c code before after
-Calls status out old new (Err e) code before after = (code ≡ e) × (new ≡ old) × (after ≡ before)
-
 -- a call that puts nothing out: made with some answer, of which the status is the code
 pub record Does (old new : Option Opened) (c : Call) (code : ℤ) : Type 0 where
   pub answer : Answer
   pub made : Made old new c answer
   pub code_is : code ≡ done_code answer
-
--- the same of a call that is decoded
-abbrev pub Makes : Option Opened → Option Opened → Result Call ℤ → ℤ → Type 0
-Makes old new (Ok c) code = Does old new c code
-Makes old new (Err e) code = (code ≡ e) × (new ≡ old)
 
 -- two handles with one number are of one context: two stores that are open have two numbers
 abbrev pub AreApart : Option Opened → Option Opened → Type 0

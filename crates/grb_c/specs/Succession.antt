@@ -40,6 +40,6 @@ abbrev pub GoesOn : ℕ → ℕ → Store → ℤ → ℕ → ℕ → List (Opti
 GoesOn store room s code before after hs = IsSucceeded store room s code before after hs ⊎ IsNotSucceeded room s code before after
 
 -- the same of the store that all calls leave which the pass of a handle knows; or there is no pass
-abbrev pub Succeeds : ℕ → ℕ → Option Opened → ℤ → ℕ → ℕ → List (Option Opened) → Type 0
-Succeeds store room (Some s) code before after hs = GoesOn store room (store_of (known s.pass)) code before after hs
-Succeeds store room None code before after hs = (code ≡ uninitialized_object) × (after ≡ before)
+abbrev pub GoesOnFrom : ℕ → ℕ → Option Opened → ℤ → ℕ → ℕ → List (Option Opened) → Type 0
+GoesOnFrom store room (Some s) code before after hs = GoesOn store room (store_of (known s.pass)) code before after hs
+GoesOnFrom store room None code before after hs = (code ≡ uninitialized_object) × (after ≡ before)

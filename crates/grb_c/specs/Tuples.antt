@@ -1,11 +1,8 @@
 -- believed: Lists of C arrays: what a build takes, and what a read of all entries leaves (own).
-use Rattle.std.specs.Prelude.{◌≡◌, ℕ, ℤ, ◌≤◌, nat_le, min, Bool, true, false, ◌&&◌, ◌==◌, if◌then◌else◌, List, [], ◌∷◌, ◌++◌, map, length, drop, Option, Some, None, Result, Ok, Err, is_some, ◌<◌, ◌⊎◌}
+use Rattle.std.specs.Prelude.{◌≡◌, ℕ, ℤ, nat_le, min, Bool, true, false, ◌&&◌, ◌==◌, if◌then◌else◌, List, [], ◌∷◌, ◌++◌, map, length, drop, Option, Some, None, Result, Ok, Err, is_some, ◌<◌, ◌⊎◌}
 use Rattle.grb_core.specs.declared.domain.Domain.{Domain}
-use Rattle.grb_core.specs.declared.domain.Domain.TheVariants as domain
 use Rattle.grb_core.specs.declared.value.Value.{Value}
 use Rattle.grb_core.specs.declared.value.Value.TheVariants as value
-use Rattle.grb_core.specs.Entries.{MatrixEntries, VectorEntries}
-use Rattle.grb_core.specs.Contents.{Matrix, Vector}
 use Rattle.grb_sparse.specs.Matrix.{SparseMatrixView}
 use Rattle.grb_sparse.specs.Vector.{SparseVectorView}
 use Rattle.grb_call.specs.declared.call.Call.{Call}
@@ -20,7 +17,7 @@ use Rattle.grb_context.specs.Known.{Knowing, known}
 use Rattle.grb_context.specs.Answered.{Answered}
 use Rattle.grb_context.specs.StoredIn.{IsMatrixOf, IsVectorOf}
 use Rattle.grb_c.specs.Codes.{is_one_domain, monoid_at, with_code, refusal_code, success, invalid_value, domain_mismatch, insufficient_space, out_of_memory, uninitialized_object}
-use Rattle.grb_c.specs.Sessions.{Opened, Makes}
+use Rattle.grb_c.specs.Sessions.{Opened}
 
 -- the cells of three arrays of one length, in turn
 abbrev pub cells_of_arrays : {X : Type 0} → (X → Value) → List ℕ → List ℕ → List X → List (ℕ × ℕ × Value)
@@ -42,10 +39,6 @@ build_matrix f a rows columns xs dup = with_code (monoid_at dup) (λ m.
 abbrev pub build_vector : {X : Type 0} → (X → Value) → ℕ → List ℕ → List X → ℕ → Result Call ℤ
 build_vector f v indices xs dup = with_code (monoid_at dup) (λ m.
     if length indices == length xs then Ok (call.BuildVector (record { 0 = v }) (indices_of_arrays f indices xs) m) else Err invalid_value)
-
--- a build is made as it is decoded, or memory is refused to its list, and nothing else happens
-abbrev pub Builds : Option Opened → Option Opened → Result Call ℤ → ℤ → Type 0
-Builds old new c code = Makes old new (Err out_of_memory) code ⊎ Makes old new c code
 
 -- what C has of a value of its domain
 abbrev pub number_in : Value → ℕ

@@ -2,7 +2,8 @@
 ghost use Rattle.std.specs.Prelude.{◌≡◌, ◌⊎◌, IfOk, Err, length};
 ghost use Rattle.grb_core.specs.declared.value.Value.TheVariants.{Bool, Uint64};
 ghost use Rattle.grb_c.specs.Codes.{out_of_memory};
-ghost use Rattle.grb_c.specs.Tuples.{Builds, build_matrix, build_vector, cells_of_arrays, indices_of_arrays};
+ghost use Rattle.grb_c.specs.Handles.{Builds};
+ghost use Rattle.grb_c.specs.Tuples.{build_matrix, build_vector, cells_of_arrays, indices_of_arrays};
 
 use crate::codes::{INVALID_VALUE, OUT_OF_MEMORY, monoid_at};
 use crate::handle::TrbPass;
@@ -108,7 +109,7 @@ pub extern "C" fn trb_matrix_build_uint64(
     values: &[u64],
     dup: u32,
 ) -> i32
-    ensures { Builds pass.old.raw.session pass.new.raw.session (build_matrix Uint64 a rows.now columns.now values.now dup) result }
+    ensures { Builds pass.old pass.new (build_matrix Uint64 a rows.now columns.now values.now dup) result }
 {
     pass.done(alloc, matrix_build(alloc, a, rows, columns, values, dup))
 }
@@ -123,7 +124,7 @@ pub extern "C" fn trb_vector_build_uint64(
     values: &[u64],
     dup: u32,
 ) -> i32
-    ensures { Builds pass.old.raw.session pass.new.raw.session (build_vector Uint64 v indices.now values.now dup) result }
+    ensures { Builds pass.old pass.new (build_vector Uint64 v indices.now values.now dup) result }
 {
     pass.done(alloc, vector_build(alloc, v, indices, values, dup))
 }
@@ -139,7 +140,7 @@ pub extern "C" fn trb_matrix_build_bool(
     values: &[bool],
     dup: u32,
 ) -> i32
-    ensures { Builds pass.old.raw.session pass.new.raw.session (build_matrix Bool a rows.now columns.now values.now dup) result }
+    ensures { Builds pass.old pass.new (build_matrix Bool a rows.now columns.now values.now dup) result }
 {
     pass.done(alloc, matrix_build(alloc, a, rows, columns, values, dup))
 }
@@ -154,7 +155,7 @@ pub extern "C" fn trb_vector_build_bool(
     values: &[bool],
     dup: u32,
 ) -> i32
-    ensures { Builds pass.old.raw.session pass.new.raw.session (build_vector Bool v indices.now values.now dup) result }
+    ensures { Builds pass.old pass.new (build_vector Bool v indices.now values.now dup) result }
 {
     pass.done(alloc, vector_build(alloc, v, indices, values, dup))
 }

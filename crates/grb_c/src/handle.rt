@@ -2,7 +2,7 @@
 ghost use Rattle.std.specs.Prelude.{◌≡◌, ℕ, ℤ, None, Some, MatchOption, is_some};
 ghost use Rattle.grb_context.specs.Explains.{Answer};
 ghost use Rattle.grb_c.specs.Codes.{bool_code, bool_out, dims_code, dims_out, number_code, number_out, object_code, object_out};
-ghost use Rattle.grb_c.specs.Sessions.{Calls, Made, Makes};
+ghost use Rattle.grb_c.specs.Sessions.{Made};
 
 use crate::codes::{done_code, put_bool, put_dims, put_number, put_object};
 use crate::parts::Parts;
@@ -23,6 +23,8 @@ pub struct TrbPass {
 }
 
 impl TrbPass {
+    ghost use Rattle.grb_c.specs.Handles.{Calls, Makes};
+
     /// Takes the session out, if there is one.
     pub(crate) fn take(&mut self, alloc: Global) -> Option<Box<Session>>
         ensures taken { MatchOption result (self.old.raw.session ≡ None) (λ s. self.old.raw.session ≡ Some s.value) }
@@ -59,7 +61,7 @@ impl TrbPass {
 
     /// Makes a call that puts nothing out, if it is one.
     pub(crate) fn done(&mut self, alloc: Global, call: Result<Call, i32>) -> i32
-        ensures { Makes self.old.raw.session self.new.raw.session call result }
+        ensures { Makes self.old self.new call result }
     {
         match call {
             Ok(call) => done_code(self.call(alloc, call)),
@@ -69,7 +71,7 @@ impl TrbPass {
 
     /// Makes a call that is answered by a number, if it is one.
     pub(crate) fn number(&mut self, alloc: Global, call: Result<Call, i32>, out: &mut u64) -> i32
-        ensures { Calls number_code number_out self.old.raw.session self.new.raw.session call result out.old out.new }
+        ensures { Calls number_code number_out self.old self.new call result out.old out.new }
     {
         match call {
             Ok(call) => put_number(self.call(alloc, call), out),
@@ -79,7 +81,7 @@ impl TrbPass {
 
     /// Makes a call that is answered by a truth value, if it is one.
     pub(crate) fn bool(&mut self, alloc: Global, call: Result<Call, i32>, out: &mut bool) -> i32
-        ensures { Calls bool_code bool_out self.old.raw.session self.new.raw.session call result out.old out.new }
+        ensures { Calls bool_code bool_out self.old self.new call result out.old out.new }
     {
         match call {
             Ok(call) => put_bool(self.call(alloc, call), out),
@@ -89,7 +91,7 @@ impl TrbPass {
 
     /// Makes a call that makes an object, if it is one.
     pub(crate) fn object(&mut self, alloc: Global, call: Result<Call, i32>, out: &mut u32) -> i32
-        ensures { Calls object_code object_out self.old.raw.session self.new.raw.session call result out.old out.new }
+        ensures { Calls object_code object_out self.old self.new call result out.old out.new }
     {
         match call {
             Ok(call) => put_object(self.call(alloc, call), out),
@@ -105,7 +107,7 @@ impl TrbPass {
         nrows: &mut u64,
         ncols: &mut u64,
     ) -> i32
-        ensures { Calls dims_code dims_out self.old.raw.session self.new.raw.session call result (nrows.old, ncols.old) (nrows.new, ncols.new) }
+        ensures { Calls dims_code dims_out self.old self.new call result (nrows.old, ncols.old) (nrows.new, ncols.new) }
     {
         match call {
             Ok(call) => put_dims(self.call(alloc, call), nrows, ncols),

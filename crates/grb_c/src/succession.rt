@@ -4,9 +4,10 @@ ghost use Rattle.grb_order.specs.Order.{room_of};
 ghost use Rattle.grb_call.specs.History.{store_of};
 ghost use Rattle.grb_context.specs.Known.{known};
 ghost use Rattle.grb_c.specs.Codes.{invalid_value};
+ghost use Rattle.grb_c.specs.Handles.{Succeeds};
 ghost use Rattle.grb_c.specs.Opening.{IsWithin};
 ghost use Rattle.grb_c.specs.Sessions.{IsSameButMade, facts_code};
-ghost use Rattle.grb_c.specs.Succession.{GoesOn, Succeeds, needed_out, no_successor_code};
+ghost use Rattle.grb_c.specs.Succession.{GoesOn, needed_out, no_successor_code};
 
 use crate::codes::{
     INSUFFICIENT_SPACE, INVALID_VALUE, OUT_OF_MEMORY, PANIC, SUCCESS, UNINITIALIZED_OBJECT,
@@ -64,7 +65,7 @@ pub extern "C" fn trb_succeed(
     passes: &mut [TrbPass],
 ) -> i32
     ensures same { IsSameButMade pass.old.raw.session pass.new.raw.session }
-    ensures succeeds { IsWithin room (length passes.old) → Succeeds store room pass.old.raw.session result needed.old needed.new (map (λ h. h.raw.session) passes.new) }
+    ensures succeeds { IsWithin room (length passes.old) → Succeeds store room pass.old result needed.old needed.new passes.new }
     ensures outside { (IsWithin room (length passes.old) → ⊥) → (result ≡ invalid_value) × (needed.new ≡ needed.old) }
 {
     if !is_within(room, passes.len()) {

@@ -1,7 +1,7 @@
 //! All entries of an object, into arrays.
 ghost use Rattle.std.specs.Prelude.{◌≡◌, ◌≤◌, length, true};
-ghost use Rattle.grb_core.specs.declared.domain.Domain.TheVariants as domain;
-ghost use Rattle.grb_c.specs.Tuples.{PutsMatrix, PutsVector, ReadsAll, ReadsAllOfVector, ReadsMatrixBy, ReadsVectorBy, bool_in, number_in, written};
+ghost use Rattle.grb_c.specs.Handles.{ReadsBools, ReadsBoolsOfVector, ReadsNumbers, ReadsNumbersOfVector};
+ghost use Rattle.grb_c.specs.Tuples.{PutsMatrix, PutsVector, ReadsAll, ReadsAllOfVector, ReadsMatrixBy, ReadsVectorBy, written};
 
 use crate::codes::{
     DOMAIN_MISMATCH, INSUFFICIENT_SPACE, OUT_OF_MEMORY, SUCCESS, UNINITIALIZED_OBJECT, refusal_code,
@@ -200,7 +200,7 @@ pub extern "C" fn trb_matrix_tuples_uint64(
     count: &mut u64,
     a: u32,
 ) -> i32
-    ensures { ReadsAll domain.Uint64 number_in pass.old.raw.session pass.new.raw.session a result rows.old columns.old values.old count.old rows.new columns.new values.new count.new }
+    ensures { ReadsNumbers pass.old pass.new a result rows.old columns.old values.old count.old rows.new columns.new values.new count.new }
 {
     pass.read_matrix(alloc, a, rows, columns, values, count)
 }
@@ -216,7 +216,7 @@ pub extern "C" fn trb_vector_tuples_uint64(
     count: &mut u64,
     v: u32,
 ) -> i32
-    ensures { ReadsAllOfVector domain.Uint64 number_in pass.old.raw.session pass.new.raw.session v result indices.old values.old count.old indices.new values.new count.new }
+    ensures { ReadsNumbersOfVector pass.old pass.new v result indices.old values.old count.old indices.new values.new count.new }
 {
     pass.read_vector(alloc, v, indices, values, count)
 }
@@ -233,7 +233,7 @@ pub extern "C" fn trb_matrix_tuples_bool(
     count: &mut u64,
     a: u32,
 ) -> i32
-    ensures { ReadsAll domain.Bool bool_in pass.old.raw.session pass.new.raw.session a result rows.old columns.old values.old count.old rows.new columns.new values.new count.new }
+    ensures { ReadsBools pass.old pass.new a result rows.old columns.old values.old count.old rows.new columns.new values.new count.new }
 {
     pass.read_matrix(alloc, a, rows, columns, values, count)
 }
@@ -249,7 +249,7 @@ pub extern "C" fn trb_vector_tuples_bool(
     count: &mut u64,
     v: u32,
 ) -> i32
-    ensures { ReadsAllOfVector domain.Bool bool_in pass.old.raw.session pass.new.raw.session v result indices.old values.old count.old indices.new values.new count.new }
+    ensures { ReadsBoolsOfVector pass.old pass.new v result indices.old values.old count.old indices.new values.new count.new }
 {
     pass.read_vector(alloc, v, indices, values, count)
 }

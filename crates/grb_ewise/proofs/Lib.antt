@@ -1,3 +1,4 @@
+pub mod Alone
 pub mod Alike
 pub mod Columns
 pub mod Counting

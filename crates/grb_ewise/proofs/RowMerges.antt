@@ -13,8 +13,10 @@ use Rattle.grb_core.specs.declared.value.Value.{Value}
 use Rattle.grb_core.specs.Entries.{VectorEntries, MatrixEntries, cell_cmp}
 use Rattle.grb_core.specs.Results.{row_of}
 use Rattle.grb_core.specs.Written.{pointwise}
+use Rattle.grb_kernels.specs.Merging.{most_of}
 use Rattle.grb_kernels.specs.Typed.{entries_of}
 use Rattle.grb_kernels.proofs.Lists.{append_nil}
+use Rattle.grb_kernels.proofs.Room.{most-mono, most-add}
 use Rattle.grb_rows.specs.Cells.{IsFlat}
 use Rattle.grb_ewise.specs.Rows.{flat_entries}
 use Rattle.grb_ewise.proofs.MatrixRows.{with_row, rows_from, rows_from-more, below-rows_from, length-with_row, pointwise-with_row}
@@ -121,12 +123,12 @@ length-entries_of value [] vs e = refl
 length-entries_of value (k ∷ ks) [] e = absurd (omega arith)
 length-entries_of value (k ∷ ks) (v ∷ vs) e = let rest = length-entries_of value ks vs (omega arith) in omega (arith, rest)
 
-module _ {V : Type 0} (tv : V → Value) (f : Option Value → Option Value → Option Value) (none : f None None ≡ None) (a b : MatrixEntries) (ra rb : List ℕ) (total : MatrixEntries) where
+module _ {V : Type 0} (tv : V → Value) (f : Option Value → Option Value → Option Value) (none : f None None ≡ None) (keeps_a keeps_b : Bool) (a b : MatrixEntries) (ra rb : List ℕ) (total : MatrixEntries) where
   -- what is written so far, in the first k columns and values, and the rows from both cursors on
   pub record IsFilling (i j k : ℕ) (rows starts columns : List ℕ) (values : List V) : Type 0 where
     pub left : i ≤ length ra
     pub right : j ≤ length rb
-    pub room : k + (length (rows_from a (drop i ra)) + length (rows_from b (drop j rb))) ≤ length columns
+    pub room : k + most_of keeps_a keeps_b (length (rows_from a (drop i ra))) (length (rows_from b (drop j rb))) ≤ length columns
     pub same : length columns ≡ length values
     pub flat : IsFlat rows starts (take k columns)
     pub below_a : (n m : ℕ) → n < length rows → i ≤ m → m < length ra → get_or rows n 0 < get_or ra m 0
@@ -138,7 +140,7 @@ module _ {V : Type 0} (tv : V → Value) (f : Option Value → Option Value → 
       (columns_before : take k columns2 ≡ take k columns) (values_before : take k values2 ≡ take k values)
       (columns_length : length columns2 ≡ length columns) (values_length : length values2 ≡ length values)
       (made : entries_of tv (take count (drop k columns2)) (take count (drop k values2)) ≡ pointwise nat_cmp f x y)
-      (most : count ≤ length x + length y)
+      (most : count ≤ most_of keeps_a keeps_b (length x) (length y))
       (fit : (n : ℕ) → n < length columns2 → get_or columns2 n 0 < 4294967296)
       (stands_at : ((i < length ra) × (r ≡ get_or ra i 0)) ⊎ ((j < length rb) × (r ≡ get_or rb j 0)))
       (rows_pushed : 0 < count → rows2 ≡ rows ++ r ∷ []) (starts_pushed : 0 < count → starts2 ≡ starts ++ k ∷ [])
@@ -155,8 +157,13 @@ module _ {V : Type 0} (tv : V → Value) (f : Option Value → Option Value → 
     room_b : length (rows_from b (drop j rb)) ≡ length y + length rest_b
     room_b = ap length turn_b.front ∙ length-with_row r y rest_b
 
-    within : k + count + (length rest_a + length rest_b) ≤ length columns2
-    within = let room = before.room in omega (arith, room, room_a, room_b, most, columns_length)
+    within : k + count + most_of keeps_a keeps_b (length rest_a) (length rest_b) ≤ length columns2
+    within =
+        let room = before.room in
+        let parts = most-add keeps_a keeps_b (length x) (length rest_a) (length y) (length rest_b) in
+        let whole = most-mono keeps_a keeps_b (length x + length rest_a) (length y + length rest_b) (length (rows_from a (drop i ra))) (length (rows_from b (drop j rb)))
+        (omega (arith, room_a)) (omega (arith, room_b)) in
+        omega (arith, room, parts, whole, most, columns_length)
 
     inside : k + count ≤ length columns2
     inside = omega (arith, within)
@@ -274,15 +281,17 @@ module _ {V : Type 0} (tv : V → Value) (f : Option Value → Option Value → 
     }
 
 -- before the first turn nothing is written
-pub filling_begins : {V : Type 0} (tv : V → Value) (f : Option Value → Option Value → Option Value) (none : f None None ≡ None) (a b : MatrixEntries) (ra rb rows starts columns : List ℕ) (values : List V)
-    → rows_from a ra ≡ a → rows_from b rb ≡ b → rows ≡ [] → starts ≡ [] → length a + length b ≤ length columns → length columns ≡ length values
-    → IsFilling tv f none a b ra rb (pointwise cell_cmp f a b) 0 0 0 rows starts columns values
-filling_begins tv f none a b ra rb rows starts columns values whole_a whole_b no_rows no_starts room same =
+pub filling_begins : {V : Type 0} (tv : V → Value) (f : Option Value → Option Value → Option Value) (none : f None None ≡ None) (keeps_a keeps_b : Bool) (a b : MatrixEntries) (ra rb rows starts columns : List ℕ) (values : List V)
+    → rows_from a ra ≡ a → rows_from b rb ≡ b → rows ≡ [] → starts ≡ [] → most_of keeps_a keeps_b (length a) (length b) ≤ length columns → length columns ≡ length values
+    → IsFilling tv f none keeps_a keeps_b a b ra rb (pointwise cell_cmp f a b) 0 0 0 rows starts columns values
+filling_begins tv f none keeps_a keeps_b a b ra rb rows starts columns values whole_a whole_b no_rows no_starts room same =
     let is_rows : length rows ≡ 0 = ap length no_rows in
     record {
       left = omega arith;
       right = omega arith;
-      room = let la = ap length whole_a in let lb = ap length whole_b in omega (arith, la, lb, room);
+      room = let la = ap length whole_a in let lb = ap length whole_b in
+          let whole = most-mono keeps_a keeps_b (length (rows_from a ra)) (length (rows_from b rb)) (length a) (length b) (omega (arith, la)) (omega (arith, lb)) in
+          omega (arith, whole, room);
       same = same;
       flat = subst (λ (s : List ℕ). IsFlat s starts []) (sym no_rows) (subst (λ (s : List ℕ). IsFlat [] s []) (sym no_starts) flat_nothing);
       below_a = λ n m l u v. absurd (omega (arith, l, is_rows));
@@ -306,9 +315,9 @@ pub merged_in_order : (f : Option Value → Option Value → Option Value) (a b 
 merged_in_order f a b made e = subst (λ (m : MatrixEntries). IsTrue (is_sorted cell_cmp m)) (sym e) (passes _ (is_sorted-pointwise cell_cmp_total cell_cmp-IsAntisymmetric f a b))
 
 -- after the last turn all is written
-pub filling_ends : {V : Type 0} (tv : V → Value) (f : Option Value → Option Value → Option Value) (none : f None None ≡ None) (a b : MatrixEntries) (ra rb rows starts columns : List ℕ) (values : List V) (total : MatrixEntries) (i j k : ℕ)
-    → IsFilling tv f none a b ra rb total i j k rows starts columns values → length ra + length rb ≤ i + j → flat_entries tv rows starts (take k columns) (take k values) ≡ total
-filling_ends tv f none a b ra rb rows starts columns values total i j k held past =
+pub filling_ends : {V : Type 0} (tv : V → Value) (f : Option Value → Option Value → Option Value) (none : f None None ≡ None) (keeps_a keeps_b : Bool) (a b : MatrixEntries) (ra rb rows starts columns : List ℕ) (values : List V) (total : MatrixEntries) (i j k : ℕ)
+    → IsFilling tv f none keeps_a keeps_b a b ra rb total i j k rows starts columns values → length ra + length rb ≤ i + j → flat_entries tv rows starts (take k columns) (take k values) ≡ total
+filling_ends tv f none keeps_a keeps_b a b ra rb rows starts columns values total i j k held past =
     let left = held.left in
     let right = held.right in
     let no_a : rows_from a (drop i ra) ≡ [] = ap (rows_from a) (drop_all i ra (omega (arith, past, left, right))) in

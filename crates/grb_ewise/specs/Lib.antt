@@ -1,4 +1,6 @@
 pub mod Premises
+pub mod Written
+pub mod Made
 pub mod Rows
 pub mod Transposing
 pub mod Ranks

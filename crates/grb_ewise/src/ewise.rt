@@ -1,16 +1,14 @@
 //! eWiseAdd and eWiseMult of vectors and of matrices.
 ghost use Rattle.std.specs.Prelude.{◌≡◌, true, IfOk, if◌then◌else◌, false};
 ghost use Rattle.std.specs.Ordering.{nat_cmp};
-ghost use Rattle.std.specs.Option.{option_map};
 ghost use Rattle.grb_core.specs.Operator.{op_domain, value_of_op};
 ghost use Rattle.grb_core.specs.Entries.{cell_cmp};
-ghost use Rattle.grb_core.specs.Contents.{edited_vector, edited_matrix};
-ghost use Rattle.grb_core.specs.Mask.{is_inside};
-ghost use Rattle.grb_core.specs.Written.{pointwise, written};
+ghost use Rattle.grb_core.specs.Written.{pointwise};
 ghost use Rattle.grb_core.specs.Results.{ewise_add, ewise_mult, turned};
 ghost use Rattle.grb_kernels.specs.Pairing.{paired};
 ghost use Rattle.grb_ewise.specs.Objects.{IsLike, contents_of_matrix};
 ghost use Rattle.grb_ewise.specs.Premises.{IsMatrixInput, IsMatrixOutput, IsVectorInput, IsVectorOutput};
+ghost use Rattle.grb_ewise.specs.Written.{written_into_matrix, written_into_vector};
 
 use crate::pairing::pair;
 use crate::transposing::transposed;
@@ -49,7 +47,8 @@ pub fn ewise_add_vector(
     requires op_domain { op_domain op ≡ output.now.vector.domain }
     requires u { IsVectorInput output.now.vector.domain output.now.vector.size u.now }
     requires v { IsVectorInput output.now.vector.domain output.now.vector.size v.now }
-    ensures vector { IfOk result (λ made. made.vector ≡ edited_vector (λ w. written nat_cmp (is_inside nat_cmp descriptor.structure descriptor.comp (option_map (λ m. m.now.vector.entries) mask.entry)) descriptor.replace accum w (ewise_add nat_cmp op u.now.vector.entries v.now.vector.entries)) output.now.vector) }
+    ensures vector { IfOk result (λ made. made.vector ≡ written_into_vector output.now mask.entry accum descriptor
+        (ewise_add nat_cmp op u.now.vector.entries v.now.vector.entries)) }
     ensures assembled { IfOk result (λ made. made.assembled ≡ true) }
 {
     let computed = pair(alloc, Pairing::Union, op, u, v)?;
@@ -83,7 +82,8 @@ pub fn ewise_mult_vector(
     requires op_domain { op_domain op ≡ output.now.vector.domain }
     requires u { IsVectorInput output.now.vector.domain output.now.vector.size u.now }
     requires v { IsVectorInput output.now.vector.domain output.now.vector.size v.now }
-    ensures vector { IfOk result (λ made. made.vector ≡ edited_vector (λ w. written nat_cmp (is_inside nat_cmp descriptor.structure descriptor.comp (option_map (λ m. m.now.vector.entries) mask.entry)) descriptor.replace accum w (ewise_mult nat_cmp op u.now.vector.entries v.now.vector.entries)) output.now.vector) }
+    ensures vector { IfOk result (λ made. made.vector ≡ written_into_vector output.now mask.entry accum descriptor
+        (ewise_mult nat_cmp op u.now.vector.entries v.now.vector.entries)) }
     ensures assembled { IfOk result (λ made. made.assembled ≡ true) }
 {
     let computed = pair(alloc, Pairing::Intersection, op, u, v)?;
@@ -146,7 +146,8 @@ pub fn ewise_add_matrix(
     requires op_domain { op_domain op ≡ output.now.matrix.domain }
     requires a { IsMatrixInput descriptor.tran output.now.matrix.domain output.now.matrix.nrows output.now.matrix.ncols a.now }
     requires b { IsMatrixInput false output.now.matrix.domain output.now.matrix.nrows output.now.matrix.ncols b.now }
-    ensures matrix { IfOk result (λ made. made.matrix ≡ edited_matrix (λ c. written cell_cmp (is_inside cell_cmp descriptor.structure descriptor.comp (option_map (λ m. m.now.matrix.entries) mask.entry)) descriptor.replace accum c (ewise_add cell_cmp op (turned descriptor.tran a.now.matrix.entries) b.now.matrix.entries)) output.now.matrix) }
+    ensures matrix { IfOk result (λ made. made.matrix ≡ written_into_matrix output.now mask.entry accum descriptor
+        (ewise_add cell_cmp op (turned descriptor.tran a.now.matrix.entries) b.now.matrix.entries)) }
     ensures assembled { IfOk result (λ made. made.assembled ≡ true) }
 {
     let computed = pair_turned(alloc, Pairing::Union, op, a, b, descriptor.tran)?;
@@ -182,7 +183,8 @@ pub fn ewise_mult_matrix(
     requires op_domain { op_domain op ≡ output.now.matrix.domain }
     requires a { IsMatrixInput descriptor.tran output.now.matrix.domain output.now.matrix.nrows output.now.matrix.ncols a.now }
     requires b { IsMatrixInput false output.now.matrix.domain output.now.matrix.nrows output.now.matrix.ncols b.now }
-    ensures matrix { IfOk result (λ made. made.matrix ≡ edited_matrix (λ c. written cell_cmp (is_inside cell_cmp descriptor.structure descriptor.comp (option_map (λ m. m.now.matrix.entries) mask.entry)) descriptor.replace accum c (ewise_mult cell_cmp op (turned descriptor.tran a.now.matrix.entries) b.now.matrix.entries)) output.now.matrix) }
+    ensures matrix { IfOk result (λ made. made.matrix ≡ written_into_matrix output.now mask.entry accum descriptor
+        (ewise_mult cell_cmp op (turned descriptor.tran a.now.matrix.entries) b.now.matrix.entries)) }
     ensures assembled { IfOk result (λ made. made.assembled ≡ true) }
 {
     let computed = pair_turned(alloc, Pairing::Intersection, op, a, b, descriptor.tran)?;

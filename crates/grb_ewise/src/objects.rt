@@ -1,5 +1,5 @@
 //! Vectors and matrices as far as what is done to both is the same.
-ghost use Rattle.std.specs.Prelude.{◌≡◌, ℕ, [], true, IfOk, IsTrue};
+ghost use Rattle.std.specs.Prelude.{◌≡◌, ◌<◌, ℕ, [], length, true, false, IfOk, IsTrue};
 ghost use Rattle.std.specs.Ordering.{nat_cmp};
 ghost use Rattle.std.specs.declared.cmp.Ordering.{Ordering};
 ghost use Rattle.std.specs.Cmp.{IsTotalOrder, nat_cmp_total};
@@ -32,6 +32,11 @@ pub(crate) trait SparseObject: Drop {
     fn stores(&self) -> Domain
         ensures domain { result ≡ (contents self.now).domain }
         ensures ordered { IsTrue (is_sorted order (contents self.now).entries) };
+
+    /// Whether it stores nothing.
+    fn is_empty(&self) -> bool
+        ensures none { result ≡ true → (contents self.now).entries ≡ [] }
+        ensures some { result ≡ false → 0 < length (contents self.now).entries };
 
     /// One like it that stores nothing. Takes no memory.
     fn emptied(&self, alloc: Global) -> Self
@@ -74,6 +79,10 @@ impl SparseObject for SparseVector {
         self.domain()
     }
 
+    fn is_empty(&self) -> bool {
+        self.nvals() == 0
+    }
+
     fn emptied(&self, alloc: Global) -> SparseVector {
         SparseVector::new(alloc, self.domain(), self.dims())
     }
@@ -110,6 +119,10 @@ impl SparseObject for SparseMatrix {
     fn stores(&self) -> Domain {
         self.dims();
         self.domain()
+    }
+
+    fn is_empty(&self) -> bool {
+        self.nvals() == 0
     }
 
     fn emptied(&self, alloc: Global) -> SparseMatrix {

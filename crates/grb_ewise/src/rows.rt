@@ -7,13 +7,14 @@ ghost use Rattle.grb_core.specs.Value.{IsValueOf};
 ghost use Rattle.grb_core.specs.Entries.{cell_cmp};
 ghost use Rattle.grb_core.specs.Written.{pointwise};
 ghost use Rattle.grb_core.specs.Results.{row_of};
+ghost use Rattle.grb_kernels.specs.Merging.{most_of};
 ghost use Rattle.grb_kernels.specs.Typed.{entries_of};
 ghost use Rattle.grb_rows.specs.Cells.{decoded, IsFlat};
 ghost use Rattle.grb_ewise.specs.Rows.{flat_entries};
 
 use crate::stored::Stored;
 use crate::typed_rows::TypedRows;
-use grb_kernels::{EntrySlice, Rule, merge};
+use grb_kernels::{EntrySlice, Rule, merge, most_entries};
 use grb_sparse::FlatRows;
 use std::alloc::{AllocError, Global};
 
@@ -80,12 +81,12 @@ fn merge_row<T: Stored, U: Stored, R: Rule<T, U>>(
     values: &mut [T],
     k: usize,
 ) -> usize
-    requires room { k + length x.now.indices.now + length y.now.indices.now ≤ length columns.old }
+    requires room { k + most_of (R.left rule.now) (R.right rule.now) (length x.now.indices.now) (length y.now.indices.now) ≤ length columns.old }
     requires same { length columns.old ≡ length values.old }
     ensures columns_before { take k columns.new ≡ take k columns.old }
     ensures values_before { take k values.new ≡ take k values.old }
     ensures entries { entries_of T.value (take result (drop k columns.new)) (take result (drop k values.new)) ≡ pointwise nat_cmp (R.gives rule.now) (entries_of T.value x.now.indices.now x.now.values.now) (entries_of U.value y.now.indices.now y.now.values.now) }
-    ensures most { result ≤ length x.now.indices.now + length y.now.indices.now }
+    ensures most { result ≤ most_of (R.left rule.now) (R.right rule.now) (length x.now.indices.now) (length y.now.indices.now) }
 {
     merge(
         rule,
@@ -132,7 +133,7 @@ fn fill_rows<T: Stored, U: Stored, R: Rule<T, U>>(
     requires no_starts { starts.old.items ≡ [] }
     requires rows_room { length a.now.lists.now.rows + length b.now.lists.now.rows ≤ vec_capacity rows.old }
     requires starts_room { length a.now.lists.now.rows + length b.now.lists.now.rows ≤ vec_capacity starts.old }
-    requires room { length a.now.lists.now.entries + length b.now.lists.now.entries ≤ length columns.old }
+    requires room { most_of (R.left rule.now) (R.right rule.now) (length a.now.lists.now.entries) (length b.now.lists.now.entries) ≤ length columns.old }
     requires same { length columns.old ≡ length values.old }
     ensures flat { IsFlat rows.new.items starts.new.items (take result columns.new) }
     ensures entries { flat_entries T.value rows.new.items starts.new.items (take result columns.new) (take result values.new) ≡ pointwise cell_cmp (R.gives rule.now) (decoded a.now.lists.now.entries) (decoded b.now.lists.now.entries) }
@@ -159,8 +160,8 @@ fn fill_rows<T: Stored, U: Stored, R: Rule<T, U>>(
     k
 }
 
-/// The map that the rule makes of two matrices. Takes memory for as many entries and rows as both have; none is refused once anything was
-/// written. `AllocError` where that is refused; then nothing is made.
+/// The map that the rule makes of two matrices. Takes memory for as many entries as it has at most and as many rows as both have; none is refused
+/// once anything was written. `AllocError` where that is refused; then nothing is made.
 pub(crate) fn merge_rows<T: Stored + Drop, U: Stored, R: Rule<T, U>>(
     alloc: Global,
     rule: &R,
@@ -172,7 +173,7 @@ pub(crate) fn merge_rows<T: Stored + Drop, U: Stored, R: Rule<T, U>>(
     ensures domain { IfOk result (λ made. made.domain ≡ T.domain) }
     ensures of_domain { IfOk result (λ made. All (λ e. IsValueOf T.domain e.1) (decoded made.entries)) }
 {
-    let room = a.lists.len() + b.lists.len();
+    let room = most_entries::<T, U, R>(rule, a.lists.len(), b.lists.len());
     let rows_room = a.lists.rows().len() + b.lists.rows().len();
     let mut rows = Vec::with_capacity(alloc, rows_room)?;
     let mut starts = Vec::with_capacity(alloc, rows_room)?;

@@ -9,6 +9,7 @@ ghost use Rattle.grb_core.specs.Contents.{IsVector};
 ghost use Rattle.grb_core.specs.Results.{row_of};
 ghost use Rattle.grb_kernels.specs.Typed.{entries_of};
 ghost use Rattle.grb_rows.specs.Cells.{decoded, IsFlat};
+ghost use Rattle.grb_ewise.specs.Made.{listed_vector};
 ghost use Rattle.grb_ewise.specs.Rows.{flat_entries};
 
 use grb_kernels::{EntryList, EntrySlice, Operated};
@@ -90,8 +91,8 @@ pub trait Stored: Operated {
         values: Vec<Self>,
     ) -> Result<SparseVector, AllocError>
         requires same { length values.items ≡ length indices.items }
-        requires whole { IsVector (record { domain = Self.domain; size = size; entries = entries_of Self.value indices.items values.items }) }
-        ensures { IfOk result (λ v. v ≡ record { vector = record { domain = Self.domain; size = size; entries = entries_of Self.value indices.items values.items }; assembled = true; reserved = 0; pending = 0 }) };
+        requires whole { IsVector (listed_vector Self.domain size Self.value indices.items values.items).vector }
+        ensures { IfOk result (λ v. v ≡ listed_vector Self.domain size Self.value indices.items values.items) };
 
     /// A clone of a value is that value.
     ghost same_clone: { (x y : Self) → Self.is_clone x y → y ≡ x };
@@ -133,8 +134,8 @@ impl Stored for bool {
         values: Vec<bool>,
     ) -> Result<SparseVector, AllocError>
         requires same { length values.items ≡ length indices.items }
-        requires whole { IsVector (record { domain = domain.Bool; size = size; entries = entries_of (λ b. value.Bool b) indices.items values.items }) }
-        ensures { IfOk result (λ v. v ≡ record { vector = record { domain = domain.Bool; size = size; entries = entries_of (λ b. value.Bool b) indices.items values.items }; assembled = true; reserved = 0; pending = 0 }) }
+        requires whole { IsVector (listed_vector domain.Bool size (λ b. value.Bool b) indices.items values.items).vector }
+        ensures { IfOk result (λ v. v ≡ listed_vector domain.Bool size (λ b. value.Bool b) indices.items values.items) }
     {
         SparseVector::from_bools(alloc, size, indices, values)
     }
@@ -178,8 +179,8 @@ impl Stored for u64 {
         values: Vec<u64>,
     ) -> Result<SparseVector, AllocError>
         requires same { length values.items ≡ length indices.items }
-        requires whole { IsVector (record { domain = domain.Uint64; size = size; entries = entries_of (λ n. value.Uint64 n) indices.items values.items }) }
-        ensures { IfOk result (λ v. v ≡ record { vector = record { domain = domain.Uint64; size = size; entries = entries_of (λ n. value.Uint64 n) indices.items values.items }; assembled = true; reserved = 0; pending = 0 }) }
+        requires whole { IsVector (listed_vector domain.Uint64 size (λ n. value.Uint64 n) indices.items values.items).vector }
+        ensures { IfOk result (λ v. v ≡ listed_vector domain.Uint64 size (λ n. value.Uint64 n) indices.items values.items) }
     {
         SparseVector::from_numbers(alloc, size, indices, values)
     }
@@ -195,8 +196,8 @@ pub fn keep_bools(
     size: u64,
     entries: EntryList<bool>,
 ) -> Result<SparseVector, AllocError>
-    requires whole { IsVector (record { domain = domain.Bool; size = size; entries = entries_of (λ b. value.Bool b) entries.indices.items entries.values.items }) }
-    ensures { IfOk result (λ v. v ≡ record { vector = record { domain = domain.Bool; size = size; entries = entries_of (λ b. value.Bool b) entries.indices.items entries.values.items }; assembled = true; reserved = 0; pending = 0 }) }
+    requires whole { IsVector (listed_vector domain.Bool size (λ b. value.Bool b) entries.indices.items entries.values.items).vector }
+    ensures { IfOk result (λ v. v ≡ listed_vector domain.Bool size (λ b. value.Bool b) entries.indices.items entries.values.items) }
 {
     bool::keep_entries(alloc, size, entries.indices, entries.values)
 }
@@ -209,8 +210,8 @@ pub fn keep_numbers(
     size: u64,
     entries: EntryList<u64>,
 ) -> Result<SparseVector, AllocError>
-    requires whole { IsVector (record { domain = domain.Uint64; size = size; entries = entries_of (λ n. value.Uint64 n) entries.indices.items entries.values.items }) }
-    ensures { IfOk result (λ v. v ≡ record { vector = record { domain = domain.Uint64; size = size; entries = entries_of (λ n. value.Uint64 n) entries.indices.items entries.values.items }; assembled = true; reserved = 0; pending = 0 }) }
+    requires whole { IsVector (listed_vector domain.Uint64 size (λ n. value.Uint64 n) entries.indices.items entries.values.items).vector }
+    ensures { IfOk result (λ v. v ≡ listed_vector domain.Uint64 size (λ n. value.Uint64 n) entries.indices.items entries.values.items) }
 {
     u64::keep_entries(alloc, size, entries.indices, entries.values)
 }

@@ -1,15 +1,13 @@
 //! How what was computed goes into an object: the accumulator, and then the mask with replace.
 ghost use Rattle.std.specs.Prelude.{◌≡◌, not, true, false, Some, None, IfSome, IfOk};
-ghost use Rattle.std.specs.Ordering.{nat_cmp};
 ghost use Rattle.std.specs.Option.{option_map, option_or};
-ghost use Rattle.grb_core.specs.Operator.{op_domain};
-ghost use Rattle.grb_core.specs.Entries.{cell_cmp};
-ghost use Rattle.grb_core.specs.Contents.{edited_vector, edited_matrix};
+ghost use Rattle.grb_core.specs.Operator.{op_domain, value_of_op};
 ghost use Rattle.grb_core.specs.Mask.{is_inside};
-ghost use Rattle.grb_core.specs.Written.{AccumulatesIn, accumulated, pointwise, masked, written};
+ghost use Rattle.grb_core.specs.Written.{AccumulatesIn, accumulated, either_value, pointwise, masked, written};
 ghost use Rattle.grb_kernels.specs.Masked.{by_mask};
 ghost use Rattle.grb_ewise.specs.Objects.{AreAlike, IsLike};
 ghost use Rattle.grb_ewise.specs.Premises.{IsMatrixInput, IsMatrixOutput, IsVectorInput, IsVectorOutput};
+ghost use Rattle.grb_ewise.specs.Written.{written_by, written_into_matrix, written_into_vector};
 
 use crate::objects::SparseObject;
 use crate::pairing::pair;
@@ -31,11 +29,15 @@ struct Output<'a, O: SparseObject> {
     descriptor: Descriptor,
 }
 
-/// What a mask selects of an object, or what it does not, as the rule says. `AllocError` where memory is refused; then nothing is made.
+/// What a mask selects of an object, or what it does not, as the rule says. Of an object that stores nothing that is nothing, whatever
+/// the mask. `AllocError` where memory is refused; then nothing is made.
 fn select<O: SparseObject>(alloc: Global, rule: ByMask, a: &O, mask: &O) -> Result<O, AllocError>
     requires alike { AreAlike (O.contents a.now) (O.contents mask.now) }
     ensures { IfOk result (λ made. IsLike (O.contents a.now) (pointwise O.order (by_mask rule.structure rule.wanted) (O.contents a.now).entries (O.contents mask.now).entries) (O.contents made)) }
 {
+    if a.is_empty() {
+        return Ok(a.emptied(alloc));
+    }
     match (a.stores(), mask.stores()) {
         (Domain::Bool, Domain::Bool) => O::merged::<bool, bool, ByMask>(alloc, &rule, a, mask),
         (Domain::Bool, Domain::Uint64) => O::merged::<bool, u64, ByMask>(alloc, &rule, a, mask),
@@ -44,17 +46,47 @@ fn select<O: SparseObject>(alloc: Global, rule: ByMask, a: &O, mask: &O) -> Resu
     }
 }
 
-/// The entries of the first object, and those of the second where the first has none. `AllocError` where memory is refused; then nothing
-/// is made.
-fn over<O: SparseObject>(alloc: Global, a: &O, b: &O) -> Result<O, AllocError>
-    requires alike { AreAlike (O.contents a.now) (O.contents b.now) }
-    requires domain { (O.contents b.now).domain ≡ (O.contents a.now).domain }
-    ensures { IfOk result (λ made. IsLike (O.contents a.now) (pointwise O.order option_or (O.contents a.now).entries (O.contents b.now).entries) (O.contents made)) }
+/// The entries of the first object, and those of the second where the first has none. Where one of them stores nothing it is the other,
+/// which is not copied. `AllocError` where memory is refused; then both are dropped.
+fn over<O: SparseObject>(alloc: Global, a: O, b: O) -> Result<O, AllocError>
+    requires alike { AreAlike (O.contents a) (O.contents b) }
+    requires domain { (O.contents b).domain ≡ (O.contents a).domain }
+    ensures { IfOk result (λ made. IsLike (O.contents a) (pointwise O.order option_or (O.contents a).entries (O.contents b).entries) (O.contents made)) }
 {
-    match a.stores() {
-        Domain::Bool => O::merged::<bool, bool, Over>(alloc, &Over, a, b),
-        Domain::Uint64 => O::merged::<u64, u64, Over>(alloc, &Over, a, b),
+    b.stores();
+    let domain = a.stores();
+    if b.is_empty() {
+        return Ok(a);
     }
+    if a.is_empty() {
+        return Ok(b);
+    }
+    match domain {
+        Domain::Bool => O::merged::<bool, bool, Over>(alloc, &Over, &a, &b),
+        Domain::Uint64 => O::merged::<u64, u64, Over>(alloc, &Over, &a, &b),
+    }
+}
+
+/// What an accumulator makes of the old output and what was computed: both combined, else the one value. Where one of them stores nothing
+/// it is the other, and no entry is read. `AllocError` where memory is refused; then `computed` is dropped.
+fn combine<O: SparseObject>(output: &Output<O>, op: BinaryOp, computed: O) -> Result<O, AllocError>
+    requires op_domain { op_domain op ≡ (O.contents output.now.old.now).domain }
+    requires computed { AreAlike (O.contents output.now.old.now) (O.contents computed) }
+    requires domain { (O.contents computed).domain ≡ (O.contents output.now.old.now).domain }
+    ensures { IfOk result (λ made. IsLike (O.contents output.now.old.now) (pointwise O.order (either_value (value_of_op op)) (O.contents output.now.old.now).entries (O.contents computed).entries) (O.contents made)) }
+{
+    // Both are in order, as every object is.
+    output.old.stores();
+    computed.stores();
+    if output.old.is_empty() {
+        return Ok(computed);
+    }
+    if computed.is_empty() {
+        let same = output.old.copied()?;
+        return Ok(same);
+    }
+    let made = pair(output.alloc, Pairing::Union, op, output.old, &computed)?;
+    Ok(made)
 }
 
 /// What the mask lets in of an object. `AllocError` where memory is refused; then nothing is made.
@@ -87,7 +119,7 @@ fn write_by_mask<O: SparseObject>(output: &Output<O>, mask: &O, made: &O) -> Res
         wanted: descriptor.comp,
     };
     let outside = select(output.alloc, keep_outside, output.old, mask)?;
-    let both = over(output.alloc, &inside, &outside)?;
+    let both = over(output.alloc, inside, outside)?;
     Ok(both)
 }
 
@@ -106,29 +138,26 @@ fn accumulate_inside<O: SparseObject>(
     ensures { IfOk result (λ new. IsLike (O.contents output.now.old.now) (written O.order (is_inside O.order output.now.descriptor.structure output.now.descriptor.comp (Some (O.contents mask.now).entries)) false (Some op) (O.contents output.now.old.now).entries (O.contents computed.now).entries) (O.contents new)) }
 {
     let inside = inside_of(output, mask, computed)?;
-    let new = pair(output.alloc, Pairing::Union, op, output.old, &inside)?;
+    let new = combine(output, op, inside)?;
     Ok(new)
 }
 
-/// The new output by the accumulator and then by a mask. `AllocError` where memory is refused; then nothing is made.
-fn write_inside<O: SparseObject>(
-    output: &Output<O>,
-    mask: &O,
-    computed: &O,
-) -> Result<O, AllocError>
+/// The new output by the accumulator and then by a mask. `AllocError` where memory is refused; then `computed` is dropped, and the old
+/// output is as before.
+fn write_inside<O: SparseObject>(output: &Output<O>, mask: &O, computed: O) -> Result<O, AllocError>
     requires accum { AccumulatesIn (O.contents output.now.old.now).domain output.now.accum }
     requires mask { AreAlike (O.contents output.now.old.now) (O.contents mask.now) }
-    requires computed { AreAlike (O.contents output.now.old.now) (O.contents computed.now) }
-    requires domain { (O.contents computed.now).domain ≡ (O.contents output.now.old.now).domain }
-    ensures { IfOk result (λ new. IsLike (O.contents output.now.old.now) (written O.order (is_inside O.order output.now.descriptor.structure output.now.descriptor.comp (Some (O.contents mask.now).entries)) output.now.descriptor.replace output.now.accum (O.contents output.now.old.now).entries (O.contents computed.now).entries) (O.contents new)) }
+    requires computed { AreAlike (O.contents output.now.old.now) (O.contents computed) }
+    requires domain { (O.contents computed).domain ≡ (O.contents output.now.old.now).domain }
+    ensures { IfOk result (λ new. IsLike (O.contents output.now.old.now) (written_by O.order (Some (O.contents mask.now).entries) output.now.accum output.now.descriptor (O.contents output.now.old.now).entries (O.contents computed).entries) (O.contents new)) }
 {
     match output.accum {
-        None => write_by_mask(output, mask, computed),
+        None => write_by_mask(output, mask, &computed),
         Some(op) => {
             if !output.descriptor.replace {
-                return accumulate_inside(output, op, mask, computed);
+                return accumulate_inside(output, op, mask, &computed);
             }
-            let made = pair(output.alloc, Pairing::Union, op, output.old, computed)?;
+            let made = combine(output, op, computed)?;
             let new = write_by_mask(output, mask, &made)?;
             Ok(new)
         }
@@ -146,7 +175,7 @@ fn accumulate<O: SparseObject>(output: &Output<O>, computed: O) -> Result<O, All
     match output.accum {
         None => Ok(computed),
         Some(op) => {
-            let made = pair(output.alloc, Pairing::Union, op, output.old, &computed)?;
+            let made = combine(output, op, computed)?;
             Ok(made)
         }
     }
@@ -158,7 +187,7 @@ fn write_unmasked<O: SparseObject>(output: &Output<O>, computed: O) -> Result<O,
     requires accum { AccumulatesIn (O.contents output.now.old.now).domain output.now.accum }
     requires computed { AreAlike (O.contents output.now.old.now) (O.contents computed) }
     requires domain { (O.contents computed).domain ≡ (O.contents output.now.old.now).domain }
-    ensures { IfOk result (λ new. IsLike (O.contents output.now.old.now) (written O.order (is_inside O.order output.now.descriptor.structure output.now.descriptor.comp None) output.now.descriptor.replace output.now.accum (O.contents output.now.old.now).entries (O.contents computed).entries) (O.contents new)) }
+    ensures { IfOk result (λ new. IsLike (O.contents output.now.old.now) (written_by O.order None output.now.accum output.now.descriptor (O.contents output.now.old.now).entries (O.contents computed).entries) (O.contents new)) }
 {
     // What was computed is in order, as every object is.
     computed.stores();
@@ -184,11 +213,11 @@ fn write<O: SparseObject>(
     requires mask { IfSome mask (λ m. AreAlike (O.contents output.now.old.now) (O.contents m.now)) }
     requires computed { AreAlike (O.contents output.now.old.now) (O.contents computed) }
     requires domain { (O.contents computed).domain ≡ (O.contents output.now.old.now).domain }
-    ensures { IfOk result (λ new. IsLike (O.contents output.now.old.now) (written O.order (is_inside O.order output.now.descriptor.structure output.now.descriptor.comp (option_map (λ m. (O.contents m.now).entries) mask.entry)) output.now.descriptor.replace output.now.accum (O.contents output.now.old.now).entries (O.contents computed).entries) (O.contents new)) }
+    ensures { IfOk result (λ new. IsLike (O.contents output.now.old.now) (written_by O.order (option_map (λ m. (O.contents m.now).entries) mask.entry) output.now.accum output.now.descriptor (O.contents output.now.old.now).entries (O.contents computed).entries) (O.contents new)) }
 {
     match mask {
         None => write_unmasked(output, computed),
-        Some(mask) => write_inside(output, mask, &computed),
+        Some(mask) => write_inside(output, mask, computed),
     }
 }
 
@@ -217,7 +246,8 @@ pub fn write_masked_vector(
 ) -> Result<SparseVector, AllocError>
     requires output { IsVectorOutput output.now mask accum }
     requires computed { IsVectorInput output.now.vector.domain output.now.vector.size computed }
-    ensures vector { IfOk result (λ made. made.vector ≡ edited_vector (λ w. written nat_cmp (is_inside nat_cmp descriptor.structure descriptor.comp (option_map (λ m. m.now.vector.entries) mask.entry)) descriptor.replace accum w computed.vector.entries) output.now.vector) }
+    ensures vector { IfOk result (λ made. made.vector ≡ written_into_vector output.now mask.entry accum descriptor
+        computed.vector.entries) }
     ensures assembled { IfOk result (λ made. made.assembled ≡ true) }
 {
     let output = Output {
@@ -255,7 +285,8 @@ pub fn write_masked_matrix(
 ) -> Result<SparseMatrix, AllocError>
     requires output { IsMatrixOutput output.now mask accum }
     requires computed { IsMatrixInput false output.now.matrix.domain output.now.matrix.nrows output.now.matrix.ncols computed }
-    ensures matrix { IfOk result (λ made. made.matrix ≡ edited_matrix (λ c. written cell_cmp (is_inside cell_cmp descriptor.structure descriptor.comp (option_map (λ m. m.now.matrix.entries) mask.entry)) descriptor.replace accum c computed.matrix.entries) output.now.matrix) }
+    ensures matrix { IfOk result (λ made. made.matrix ≡ written_into_matrix output.now mask.entry accum descriptor
+        computed.matrix.entries) }
     ensures assembled { IfOk result (λ made. made.assembled ≡ true) }
 {
     let output = Output {

@@ -1,6 +1,6 @@
 -- believed: That no call is lost from one generation to the next, and that the calls of all generations are one history (own).
 use Rattle.std.specs.Prelude.{◌≡◌, ℕ, List, [], ◌∷◌, ◌++◌, length}
-use Rattle.grb_order.specs.Laws.{HasPlace, Row}
+use Rattle.grb_order.specs.Laws.{HasSeat, Row}
 use Rattle.grb_order.specs.Rule.{Orderly}
 use Rattle.grb_order.specs.Order.{room_of}
 use Rattle.grb_order.specs.declared.rule.Size.{Size}
@@ -13,7 +13,7 @@ use Rattle.grb_context.specs.Succeeding.{BeginsWith}
 -- pass of the full store knows, at any step of its order, also a later one, the further store is what that and some calls after it leave
 abbrev pub NothingIsLost : Type 0
 NothingIsLost =
-    (size : Size) (s : Row) → Orderly size s → (i j : ℕ) (context : Shared) (p q : Knowing) → HasPlace s i p.view → HasPlace s j q.view → IsKnown context p → IsKnown context q
+    (size : Size) (s : Row) → Orderly size s → (i j : ℕ) (context : Shared) (p q : Knowing) → HasSeat s i p.view → HasSeat s j q.view → IsKnown context p → IsKnown context q
     → ShareCalls p.shown q.shown → length (known p) ≡ room_of context.order
     → (further : Shared) (number : ℕ) (new : Knowing) → BeginsWith further (store_of (known p)) number new → (rest : History) × (store_of (known new) ≡ store_of (known q ++ rest))
 

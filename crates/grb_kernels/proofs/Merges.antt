@@ -48,12 +48,9 @@ pub below_front : (p q : ℕ) (y : Value) (rest : VectorEntries) → p < q → I
 below_front p q y rest h s =
     both _ _ (subst (λ r. T (is_lt r)) (sym (less p q h)) tt) (below-trans nat_cmp nat_cmp_total p q rest (less p q h) (first _ _ s))
 
--- a step is none or one, and of two lists one goes on
+-- a step is none or one
 pub at_most_one : (p q d : ℕ) → (p ≤ q → d ≡ 1) → (q < p → d ≡ 0) → d ≤ 1
 at_most_one p q d one none = elim (cases_lt q p) [ inl h ↦ omega (arith, none h) | inr h ↦ omega (arith, one h) ]
-
-pub one_goes_on : (p q d e : ℕ) → (p ≤ q → d ≡ 1) → (q ≤ p → e ≡ 1) → 1 ≤ d + e
-one_goes_on p q d e one other = elim (cases_lt p q) [ inl h ↦ omega (arith, one (omega arith)) | inr h ↦ omega (arith, other h) ]
 
 module _ (f : Option Value → Option Value → Option Value) (none : f None None ≡ None) (total out : VectorEntries) where
   -- what goes out, and what is left after it

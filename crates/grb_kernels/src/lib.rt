@@ -5,6 +5,7 @@
 //! was written. Nothing here knows of objects, dimensions, stores or calls.
 #![tactic(auto)]
 
+mod bits;
 mod choice;
 mod list;
 mod merging;
@@ -13,9 +14,10 @@ mod pairing;
 mod rules;
 mod scalar;
 
+pub use bits::{lowest_bit, without_bit};
 pub use choice::{ByOperator, Operated};
 pub use list::{EntryList, EntrySlice};
-pub use merging::{Rule, emit, merge, merged};
+pub use merging::{Rule, emit, merge, merged, most_entries};
 pub use operators::{
     First, FirstBool, Land, Lor, Lxnor, Lxor, Max, Min, Minus, Operator, Plus, Second, SecondBool,
     Times,

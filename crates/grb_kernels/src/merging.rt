@@ -1,16 +1,21 @@
 //! Two lists of entries in rising order of their indices, made into one.
-ghost use Rattle.std.specs.Prelude.{◌≡◌, ◌+◌, ◌<◌, ◌≤◌, ◌++◌, ℕ, [], length, true, false, Option, Some, None, IsTrue, IfOk};
+ghost use Rattle.std.specs.Prelude.{◌≡◌, ◌+◌, ◌<◌, ◌≤◌, ◌^◌, ◌++◌, ℕ, Bool, [], length, slice_index, true, false, Option, Some, None, IsTrue, IfOk};
 ghost use Rattle.std.specs.Ordering.{nat_cmp};
-ghost use Rattle.std.specs.FinMap.{is_sorted};
+ghost use Rattle.std.specs.FinMap.{is_sorted, find};
 ghost use Rattle.grb_core.specs.declared.value.Value.{Value};
 ghost use Rattle.grb_core.specs.Entries.{before_entries};
 ghost use Rattle.grb_core.specs.Written.{pointwise};
 ghost use Rattle.grb_kernels.specs.Typed.{kept, entries_of, first_entries, entries_from};
 ghost use Rattle.grb_kernels.specs.Rests.{lone};
+ghost use Rattle.grb_kernels.specs.Merging.{made, with_kept, most_of, owned, lent};
 
 use crate::list::{EntryList, EntrySlice};
 use crate::scalar::Scalar;
+use grb_rows::next_place;
 use std::alloc::{AllocError, Global};
+
+/// How many times as long as another a list is at least, if it is searched for the indices of the other and not read.
+const FAR_LONGER: usize = 16;
 
 /// What a map made of two others stores at an index, by what both store there.
 pub trait Rule<T: Scalar, U: Scalar> {
@@ -22,22 +27,30 @@ pub trait Rule<T: Scalar, U: Scalar> {
     fn pick(&self, x: T, here: bool, y: U, there: bool) -> (T, bool)
         ensures { kept (T.value result.0) result.1 ≡ gives self.now (kept (T.value x) here) (kept (U.value y) there) };
 
+    /// Whether what the first map alone stores may be kept.
+    ghost left: { Self → Bool };
+
+    /// Whether what the second map alone stores may be kept.
+    ghost right: { Self → Bool };
+
     /// Whether anything is kept of the first map alone: where not, what is left of it is not read.
     fn keeps_left(&self) -> bool
-        ensures { result ≡ false → (x : Value) → gives self.now (Some x) None ≡ None }
-    {
-        true
-    }
+        ensures left { result ≡ left self.now }
+        ensures nothing { result ≡ false → (x : Value) → gives self.now (Some x) None ≡ None };
 
     /// Whether anything is kept of the second map alone.
     fn keeps_right(&self) -> bool
-        ensures { result ≡ false → (y : Value) → gives self.now None (Some y) ≡ None }
-    {
-        true
-    }
+        ensures right { result ≡ right self.now }
+        ensures nothing { result ≡ false → (y : Value) → gives self.now None (Some y) ≡ None };
 
     /// Where neither stores a value there is none.
     ghost none: { (rule : Self) → gives rule None None ≡ None };
+
+    /// Where what the first map alone stores is not kept, there is none.
+    ghost left_none: { (rule : Self) → left rule ≡ false → (x : Value) → gives rule (Some x) None ≡ None };
+
+    /// Where what the second map alone stores is not kept, there is none.
+    ghost right_none: { (rule : Self) → right rule ≡ false → (y : Value) → gives rule None (Some y) ≡ None };
 }
 
 /// Writes an entry at place `k` of a result, if it is to be kept, and answers how many entries there are then. Takes no memory. What stands
@@ -59,8 +72,9 @@ pub fn emit<T: Scalar>(
 ) -> usize
     requires room { k < length columns.old }
     requires same { length columns.old ≡ length values.old }
-    ensures first { first_entries T.value result columns.new values.new ≡ first_entries T.value k columns.old values.old ++ before_entries index (kept (T.value value) keep) [] }
+    ensures first { first_entries T.value result columns.new values.new ≡ with_kept T.value k columns.old values.old index value keep }
     ensures most { result ≤ k + 1 }
+    ensures nothing { keep ≡ false → result ≡ k }
 {
     columns[k] = index;
     values[k] = value;
@@ -102,52 +116,67 @@ fn advance(p: u32, q: u32) -> usize
     usize::from(p <= q)
 }
 
-/// One of the two maps that a rule is for, where the other one has come to its end. Its values are of the Rust type `X`.
-trait Rest<T: Scalar, U: Scalar, X: Scalar> {
-    /// What is made of it alone by what is made of both.
-    ghost alone: { (Option Value → Option Value → Option Value) → Option Value → Option Value };
+/// One of the two maps that a rule is for, and the other one. Its values are of the Rust type `X`, those of the other of `Y`.
+trait Side<T: Scalar, U: Scalar, X: Scalar, Y: Scalar> {
+    /// What is made of the first map and the second, with this one put first.
+    ghost turned: { (Option Value → Option Value → Option Value) → Option Value → Option Value → Option Value };
 
-    /// At an index of this map alone: a value, and whether it is kept.
-    fn pick<R: Rule<T, U>>(rule: &R, x: X) -> (T, bool)
-        ensures { kept (T.value result.0) result.1 ≡ alone (R.gives rule.now) (Some (X.value x)) };
+    /// What is said of it, by what is said of the first map and the second.
+    ghost own: { Bool → Bool → Bool };
 
-    /// Whether anything is kept of it.
+    /// At an index of this map: a value by the one that it stores and what the other stores, if it does, and whether it is kept.
+    fn pick<R: Rule<T, U>>(rule: &R, x: X, y: Y, there: bool) -> (T, bool)
+        ensures { kept (T.value result.0) result.1 ≡ turned (R.gives rule.now) (Some (X.value x)) (kept (Y.value y) there) };
+
+    /// Whether anything is kept of it alone.
     fn is_kept<R: Rule<T, U>>(rule: &R) -> bool
-        ensures { result ≡ false → (x : Value) → alone (R.gives rule.now) (Some x) ≡ None };
+        ensures own { result ≡ own (R.left rule.now) (R.right rule.now) }
+        ensures nothing { result ≡ false → (x : Value) → turned (R.gives rule.now) (Some x) None ≡ None };
+
+    /// Where neither stores a value there is none.
+    ghost none: { (f : Option Value → Option Value → Option Value) → f None None ≡ None → turned f None None ≡ None };
 }
 
-/// The rest of the first map.
-struct FirstRest;
+/// The first map.
+struct FirstMap;
 
-impl<T: Scalar, U: Scalar> Rest<T, U, T> for FirstRest {
-    ghost alone = { λ f x. f x None };
+impl<T: Scalar, U: Scalar> Side<T, U, T, U> for FirstMap {
+    ghost turned = { λ f x y. f x y };
 
-    fn pick<R: Rule<T, U>>(rule: &R, x: T) -> (T, bool) {
-        rule.pick(x, true, U::any(), false)
+    ghost own = { λ l r. l };
+
+    fn pick<R: Rule<T, U>>(rule: &R, x: T, y: U, there: bool) -> (T, bool) {
+        rule.pick(x, true, y, there)
     }
 
     fn is_kept<R: Rule<T, U>>(rule: &R) -> bool {
         rule.keeps_left()
     }
+
+    ghost none = { λ f h. h };
 }
 
-/// The rest of the second map.
-struct SecondRest;
+/// The second map.
+struct SecondMap;
 
-impl<T: Scalar, U: Scalar> Rest<T, U, U> for SecondRest {
-    ghost alone = { λ f y. f None y };
+impl<T: Scalar, U: Scalar> Side<T, U, U, T> for SecondMap {
+    ghost turned = { λ f y x. f x y };
 
-    fn pick<R: Rule<T, U>>(rule: &R, y: U) -> (T, bool) {
-        rule.pick(T::any(), false, y, true)
+    ghost own = { λ l r. r };
+
+    fn pick<R: Rule<T, U>>(rule: &R, y: U, x: T, there: bool) -> (T, bool) {
+        rule.pick(x, there, y, true)
     }
 
     fn is_kept<R: Rule<T, U>>(rule: &R) -> bool {
         rule.keeps_right()
     }
+
+    ghost none = { λ f h. h };
 }
 
 /// Writes what the rule keeps of the rest of a list, from `i` on, after the first `k` entries of a result.
-fn finish_rest<T: Scalar, U: Scalar, X: Scalar, R: Rule<T, U>, S: Rest<T, U, X>>(
+fn finish_rest<T: Scalar, U: Scalar, X: Scalar, Y: Scalar, R: Rule<T, U>, S: Side<T, U, X, Y>>(
     rule: &R,
     cs: &[u32],
     vs: &[X],
@@ -158,10 +187,11 @@ fn finish_rest<T: Scalar, U: Scalar, X: Scalar, R: Rule<T, U>, S: Rest<T, U, X>>
 ) -> usize
     requires list { length cs.now ≡ length vs.now }
     requires within { i ≤ length cs.now }
-    requires room { k + length cs.now ≤ length columns.old + i }
+    requires room { S.own (R.left rule.now) (R.right rule.now) ≡ true → k + length cs.now ≤ length columns.old + i }
     requires same { length columns.old ≡ length values.old }
-    ensures entries { first_entries T.value result columns.new values.new ≡ first_entries T.value k columns.old values.old ++ lone (S.alone (R.gives rule.now)) (entries_from X.value i cs.now vs.now) }
+    ensures entries { first_entries T.value result columns.new values.new ≡ first_entries T.value k columns.old values.old ++ lone (λ x. S.turned (R.gives rule.now) x None) (entries_from X.value i cs.now vs.now) }
     ensures most { result + i ≤ k + length cs.now }
+    ensures nothing { S.own (R.left rule.now) (R.right rule.now) ≡ false → result ≡ k }
 {
     if !S::is_kept(rule) {
         return k;
@@ -169,7 +199,7 @@ fn finish_rest<T: Scalar, U: Scalar, X: Scalar, R: Rule<T, U>, S: Rest<T, U, X>>
     let mut i = i;
     let mut k = k;
     'rest: while i < cs.len() {
-        let (value, keep) = S::pick(rule, vs[i]);
+        let (value, keep) = S::pick(rule, vs[i], Y::any(), false);
         k = emit(columns, values, k, cs[i], value, keep);
         i += 1;
     }
@@ -196,23 +226,18 @@ fn finish<T: Scalar, U: Scalar, R: Rule<T, U>>(
     requires one { i < length ac.now → length bc.now ≤ j }
     requires a_rising { IsTrue (is_sorted nat_cmp (entries_from T.value i ac.now av.now)) }
     requires b_rising { IsTrue (is_sorted nat_cmp (entries_from U.value j bc.now bv.now)) }
-    requires before { k ≤ i + j }
-    requires room { length ac.now + length bc.now ≤ length columns.old }
+    requires before { k ≤ most_of (R.left rule.now) (R.right rule.now) i j }
+    requires room { most_of (R.left rule.now) (R.right rule.now) (length ac.now) (length bc.now) ≤ length columns.old }
     requires same { length columns.old ≡ length values.old }
     ensures entries { first_entries T.value result columns.new values.new ≡ first_entries T.value k columns.old values.old ++ pointwise nat_cmp (R.gives rule.now) (entries_from T.value i ac.now av.now) (entries_from U.value j bc.now bv.now) }
-    ensures most { result ≤ length ac.now + length bc.now }
+    ensures most { result ≤ most_of (R.left rule.now) (R.right rule.now) (length ac.now) (length bc.now) }
 {
-    let k = finish_rest::<T, U, T, R, FirstRest>(rule, ac, av, i, columns, values, k);
-    finish_rest::<T, U, U, R, SecondRest>(rule, bc, bv, j, columns, values, k)
+    let k = finish_rest::<T, U, T, U, R, FirstMap>(rule, ac, av, i, columns, values, k);
+    finish_rest::<T, U, U, T, R, SecondMap>(rule, bc, bv, j, columns, values, k)
 }
 
-/// The map that the rule makes of two others, written to the front of `columns` and `values`. Answers how many entries it has.
-///
-/// - `rule`: what stands at an index, by the values that the two store there.
-/// - `ac`, `av`: the indices and the values of the first map, in rising order of index.
-/// - `bc`, `bv`: those of the second.
-/// - `columns`, `values`: where the result goes; they have places for the entries of both.
-pub fn merge<T: Scalar, U: Scalar, R: Rule<T, U>>(
+/// Makes the result by two cursors that step over both lists.
+fn step_through<T: Scalar, U: Scalar, R: Rule<T, U>>(
     rule: &R,
     ac: &[u32],
     av: &[T],
@@ -225,11 +250,10 @@ pub fn merge<T: Scalar, U: Scalar, R: Rule<T, U>>(
     requires b { length bc.now ≡ length bv.now }
     requires a_rising { IsTrue (is_sorted nat_cmp (entries_of T.value ac.now av.now)) }
     requires b_rising { IsTrue (is_sorted nat_cmp (entries_of U.value bc.now bv.now)) }
-    requires room { length ac.now + length bc.now ≤ length columns.old }
+    requires room { most_of (R.left rule.now) (R.right rule.now) (length ac.now) (length bc.now) ≤ length columns.old }
     requires same { length columns.old ≡ length values.old }
     ensures entries { first_entries T.value result columns.new values.new ≡ pointwise nat_cmp (R.gives rule.now) (entries_of T.value ac.now av.now) (entries_of U.value bc.now bv.now) }
-    ensures rising { IsTrue (is_sorted nat_cmp (first_entries T.value result columns.new values.new)) }
-    ensures most { result ≤ length ac.now + length bc.now }
+    ensures most { result ≤ most_of (R.left rule.now) (R.right rule.now) (length ac.now) (length bc.now) }
 {
     let mut i = 0;
     let mut j = 0;
@@ -245,7 +269,108 @@ pub fn merge<T: Scalar, U: Scalar, R: Rule<T, U>>(
     finish(rule, ac, av, i, bc, bv, j, columns, values, k)
 }
 
-/// The map that the rule makes of two others. Takes memory for as many entries as both have. `AllocError` where that is refused; then
+/// What a list stores at an index, by the place where the indices that are not below it begin: the value, and whether there is one.
+fn stored_at<T: Scalar>(indices: &[u32], values: &[T], place: usize, index: u32) -> (T, bool)
+    requires same { length indices.now ≡ length values.now }
+    requires rising { IsTrue (is_sorted nat_cmp (entries_of T.value indices.now values.now)) }
+    requires below { (q : ℕ) → q < place → slice_index indices.now q < index }
+    requires above { (q : ℕ) → place ≤ q → q < length indices.now → index ≤ slice_index indices.now q }
+    ensures { kept (T.value result.0) result.1 ≡ find nat_cmp index (entries_of T.value indices.now values.now) }
+{
+    if place < indices.len() && indices[place] == index {
+        return (values[place], true);
+    }
+    (T::any(), false)
+}
+
+/// Makes the result by a search of the other list for each index of one, where nothing is kept of the other list alone. The time is the
+/// length of the one by the logarithm of what lies between two of its indices in the other.
+///
+/// - `ac`, `av`: the indices and the values of the one.
+/// - `bc`, `bv`: those of the other.
+fn search_other<T: Scalar, U: Scalar, X: Scalar, Y: Scalar, R: Rule<T, U>, S: Side<T, U, X, Y>>(
+    rule: &R,
+    ac: &[u32],
+    av: &[X],
+    bc: &[u32],
+    bv: &[Y],
+    columns: &mut [u32],
+    values: &mut [T],
+) -> usize
+    requires a { length ac.now ≡ length av.now }
+    requires b { length bc.now ≡ length bv.now }
+    requires a_rising { IsTrue (is_sorted nat_cmp (entries_of X.value ac.now av.now)) }
+    requires b_rising { IsTrue (is_sorted nat_cmp (entries_of Y.value bc.now bv.now)) }
+    requires nothing { (y : Value) → S.turned (R.gives rule.now) None (Some y) ≡ None }
+    requires room { length ac.now ≤ length columns.old }
+    requires same { length columns.old ≡ length values.old }
+    ensures entries { first_entries T.value result columns.new values.new ≡ pointwise nat_cmp (S.turned (R.gives rule.now)) (entries_of X.value ac.now av.now) (entries_of Y.value bc.now bv.now) }
+    ensures most { result ≤ length ac.now }
+{
+    let mut place = 0;
+    let mut k = 0;
+    'entries: for i in 0..ac.len() {
+        let index = ac[i];
+        place = next_place(bc, place, index);
+        let (y, there) = stored_at(bc, bv, place, index);
+        let (value, keep) = S::pick(rule, av[i], y, there);
+        k = emit(columns, values, k, index, value, keep);
+    }
+    k
+}
+
+/// The most entries of what the rule makes of a map of `a` entries and one of `b`. Takes no memory.
+///
+/// Source: own.
+pub fn most_entries<T: Scalar, U: Scalar, R: Rule<T, U>>(rule: &R, a: usize, b: usize) -> usize
+    requires fits { a + b < 2 ^ 64 }
+    ensures { result ≡ most_of (R.left rule.now) (R.right rule.now) a b }
+{
+    match (rule.keeps_left(), rule.keeps_right()) {
+        (true, true) => a + b,
+        (true, false) => a,
+        (false, true) => b,
+        (false, false) => a.min(b),
+    }
+}
+
+/// The map that the rule makes of two others, written to the front of `columns` and `values`. Answers how many entries it has. Where one
+/// list is far longer than the other, and nothing is kept of it alone, it is searched for the indices of the other and not read.
+///
+/// - `rule`: what stands at an index, by the values that the two store there.
+/// - `ac`, `av`: the indices and the values of the first map, in rising order of index.
+/// - `bc`, `bv`: those of the second.
+/// - `columns`, `values`: where the result goes; they have places for as many entries as it has at most.
+pub fn merge<T: Scalar, U: Scalar, R: Rule<T, U>>(
+    rule: &R,
+    ac: &[u32],
+    av: &[T],
+    bc: &[u32],
+    bv: &[U],
+    columns: &mut [u32],
+    values: &mut [T],
+) -> usize
+    requires a { length ac.now ≡ length av.now }
+    requires b { length bc.now ≡ length bv.now }
+    requires a_rising { IsTrue (is_sorted nat_cmp (entries_of T.value ac.now av.now)) }
+    requires b_rising { IsTrue (is_sorted nat_cmp (entries_of U.value bc.now bv.now)) }
+    requires room { most_of (R.left rule.now) (R.right rule.now) (length ac.now) (length bc.now) ≤ length columns.old }
+    requires same { length columns.old ≡ length values.old }
+    ensures entries { first_entries T.value result columns.new values.new ≡ made R.gives rule.now T.value ac.now av.now U.value bc.now bv.now }
+    ensures rising { IsTrue (is_sorted nat_cmp (first_entries T.value result columns.new values.new)) }
+    ensures most { result ≤ length ac.now + length bc.now }
+    ensures within { result ≤ most_of (R.left rule.now) (R.right rule.now) (length ac.now) (length bc.now) }
+{
+    if !rule.keeps_right() && bc.len() / FAR_LONGER >= ac.len() {
+        return search_other::<T, U, T, U, R, FirstMap>(rule, ac, av, bc, bv, columns, values);
+    }
+    if !rule.keeps_left() && ac.len() / FAR_LONGER >= bc.len() {
+        return search_other::<T, U, U, T, R, SecondMap>(rule, bc, bv, ac, av, columns, values);
+    }
+    step_through(rule, ac, av, bc, bv, columns, values)
+}
+
+/// The map that the rule makes of two others. Takes memory for as many entries as it has at most. `AllocError` where that is refused; then
 /// nothing is made.
 ///
 /// - `rule`: what stands at an index, by the values that the two store there.
@@ -256,9 +381,9 @@ pub fn merged<T: Scalar + Drop, U: Scalar, R: Rule<T, U>>(
     a: &EntrySlice<T>,
     b: &EntrySlice<U>,
 ) -> Result<EntryList<T>, AllocError>
-    ensures entries { IfOk result (λ made. entries_of T.value made.indices.items made.values.items ≡ pointwise nat_cmp (R.gives rule.now) (entries_of T.value a.now.indices.now a.now.values.now) (entries_of U.value b.now.indices.now b.now.values.now)) }
+    ensures entries { IfOk result (λ list. owned list ≡ pointwise nat_cmp (R.gives rule.now) (lent a.now) (lent b.now)) }
 {
-    let room = a.indices.len() + b.indices.len();
+    let room = most_entries::<T, U, R>(rule, a.indices.len(), b.indices.len());
     let mut indices = vec![in alloc; 0u32; room]?;
     let mut values = vec![in alloc; T::any(); room]?;
     let count = merge(

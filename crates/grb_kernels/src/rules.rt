@@ -1,10 +1,10 @@
 //! The rules by which two maps are made into one.
-ghost use Rattle.std.specs.Prelude.{◌≡◌, refl, Option, Some, None, true, false};
+ghost use Rattle.std.specs.Prelude.{◌≡◌, refl, Option, Some, None, true, false, not};
 ghost use Rattle.std.specs.Option.{option_or};
 ghost use Rattle.grb_core.specs.declared.value.Value.{Value};
 ghost use Rattle.grb_core.specs.Operator.{value_of_op};
 ghost use Rattle.grb_core.specs.Written.{either_value, both_values};
-ghost use Rattle.grb_kernels.specs.Masked.{by_mask, by_mask-none};
+ghost use Rattle.grb_kernels.specs.Masked.{by_mask, by_mask-none, by_mask-unwanted};
 
 use crate::merging::Rule;
 use crate::operators::Operator;
@@ -27,7 +27,23 @@ impl<T: Scalar, O: Operator<T>> Rule<T, T> for Either<O> {
         (chosen(here, first, y), here | there)
     }
 
+    ghost left = { λ rule. true };
+
+    ghost right = { λ rule. true };
+
+    fn keeps_left(&self) -> bool {
+        true
+    }
+
+    fn keeps_right(&self) -> bool {
+        true
+    }
+
     ghost none = { λ rule. refl };
+
+    ghost left_none = { λ rule e x. cc };
+
+    ghost right_none = { λ rule e y. cc };
 }
 
 /// The operator's value where both maps store one: eWiseMult.
@@ -44,6 +60,10 @@ impl<T: Scalar, O: Operator<T>> Rule<T, T> for Both<O> {
         (O::apply(x, y), here & there)
     }
 
+    ghost left = { λ rule. false };
+
+    ghost right = { λ rule. false };
+
     fn keeps_left(&self) -> bool {
         false
     }
@@ -53,6 +73,10 @@ impl<T: Scalar, O: Operator<T>> Rule<T, T> for Both<O> {
     }
 
     ghost none = { λ rule. refl };
+
+    ghost left_none = { λ rule e x. refl };
+
+    ghost right_none = { λ rule e y. refl };
 }
 
 /// The first map's value, else the second's.
@@ -66,7 +90,23 @@ impl<T: Scalar> Rule<T, T> for Over {
         (chosen(here, x, y), here | there)
     }
 
+    ghost left = { λ rule. true };
+
+    ghost right = { λ rule. true };
+
+    fn keeps_left(&self) -> bool {
+        true
+    }
+
+    fn keeps_right(&self) -> bool {
+        true
+    }
+
     ghost none = { λ rule. refl };
+
+    ghost left_none = { λ rule e x. cc };
+
+    ghost right_none = { λ rule e y. cc };
 }
 
 /// The first map's values where the second, a mask, lets the index in; or, with `wanted` false, where it does not.
@@ -86,6 +126,10 @@ impl<T: Scalar, M: Scalar> Rule<T, M> for ByMask {
         (x, here & (lets_in == self.wanted))
     }
 
+    ghost left = { λ rule. not rule.wanted };
+
+    ghost right = { λ rule. false };
+
     fn keeps_left(&self) -> bool {
         !self.wanted
     }
@@ -95,4 +139,8 @@ impl<T: Scalar, M: Scalar> Rule<T, M> for ByMask {
     }
 
     ghost none = { λ rule. by_mask-none rule.structure rule.wanted None };
+
+    ghost left_none = { λ rule e x. by_mask-unwanted rule.structure rule.wanted x e };
+
+    ghost right_none = { λ rule e y. by_mask-none rule.structure rule.wanted (Some y) };
 }

@@ -7,7 +7,9 @@ use Rattle.std.proofs.lemmas.List.{get_or-set_same, get_or-set_other}
 use Rattle.grb_core.specs.declared.value.Value.{Value}
 use Rattle.grb_kernels.specs.Typed.{kept}
 use Rattle.grb_products.specs.Open.{marked_at}
-use Rattle.grb_mxm.specs.Bits.{has_bit, value_at, AreMarks, HoldAll, HoldUnmarked}
+use Rattle.grb_kernels.specs.Bits.{has_bit}
+use Rattle.grb_products.specs.Bits.{value_at}
+use Rattle.grb_mxm.specs.Bits.{AreMarks, HoldAll, HoldUnmarked}
 
 pub none_marked : {V : Type 0} (value : V → Value) (ms : List Bool) (vs : List V) → ((j : ℕ) → get_or ms j false ≡ false) → (j : ℕ) → marked_at value ms vs j ≡ None
 none_marked value [] vs h j = refl

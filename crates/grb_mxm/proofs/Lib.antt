@@ -3,7 +3,7 @@ pub mod MarksOf
 pub mod WordByWord
 pub mod Cleared
 pub mod Taken
-pub mod Touched
+pub mod Tops
 pub mod Renamed
 pub mod RowSums
 pub mod OpenRow
@@ -11,6 +11,7 @@ pub mod ProductRows
 pub mod Making
 pub mod WholeProduct
 pub mod MaskedSums
+pub mod States
 pub mod MaskedProduct
-pub mod Tables
+pub mod RowSpans
 pub mod Names

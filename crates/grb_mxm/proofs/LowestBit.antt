@@ -4,7 +4,8 @@ use Rattle.std.specs.Prelude.{Option, Some, None}
 use Rattle.std.proofs.lemmas.Bool.{cases_eq}
 use Rattle.grb_core.specs.declared.value.Value.{Value}
 use Rattle.grb_core.specs.Entries.{VectorEntries, before_entries}
-use Rattle.grb_mxm.specs.Bits.{bits_from, value_at}
+use Rattle.grb_products.specs.Bits.{value_at}
+use Rattle.grb_mxm.specs.Bits.{bits_from}
 use Rattle.grb_kernels.proofs.Lists.{before-append}
 
 module _ (name : ℕ → ℕ) (bit bit' : ℕ → Bool) (at : ℕ → Option Value) (base low : ℕ) (is : bit low ≡ true) (below : (i : ℕ) → i < low → bit i ≡ false) (gone : bit' low ≡ false)

@@ -2,7 +2,8 @@
 use Rattle.std.proofs.Common.{◌≡◌, ℕ, zero, suc, ◌+◌, ◌*◌, ◌/◌, ◌%◌, ◌<◌, Bool, false, List, [], ◌∷◌, refl, sym, ap, ◌∙◌, arith, length, get_or}
 use Rattle.std.specs.Prelude.{nat_eq}
 use Rattle.std.proofs.lemmas.Nat.Bits.{bit_at-zero}
-use Rattle.grb_mxm.specs.Bits.{has_bit, marks_from, marks_of, AreMarks}
+use Rattle.grb_kernels.specs.Bits.{has_bit}
+use Rattle.grb_mxm.specs.Bits.{marks_from, marks_of, AreMarks}
 
 abbrev mark_at : List ℕ → ℕ → Bool
 mark_at words p = has_bit (get_or words (p / 64) 0) (p % 64)

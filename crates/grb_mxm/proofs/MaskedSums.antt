@@ -52,19 +52,8 @@ allowed_step add mul p q xv y rest o o2 total here other below was =
       | Greater ↦ λ t w. ap (λ v. either_value add v (both_values mul (Some xv) (find nat_cmp p rest))) (other (λ e. apart p q e Greater t (λ (n : Greater ≡ Equal). cc))) ∙ w
     ] refl was
 
-pub either_none : (f : Value → Value → Value) (o : Option Value) (mul : Value → Value → Value) (xv : Value) → either_value f o (both_values mul (Some xv) None) ≡ o
-either_none f o mul xv = either_nothing f o
-
--- one more place is marked, which is allowed
+-- a place that goes
 module _ (ms al : List Bool) (q : ℕ) (inside : q < length al) (in_marks : q < length ms) where
-  -- a place goes, from the marks and from what is allowed
-  pub among_gone : AreAmong ms al → AreAmong (set ms q false) (set al q false)
-  among_gone was p h =
-      elim (cases_eq p q) [
-        | inl e ↦ absurd (differ (sym h ∙ ap (λ k. get_or (set ms q false) k false) e ∙ get_or-set_same ms q false false in_marks))
-        | inr n ↦ get_or-set_other al q p false false n ∙ was p (sym (get_or-set_other ms q p false false n) ∙ h)
-      ]
-
   pub left_gone : (places : List ℕ) (i : ℕ) → get_or places i 0 ≡ q → ((p : ℕ) → get_or al p false ≡ true → (k : ℕ) × (i ≤ k) × (k < length places) × (get_or places k 0 ≡ p))
       → (p : ℕ) → get_or (set al q false) p false ≡ true → (k : ℕ) × (i + 1 ≤ k) × (k < length places) × (get_or places k 0 ≡ p)
   left_gone places i here was p h =
@@ -91,9 +80,6 @@ none_among ms al p among none =
       | false ↦ λ t. refl
       | true ↦ λ t. absurd (differ (sym (among p t) ∙ none))
     ] refl
-
-pub among_none : (ms al : List Bool) → ((p : ℕ) → get_or ms p false ≡ false) → AreAmong ms al
-among_none ms al none p h = absurd (differ (sym h ∙ none p))
 
 -- a mark goes, and its sum is the identity
 pub hold_gone : {V : Type 0} (value : V → Value) (v : Value) (ms : List Bool) (ss : List V) (q : ℕ) (x : V) → q < length ss → length (set ss q x) ≡ length ss → value x ≡ v → HoldUnmarked value v ms ss → HoldUnmarked value v (set ms q false) (set ss q x)

@@ -1,17 +1,17 @@
 -- Columns that are their own names, and how many places rise below a number.
-use Rattle.std.proofs.Common.{◌≡◌, ℕ, ◌+◌, ◌<◌, ◌≤◌, Bool, true, false, List, [], ◌∷◌, length, get_or, set, inl, inr, refl, ap, sym, ◌∙◌, arith}
+use Rattle.std.proofs.Common.{◌≡◌, ℕ, ◌+◌, ◌<◌, ◌≤◌, Bool, true, false, List, [], ◌∷◌, length, get_or, refl, ap, sym, ◌∙◌, arith}
 use Rattle.std.specs.Prelude.{◌&&◌, map, IsTrue}
 use Rattle.std.specs.List.{AllByRecursion}
 use Rattle.std.specs.Ordering.{nat_cmp, is_lt}
 use Rattle.std.specs.FinMap.{is_sorted}
 use Rattle.std.specs.FinMap.Entries.{below_all}
-use Rattle.std.proofs.lemmas.Bool.{cases_eq}
 use Rattle.std.proofs.lemmas.Bool.Decides.{nat_tests}
-use Rattle.std.proofs.lemmas.List.{get_or-set_same, get_or-set_other}
 use lib.Dec.{T}
 use Rattle.grb_core.specs.declared.value.Value.{Value}
 use Rattle.grb_core.specs.Entries.{VectorEntries}
 use Rattle.grb_kernels.specs.Typed.{entries_of}
+use Rattle.grb_ewise.specs.Ranks.{Rise}
+use Rattle.grb_products.proofs.Bounded.{indices_rise}
 use Rattle.grb_mxm.specs.Rows.{name_in, renamed}
 use Rattle.grb_mxm.proofs.Renamed.{holds, passes}
 
@@ -22,14 +22,6 @@ fst false b p = absurd p
 snd : (a b : Bool) → T (a && b) → T b
 snd true b p = p
 snd false b p = absurd p
-
--- one more place has its number
-pub own_step : (names : List ℕ) (p : ℕ) → p < length names → ((q : ℕ) → q < p → get_or names q 0 ≡ q) → (q : ℕ) → q < p + 1 → get_or (set names p p) q 0 ≡ q
-own_step names p inside was q l =
-    elim (cases_eq q p) [
-      | inl e ↦ ap (λ k. get_or (set names p p) k 0) e ∙ get_or-set_same names p p 0 inside ∙ sym e
-      | inr n ↦ get_or-set_other names p q p 0 n ∙ was q (omega (arith, l, n))
-    ]
 
 -- each number below is its own name
 pub own-named : (names : List ℕ) (n : ℕ) (columns : List ℕ) → ((p : ℕ) → p < n → get_or names p 0 ≡ p) → AllByRecursion (λ j. j < n) columns → map (name_in names) columns ≡ columns
@@ -69,3 +61,12 @@ module _ {V : Type 0} (value : V → Value) where
       first_of name [] vs e = refl
       first_of name (r ∷ rs) [] e = absurd (omega arith)
       first_of name (r ∷ rs) (v ∷ vs) e = ap (λ (t : List ℕ). name r ∷ t) (first_of name rs vs (omega arith))
+
+  -- the places of entries in order rise
+  pub places-rise : (rs : List ℕ) (vs : List V) → length rs ≡ length vs → IsTrue (is_sorted nat_cmp (entries_of value rs vs)) → Rise rs
+  places-rise rs vs e s = indices_rise (entries_of value rs vs) rs s (keys rs vs e)
+    where
+      keys : (rs : List ℕ) (vs : List V) → length rs ≡ length vs → rs ≡ map (λ e. e.0) (entries_of value rs vs)
+      keys [] vs e = refl
+      keys (r ∷ rs) [] e = absurd (omega arith)
+      keys (r ∷ rs) (v ∷ vs) e = ap (λ (t : List ℕ). r ∷ t) (keys rs vs (omega arith))

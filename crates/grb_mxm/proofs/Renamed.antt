@@ -77,7 +77,7 @@ map_nil : {A B : Type 0} (f : A → B) (s : ℕ) → map f (drop s []) ≡ drop 
 map_nil f zero = refl
 map_nil f (suc s) = refl
 
-map-part : {A B : Type 0} (f : A → B) (s e : ℕ) (xs : List A) → map f (drop s (take e xs)) ≡ drop s (take e (map f xs))
+pub map-part : {A B : Type 0} (f : A → B) (s e : ℕ) (xs : List A) → map f (drop s (take e xs)) ≡ drop s (take e (map f xs))
 map-part f s zero [] = map_nil f s
 map-part f s (suc e) [] = map_nil f s
 map-part f s zero (x ∷ xs) = map_nil f s
@@ -85,11 +85,11 @@ map-part f zero (suc e) (x ∷ xs) = ap (λ (t : List _). f x ∷ t) (map-part f
 map-part f (suc s) (suc e) (x ∷ xs) = map-part f s e xs
 
 -- the columns of entries, and those of one row
-columns-decoded : (m : VectorEntries) → map (λ e. e.0.1) (decoded m) ≡ map (λ (e : ℕ × Value). e.0 % 4294967296) m
+pub columns-decoded : (m : VectorEntries) → map (λ e. e.0.1) (decoded m) ≡ map (λ (e : ℕ × Value). e.0 % 4294967296) m
 columns-decoded [] = refl
 columns-decoded (e ∷ m) = ap (λ (t : List ℕ). e.0 % 4294967296 ∷ t) (columns-decoded m)
 
-columns-in_row : (m : VectorEntries) → map (λ e. e.0) (in_row m) ≡ map (λ (e : ℕ × Value). e.0 % 4294967296) m
+pub columns-in_row : (m : VectorEntries) → map (λ e. e.0) (in_row m) ≡ map (λ (e : ℕ × Value). e.0 % 4294967296) m
 columns-in_row [] = refl
 columns-in_row (e ∷ m) = ap (λ (t : List ℕ). e.0 % 4294967296 ∷ t) (columns-in_row m)
 

@@ -1,12 +1,10 @@
 -- A row added to the sums of a row, entry by entry; and the sums as the definition has them.
-use Rattle.std.proofs.Common.{◌≡◌, ℕ, ◌<◌, Bool, true, false, cond, List, [], ◌∷◌, ◌++◌, refl, sym, ap, subst, ◌∙◌, length, get_or, set}
+use Rattle.std.proofs.Common.{◌≡◌, ℕ, ◌<◌, Bool, true, false, cond, List, [], ◌∷◌, ◌++◌, refl, sym, ap, subst, ◌∙◌, length, get_or}
 use Rattle.std.specs.Prelude.{◌&&◌, Option, Some, None, IsTrue}
 use Rattle.std.specs.List.{AllByRecursion}
-use Rattle.std.specs.declared.cmp.Ordering.{Ordering}
 use Rattle.std.specs.declared.cmp.Ordering.TheVariants.{Less, Equal, Greater}
 use Rattle.std.specs.Ordering.{nat_cmp, is_eq}
-use Rattle.std.specs.Cmp.{nat_cmp_total, nat_cmp_is}
-use Rattle.std.specs.FinMap.{find, is_sorted, nat_cmp-IsAntisymmetric}
+use Rattle.std.specs.FinMap.{find, is_sorted}
 use Rattle.std.specs.FinMap.Entries.{below_all}
 use lib.Dec.{T}
 use Rattle.grb_core.specs.declared.value.Value.{Value}
@@ -16,13 +14,10 @@ use Rattle.grb_core.specs.Operator.{value_of_op}
 use Rattle.grb_core.specs.Monoid.{monoid_op, monoid_domain}
 use Rattle.grb_core.specs.Fold.{fold_of_some}
 use Rattle.grb_core.specs.Entries.{VectorEntries}
-use Rattle.grb_core.proofs.Maps.{find-tied_below}
 use Rattle.grb_core.specs.Written.{either_value, both_values}
 use Rattle.grb_kernels.specs.Typed.{kept}
-use Rattle.grb_products.specs.Open.{marked_at}
 use Rattle.grb_core.specs.declared.operator.BinaryOp.{BinaryOp}
 use Rattle.grb_products.specs.Products.{list_of, products}
-use Rattle.grb_products.proofs.Marks.{marked-read, marked-set_same, marked-set_other}
 use Rattle.grb_products.proofs.Sums.{products-more}
 use Rattle.grb_products.proofs.Folds.{fold_of-more, fold_of-one}
 use Rattle.grb_core.specs.Monoid.{identity_of}
@@ -42,31 +37,6 @@ snd false b p = absurd p
 pub here_or_not : (add : Value → Value → Value) (o p : Value) (b : Bool) → (b ≡ false → add o p ≡ p) → Some (add o p) ≡ either_value add (kept o b) (Some p)
 here_or_not add o p true h = refl
 here_or_not add o p false h = ap Some (h refl)
-
-apart : (j k : ℕ) → j ≡ k → (r : Ordering) → nat_cmp j k ≡ r → (r ≡ Equal → ⊥) → ⊥
-apart j k q r t n = n (sym t ∙ sym (nat_cmp_is j k Equal q))
-
-module _ {V : Type 0} (tv : V → Value) (add mul : Value → Value → Value) (ms : List Bool) (ss : List V) (q : ℕ) (old new : V) (xv y : Value) (rest : VectorEntries) (total : ℕ → Option Value) where
-  -- the sum at one column
-  pub added_step : q < length ms → length ms ≡ length ss → old ≡ get_or ss q old
-      → tv new ≡ add (tv old) (mul xv y) → (get_or ms q false ≡ false → add (tv old) (mul xv y) ≡ mul xv y)
-      → T (below_all nat_cmp q rest)
-      → ((j : ℕ) → either_value add (marked_at tv ms ss j) (both_values mul (Some xv) (find nat_cmp j ((q, y) ∷ rest))) ≡ total j)
-      → (j : ℕ) → either_value add (marked_at tv (set ms q true) (set ss q new) j) (both_values mul (Some xv) (find nat_cmp j rest)) ≡ total j
-  added_step lt same is made first below was j =
-      elim (nat_cmp j q) as (λ r. nat_cmp j q ≡ r → either_value add (marked_at tv ms ss j) (both_values mul (Some xv) (cond (is_eq r) (Some y) (find nat_cmp j rest))) ≡ total j
-      → either_value add (marked_at tv (set ms q true) (set ss q new) j) (both_values mul (Some xv) (find nat_cmp j rest)) ≡ total j) [
-        | Less ↦ λ t w. ap (λ v. either_value add v (both_values mul (Some xv) (find nat_cmp j rest))) (marked-set_other tv ms ss q j true new (λ e. apart j q e Less t (λ (n : Less ≡ Equal). cc))) ∙ w
-        | Equal ↦ λ t w.
-            let here : j ≡ q = nat_cmp-IsAntisymmetric j q t in
-            ap (λ v. either_value add (marked_at tv (set ms q true) (set ss q new) j) (both_values mul (Some xv) v)) (find-tied_below nat_cmp nat_cmp_total q j rest below t)
-            ∙ ap (λ v. either_value add v None) (ap (marked_at tv (set ms q true) (set ss q new)) here ∙ marked-set_same tv ms ss q new lt same)
-            ∙ ap Some made
-            ∙ here_or_not add (tv old) (mul xv y) (get_or ms q false) first
-            ∙ ap (λ v. either_value add v (Some (mul xv y))) (sym (ap (marked_at tv ms ss) here ∙ marked-read tv ms ss q old lt same is))
-            ∙ w
-        | Greater ↦ λ t w. ap (λ v. either_value add v (both_values mul (Some xv) (find nat_cmp j rest))) (marked-set_other tv ms ss q j true new (λ e. apart j q e Greater t (λ (n : Greater ≡ Equal). cc))) ∙ w
-      ] refl (was j)
 
 pub all_and : {A : Type 0} (P : A → Type 0) (xs : List A) (x : A) → AllByRecursion P xs → P x → AllByRecursion P (xs ++ x ∷ [])
 all_and P [] x h is = (is, tt)

@@ -9,7 +9,9 @@ use Rattle.grb_core.specs.Entries.{VectorEntries}
 use Rattle.grb_kernels.specs.Typed.{first_entries}
 use Rattle.grb_kernels.proofs.Lists.{append_nil}
 use Rattle.grb_mxm.specs.Open.{marked_from}
-use Rattle.grb_mxm.specs.Bits.{has_bit, value_at, bits_from, marks_of, AreMarks, HoldUnmarked}
+use Rattle.grb_kernels.specs.Bits.{has_bit}
+use Rattle.grb_products.specs.Bits.{value_at}
+use Rattle.grb_mxm.specs.Bits.{bits_from, marks_of, AreMarks, HoldUnmarked}
 use Rattle.grb_mxm.proofs.Cleared.{cleared_next}
 use Rattle.grb_mxm.proofs.LowestBit.{no_bits, same_bits}
 use Rattle.grb_mxm.proofs.MarksOf.{length-marks_of}

@@ -10,7 +10,9 @@ use Rattle.grb_core.specs.declared.value.Value.{Value}
 use Rattle.grb_core.specs.Entries.{VectorEntries, before_entries}
 use Rattle.grb_kernels.specs.Typed.{kept}
 use Rattle.grb_mxm.specs.Open.{marked_from}
-use Rattle.grb_mxm.specs.Bits.{bits_from, value_at, has_bit, AreMarks}
+use Rattle.grb_kernels.specs.Bits.{has_bit}
+use Rattle.grb_products.specs.Bits.{value_at}
+use Rattle.grb_mxm.specs.Bits.{bits_from, AreMarks}
 
 differ : false ≡ true → ⊥
 differ e = cc

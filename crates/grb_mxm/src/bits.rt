@@ -1,35 +1,16 @@
-//! The marks of a row of sums as the bits of words, so that a row is read in order and cleared by what was marked. While few words have a
-//! bit they are listed, so that a row of a few sums looks at those words alone.
-ghost use Rattle.std.specs.Prelude.{◌≡◌, ◌+◌, ◌<◌, ◌≤◌, ◌≢◌, ◌*◌, ◌++◌, ℕ, Bool, List, length, slice_set, true, false, Some};
+//! The marks of a row of sums as the bits of words, so that a row is read in order and cleared by what was marked. For a row of few products
+//! a second level, `tops`, has a bit for each word that has one, so that no other word is looked at.
+ghost use Rattle.std.specs.Prelude.{◌≡◌, ◌+◌, ◌<◌, ◌≤◌, ◌≢◌, ◌*◌, ◌/◌, ◌++◌, ℕ, Bool, List, length, slice_index, slice_set, true, Some};
 ghost use Rattle.grb_core.specs.Monoid.{identity_of};
 ghost use Rattle.grb_kernels.specs.Typed.{first_entries};
 ghost use Rattle.grb_mxm.specs.Rows.{name_in};
-ghost use Rattle.grb_mxm.specs.Bits.{has_bit, value_at, bits_from, AreMarks, AreWords, ListTouched, AreTouched, AreOpen, AreTaken};
+ghost use Rattle.grb_kernels.specs.Bits.{has_bit};
+ghost use Rattle.grb_products.specs.Bits.{value_at};
+ghost use Rattle.grb_mxm.specs.Bits.{touched, bits_from, AreMarks, AreTops, AreNoTops, AreOpen, AreTaken};
 
-use grb_kernels::Scalar;
+use crate::naming::Names;
+use grb_kernels::{Scalar, lowest_bit, without_bit};
 use grb_products::MonoidOver;
-
-/// The lowest set bit of a word.
-fn lowest(word: u64) -> usize
-    requires { 0 < word }
-    ensures set { has_bit word result ≡ true }
-    ensures below { (i : ℕ) → i < result → has_bit word i ≡ false }
-    ensures low { result < 64 }
-{
-    word.trailing_zeros() as usize
-}
-
-/// The word without a bit.
-fn without(word: u64, t: usize) -> u64
-    requires low { t < 64 }
-    requires set { has_bit word t ≡ true }
-    ensures gone { has_bit result t ≡ false }
-    ensures same { (i : ℕ) → i < 64 → (i ≢ t) → has_bit result i ≡ has_bit word i }
-    ensures among { (i : ℕ) → has_bit result i ≡ true → has_bit word i ≡ true }
-    ensures smaller { result < word }
-{
-    word & !(1 << t)
-}
 
 /// Writes the sums at the set bits of a word, by rising place, after the first `k` entries of a result, and puts the identity in place of
 /// each. Bit `t` stands for the place `base + t`, and each sum goes to the column that is its place's name. Answers how many entries there
@@ -37,7 +18,7 @@ fn without(word: u64, t: usize) -> u64
 fn take_word<T: Scalar, M: MonoidOver<T>>(
     base: usize,
     word: u64,
-    names: &[u32],
+    names: &Names,
     sums: &mut [T],
     columns: &mut [u32],
     values: &mut [T],
@@ -59,22 +40,22 @@ fn take_word<T: Scalar, M: MonoidOver<T>>(
     let mut left = word;
     let mut k = k;
     'bits: while left != 0 {
-        let t = lowest(left);
+        let t = lowest_bit(left);
         let at = base + t;
-        columns[k] = names[at];
+        columns[k] = names.name(at);
         values[k] = sums[at];
         sums[at] = M::identity();
         k += 1;
-        left = without(left, t);
+        left = without_bit(left, t);
     }
     k
 }
 
 /// Writes the sums as entries, by rising column, where the bits of `words` are set. Takes the bits away, and puts the identity in place of
 /// the sums. Answers how many entries there are.
-fn take_words<T: Scalar, M: MonoidOver<T>>(
+pub(crate) fn take_words<T: Scalar, M: MonoidOver<T>>(
     words: &mut [u64],
-    names: &[u32],
+    names: &Names,
     sums: &mut [T],
     columns: &mut [u32],
     values: &mut [T],
@@ -90,72 +71,89 @@ fn take_words<T: Scalar, M: MonoidOver<T>>(
     k
 }
 
-/// Writes and clears as `take_words` does, and looks at no word but those that are listed, among which is each that has a bit. Sorts the
-/// list, and passes over a number that it has a second time.
-fn take_listed<T: Scalar, M: MonoidOver<T>>(
+/// So many words are looked at together, where words without a bit are passed over.
+const LOOKED_AT: usize = 16;
+
+/// Whether none of the words has a bit.
+fn are_untouched(words: &[u64]) -> bool
+    ensures { result ≡ true → (u : ℕ) → u < length words.now → slice_index words.now u ≡ 0 }
+{
+    let mut none = true;
+    'words: for i in 0..words.len() {
+        none = (words[i] == 0) & none;
+    }
+    none
+}
+
+/// Whether 16 words stand from a place on, none of which has a bit.
+fn has_untouched(words: &[u64], at: usize) -> bool
+    requires { at ≤ length words.now }
+    ensures within { result ≡ true → at + 16 ≤ length words.now }
+    ensures none { result ≡ true → (u : ℕ) → at ≤ u → u < at + 16 → slice_index words.now u ≡ 0 }
+{
+    if words.len() - at < LOOKED_AT {
+        return false;
+    }
+    are_untouched(&words[at..at + LOOKED_AT])
+}
+
+/// The first place from one on at which a word has a bit, or the end. Words without one are passed over 16 at a time.
+fn next_touched(words: &[u64], from: usize) -> usize
+    requires { from ≤ length words.now }
+    ensures onward { from ≤ result }
+    ensures within { result ≤ length words.now }
+    ensures none { (u : ℕ) → from ≤ u → u < result → slice_index words.now u ≡ 0 }
+{
+    if from < words.len() && words[from] != 0 {
+        return from;
+    }
+    let mut at = from;
+    'blocks: while has_untouched(words, at) {
+        at += LOOKED_AT;
+    }
+    'rest: while at < words.len() && words[at] == 0 {
+        at += 1;
+    }
+    at
+}
+
+/// Writes and clears as `take_words` does, and looks at no word but those of which `tops` has the bit, among which is each that has a bit.
+/// Takes those bits away too.
+pub(crate) fn take_topped<T: Scalar, M: MonoidOver<T>>(
+    tops: &mut [u64],
     words: &mut [u64],
-    listed: &mut [usize],
-    names: &[u32],
+    names: &Names,
     sums: &mut [T],
     columns: &mut [u32],
     values: &mut [T],
 ) -> usize
-    requires inside { AreWords words.old listed.old }
-    requires all { ListTouched words.old listed.old }
+    requires tops { AreTops words.old tops.old }
     requires sound { AreOpen T.value (identity_of M.monoid) words.old sums.old names.now columns.old values.old }
-    ensures { AreTaken T.value (identity_of M.monoid) words.old sums.old names.now result words.new sums.new columns.new values.new }
+    ensures taken { AreTaken T.value (identity_of M.monoid) words.old sums.old names.now result words.new sums.new columns.new values.new }
+    ensures none { AreNoTops words.new tops.new }
 {
-    listed.sort_unstable();
     let mut k = 0;
-    let mut next = 0;
-    'listed: for i in 0..listed.len() {
-        let w = listed[i];
-        if w < next {
-            continue;
+    let mut h = next_touched(tops, 0);
+    'tops: while h < tops.len() {
+        let mut left = tops[h];
+        tops[h] = 0;
+        'words: while left != 0 {
+            let t = lowest_bit(left);
+            let w = 64 * h + t;
+            k = take_word::<T, M>(64 * w, words[w], names, sums, columns, values, k);
+            words[w] = 0;
+            left = without_bit(left, t);
         }
-        let word = words[w];
-        k = take_word::<T, M>(64 * w, word, names, sums, columns, values, k);
-        words[w] = 0;
-        next = w + 1;
+        h = next_touched(tops, h + 1);
     }
     k
 }
 
-/// Writes and clears as `take_words` does. The first `count` of `touched` list the words that have a bit, unless they fill it: then all words
-/// are looked at.
-pub(crate) fn take_row<T: Scalar, M: MonoidOver<T>>(
-    names: &[u32],
-    words: &mut [u64],
-    touched: &mut [usize],
-    count: usize,
-    sums: &mut [T],
-    columns: &mut [u32],
-    values: &mut [T],
-) -> usize
-    requires listed { AreTouched words.old touched.old count }
-    requires sound { AreOpen T.value (identity_of M.monoid) words.old sums.old names.now columns.old values.old }
-    ensures { AreTaken T.value (identity_of M.monoid) words.old sums.old names.now result words.new sums.new columns.new values.new }
-{
-    if count < touched.len() {
-        return take_listed::<T, M>(words, &mut touched[..count], names, sums, columns, values);
-    }
-    take_words::<T, M>(words, names, sums, columns, values)
-}
-
-/// Sets the bit of a place: each list of marks that the words have is marked there. A word that had no bit is put after the first `count`
-/// of `touched`, if there is room. Answers how many there are then.
-pub(crate) fn mark(words: &mut [u64], touched: &mut [usize], count: usize, at: usize) -> usize
+/// Sets the bit of a place: each list of marks that the words have is marked there.
+pub(crate) fn mark(words: &mut [u64], at: usize)
     requires in_range { at < 64 * length words.old }
-    requires listed { AreTouched words.old touched.old count }
     ensures marked { (marks : List Bool) → at < length marks → AreMarks marks words.old → AreMarks (slice_set marks at true) words.new }
-    ensures listed { AreTouched words.new touched.new result }
+    ensures touched { touched words.new ≡ slice_set (touched words.old) (at / 64) true }
 {
-    let w = at / 64;
-    let word = words[w];
-    words[w] = word | 1 << (at % 64);
-    if count < touched.len() && word == 0 {
-        touched[count] = w;
-        return count + 1;
-    }
-    count
+    words[at / 64] |= 1 << (at % 64);
 }

@@ -11,17 +11,16 @@ ghost use Rattle.grb_mxm.specs.Rows.{AreRows, name_in, columns_in, selected_prod
 
 use crate::mask_rows::MaskRows;
 use crate::masked_rows::multiply_masked;
-use crate::places::table_of;
+use crate::naming::Names;
 use crate::ranked::RankedRows;
-use crate::ranks::numbers_below;
 use crate::rows::MadeRows;
+use crate::spans::spans_of;
 use crate::whole_rows::multiply_whole;
 use grb_ewise::{Stored, distinct, is_worth_opening, ranks_of};
 use grb_kernels::{Operator, Scalar};
 use grb_products::{BySemiring, MatrixRows, MonoidOver};
 use grb_rows::FlatRows;
 use std::alloc::{AllocError, Global};
-use std::marker::PhantomData;
 
 /// Two matrices that are multiplied by whichever semiring at the cells that a mask selects, which is read by structure or by value; at all
 /// cells, where there is no mask.
@@ -51,10 +50,10 @@ impl<'a, T: Stored + Drop> Factors<'a, T> {
     /// The product, where the columns of the second and of the mask have these ranks by these names. `AllocError` where memory is refused;
     /// then nothing is made.
     fn multiply_ranked<M: MonoidOver<T>, O: Operator<T>>(
-        &self,
-        ranks: &[u32],
-        mask_ranks: &[u32],
-        names: &[u32],
+        &'a self,
+        ranks: &'a [u32],
+        mask_ranks: &'a [u32],
+        names: &'a Names<'a>,
     ) -> Result<MadeRows<T>, AllocError>
         requires rising { Rise names.now }
         requires in_range { All (λ r. r < length names.now) ranks.now }
@@ -64,13 +63,13 @@ impl<'a, T: Stored + Drop> Factors<'a, T> {
         ensures { IfOk result (λ made. AreRows T.value made.rows.items made.starts.items made.columns.items made.values.items (selected_product (record { monoid = M.monoid; op = O.op }) self.now.structure (option_map (λ m. decoded m.now.entries) self.now.mask) (decoded self.now.a.lists.now.entries) (decoded self.now.b.lists.now.entries))) }
     {
         let lists = self.b.lists;
-        let table = table_of(self.alloc, lists.rows(), self.a.lists.len() + lists.len())?;
+        let spans = spans_of(self.alloc, lists, self.a.lists.len() + lists.len())?;
         let ranked: RankedRows<T> = RankedRows {
             lists,
             ranks,
-            names,
-            table: table.as_slice(),
-            of: PhantomData,
+            values: T::of_lists(lists),
+            names: &*names,
+            spans: spans.as_slice(),
         };
         match self.mask {
             None => multiply_whole::<T, M, O>(self.alloc, &self.a, &ranked),
@@ -78,7 +77,7 @@ impl<'a, T: Stored + Drop> Factors<'a, T> {
                 let mask = MaskRows {
                     lists,
                     ranks: mask_ranks,
-                    names,
+                    names: &*names,
                     structure: self.structure,
                 };
                 multiply_masked::<T, M, O>(self.alloc, &self.a, &ranked, &mask)
@@ -99,13 +98,14 @@ impl<'a, T: Stored + Drop> BySemiring<T> for Factors<'a, T> {
         let columns = self.b.lists.columns();
         let mask_columns = columns_of(self.mask);
         if is_worth_opening(self.b.ncols, self.a.lists.len() + self.b.lists.len()) {
-            let names = numbers_below(alloc, self.b.ncols as u32)?;
-            return self.multiply_ranked::<M, O>(columns, mask_columns, names.as_slice());
+            let own = Names::own(self.b.ncols as u32);
+            return self.multiply_ranked::<M, O>(columns, mask_columns, &own);
         }
         let stored = distinct(alloc, columns, mask_columns)?;
-        let names = stored.as_slice();
-        let ranks = ranks_of(alloc, columns, names)?;
-        let mask_ranks = ranks_of(alloc, mask_columns, names)?;
-        self.multiply_ranked::<M, O>(ranks.as_slice(), mask_ranks.as_slice(), names)
+        let listed = stored.as_slice();
+        let ranks = ranks_of(alloc, columns, listed)?;
+        let mask_ranks = ranks_of(alloc, mask_columns, listed)?;
+        let names = Names::listed(listed);
+        self.multiply_ranked::<M, O>(ranks.as_slice(), mask_ranks.as_slice(), &names)
     }
 }

@@ -12,11 +12,11 @@ mod gustavson;
 mod mask_rows;
 mod masked_rows;
 mod mxm_product;
+mod naming;
 mod open_sums;
-mod places;
 mod ranked;
-mod ranks;
 mod rows;
+mod spans;
 mod whole_rows;
 
 pub use mxm_product::mxm;

@@ -9,8 +9,10 @@ ghost use Rattle.grb_kernels.specs.Typed.{entries_of};
 ghost use Rattle.grb_rows.specs.Cells.{decoded};
 ghost use Rattle.grb_ewise.specs.Ranks.{Rise};
 ghost use Rattle.grb_mxm.specs.Rows.{name_in};
-ghost use Rattle.grb_mxm.specs.Bits.{AreSelected};
+ghost use Rattle.grb_mxm.specs.Bits.{AreSelected, is_allowed, is_summed, allowed_of, summed_of};
 
+use crate::allowed_sums::{ALLOWED, OUTSIDE};
+use crate::naming::Names;
 use crate::ranked::row_at;
 use grb_core::Domain;
 use grb_ewise::Stored;
@@ -21,7 +23,7 @@ use grb_rows::FlatRows;
 pub(crate) struct MaskRows<'a> {
     pub(crate) lists: &'a FlatRows,
     pub(crate) ranks: &'a [u32],
-    pub(crate) names: &'a [u32],
+    pub(crate) names: &'a Names<'a>,
     pub(crate) structure: bool,
     ghost ordered: { IsTrue (is_sorted cell_cmp (decoded lists.now.entries)) },
     ghost in_range: { All (λ r. r < length names.now) ranks.now },
@@ -29,46 +31,55 @@ pub(crate) struct MaskRows<'a> {
     ghost rising: { Rise names.now },
 }
 
-/// Marks the places that the entries of a mask's row select.
-fn allow_entries<U: Stored>(places: &[u32], values: &[U], structure: bool, allowed: &mut [bool])
+/// The state of a place, where there is no sum yet.
+fn state_of(is_selected: bool) -> u8
+    ensures allowed { is_allowed result ≡ is_selected }
+    ensures none { is_summed result ≡ false }
+{
+    if is_selected { ALLOWED } else { OUTSIDE }
+}
+
+/// Allows sums at the places that the entries of a mask's row select.
+fn allow_entries<U: Stored>(places: &[u32], values: &[U], structure: bool, states: &mut [u8])
     requires same { length places.now ≡ length values.now }
-    requires in_range { All (λ p. p < length allowed.old) places.now }
-    requires none { (p : ℕ) → slice_index_or allowed.old p false ≡ false }
-    ensures { (p : ℕ) → slice_index_or allowed.new p false ≡ selects structure (find nat_cmp p (entries_of U.value places.now values.now)) }
+    requires in_range { All (λ p. p < length states.old) places.now }
+    requires none { (p : ℕ) → slice_index states.old p ≡ 0 }
+    ensures allowed { (p : ℕ) → slice_index_or (allowed_of states.new) p false ≡ selects structure (find nat_cmp p (entries_of U.value places.now values.now)) }
+    ensures none { (p : ℕ) → slice_index_or (summed_of states.new) p false ≡ false }
 {
     let mut i = places.len();
     'down: while i > 0 {
         i -= 1;
-        allowed[places[i] as usize] = structure | values[i].is_true();
+        states[places[i] as usize] = state_of(structure | values[i].is_true());
     }
 }
 
 impl<'a> MaskRows<'a> {
-    /// Marks the places that the `k`th row selects, whose values are of the Rust type `U`. Answers the places of its entries.
-    fn allow_typed<U: Stored + 'a>(&self, k: usize, allowed: &mut [bool]) -> &'a [u32]
+    /// Allows sums at the places that the `k`th row selects, whose values are of the Rust type `U`. Answers the places of its entries.
+    fn allow_typed<U: Stored + 'a>(&self, k: usize, states: &mut [u8]) -> &'a [u32]
         requires at { k < length self.now.lists.now.rows }
         requires domain { self.now.lists.now.domain ≡ U.domain }
-        requires room { length allowed.old ≡ length self.now.names.now }
-        requires none { (p : ℕ) → slice_index_or allowed.old p false ≡ false }
-        ensures { AreSelected self.now.names.now self.now.structure (row_of (slice_index self.now.lists.now.rows k) (decoded self.now.lists.now.entries)) allowed.new result.now }
+        requires room { length states.old ≡ length self.now.names.now }
+        requires none { (p : ℕ) → slice_index states.old p ≡ 0 }
+        ensures { AreSelected self.now.names.now self.now.structure (row_of (slice_index self.now.lists.now.rows k) (decoded self.now.lists.now.entries)) states.new result.now }
     {
         let row = row_at::<U>(self.lists, self.ranks, self.names, k);
-        allow_entries(row.indices, row.values, self.structure, allowed);
+        allow_entries(row.indices, row.values, self.structure, states);
         row.indices
     }
 
-    /// Marks the places that the `k`th row selects. Answers the places of its entries.
-    pub(crate) fn allow(&self, k: usize, allowed: &mut Vec<bool>) -> &'a [u32]
+    /// Allows sums at the places that the `k`th row selects. Answers the places of its entries.
+    pub(crate) fn allow(&self, k: usize, states: &mut Vec<u8>) -> &'a [u32]
         requires at { k < length self.now.lists.now.rows }
-        requires room { length allowed.old.items ≡ length self.now.names.now }
-        requires none { (p : ℕ) → slice_index_or allowed.old.items p false ≡ false }
-        ensures long { length allowed.new.items ≡ length allowed.old.items }
-        ensures selected { AreSelected self.now.names.now self.now.structure (row_of (slice_index self.now.lists.now.rows k) (decoded self.now.lists.now.entries)) allowed.new.items result.now }
+        requires room { length states.old.items ≡ length self.now.names.now }
+        requires none { (p : ℕ) → slice_index states.old.items p ≡ 0 }
+        ensures long { length states.new.items ≡ length states.old.items }
+        ensures selected { AreSelected self.now.names.now self.now.structure (row_of (slice_index self.now.lists.now.rows k) (decoded self.now.lists.now.entries)) states.new.items result.now }
     {
-        let places = allowed.as_mut_slice();
+        let states = states.as_mut_slice();
         match self.lists.domain() {
-            Domain::Bool => self.allow_typed::<bool>(k, places),
-            Domain::Uint64 => self.allow_typed::<u64>(k, places),
+            Domain::Bool => self.allow_typed::<bool>(k, states),
+            Domain::Uint64 => self.allow_typed::<u64>(k, states),
         }
     }
 }

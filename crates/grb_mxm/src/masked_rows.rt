@@ -4,15 +4,15 @@ ghost use Rattle.grb_core.specs.Monoid.{identity_of};
 ghost use Rattle.grb_core.specs.Results.{row_of};
 ghost use Rattle.grb_kernels.specs.Typed.{entries_of};
 ghost use Rattle.grb_rows.specs.Cells.{decoded};
-ghost use Rattle.grb_mxm.specs.Rows.{AreRows, IsTable, selected_product};
+ghost use Rattle.grb_mxm.specs.Rows.{AreRows, AreSpans, selected_product};
 ghost use Rattle.grb_mxm.specs.Bits.{IsUnmarked};
 
-use crate::allowed_sums::{AllowedSums, take_picked};
+use crate::allowed_sums::{AllowedSums, OUTSIDE, take_picked};
 use crate::gustavson::sum_row;
 use crate::mask_rows::MaskRows;
-use crate::places::{place_in, table_of};
 use crate::ranked::RankedRows;
 use crate::rows::{MadeRows, RowMaker, make_rows};
+use crate::spans::{part, span_of, spans_of};
 use grb_ewise::Stored;
 use grb_kernels::{EntrySlice, Operator};
 use grb_products::{MatrixRows, MonoidOver};
@@ -20,33 +20,31 @@ use std::alloc::{AllocError, Global};
 use std::marker::PhantomData;
 
 /// The cells of the product of two matrices that a mask selects. The rows of the mask are read, and of the first matrix those alone in
-/// which the mask stores something; `table` has their places, or is empty.
+/// which the mask stores something; `spans` has where those of the first begin, by their numbers, or nothing.
 #[derive(Drop)]
 struct MaskedRows<'a, T: Stored, M, O> {
     a: &'a MatrixRows<'a, T>,
-    table: &'a [u32],
+    spans: &'a [u32],
     b: &'a RankedRows<'a, T>,
     mask: &'a MaskRows<'a>,
     of: PhantomData<(M, O)>,
-    ghost tabled: { 0 < length table.now → IsTable a.now.lists.now.rows table.now },
+    ghost spanned: { 0 < length spans.now → AreSpans a.now.lists.now.entries spans.now },
     ghost names: { mask.now.names.now ≡ b.now.names.now },
 }
 
 /// The row of a number; no entries, where it stores nothing.
 fn row_numbered<'a, T: Stored>(
     rows: &MatrixRows<'a, T>,
-    table: &[u32],
+    spans: &[u32],
     number: u32,
 ) -> EntrySlice<'a, T>
-    requires tabled { 0 < length table.now → IsTable rows.now.lists.now.rows table.now }
+    requires spans { 0 < length spans.now → AreSpans rows.now.lists.now.entries spans.now }
     ensures { entries_of T.value result.indices.now result.values.now ≡ row_of number (decoded rows.now.lists.now.entries) }
 {
-    if let Some(k) = place_in(rows.lists.rows(), table, number) {
-        return T::row(rows.lists, k);
-    }
+    let (start, end) = span_of(rows.lists, spans, number);
     EntrySlice {
-        indices: &[],
-        values: &[],
+        indices: part(rows.lists.columns(), start, end),
+        values: part(T::of_lists(rows.lists), start, end),
     }
 }
 
@@ -60,18 +58,13 @@ impl<'a, T: Stored + Drop, M: MonoidOver<T>, O: Operator<T>> RowMaker<T>
 
     ghost most = { λ rows. length rows.b.now.names.now };
 
-    ghost ready = { λ rows work. IsUnmarked T.value (identity_of M.monoid) (length rows.b.now.names.now) work.sums.items work.marks.items work.allowed.items };
+    ghost ready = { λ rows work. IsUnmarked T.value (identity_of M.monoid) (length rows.b.now.names.now) work.sums.items work.states.items };
 
     fn work(&self, alloc: Global) -> Result<AllowedSums<T>, AllocError> {
         let count = self.b.names.len();
-        let allowed = vec![in alloc; false; count]?;
-        let marks = vec![in alloc; false; count]?;
+        let states = vec![in alloc; OUTSIDE; count]?;
         let sums = vec![in alloc; M::identity(); count]?;
-        Ok(AllowedSums {
-            sums,
-            marks,
-            allowed,
-        })
+        Ok(AllowedSums { sums, states })
     }
 
     fn width(&self) -> usize {
@@ -90,14 +83,13 @@ impl<'a, T: Stored + Drop, M: MonoidOver<T>, O: Operator<T>> RowMaker<T>
         values: &mut [T],
     ) -> usize {
         let number = self.mask.lists.rows()[place];
-        let row = row_numbered(self.a, self.table, number);
-        let places = self.mask.allow(place, &mut work.allowed);
+        let row = row_numbered(self.a, self.spans, number);
+        let places = self.mask.allow(place, &mut work.states);
         sum_row::<T, M, O, AllowedSums<T>>(&row, self.b, work);
         take_picked::<T, M>(
             places,
             self.b.names,
-            work.allowed.as_mut_slice(),
-            work.marks.as_mut_slice(),
+            work.states.as_mut_slice(),
             work.sums.as_mut_slice(),
             columns,
             values,
@@ -106,7 +98,7 @@ impl<'a, T: Stored + Drop, M: MonoidOver<T>, O: Operator<T>> RowMaker<T>
 }
 
 /// The product of two matrices at the cells that a mask selects, by a monoid and an operator as types. Takes memory to work in, some places
-/// for each name, for a table of the rows of the first, and for the result. `AllocError` where that is refused; then nothing is made.
+/// for each name, for where the rows of the first begin, and for the result. `AllocError` where that is refused; then nothing is made.
 pub(crate) fn multiply_masked<T: Stored + Drop, M: MonoidOver<T>, O: Operator<T>>(
     alloc: Global,
     a: &MatrixRows<T>,
@@ -116,10 +108,10 @@ pub(crate) fn multiply_masked<T: Stored + Drop, M: MonoidOver<T>, O: Operator<T>
     requires names { mask.now.names.now ≡ b.now.names.now }
     ensures { IfOk result (λ made. AreRows T.value made.rows.items made.starts.items made.columns.items made.values.items (selected_product (record { monoid = M.monoid; op = O.op }) mask.now.structure (Some (decoded mask.now.lists.now.entries)) (decoded a.now.lists.now.entries) (decoded b.now.lists.now.entries))) }
 {
-    let table = table_of(alloc, a.lists.rows(), a.lists.len() + mask.lists.len())?;
+    let spans = spans_of(alloc, a.lists, a.lists.len() + mask.lists.len())?;
     let rows: MaskedRows<T, M, O> = MaskedRows {
         a,
-        table: table.as_slice(),
+        spans: spans.as_slice(),
         b,
         mask,
         of: PhantomData,

@@ -5,13 +5,13 @@ ghost use Rattle.std.specs.FinMap.{is_sorted};
 ghost use Rattle.grb_core.specs.Operator.{op_domain};
 ghost use Rattle.grb_core.specs.Monoid.{monoid_domain};
 ghost use Rattle.grb_core.specs.Entries.{cell_cmp};
-ghost use Rattle.grb_core.specs.Contents.{IsMatrix, edited_matrix};
-ghost use Rattle.grb_core.specs.Mask.{is_inside};
+ghost use Rattle.grb_core.specs.Contents.{IsMatrix};
 ghost use Rattle.grb_core.specs.Written.{written};
 ghost use Rattle.grb_core.specs.Results.{mxm_of, turned};
 ghost use Rattle.grb_rows.specs.Cells.{decoded, IsFlat};
 ghost use Rattle.grb_ewise.specs.Rows.{flat_entries};
 ghost use Rattle.grb_ewise.specs.Premises.{IsMatrixInput, IsMatrixOutput};
+ghost use Rattle.grb_ewise.specs.Written.{written_into_matrix};
 ghost use Rattle.grb_mxm.specs.Rows.{AreRows, selected_product, bounding};
 
 use crate::factors::Factors;
@@ -153,11 +153,13 @@ fn turned_product(
 ///
 /// A mask that is given and not complemented bounds the work: sums are made at the cells that it selects alone, for the
 /// rows in which it stores something, in time in proportion to the products that are looked at and to the mask's entries. Else time is in
-/// proportion to the products that there are; for a row of `a` with many of them, one step for 64 columns is added.
+/// proportion to the products that there are; for a row of `a` with few of them one step for 4096 columns is added, and for one with many
+/// one step for 64 columns.
 ///
 /// Work arrays of one place for each column are made where that is no more than 8 times the entries of `a` and `b`; else the columns in
-/// which `b` or the mask stores something are numbered first, by a sort and a binary search for each entry. A row is found by a table that
-/// is no longer than 8 times the entries, else by a binary search. Memory is in proportion to the entries of all and of the product.
+/// which `b` or the mask stores something are numbered first, by a sort and a binary search for each entry. A row is found by a list of
+/// where each begins, by its number, that is no longer than 8 times the entries, else by a binary search. Memory is in proportion to the
+/// entries of all and of the product.
 ///
 /// Source: GraphBLAS C API 2.0, "mxm".
 pub fn mxm(
@@ -174,7 +176,8 @@ pub fn mxm(
     requires semiring_domain { op_domain semiring.op ≡ output.now.matrix.domain }
     requires a { IsMatrixInput descriptor.tran output.now.matrix.domain output.now.matrix.nrows b.now.matrix.nrows a.now }
     requires b { IsMatrixInput false output.now.matrix.domain b.now.matrix.nrows output.now.matrix.ncols b.now }
-    ensures matrix { IfOk result (λ made. made.matrix ≡ edited_matrix (λ c. written cell_cmp (is_inside cell_cmp descriptor.structure descriptor.comp (option_map (λ m. m.now.matrix.entries) mask.entry)) descriptor.replace accum c (mxm_of semiring (turned descriptor.tran a.now.matrix.entries) b.now.matrix.entries)) output.now.matrix) }
+    ensures matrix { IfOk result (λ made. made.matrix ≡ written_into_matrix output.now mask.entry accum descriptor
+        (mxm_of semiring (turned descriptor.tran a.now.matrix.entries) b.now.matrix.entries)) }
     ensures assembled { IfOk result (λ made. made.assembled ≡ true) }
 {
     let bound = bounding_lists(mask, descriptor.comp);

@@ -1,64 +1,43 @@
 //! The rows of a matrix by their numbers, with the columns of all its entries numbered from 0 on.
-ghost use Rattle.std.specs.Prelude.{◌≡◌, ◌<◌, ◌+◌, length, map, take, drop, slice_index, slice_index_or, All, IsTrue};
+ghost use Rattle.std.specs.Prelude.{◌≡◌, ◌<◌, length, map, slice_index, All, IsTrue};
 ghost use Rattle.std.specs.FinMap.{is_sorted};
-ghost use Rattle.grb_core.specs.Entries.{cell_cmp};
+ghost use Rattle.grb_core.specs.Entries.{cell_cmp, values_of};
 ghost use Rattle.grb_core.specs.Results.{row_of};
 ghost use Rattle.grb_kernels.specs.Typed.{entries_of};
 ghost use Rattle.grb_rows.specs.Cells.{decoded};
 ghost use Rattle.grb_ewise.specs.Ranks.{Rise};
-ghost use Rattle.grb_mxm.specs.Rows.{name_in, renamed, IsTable};
+ghost use Rattle.grb_mxm.specs.Rows.{name_in, renamed, AreSpans};
 
-use crate::places::place_in;
+use crate::naming::Names;
+use crate::spans::{part, span_at, span_of};
 use grb_ewise::Stored;
 use grb_kernels::EntrySlice;
 use grb_rows::FlatRows;
-use std::marker::PhantomData;
 
 /// A matrix whose columns have ranks: `names` has the columns, each once and in rising order, and `ranks` for each entry the place of its
-/// column there. A column of `names` in which nothing is stored does no harm. `table` has the places of the rows, or is empty.
+/// column there. A column of `names` in which nothing is stored does no harm. `values` has the value of each entry, and `spans` where each
+/// row begins, by its number, or nothing.
 #[derive(Drop)]
 pub(crate) struct RankedRows<'a, T: Stored> {
     pub(crate) lists: &'a FlatRows,
     pub(crate) ranks: &'a [u32],
-    pub(crate) names: &'a [u32],
-    pub(crate) table: &'a [u32],
-    pub(crate) of: PhantomData<T>,
+    pub(crate) values: &'a [T],
+    pub(crate) names: &'a Names<'a>,
+    pub(crate) spans: &'a [u32],
     ghost domain: { lists.now.domain ≡ T.domain },
     ghost ordered: { IsTrue (is_sorted cell_cmp (decoded lists.now.entries)) },
     ghost in_range: { All (λ r. r < length names.now) ranks.now },
     ghost named: { map (name_in names.now) ranks.now ≡ map (λ e. e.0.1) (decoded lists.now.entries) },
     ghost rising: { Rise names.now },
-    ghost tabled: { 0 < length table.now → IsTable lists.now.rows table.now },
-}
-
-/// Where the entries of the `k`th row end: where the next one starts, or else at the end of all.
-fn end_of(starts: &[usize], k: usize, len: usize) -> usize
-    ensures { result ≡ slice_index_or starts.now (k + 1) len }
-{
-    if k < starts.len() {
-        if k + 1 < starts.len() {
-            return starts[k + 1];
-        }
-    }
-    len
-}
-
-/// The numbers of a list from one place up to another, as many as there are.
-fn part(list: &[u32], start: usize, end: usize) -> &[u32]
-    ensures { result.now ≡ drop start (take end list.now) }
-{
-    let end = end.min(list.len());
-    if start >= end {
-        return &[];
-    }
-    &list[start..end]
+    ghost valued: { map T.value values.now ≡ values_of lists.now.entries },
+    ghost spanned: { 0 < length spans.now → AreSpans lists.now.entries spans.now },
 }
 
 /// The `k`th row that has entries, by the ranks of its columns.
 pub(crate) fn row_at<'a, T: Stored>(
     lists: &'a FlatRows,
     ranks: &'a [u32],
-    names: &[u32],
+    names: &Names,
     k: usize,
 ) -> EntrySlice<'a, T>
     requires at { k < length lists.now.rows }
@@ -70,10 +49,9 @@ pub(crate) fn row_at<'a, T: Stored>(
     ensures in_range { All (λ r. r < length names.now) result.indices.now }
     ensures entries { renamed (name_in names.now) (entries_of T.value result.indices.now result.values.now) ≡ row_of (slice_index lists.now.rows k) (decoded lists.now.entries) }
 {
-    let starts = lists.starts();
-    let end = end_of(starts, k, lists.len());
+    let (start, end) = span_at(lists, k);
     EntrySlice {
-        indices: part(ranks, starts[k], end),
+        indices: part(ranks, start, end),
         values: T::of_row(lists, k),
     }
 }
@@ -84,12 +62,10 @@ impl<'a, T: Stored> RankedRows<'a, T> {
         ensures in_range { All (λ r. r < length self.now.names.now) result.indices.now }
         ensures entries { renamed (name_in self.now.names.now) (entries_of T.value result.indices.now result.values.now) ≡ row_of number (decoded self.now.lists.now.entries) }
     {
-        if let Some(k) = place_in(self.lists.rows(), self.table, number) {
-            return row_at(self.lists, self.ranks, self.names, k);
-        }
+        let (start, end) = span_of(self.lists, self.spans, number);
         EntrySlice {
-            indices: &[],
-            values: &[],
+            indices: part(self.ranks, start, end),
+            values: part(self.values, start, end),
         }
     }
 }

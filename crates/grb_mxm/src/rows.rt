@@ -28,6 +28,7 @@ fn push_row<T: Stored>(
     columns: &[u32],
     values: &[T],
 ) -> Result<(), AllocError>
+    requires same { length columns.now ≡ length values.now }
     ensures fit { (k : ℕ) → k < length columns.now → slice_index columns.now k < 2 ^ 32 }
     ensures rows_pushed { OnOk result (0 < length columns.now → made.new.rows.items ≡ made.old.rows.items ++ row ∷ []) }
     ensures starts_pushed { OnOk result (0 < length columns.now → made.new.starts.items ≡ made.old.starts.items ++ length made.old.columns.items ∷ []) }
@@ -36,10 +37,11 @@ fn push_row<T: Stored>(
     ensures columns { OnOk result (made.new.columns.items ≡ made.old.columns.items ++ columns.now) }
     ensures values { OnOk result (made.new.values.items ≡ made.old.values.items ++ values.now) }
 {
-    if columns.len() > 0 {
-        made.rows.push(row)?;
-        made.starts.push(made.columns.len())?;
+    if columns.len() == 0 {
+        return Ok(());
     }
+    made.rows.push(row)?;
+    made.starts.push(made.columns.len())?;
     made.columns.extend_from_slice(columns)?;
     made.values.extend_from_slice(values)?;
     Ok(())

@@ -4,11 +4,11 @@ ghost use Rattle.grb_core.specs.Monoid.{identity_of};
 ghost use Rattle.grb_core.specs.Results.{mxm_of};
 ghost use Rattle.grb_rows.specs.Cells.{decoded};
 ghost use Rattle.grb_mxm.specs.Rows.{AreRows};
-ghost use Rattle.grb_mxm.specs.Bits.{IsCleared};
+ghost use Rattle.grb_mxm.specs.Bits.{IsCleared, AreNoTops};
 
-use crate::bits::take_row;
+use crate::bits::{take_topped, take_words};
 use crate::gustavson::sum_row;
-use crate::open_sums::OpenSums;
+use crate::open_sums::{OpenSums, ToppedSums};
 use crate::ranked::RankedRows;
 use crate::rows::{MadeRows, RowMaker, make_rows};
 use grb_ewise::Stored;
@@ -21,9 +21,35 @@ use std::marker::PhantomData;
 /// grow as they are written.
 const RESERVED_FOR_ONE_ENTRY: usize = 8;
 
-/// A row's words are listed while they are fewer than one in so many of all. So a walk over all words takes at most as many steps for each
-/// word that the row touched, and the list that is sorted is short beside it.
-const WORDS_FOR_ONE_LISTED: usize = 16;
+/// A row that may have fewer products than so many for each word is one of few: so a walk over all words takes less than a step for two
+/// products.
+const PRODUCTS_FOR_ONE_WORD: usize = 2;
+
+/// How many products a row of these columns has, if they are fewer than `most`; else `most`. A product makes one entry of the result, or is
+/// added to one.
+fn products_up_to<T: Stored>(columns: &[u32], b: &RankedRows<T>, most: usize) -> usize
+    ensures { result ≤ most }
+{
+    let mut count = 0;
+    for i in 0..columns.len() {
+        let row = (&*b).row(columns[i]);
+        count += row.indices.len().min(most - count);
+        if count == most {
+            return most;
+        }
+    }
+    count
+}
+
+/// Whether a row of these columns has few products for so many words. Where rows are found by search no products are counted, and each row
+/// is taken for one of few. Either answer is right; it bears on time alone.
+fn has_few_products<T: Stored>(columns: &[u32], b: &RankedRows<T>, words: usize) -> bool {
+    if b.spans.len() == 0 {
+        return true;
+    }
+    let many = words.saturating_mul(PRODUCTS_FOR_ONE_WORD);
+    products_up_to(columns, b, many) < many
+}
 
 /// All cells of the product of two matrices.
 #[derive(Drop)]
@@ -35,7 +61,7 @@ struct WholeRows<'a, T: Stored, M, O> {
 
 impl<'a, T: Stored + Drop, M: MonoidOver<T>, O: Operator<T>> RowMaker<T>
     for WholeRows<'a, T, M, O> {
-    type Work = OpenSums<T>;
+    type Work = ToppedSums<T>;
 
     ghost makes = { λ rows. mxm_of (record { monoid = M.monoid; op = O.op }) (decoded rows.a.now.lists.now.entries) (decoded rows.b.now.lists.now.entries) };
 
@@ -43,19 +69,15 @@ impl<'a, T: Stored + Drop, M: MonoidOver<T>, O: Operator<T>> RowMaker<T>
 
     ghost most = { λ rows. length rows.b.now.names.now };
 
-    ghost ready = { λ rows work. IsCleared T.value (identity_of M.monoid) (length rows.b.now.names.now) work.sums.items work.words.items };
+    ghost ready = { λ rows work. (IsCleared T.value (identity_of M.monoid) (length rows.b.now.names.now) work.lower.sums.items work.lower.words.items) × (AreNoTops work.lower.words.items work.tops.items) };
 
-    fn work(&self, alloc: Global) -> Result<OpenSums<T>, AllocError> {
+    fn work(&self, alloc: Global) -> Result<ToppedSums<T>, AllocError> {
         let count = self.b.names.len();
         let words = vec![in alloc; 0u64; count / 64 + 1]?;
-        let touched = vec![in alloc; 0usize; words.len() / WORDS_FOR_ONE_LISTED + 1]?;
+        let tops = vec![in alloc; 0u64; words.len() / 64 + 1]?;
         let sums = vec![in alloc; M::identity(); count]?;
-        Ok(OpenSums {
-            sums,
-            words,
-            touched,
-            count: 0,
-        })
+        let lower = OpenSums { sums, words };
+        Ok(ToppedSums { lower, tops })
     }
 
     fn width(&self) -> usize {
@@ -69,38 +91,31 @@ impl<'a, T: Stored + Drop, M: MonoidOver<T>, O: Operator<T>> RowMaker<T>
     fn make(
         &self,
         place: usize,
-        work: &mut OpenSums<T>,
+        work: &mut ToppedSums<T>,
         columns: &mut [u32],
         values: &mut [T],
     ) -> usize {
-        work.count = 0;
-        sum_row::<T, M, O, OpenSums<T>>(&T::row(self.a.lists, place), self.b, work);
-        take_row::<T, M>(
+        let row = T::row(self.a.lists, place);
+        if has_few_products(row.indices, self.b, work.lower.words.len()) {
+            sum_row::<T, M, O, ToppedSums<T>>(&row, self.b, work);
+            return take_topped::<T, M>(
+                work.tops.as_mut_slice(),
+                work.lower.words.as_mut_slice(),
+                self.b.names,
+                work.lower.sums.as_mut_slice(),
+                columns,
+                values,
+            );
+        }
+        sum_row::<T, M, O, OpenSums<T>>(&row, self.b, &mut work.lower);
+        take_words::<T, M>(
+            work.lower.words.as_mut_slice(),
             self.b.names,
-            work.words.as_mut_slice(),
-            work.touched.as_mut_slice(),
-            work.count,
-            work.sums.as_mut_slice(),
+            work.lower.sums.as_mut_slice(),
             columns,
             values,
         )
     }
-}
-
-/// How many products there are, if they are fewer than `most`; else `most`. A product makes one entry of the result, or is added to one.
-fn products_up_to<T: Stored>(a: &MatrixRows<T>, b: &RankedRows<T>, most: usize) -> usize
-    ensures { result ≤ most }
-{
-    let columns = a.lists.columns();
-    let mut count = 0;
-    for i in 0..columns.len() {
-        let row = (&*b).row(columns[i]);
-        count += row.indices.len().min(most - count);
-        if count == most {
-            return most;
-        }
-    }
-    count
 }
 
 /// The product of two matrices by a monoid and an operator as types. Takes memory to work in, some places for each name, and for the
@@ -113,7 +128,7 @@ pub(crate) fn multiply_whole<T: Stored + Drop, M: MonoidOver<T>, O: Operator<T>>
     ensures { IfOk result (λ made. AreRows T.value made.rows.items made.starts.items made.columns.items made.values.items (mxm_of (record { monoid = M.monoid; op = O.op }) (decoded a.now.lists.now.entries) (decoded b.now.lists.now.entries))) }
 {
     let most = (a.lists.len() + b.lists.len()).saturating_mul(RESERVED_FOR_ONE_ENTRY);
-    let room = products_up_to(a, b, most);
+    let room = products_up_to(a.lists.columns(), b, most);
     let rows: WholeRows<T, M, O> = WholeRows {
         a,
         b,

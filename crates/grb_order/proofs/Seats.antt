@@ -1,4 +1,4 @@
--- What ties the parts of a place stays so at each step.
+-- What ties the parts of a seat stays so at each step.
 use Rattle.std.proofs.Common.{◌≡◌, ◌≢◌, ℕ, zero, suc, ◌+◌, ◌^◌, ◌<◌, ◌≤◌, List, [], ◌∷◌, ◌++◌, length, get_or, drop, append_assoc, sym, refl, ap, ◌∙◌, subst, arith, length-append}
 use mathlib.Core.Logic.{dite}
 use native.Mathlib.Decide.{ℕ_discrete, dec_le}
@@ -8,13 +8,13 @@ use Rattle.atomic_table.specs.Seated.{TableId}
 use Rattle.grb_order.specs.declared.limits.TheConstants.{MOST_PASSES, MOST_ROOM}
 use Rattle.grb_order.specs.Holding.{Holding}
 use Rattle.grb_order.specs.Order.{AreFresh}
-use Rattle.grb_order.specs.Steps.{placed}
+use Rattle.grb_order.specs.Steps.{seated}
 use Rattle.std.proofs.lemmas.List.{get_or_at, append-nil, drop_all, drop_more, length_push}
 use Rattle.std.proofs.lemmas.List.Prefix.{front_rest}
 use Rattle.std.proofs.lemmas.List.Elements.{All-push, All-nil}
 use Rattle.grb_order.specs.Word.{order_word, IsWord, StartsWith}
 use Rattle.grb_order.specs.View.{fresh, learns, finds_vacant, enters_word, is_told, IsOthers, IsSound, LookedLast}
-use Rattle.grb_order.specs.Place.{IsSeated}
+use Rattle.grb_order.specs.Seat.{IsSeatWith}
 use Rattle.grb_order.specs.declared.view.View.{View}
 use Rattle.grb_order.specs.declared.standing.Standing.{Standing}
 use Rattle.grb_order.proofs.Rows.{positions-others, positions-own, own_word}
@@ -55,8 +55,8 @@ within room v all last =
     let all' : All (λ n. n < room) (earlier ++ length v.words ∷ []) = subst (All (λ n. n < room)) last.1 all in
     subst (λ (n : ℕ). n < room) (get_or_at earlier (length v.words) [] 0 (length earlier) refl) (all' (length earlier) 0 at)
 
-module _ (tag size room : ℕ) (words : List ℕ) (capacity : ℕ) (v : Standing) (p : IsSeated tag size room words capacity v) (near : length v.view.words < room) where
-  pub seated_vacant : IsSeated tag size room words capacity (record v { view = finds_vacant v.view })
+module _ (tag size room : ℕ) (words : List ℕ) (capacity : ℕ) (v : Standing) (p : IsSeatWith tag size room words capacity v) (near : length v.view.words < room) where
+  pub seated_vacant : IsSeatWith tag size room words capacity (record v { view = finds_vacant v.view })
   seated_vacant = record {
     role = p.role;
     number_is = p.number_is;
@@ -68,7 +68,7 @@ module _ (tag size room : ℕ) (words : List ℕ) (capacity : ℕ) (v : Standing
     sound = sound_vacant room v.view near p.sound;
   }
 
-  pub seated_learns : (x : ℕ) → IsOthers v.view x → IsSeated tag size room (words ++ x ∷ []) capacity (record v { view = learns v.view x })
+  pub seated_learns : (x : ℕ) → IsOthers v.view x → IsSeatWith tag size room (words ++ x ∷ []) capacity (record v { view = learns v.view x })
   seated_learns x other = record {
     role = p.role;
     number_is = p.number_is;
@@ -80,7 +80,7 @@ module _ (tag size room : ℕ) (words : List ℕ) (capacity : ℕ) (v : Standing
     sound = sound_learns room v.view x near p.sound other;
   }
 
-  pub seated_enters : (index : ℕ) → index < 2 ^ 48 → IsSeated tag size room (words ++ order_word v.view.number index ∷ []) capacity (record v { view = enters_word v.view (order_word v.view.number index) })
+  pub seated_enters : (index : ℕ) → index < 2 ^ 48 → IsSeatWith tag size room (words ++ order_word v.view.number index ∷ []) capacity (record v { view = enters_word v.view (order_word v.view.number index) })
   seated_enters index small = let x : ℕ = order_word v.view.number index in record {
     role = p.role;
     number_is = p.number_is;
@@ -92,9 +92,9 @@ module _ (tag size room : ℕ) (words : List ℕ) (capacity : ℕ) (v : Standing
     sound = sound_enters room v.view index small near p.sound;
   }
 
-pub moved : (tag size room room' : ℕ) (words words' : List ℕ) (capacity capacity' : ℕ) (v v' : Standing) → room' ≡ room → words' ≡ words → capacity' ≡ capacity → v' ≡ v → IsSeated tag size room words capacity v → IsSeated tag size room' words' capacity' v'
+pub moved : (tag size room room' : ℕ) (words words' : List ℕ) (capacity capacity' : ℕ) (v v' : Standing) → room' ≡ room → words' ≡ words → capacity' ≡ capacity → v' ≡ v → IsSeatWith tag size room words capacity v → IsSeatWith tag size room' words' capacity' v'
 moved tag size room room' words words' capacity capacity' v v' same_room same_words same_capacity same p =
-    subst (λ (y : ℕ × List ℕ × ℕ × Standing). IsSeated tag size y.0 y.1 y.2 y.3) (λ k. (sym same_room k, sym same_words k, sym same_capacity k, sym same k)) p
+    subst (λ (y : ℕ × List ℕ × ℕ × Standing). IsSeatWith tag size y.0 y.1 y.2 y.3) (λ k. (sym same_room k, sym same_words k, sym same_capacity k, sym same k)) p
 
 get_before : {A : Type 0} (xs : List A) (y : A) (k : ℕ) → k < length xs → slice_get (xs ++ y ∷ []) k ≡ slice_get xs k
 get_before [] y k lt = absurd (omega arith)
@@ -114,16 +114,16 @@ near_of k n m lt ne e = omega arith
 else_of : (k n : ℕ) → k < n + 1 → k ≢ n → k < n
 else_of k n lt ne = omega arith
 
-pub fresh_more : (order : TableId) (passes : ℕ) (places : List Holding) (upto : ℕ) (p : Holding) → AreFresh order passes places upto → p ≡ record { table_id = order; view = fresh upto passes } → AreFresh order passes (places ++ p ∷ []) (upto + 1)
-fresh_more order passes places upto p are is = record {
-  count = length-append places (p ∷ []) ∙ ap (λ (n : ℕ). n + 1) are.count;
+pub fresh_more : (order : TableId) (passes : ℕ) (seats : List Holding) (upto : ℕ) (p : Holding) → AreFresh order passes seats upto → p ≡ record { table_id = order; view = fresh upto passes } → AreFresh order passes (seats ++ p ∷ []) (upto + 1)
+fresh_more order passes seats upto p are is = record {
+  count = length-append seats (p ∷ []) ∙ ap (λ (n : ℕ). n + 1) are.count;
   each = λ k lt. dite (ℕ_discrete k upto)
-      (λ (e : k ≡ upto). ap (slice_get (places ++ p ∷ [])) (e ∙ sym are.count) ∙ get_last places p ∙ ap Some is ∙ ap (λ (n : ℕ). Some (fresh_at order passes n)) (sym e))
-      (λ (ne : k ≢ upto). get_before places p k (near_of k upto (length places) lt ne are.count) ∙ are.each k (else_of k upto lt ne));
+      (λ (e : k ≡ upto). ap (slice_get (seats ++ p ∷ [])) (e ∙ sym are.count) ∙ get_last seats p ∙ ap Some is ∙ ap (λ (n : ℕ). Some (fresh_at order passes n)) (sym e))
+      (λ (ne : k ≢ upto). get_before seats p k (near_of k upto (length seats) lt ne are.count) ∙ are.each k (else_of k upto lt ne));
 }
 
--- a place that has just been dealt
-pub seated_fresh : (tag size room capacity passes : ℕ) → tag < passes → passes ≤ MOST_PASSES → size ≡ room → room ≤ MOST_ROOM → room ≤ capacity → IsSeated tag size room [] capacity (placed tag passes)
+-- a seat that has just been dealt
+pub seated_fresh : (tag size room capacity passes : ℕ) → tag < passes → passes ≤ MOST_PASSES → size ≡ room → room ≤ MOST_ROOM → room ≤ capacity → IsSeatWith tag size room [] capacity (seated tag passes)
 seated_fresh tag size room capacity passes few most size_is small roomy = record {
   role = refl;
   number_is = refl;

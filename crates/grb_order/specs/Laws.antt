@@ -8,24 +8,24 @@ use Rattle.grb_order.specs.Rule.{Orderly}
 use Rattle.grb_order.specs.declared.rule.Size.{Size}
 use Rattle.grb_order.specs.declared.view.View.{View}
 use Rattle.grb_order.specs.declared.standing.Standing.{Standing}
-use Rattle.grb_order.specs.declared.standing.Role.TheVariants.{Placed}
+use Rattle.grb_order.specs.declared.standing.Role.TheVariants.{Seated}
 
 abbrev pub Row : Type 0
 Row = State (Unit {0}) Standing
 
--- a place with this view sits there
-abbrev pub HasPlace : Row → ℕ → View → Type 0
-HasPlace s seat v = (t : Standing) × (get_elem? s.views seat ≡ some t) × (t.role ≡ Placed) × (t.view ≡ v)
+-- a seat with this view is there in the table
+abbrev pub HasSeat : Row → ℕ → View → Type 0
+HasSeat s at v = (t : Standing) × (get_elem? s.views at ≡ some t) × (t.role ≡ Seated) × (t.view ≡ v)
 
--- of any two places the one with more words has those of the other first
-abbrev pub PlacesAgree : Type 0
-PlacesAgree = (size : Size) (s : Row) → Orderly size s → (i j : ℕ) (v w : View) → HasPlace s i v → HasPlace s j w → length w.words ≤ length v.words → StartsWith v.words w.words
+-- of any two seats the one with more words has those of the other first
+abbrev pub SeatsAgree : Type 0
+SeatsAgree = (size : Size) (s : Row) → Orderly size s → (i j : ℕ) (v w : View) → HasSeat s i v → HasSeat s j w → length w.words ≤ length v.words → StartsWith v.words w.words
 
--- where the position after the words of a place is vacant, the row has these words and no others
+-- where the position after the words of a seat is vacant, the row has these words and no others
 abbrev pub VacantIsTheEnd : Type 0
-VacantIsTheEnd = (size : Size) (s : Row) → Orderly size s → (i : ℕ) (v : View) → HasPlace s i v → slice_index s.words (length v.words) ≡ 0 → (vacant : ℕ) × (s.words ≡ v.words ++ replicate vacant 0)
+VacantIsTheEnd = (size : Size) (s : Row) → Orderly size s → (i : ℕ) (v : View) → HasSeat s i v → slice_index s.words (length v.words) ≡ 0 → (vacant : ℕ) × (s.words ≡ v.words ++ replicate vacant 0)
 
--- the place whose number a word has entered it there
+-- the seat whose number a word has entered it there
 abbrev pub WordsHaveOwners : Type 0
 WordsHaveOwners = (size : Size) (s : Row) → Orderly size s → (at : ℕ) → slice_index s.words at ≢ 0
-    → (i : ℕ) × (v : View) × HasPlace s i v × (v.number ≡ number_of (slice_index s.words at)) × (v.number < size.passes) × Contains v.own at
+    → (i : ℕ) × (v : View) × HasSeat s i v × (v.number ≡ number_of (slice_index s.words at)) × (v.number < size.passes) × Contains v.own at

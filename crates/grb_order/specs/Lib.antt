@@ -3,6 +3,6 @@ pub mod View
 pub mod Rule
 pub mod Steps
 pub mod Holding
-pub mod Place
+pub mod Seat
 pub mod Order
 pub mod Laws

@@ -8,7 +8,7 @@ use Rattle.grb_order.specs.Holding.{Holding}
 abbrev pub room_of : TableId → ℕ
 room_of order = order.words
 
--- the first places of an order, by their numbers, which have learnt no word
-pub record AreFresh (order : TableId) (passes : ℕ) (places : List Holding) (upto : ℕ) : Type 0 where
-  pub count : length places ≡ upto
-  pub each : (number : ℕ) → number < upto → slice_get places number ≡ Some (record { table_id = order; view = fresh number passes })
+-- the first seats of an order, by their numbers, which have learnt no word
+pub record AreFresh (order : TableId) (passes : ℕ) (seats : List Holding) (upto : ℕ) : Type 0 where
+  pub count : length seats ≡ upto
+  pub each : (number : ℕ) → number < upto → slice_get seats number ≡ Some (record { table_id = order; view = fresh number passes })

@@ -7,11 +7,11 @@ use Rattle.grb_order.specs.Word.{IsWord, positions, StartsWith}
 use Rattle.grb_order.specs.declared.rule.Size.{Size}
 use Rattle.grb_order.specs.declared.standing.Standing.{Standing}
 use Rattle.grb_order.specs.declared.standing.Role.{Role}
-use Rattle.grb_order.specs.declared.standing.Role.TheVariants.{Dealer, Placed, Note, Spent}
+use Rattle.grb_order.specs.declared.standing.Role.TheVariants.{Dealer, Seated, Note, Spent}
 
--- a place: its words begin the words entered, and so do those of the last note that it took in; the words of its number are at just
+-- a seat: its words begin the words entered, and so do those of the last note that it took in; the words of its number are at just
 -- its own positions, all of them learnt
-pub record IsPlaced (size : ℕ) (entered : List ℕ) (dealt : ℕ) (seat_of : ℕ → ℕ) (at : ℕ) (v : Standing) : Type 0 where
+pub record IsSeated (size : ℕ) (entered : List ℕ) (dealt : ℕ) (seat_of : ℕ → ℕ) (at : ℕ) (v : Standing) : Type 0 where
   pub number : v.view.number < dealt
   pub passes : v.view.passes ≡ size
   pub seat : seat_of v.view.number ≡ at
@@ -20,14 +20,14 @@ pub record IsPlaced (size : ℕ) (entered : List ℕ) (dealt : ℕ) (seat_of : �
   pub own : positions v.view.number entered ≡ v.view.own
   pub learnt : positions v.view.number v.view.words ≡ v.view.own
 
-module _ (passes : ℕ) (entered : List ℕ) (dealt dealer : ℕ) (seat_of : ℕ → ℕ) (seat : ℕ) (v : Standing) where
+module _ (passes : ℕ) (entered : List ℕ) (dealt dealer : ℕ) (seat_of : ℕ → ℕ) (at : ℕ) (v : Standing) where
   abbrev pub Fits : Role → Type 0
-  Fits Dealer = (seat ≡ dealer) × (v.view.number ≡ dealt)
-  Fits Placed = IsPlaced passes entered dealt seat_of seat v
+  Fits Dealer = (at ≡ dealer) × (v.view.number ≡ dealt)
+  Fits Seated = IsSeated passes entered dealt seat_of at v
   Fits Note = StartsWith entered v.view.words
   Fits Spent = Unit {0}
 
--- the first `dealt` places have a seat each, and the dealer has those from there on
+-- the first `dealt` seats are in the table, each at an index of its own, and the dealer has those from there on
 pub record Orderly (size : Size) (s : State (Unit {0}) Standing) : Type 0 where
   pub entered : List ℕ
   pub vacant : ℕ
@@ -38,5 +38,5 @@ pub record Orderly (size : Size) (s : State (Unit {0}) Standing) : Type 0 where
   pub wide : length s.words ≡ size.room
   pub few : dealt ≤ size.passes
   pub words : All (IsWord dealt) entered
-  pub each : (seat : ℕ) (v : Standing) → get_elem? s.views seat ≡ some v → Fits size.passes entered dealt dealer seat_of seat v v.role
-  pub placed : (number : ℕ) → number < dealt → (v : Standing) × (get_elem? s.views (seat_of number) ≡ some v) × (v.role ≡ Placed) × (v.view.number ≡ number)
+  pub each : (at : ℕ) (v : Standing) → get_elem? s.views at ≡ some v → Fits size.passes entered dealt dealer seat_of at v v.role
+  pub seated : (number : ℕ) → number < dealt → (v : Standing) × (get_elem? s.views (seat_of number) ≡ some v) × (v.role ≡ Seated) × (v.view.number ≡ number)

@@ -1,5 +1,5 @@
--- believed: The steps on the row: a look and a try, both on the first word that the place has not learnt, and the loads by which a
--- place is told what another has learnt: what each tells, of the step, the seat before, the number found and the seat after; and
+-- believed: The steps on the row: a look and a try, both on the first word that the seat has not learnt, and the loads by which a
+-- seat is told what another has learnt: what each tells, of the step, the seat before, the number found and the seat after; and
 -- what the calls that make them answer.
 use Rattle.std.specs.Prelude.{◌≡◌, ◌≢◌, ℕ, ◌<◌, ◌≤◌, [], length, slice_index}
 use Rattle.atomic_table.specs.Table.{Me, Step}
@@ -7,7 +7,7 @@ use Rattle.grb_order.specs.Word.{order_word, StartsWith}
 use Rattle.grb_order.specs.View.{fresh, learns, finds_vacant, enters_word, IsOthers}
 use Rattle.grb_order.specs.declared.view.View.{View}
 use Rattle.grb_order.specs.declared.standing.Standing.{Standing}
-use Rattle.grb_order.specs.declared.standing.Role.TheVariants.{Dealer, Placed, Note, Spent}
+use Rattle.grb_order.specs.declared.standing.Role.TheVariants.{Dealer, Seated, Note, Spent}
 use Rattle.grb_order.specs.declared.step.Look.{Look}
 use Rattle.grb_order.specs.declared.step.Look.TheVariants.{Next, Vacant, Full}
 use Rattle.grb_order.specs.declared.step.Entered.{Entered}
@@ -19,22 +19,22 @@ Sat = Me (Unit {0}) Standing
 abbrev pub Play : Type 1
 Play = Step (Unit {0}) → Sat → ℕ → Sat → Type 0
 
--- the dealer before it deals the place of this number
+-- the dealer before it deals the seat of this number
 abbrev pub dealing : ℕ → ℕ → Standing
 dealing number passes = record { role = Dealer; view = fresh number passes; told = [] }
 
-abbrev pub placed : ℕ → ℕ → Standing
-placed number passes = record { role = Placed; view = fresh number passes; told = [] }
+abbrev pub seated : ℕ → ℕ → Standing
+seated number passes = record { role = Seated; view = fresh number passes; told = [] }
 
--- the place that the dealer deals
+-- the seat that the dealer deals
 abbrev pub dealt : Standing → Standing
-dealt v = placed v.view.number v.view.passes
+dealt v = seated v.view.number v.view.passes
 
--- a note of what a place has learnt
+-- a note of what a seat has learnt
 abbrev pub noted : Standing → Standing
 noted v = record v { role = Note }
 
--- a place that took a note in
+-- a seat that took a note in
 abbrev pub joined : Standing → Standing → Standing
 joined v note = record v { told = note.view.words }
 
@@ -49,11 +49,11 @@ seen m v = (record m.0 { view = v }, m.1)
 abbrev pub LearnsWord : Sat → ℕ → Sat → Type 0
 LearnsWord m found n = (n ≡ seen m (learns m.0.view found)) × IsOthers m.0.view found
 
--- a load: it finds no word, and the looks grow; or a word of another place, which is learnt
+-- a load: it finds no word, and the looks grow; or a word of another seat, which is learnt
 abbrev pub looked : Play
 looked st m found n = (found ≡ 0 → n ≡ seen m (finds_vacant m.0.view)) × (found ≢ 0 → LearnsWord m found n)
 
--- a compare-and-swap from 0: won, and the own word is entered; or lost to a word of another place, which is learnt
+-- a compare-and-swap from 0: won, and the own word is entered; or lost to a word of another seat, which is learnt
 abbrev pub tried : Play
 tried st m found n = (found ≡ 0 → n ≡ seen m (enters_word m.0.view st.second)) × (found ≢ 0 → LearnsWord m found n)
 

@@ -9,16 +9,16 @@ ghost use Rattle.grb_order.specs.Steps.{dealing, dealt, noted, joined, spent, lo
 use crate::standing::Standing;
 use atomic_table::{Join, Play, Split, TableRule};
 
-/// How many words the row has, and how many places there are.
+/// How many words the row has, and how many seats there are.
 #[derive(Clone, Copy)]
 pub struct Size {
     /// The number of words.
     pub room: u32,
-    /// The number of places.
+    /// The number of seats.
     pub passes: u32,
 }
 
-/// The rule of the row, which holds between any two steps of any threads: the words that are not 0 begin the row, and what each place has
+/// The rule of the row, which holds between any two steps of any threads: the words that are not 0 begin the row, and what each seat has
 /// learnt begins them.
 pub struct Rule;
 
@@ -28,7 +28,7 @@ impl TableRule<(), Standing, Size> for Rule {
     ghost first = { λ size. dealing 0 size.passes };
 }
 
-/// Cuts the next place off the dealer.
+/// Cuts the next seat off the dealer.
 pub struct Deal;
 
 impl Split<Standing> for Deal {
@@ -37,7 +37,7 @@ impl Split<Standing> for Deal {
     ghost right = { dealt };
 }
 
-/// Writes down what a place has learnt, as a note.
+/// Writes down what a seat has learnt, as a note.
 pub struct Write;
 
 impl Split<Standing> for Write {
@@ -46,7 +46,7 @@ impl Split<Standing> for Write {
     ghost right = { noted };
 }
 
-/// Takes a note of another place in.
+/// Takes a note of another seat in.
 pub struct Read;
 
 impl Join<Standing> for Read {
@@ -55,21 +55,21 @@ impl Join<Standing> for Read {
     ghost spent = { spent };
 }
 
-/// A load of the first word that the place has not learnt.
+/// A load of the first word that the seat has not learnt.
 pub struct Looking;
 
 impl Play<(), Standing> for Looking {
     ghost then = { looked };
 }
 
-/// A compare-and-swap from 0 of the first word that the place has not learnt.
+/// A compare-and-swap from 0 of the first word that the seat has not learnt.
 pub struct Entering;
 
 impl Play<(), Standing> for Entering {
     ghost then = { tried };
 }
 
-/// A load of the first word: of what the place has learnt and what the note has, the shorter begins the longer.
+/// A load of the first word: of what the seat has learnt and what the note has, the shorter begins the longer.
 pub struct Comparing;
 
 impl Play<(), Standing> for Comparing {

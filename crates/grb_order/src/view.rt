@@ -1,14 +1,14 @@
-//! What a contract sees of a pass's place in the order.
+//! What a contract sees of a pass's seat at the order.
 ghost use Rattle.std.specs.Prelude.{ℕ, List};
 ghost use Rattle.std.specs.Borrow.{ftrue};
 
 use std::marker::Model;
 
-/// What a place knows of the row and what it did there, as plain data that contracts speak of. No value of it is made.
+/// What a seat knows of the row and what it did there, as plain data that contracts speak of. No value of it is made.
 pub struct View {
-    /// The number of the place, from 0.
+    /// The number of the seat, from 0.
     pub ghost number: { ℕ },
-    /// How many places there are.
+    /// How many seats there are.
     pub ghost passes: { ℕ },
     /// The words that it has learnt, from the first of the row on.
     pub ghost words: { List ℕ },

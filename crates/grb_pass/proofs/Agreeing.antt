@@ -3,7 +3,7 @@ use Rattle.std.proofs.Common.{◌≡◌, ℕ, zero, suc, ◌≤◌, List, [], �
 use Rattle.std.specs.Prelude.{◌⊎◌}
 use Rattle.std.proofs.lemmas.List.Elements.{Contains-append_left, Contains-append_right, Contains-push}
 use Rattle.grb_order.specs.Word.{number_of, StartsWith}
-use Rattle.grb_order.specs.Laws.{PlacesAgree}
+use Rattle.grb_order.specs.Laws.{SeatsAgree}
 use Rattle.grb_records.specs.Token.{Shown, IsSameRecord}
 use Rattle.grb_call.specs.declared.call.Call.{Call}
 use Rattle.grb_call.specs.History.{History}
@@ -57,6 +57,6 @@ by_length : (p q : Knowing) → (length q.view.words ≤ length p.view.words →
 by_length p q first second (inl le) of_p of_q share = one_begins p q (first le) of_p of_q share
 by_length p q first second (inr le) of_p of_q share = other_way (known q) (known p) (one_begins q p (second le) of_q of_p (swapped p q share))
 
-pub histories : PlacesAgree → HistoriesAgree
+pub histories : SeatsAgree → HistoriesAgree
 histories agree size s orderly i j context p q at_p at_q is_p is_q share =
     by_length p q (λ le. agree size s orderly i j p.view q.view at_p at_q le) (λ le. agree size s orderly j i q.view p.view at_q at_p le) (le_or (length q.view.words) (length p.view.words)) is_p.records is_q.records share

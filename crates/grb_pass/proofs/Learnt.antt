@@ -64,7 +64,7 @@ module _ (p q : Knowing) (few : length p.shown ≤ length p.view.words) (shown :
   pub learns_word : (word : ℕ) → q.view ≡ learns p.view word → Learns p q
   learns_word word is = unshown (learns p.view word) is (grows_learns p.view word) refl (spelled_more p.view.words (word ∷ []) p.shown few)
 
-  -- the words of another place were told, whose records were not shown yet
+  -- the words of another seat were told, whose records were not shown yet
   pub learns_told : (words : List ℕ) → q.view ≡ is_told p.view words → Learns p q
   learns_told words is = unshown (is_told p.view words) is (grows_told p.view words) refl (spelled_more p.view.words (drop (length p.view.words) words) p.shown few)
 

@@ -39,12 +39,12 @@ new_at order passes number = record { order = order; view = fresh number passes;
 same_some : {A : Type 0} (o : Option A) (x y : A) → o ≡ Some x → o ≡ Some y → x ≡ y
 same_some o x y e f = cc
 
-pub next_place : (order : TableId) (passes : ℕ) (places : List Holding) (k : ℕ) (place : Holding) (rest : List Holding) → AreFresh order passes places passes → drop k places ≡ place ∷ rest
-    → (k < passes) × (place ≡ fresh_at order passes k) × (drop (suc k) places ≡ rest)
-next_place order passes places k place rest are e =
-    let head : (k < length places) × (slice_get places k ≡ Some place) × (drop (suc k) places ≡ rest) = drop_head places k place rest e in
+pub next_seat : (order : TableId) (passes : ℕ) (seats : List Holding) (k : ℕ) (seat : Holding) (rest : List Holding) → AreFresh order passes seats passes → drop k seats ≡ seat ∷ rest
+    → (k < passes) × (seat ≡ fresh_at order passes k) × (drop (suc k) seats ≡ rest)
+next_seat order passes seats k seat rest are e =
+    let head : (k < length seats) × (slice_get seats k ≡ Some seat) × (drop (suc k) seats ≡ rest) = drop_head seats k seat rest e in
     let lt : k < passes = omega (arith, are.count, head.0) in
-    (lt, same_some (slice_get places k) place (fresh_at order passes k) head.1 (are.each k lt), head.2)
+    (lt, same_some (slice_get seats k) seat (fresh_at order passes k) head.1 (are.each k lt), head.2)
 
 near_of : (k n m : ℕ) → k < n + 1 → k ≢ n → m ≡ n → k < m
 near_of k n m lt ne e = omega arith
@@ -62,10 +62,10 @@ dropped [] k e = omega arith
 dropped (x ∷ xs) zero e = cc
 dropped (x ∷ xs) (suc k) e = let rest : length xs ≤ k = dropped xs k e in omega arith
 
-pub all_opened : (order : TableId) (passes : ℕ) (places : List Holding) (opened : List Knowing) → AreFresh order passes places passes → drop (length opened) places ≡ [] → length opened ≤ passes
+pub all_opened : (order : TableId) (passes : ℕ) (seats : List Holding) (opened : List Knowing) → AreFresh order passes seats passes → drop (length opened) seats ≡ [] → length opened ≤ passes
     → AreNew order passes opened (length opened) → AreNew order passes opened passes
-all_opened order passes places opened are none few new =
-    let over : length places ≤ length opened = dropped places (length opened) none in
+all_opened order passes seats opened are none few new =
+    let over : length seats ≤ length opened = dropped seats (length opened) none in
     let same : length opened ≡ passes = omega (arith, are.count) in
     subst (λ (n : ℕ). AreNew order passes opened n) same new
 

@@ -28,14 +28,14 @@ use Rattle.grb_pass.specs.Learning.{IsNextUnshown, IsSteady}
 use Rattle.grb_pass.specs.Reading.{IsReaderWith}
 use Rattle.grb_pass.proofs.Spelling.{calls_of-append, records_more, records_push, spelled_push, spelled_more, shapes_of-push}
 
-abbrev pub placed : TableId → View → Holding
-placed t v = record { table_id = t; view = v }
+abbrev pub seated : TableId → View → Holding
+seated t v = record { table_id = t; view = v }
 
 pub number_of-order_word : (number index : ℕ) → index < 2 ^ 48 → number_of (order_word number index) ≡ number
 number_of-order_word number index small = omega arith
 
-module _ (number size : ℕ) (t : TableId) (v : View) (shown : List Shown) (capacity : ℕ) (walk : WalkedCalls) (k : IsReaderWith number size (placed t v) shown capacity walk) where
-  kept_learns : (x : ℕ) → IsOthers v x → IsSound t.words (learns v x) → IsReaderWith number size (placed t (learns v x)) shown capacity walk
+module _ (number size : ℕ) (t : TableId) (v : View) (shown : List Shown) (capacity : ℕ) (walk : WalkedCalls) (k : IsReaderWith number size (seated t v) shown capacity walk) where
+  kept_learns : (x : ℕ) → IsOthers v x → IsSound t.words (learns v x) → IsReaderWith number size (seated t (learns v x)) shown capacity walk
   kept_learns x other sound = record {
     number_is = k.number_is;
     sound = sound;
@@ -50,7 +50,7 @@ module _ (number size : ℕ) (t : TableId) (v : View) (shown : List Shown) (capa
     small = k.small;
   }
 
-  kept_vacant : IsSound t.words (finds_vacant v) → IsReaderWith number size (placed t (finds_vacant v)) shown capacity walk
+  kept_vacant : IsSound t.words (finds_vacant v) → IsReaderWith number size (seated t (finds_vacant v)) shown capacity walk
   kept_vacant sound = record {
     number_is = k.number_is;
     sound = sound;
@@ -66,17 +66,17 @@ module _ (number size : ℕ) (t : TableId) (v : View) (shown : List Shown) (capa
   }
 
   -- after a look
-  pub kept_look : (room : ℕ) (found : Look) (w : View) → Looks room v found w → IsSound t.words w → IsReaderWith number size (placed t w) shown capacity walk
+  pub kept_look : (room : ℕ) (found : Look) (w : View) → Looks room v found w → IsSound t.words w → IsReaderWith number size (seated t w) shown capacity walk
   kept_look room (Next word) w looked sound =
-      subst (λ (y : View). IsReaderWith number size (placed t y) shown capacity walk) (sym looked.0) (kept_learns word looked.1 (subst (λ (y : View). IsSound t.words y) looked.0 sound))
+      subst (λ (y : View). IsReaderWith number size (seated t y) shown capacity walk) (sym looked.0) (kept_learns word looked.1 (subst (λ (y : View). IsSound t.words y) looked.0 sound))
   kept_look room Vacant w looked sound =
-      subst (λ (y : View). IsReaderWith number size (placed t y) shown capacity walk) (sym looked.0) (kept_vacant (subst (λ (y : View). IsSound t.words y) looked.0 sound))
-  kept_look room Full w looked sound = subst (λ (y : View). IsReaderWith number size (placed t y) shown capacity walk) (sym looked.0) k
+      subst (λ (y : View). IsReaderWith number size (seated t y) shown capacity walk) (sym looked.0) (kept_vacant (subst (λ (y : View). IsSound t.words y) looked.0 sound))
+  kept_look room Full w looked sound = subst (λ (y : View). IsReaderWith number size (seated t y) shown capacity walk) (sym looked.0) k
 
   -- after a try that another pass was before
-  pub kept_lost : (x : ℕ) (w : View) → w ≡ learns v x → IsOthers v x → IsSound t.words w → IsReaderWith number size (placed t w) shown capacity walk
+  pub kept_lost : (x : ℕ) (w : View) → w ≡ learns v x → IsOthers v x → IsSound t.words w → IsReaderWith number size (seated t w) shown capacity walk
   kept_lost x w is other sound =
-      subst (λ (y : View). IsReaderWith number size (placed t y) shown capacity walk) (sym is) (kept_learns x other (subst (λ (y : View). IsSound t.words y) is sound))
+      subst (λ (y : View). IsReaderWith number size (seated t y) shown capacity walk) (sym is) (kept_learns x other (subst (λ (y : View). IsSound t.words y) is sound))
 
   -- the shapes after one more record
   shapes_more : (words : List ℕ) (token : Shown) (call : Call) (after : WalkedCalls) → spelled words shown ≡ spelled v.words shown → length shown < length words → call ≡ token.call
@@ -105,13 +105,13 @@ module _ (number size : ℕ) (t : TableId) (v : View) (shown : List Shown) (capa
   pub kept_admit : (token : Shown) (call : Call) (tokens : List Shown) (capacity' : ℕ) (after : WalkedCalls)
       → length shown < length v.words → token.pass ≡ number_of (get_or v.words (length shown) 0) → token.index ≡ index_of (get_or v.words (length shown) 0) → call ≡ token.call
       → tokens ≡ shown ++ token ∷ [] → capacity' ≡ capacity → after.shapes.objects ≡ shapes_after walk.shapes.objects call → after.shapes.room + 1 ≡ walk.shapes.room → after.targets ≡ walk.targets ++ effective_target walk.shapes.objects call ∷ []
-      → IsReaderWith number size (placed t v) tokens capacity' after
+      → IsReaderWith number size (seated t v) tokens capacity' after
   kept_admit token call tokens capacity' after lt pass index is pushed same grown less gone =
       let n : length (shown ++ token ∷ []) ≡ length shown + 1 = length_push shown token in
       let room : after.shapes.room + length (shown ++ token ∷ []) ≡ t.words = omega (arith, k.room) in
       let rest : drop (length shown) v.words ≡ get_or v.words (length shown) 0 ∷ drop (length shown + 1) v.words = drop_more v.words (length shown) 0 lt in
       let others : All (IsOthers v) (drop (length shown + 1) v.words) = All-tail (IsOthers v) (get_or v.words (length shown) 0) (drop (length shown + 1) v.words) (subst (λ (l : List ℕ). All (IsOthers v) l) rest k.others) in
-      let new : IsReaderWith number size (placed t v) (shown ++ token ∷ []) capacity after = record {
+      let new : IsReaderWith number size (seated t v) (shown ++ token ∷ []) capacity after = record {
         number_is = k.number_is;
         sound = k.sound;
         few = omega arith;
@@ -124,13 +124,13 @@ module _ (number size : ℕ) (t : TableId) (v : View) (shown : List Shown) (capa
         room_is = k.room_is;
         small = k.small;
       } in
-      subst (λ (y : List Shown × ℕ). IsReaderWith number size (placed t v) y.0 y.1 after) (λ i. (sym pushed i, sym same i)) new
+      subst (λ (y : List Shown × ℕ). IsReaderWith number size (seated t v) y.0 y.1 after) (λ i. (sym pushed i, sym same i)) new
 
   -- after the record of a call was entered
   pub kept_won : (token : Shown) (call : Call) (tokens : List Shown) (capacity' : ℕ) (after : WalkedCalls) (w : View)
       → length shown ≡ length v.words → token.pass ≡ v.number → token.index < 2 ^ 48 → w ≡ enters_word v (order_word v.number token.index) → IsSound t.words w → call ≡ token.call
       → tokens ≡ shown ++ token ∷ [] → capacity' ≡ capacity → after.shapes.objects ≡ shapes_after walk.shapes.objects call → after.shapes.room + 1 ≡ walk.shapes.room → after.targets ≡ walk.targets ++ effective_target walk.shapes.objects call ∷ []
-      → IsReaderWith number size (placed t w) tokens capacity' after
+      → IsReaderWith number size (seated t w) tokens capacity' after
   kept_won token call tokens capacity' after w all own small won sound is pushed same grown less gone =
       let word : ℕ = order_word v.number token.index in
       let words : List ℕ = v.words ++ word ∷ [] in
@@ -142,7 +142,7 @@ module _ (number size : ℕ) (t : TableId) (v : View) (shown : List Shown) (capa
       let pass : token.pass ≡ number_of (get_or words (length shown) 0) = own ∙ sym (ap number_of at ∙ number_of-order_word v.number token.index small) in
       let index : token.index ≡ index_of (get_or words (length shown) 0) = sym (ap index_of at ∙ mod-mul-add (v.number + 1) (2 ^ 48) token.index small) in
       let over : length words ≤ length (shown ++ token ∷ []) = omega arith in
-      let new : IsReaderWith number size (placed t (enters_word v word)) (shown ++ token ∷ []) capacity after = record {
+      let new : IsReaderWith number size (seated t (enters_word v word)) (shown ++ token ∷ []) capacity after = record {
         number_is = k.number_is;
         sound = subst (λ (y : View). IsSound t.words y) won sound;
         few = omega arith;
@@ -155,23 +155,23 @@ module _ (number size : ℕ) (t : TableId) (v : View) (shown : List Shown) (capa
         room_is = k.room_is;
         small = k.small;
       } in
-      subst (λ (y : View × List Shown × ℕ). IsReaderWith number size (placed t y.0) y.1 y.2 after) (λ i. (sym won i, sym pushed i, sym same i)) new
+      subst (λ (y : View × List Shown × ℕ). IsReaderWith number size (seated t y.0) y.1 y.2 after) (λ i. (sym won i, sym pushed i, sym same i)) new
 
--- a place that has learnt no word
+-- a seat that has learnt no word
 pub sound_fresh : (room : ℕ) (v : View) → v ≡ fresh v.number v.passes → v.number < v.passes → IsSound room v
 sound_fresh room v is number =
     subst (IsSound room) (sym is) (record { number = number; few = omega arith; words = All-nil (IsWord v.passes); own = refl; looks = All-nil (λ (at : ℕ). at < room) })
 
--- a place of the same order
-pub kept_order : (number size : ℕ) (t t' : TableId) (v : View) (shown : List Shown) (capacity : ℕ) (walk : WalkedCalls) → t' ≡ t → IsReaderWith number size (placed t v) shown capacity walk → IsReaderWith number size (placed t' v) shown capacity walk
-kept_order number size t t' v shown capacity walk e k = subst (λ (y : TableId). IsReaderWith number size (placed y v) shown capacity walk) (sym e) k
+-- a seat of the same order
+pub kept_order : (number size : ℕ) (t t' : TableId) (v : View) (shown : List Shown) (capacity : ℕ) (walk : WalkedCalls) → t' ≡ t → IsReaderWith number size (seated t v) shown capacity walk → IsReaderWith number size (seated t' v) shown capacity walk
+kept_order number size t t' v shown capacity walk e k = subst (λ (y : TableId). IsReaderWith number size (seated y v) shown capacity walk) (sym e) k
 
--- after the words of another place were told
-pub kept_told : (number size : ℕ) (t t' : TableId) (v w : View) (words : List ℕ) (shown : List Shown) (capacity : ℕ) (walk : WalkedCalls) → IsReaderWith number size (placed t v) shown capacity walk
-    → t' ≡ t → w ≡ is_told v words → All (IsOthers v) (drop (length v.words) words) → IsSound t'.words w → IsReaderWith number size (placed t' w) shown capacity walk
+-- after the words of another seat were told
+pub kept_told : (number size : ℕ) (t t' : TableId) (v w : View) (words : List ℕ) (shown : List Shown) (capacity : ℕ) (walk : WalkedCalls) → IsReaderWith number size (seated t v) shown capacity walk
+    → t' ≡ t → w ≡ is_told v words → All (IsOthers v) (drop (length v.words) words) → IsSound t'.words w → IsReaderWith number size (seated t' w) shown capacity walk
 kept_told number size t t' v w words shown capacity walk k same is others sound =
     let more : List ℕ = drop (length v.words) words in
-    let new : IsReaderWith number size (placed t (is_told v words)) shown capacity walk = record {
+    let new : IsReaderWith number size (seated t (is_told v words)) shown capacity walk = record {
       number_is = k.number_is;
       sound = subst (λ (y : TableId × View). IsSound y.0.words y.1) (λ i. (same i, is i)) sound;
       few = omega (arith, length-append v.words more, k.few);
@@ -184,23 +184,23 @@ kept_told number size t t' v w words shown capacity walk k same is others sound 
       room_is = k.room_is;
       small = k.small;
     } in
-    subst (λ (y : TableId × View). IsReaderWith number size (placed y.0 y.1) shown capacity walk) (λ i. (sym same i, sym is i)) new
+    subst (λ (y : TableId × View). IsReaderWith number size (seated y.0 y.1) shown capacity walk) (λ i. (sym same i, sym is i)) new
 
 pub sound_order : (t t' : TableId) (v : View) → t' ≡ t → IsSound t'.words v → IsSound t.words v
 sound_order t t' v e s = subst (λ (y : TableId). IsSound y.words v) e s
 
 -- what a caller learns of it
-module _ (number size : ℕ) (place : Holding) (shown : List Shown) (capacity : ℕ) (walk : WalkedCalls) (k : IsReaderWith number size place shown capacity walk) (steps : ℕ) (statuses : StatusRows) (settled made : ℕ) where
+module _ (number size : ℕ) (seat : Holding) (shown : List Shown) (capacity : ℕ) (walk : WalkedCalls) (k : IsReaderWith number size seat shown capacity walk) (steps : ℕ) (statuses : StatusRows) (settled made : ℕ) where
   abbrev seen : Knowing
-  seen = record { order = place.table_id; view = place.view; shown = shown; steps = steps; statuses = statuses; settled = settled; made = made }
+  seen = record { order = seat.table_id; view = seat.view; shown = shown; steps = steps; statuses = statuses; settled = settled; made = made }
 
   pub steady : IsSteady seen
   steady = record { records = k.records; few = k.few; sound = k.sound; others = k.others; small = k.small }
 
-  pub next_is : length shown < length place.view.words → IsNextUnshown seen (get_or place.view.words (length shown) 0)
+  pub next_is : length shown < length seat.view.words → IsNextUnshown seen (get_or seat.view.words (length shown) 0)
   next_is lt =
-      let n : ℕ = length shown in let words : List ℕ = place.view.words in record {
+      let n : ℕ = length shown in let words : List ℕ = seat.view.words in record {
         within = lt;
         word_is = refl;
-        others = All-head (IsOthers place.view) (get_or words n 0) (drop (n + 1) words) (subst (λ (l : List ℕ). All (IsOthers place.view) l) (drop_more words n 0 lt) k.others);
+        others = All-head (IsOthers seat.view) (get_or words n 0) (drop (n + 1) words) (subst (λ (l : List ℕ). All (IsOthers seat.view) l) (drop_more words n 0 lt) k.others);
       }

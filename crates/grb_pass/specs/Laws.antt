@@ -1,6 +1,6 @@
 -- believed: What holds of any two passes of one context (own).
 use Rattle.std.specs.Prelude.{◌≡◌, ℕ, List, ◌++◌, ◌⊎◌, Contains}
-use Rattle.grb_order.specs.Laws.{HasPlace, Row}
+use Rattle.grb_order.specs.Laws.{HasSeat, Row}
 use Rattle.grb_order.specs.Rule.{Orderly}
 use Rattle.grb_order.specs.declared.rule.Size.{Size}
 use Rattle.grb_records.specs.Token.{Shown, IsSameRecord}
@@ -18,5 +18,5 @@ ShareCalls a b = (t u : Shown) → Contains a t → Contains b u → IsSameRecor
 -- of the histories that two passes know the one begins the other, at any step of the order
 abbrev pub HistoriesAgree : Type 0
 HistoriesAgree =
-    (size : Size) (s : Row) → Orderly size s → (i j : ℕ) (context : Shared) (p q : Knowing) → HasPlace s i p.view → HasPlace s j q.view → IsKnown context p → IsKnown context q
+    (size : Size) (s : Row) → Orderly size s → (i j : ℕ) (context : Shared) (p q : Knowing) → HasSeat s i p.view → HasSeat s j q.view → IsKnown context p → IsKnown context q
     → ShareCalls p.shown q.shown → Begins (known p) (known q) ⊎ Begins (known q) (known p)

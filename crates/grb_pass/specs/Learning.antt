@@ -17,7 +17,7 @@ use Rattle.grb_pass.specs.Point.{Grows}
 use Rattle.grb_pass.specs.Explains.{IsGrounded, IsCaughtUp, ground_of}
 use Rattle.grb_pass.specs.Counting.{LooksLast}
 
--- what each pass keeps: the records shown are those of the first words, the words are what its place has seen, and those whose
+-- what each pass keeps: the records shown are those of the first words, the words are what its seat has seen, and those whose
 -- record was not shown yet are of others
 pub record IsSteady (p : Knowing) : Type 0 where
   pub records : AreRecords p.view.words p.shown

@@ -17,7 +17,7 @@ IsAtPoint room old new g =
     ⊎ ((new.own ≡ old.own ++ length g ∷ []) × (length new.words ≡ length g + 1))
     ⊎ (length g ≡ room)
 
--- the view of one place, later: all that it had seen stands at the front of what it has seen
+-- the view of one seat, later: all that it had seen stands at the front of what it has seen
 pub record Grows (old new : View) : Type 0 where
   pub number : new.number ≡ old.number
   pub passes : new.passes ≡ old.passes

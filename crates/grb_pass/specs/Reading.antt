@@ -21,24 +21,24 @@ use Rattle.grb_pass.specs.Known.{Knowing, spelled, AreRecords}
 use Rattle.grb_pass.specs.declared.reader.Reader.TheInside.{Inside}
 
 abbrev pub knowing : Inside → Knowing
-knowing r = record { order = r.place.table_id; view = r.place.view; shown = r.tokens.items; steps = r.steps; statuses = r.statuses.rows; settled = r.settled; made = r.made }
+knowing r = record { order = r.seat.table_id; view = r.seat.view; shown = r.tokens.items; steps = r.steps; statuses = r.statuses.rows; settled = r.settled; made = r.made }
 
 -- a reader with these tokens, targets and shapes; the words whose records were not shown yet are of others
-pub record IsReaderWith (number size : ℕ) (place : Holding) (shown : List Shown) (capacity : ℕ) (walk : WalkedCalls) : Type 0 where
-  pub number_is : number ≡ place.view.number
-  pub sound : IsSound place.table_id.words place.view
-  pub few : length shown ≤ length place.view.words
-  pub records : AreRecords place.view.words shown
-  pub others : All (IsOthers place.view) (drop (length shown) place.view.words)
-  pub targets_are : walk.targets ≡ targets_of (shapes_of empty_store) (calls_of (spelled place.view.words shown))
-  pub shapes_are : walk.shapes.objects ≡ shapes_of (store_of (spelled place.view.words shown))
-  pub room : walk.shapes.room + length shown ≡ place.table_id.words
-  pub roomy : place.table_id.words ≤ capacity
-  pub room_is : size ≡ place.table_id.words
-  pub small : place.table_id.words ≤ MOST_ROOM
+pub record IsReaderWith (number size : ℕ) (seat : Holding) (shown : List Shown) (capacity : ℕ) (walk : WalkedCalls) : Type 0 where
+  pub number_is : number ≡ seat.view.number
+  pub sound : IsSound seat.table_id.words seat.view
+  pub few : length shown ≤ length seat.view.words
+  pub records : AreRecords seat.view.words shown
+  pub others : All (IsOthers seat.view) (drop (length shown) seat.view.words)
+  pub targets_are : walk.targets ≡ targets_of (shapes_of empty_store) (calls_of (spelled seat.view.words shown))
+  pub shapes_are : walk.shapes.objects ≡ shapes_of (store_of (spelled seat.view.words shown))
+  pub room : walk.shapes.room + length shown ≡ seat.table_id.words
+  pub roomy : seat.table_id.words ≤ capacity
+  pub room_is : size ≡ seat.table_id.words
+  pub small : seat.table_id.words ≤ MOST_ROOM
 
 abbrev pub IsReader : Inside → Type 0
-IsReader r = IsReaderWith r.number r.statuses.room r.place r.tokens.items (vec_capacity r.tokens) r.targets
+IsReader r = IsReaderWith r.number r.statuses.room r.seat r.tokens.items (vec_capacity r.tokens) r.targets
 
 -- what a check of a build by what is stored found: no refusal, or memory was refused to the evaluation, or this refusal
 abbrev pub IsBuildChecked : Store → Call → Result (Unit {0}) Refusal → Type 0

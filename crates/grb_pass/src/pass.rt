@@ -31,7 +31,7 @@ use crate::reader::Reader;
 use crate::row::RecordRow;
 use grb_call::{Call, Class, Extent, Kind, MatrixId, Object, Reply, VectorId};
 use grb_core::{Info, Refusal};
-use grb_order::{Order, Place};
+use grb_order::{Order, Seat};
 use grb_rebuild::{NoSuccessor, Rebuild, Renumbered};
 use grb_records::{Records, Token};
 use grb_replay::{Editions, State};
@@ -95,17 +95,17 @@ impl Pass {
     pub(crate) fn open(
         alloc: Global,
         number: u32,
-        place: Place,
+        seat: Seat,
         room: u32,
         editions: Arc<Editions>,
         alone: bool,
     ) -> Result<Pass, AllocError>
-        requires number { (number ≡ place.view.number) × (number < place.view.passes) }
-        requires room { (room ≡ room_of place.table_id) × (room ≤ MOST_ROOM) }
-        requires fresh { place.view ≡ fresh number place.view.passes }
-        ensures { IfOk result (λ pass. pass ≡ new_pass place.table_id place.view) }
+        requires number { (number ≡ seat.view.number) × (number < seat.view.passes) }
+        requires room { (room ≡ room_of seat.table_id) × (room ≤ MOST_ROOM) }
+        requires fresh { seat.view ≡ fresh number seat.view.passes }
+        ensures { IfOk result (λ pass. pass ≡ new_pass seat.table_id seat.view) }
     {
-        let reader = Reader::open(alloc, number, place, room)?;
+        let reader = Reader::open(alloc, number, seat, room)?;
         let evaluated = Evaluated::open(alloc, room, editions, alone)?;
         Ok(Pass {
             reader,

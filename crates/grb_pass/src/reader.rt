@@ -39,7 +39,7 @@ use grb_call::{
     Call, Class, Kind, MatrixId, Object, Reply, Statuses, VectorId, check, info_of, target_of,
 };
 use grb_core::{Info, Refusal};
-use grb_order::{Entered, Look, Order, Place};
+use grb_order::{Entered, Look, Order, Seat};
 use grb_records::{Records, Token};
 use grb_replay::{Amount, Targets, live_objects};
 use grb_slices::{CallList, Wanted};
@@ -51,7 +51,7 @@ use std::marker::Model;
 #[derive(Drop)]
 pub(crate) struct Reader {
     number: u32,
-    place: Place,
+    seat: Seat,
     // The records of the first words learnt, with room for all words of the order.
     tokens: Vec<Token>,
     targets: Targets,
@@ -95,20 +95,20 @@ impl Reader {
     pub(crate) fn open(
         alloc: Global,
         number: u32,
-        place: Place,
+        seat: Seat,
         room: u32,
     ) -> Result<Reader, AllocError>
-        requires number { (number ≡ place.view.number) × (number < place.view.passes) }
-        requires room { (room ≡ room_of place.table_id) × (room ≤ MOST_ROOM) }
-        requires fresh { place.view ≡ fresh number place.view.passes }
-        ensures { IfOk result (λ reader. reader ≡ new_pass place.table_id place.view) }
+        requires number { (number ≡ seat.view.number) × (number < seat.view.passes) }
+        requires room { (room ≡ room_of seat.table_id) × (room ≤ MOST_ROOM) }
+        requires fresh { seat.view ≡ fresh number seat.view.passes }
+        ensures { IfOk result (λ reader. reader ≡ new_pass seat.table_id seat.view) }
     {
         let tokens = Vec::with_capacity(alloc, room as usize)?;
         let targets = Targets::open(alloc, room)?;
         let statuses = Statuses::open(alloc, room)?;
         Ok(Reader {
             number,
-            place,
+            seat,
             tokens,
             targets,
             steps: 0,
@@ -194,14 +194,14 @@ impl Reader {
     pub(crate) fn words(&self) -> u32
         ensures { result ≡ length self.now.view.words }
     {
-        self.place.words().len() as u32
+        self.seat.words().len() as u32
     }
 
     /// How many words are still vacant, as far as the pass has learnt.
     pub(crate) fn room_left(&self) -> u32
         ensures { result + length self.now.view.words ≡ room_of self.now.order }
     {
-        self.place.room() - self.words()
+        self.seat.room() - self.words()
     }
 
     /// How many words the order has.
@@ -209,7 +209,7 @@ impl Reader {
         ensures room { result ≡ room_of self.now.order }
         ensures few { result ≤ MOST_ROOM }
     {
-        self.place.room()
+        self.seat.room()
     }
 
     /// How many records were shown.
@@ -236,7 +236,7 @@ impl Reader {
         ensures steady { IsSteady self.now }
     {
         let shown = self.tokens.len();
-        let words = self.place.words();
+        let words = self.seat.words();
         if shown < words.len() {
             Some(words[shown])
         } else {
@@ -270,7 +270,7 @@ impl Reader {
         ensures steady { IsSteady self.new }
         ensures counts { Counts self.old self.new }
     {
-        let look = order.look(&mut self.place);
+        let look = order.look(&mut self.seat);
         self.steps += steps_of_look(look);
         look
     }
@@ -294,7 +294,7 @@ impl Reader {
         ensures steps { self.new.steps + length self.old.view.words ≡ length self.new.view.words }
     {
         let before = self.words();
-        order.tell(&mut self.place, &mut other.place);
+        order.tell(&mut self.seat, &mut other.seat);
         self.steps = self.words() - before;
     }
 
@@ -386,7 +386,7 @@ impl Reader {
         ensures counts { Counts self.old self.new }
     {
         self.steps += 1;
-        match order.enter(&mut self.place, token.index()) {
+        match order.enter(&mut self.seat, token.index()) {
             Entered::Won => {
                 self.targets.take_in(call);
                 self.amount.add(call);

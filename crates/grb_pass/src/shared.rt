@@ -6,7 +6,7 @@ ghost use Rattle.grb_records.specs.Token.{HasRows};
 ghost use Rattle.grb_pass.specs.Known.{AreNew, HasNoStatus, IsPassOf};
 
 use crate::pass::Pass;
-use grb_order::{Order, Place};
+use grb_order::{Order, Seat};
 use grb_records::Records;
 use grb_replay::Editions;
 use std::alloc::{AllocError, Global};
@@ -37,25 +37,25 @@ fn editions_for(alloc: Global, room: u32) -> Result<Arc<Editions>, AllocError> {
     }
 }
 
-/// A pass for each of the places. `AllocError` where memory is refused; then the places are dropped.
+/// A pass for each of the seats. `AllocError` where memory is refused; then the seats are dropped.
 fn passes_of(
     alloc: Global,
     order: &Order,
-    places: Vec<Place>,
+    seats: Vec<Seat>,
     room: u32,
     passes: u32,
     editions: &Arc<Editions>,
 ) -> Result<Vec<Pass>, AllocError>
     requires room { (room_of order.now ≡ room) × (room ≤ MOST_ROOM) }
     requires passes { passes ≤ MOST_PASSES }
-    requires places { AreFresh order.now passes places.items passes }
+    requires seats { AreFresh order.now passes seats.items passes }
     ensures { IfOk result (λ opened. AreNew order.now passes opened.items passes) }
 {
     let mut opened = Vec::with_capacity(alloc, passes as usize)?;
-    for place in places {
+    for seat in seats {
         let number = opened.len() as u32;
         let editions = Arc::try_clone(editions)?;
-        opened.push_reserved(Pass::open(alloc, number, place, room, editions, passes == 1)?);
+        opened.push_reserved(Pass::open(alloc, number, seat, room, editions, passes == 1)?);
     }
     Ok(opened)
 }
@@ -74,10 +74,10 @@ impl Shared {
         ensures ours { IfOk result (λ opened. All (IsPassOf opened.0) opened.1.items) }
         ensures statuses { IfOk result (λ opened. All HasNoStatus opened.1.items) }
     {
-        let (order, places) = Order::open(alloc, room, passes)?;
+        let (order, seats) = Order::open(alloc, room, passes)?;
         let records = Records::open(alloc, passes, room)?;
         let editions = editions_for(alloc, room)?;
-        let opened = passes_of(alloc, &order, places, room, passes, &editions)?;
+        let opened = passes_of(alloc, &order, seats, room, passes, &editions)?;
         Ok((Shared { order, records }, opened))
     }
 }

@@ -92,7 +92,7 @@ pub bounded-same : (bound : Option (List ℕ)) (total other made : VectorEntries
 bounded-same bound total other made e h = subst (λ (m : VectorEntries). IsBounded bound m made) e h
 
 -- the indices of a mask are those at which it selects
-among_places : (q : ℕ) (m : VectorEntries) → is_some (find nat_cmp q m) ≡ is_among q (map (λ e. e.0) m)
+pub among_places : (q : ℕ) (m : VectorEntries) → is_some (find nat_cmp q m) ≡ is_among q (map (λ e. e.0) m)
 among_places q [] = refl
 among_places q (e ∷ m) =
     elim (eq_by_cmp nat_cmp q e.0) as (λ b. is_some (cond b (Some e.1) (find nat_cmp q m)) ≡ cond b true (is_among q (map (λ x. x.0) m))) [ true ↦ refl | false ↦ among_places q m ]
@@ -111,7 +111,7 @@ same_value false r accum c t u h = refl
 
 module _ (inside : ℕ → Bool) (replace : Bool) (accum : Option BinaryOp) (c t : VectorEntries) where
   -- what is computed outside of the mask changes nothing
-  written-restricted : (test : ℕ → Bool) → ((q : ℕ) → inside q ≡ true → test q ≡ true) → written nat_cmp inside replace accum c (restricted test t) ≡ written nat_cmp inside replace accum c t
+  pub written-restricted : (test : ℕ → Bool) → ((q : ℕ) → inside q ≡ true → test q ≡ true) → written nat_cmp inside replace accum c (restricted test t) ≡ written nat_cmp inside replace accum c t
   written-restricted test h =
       same_entries_at nat_cmp nat_cmp_total nat_cmp-IsAntisymmetric _ _ (is_sorted-masked nat_cmp_total nat_cmp-IsAntisymmetric inside replace c (accumulated nat_cmp accum c (restricted test t)))
       (is_sorted-masked nat_cmp_total nat_cmp-IsAntisymmetric inside replace c (accumulated nat_cmp accum c t))

@@ -1,8 +1,7 @@
 -- A fold so far, and one that ends early.
 use Rattle.std.proofs.Common.{◌≡◌, ℕ, zero, suc, ◌+◌, arith, ◌<◌, ◌≤◌, List, [], ◌∷◌, ◌++◌, length, take, drop, get_or, sym, ap, subst, ◌∙◌}
-use Rattle.std.specs.Prelude.{All, map, Bool, true, false, not, ◌==◌, Some}
+use Rattle.std.specs.Prelude.{All, map}
 use Rattle.std.specs.List.{AllByRecursion}
-use Rattle.std.proofs.lemmas.Bool.Decides.{nat_tests}
 use Rattle.std.proofs.Math.Seq.{take-add}
 use Rattle.std.proofs.lemmas.List.{map_more, map-append, take_all, take-append-drop}
 use Rattle.std.proofs.lemmas.List.Elements.{recursion_from_All}
@@ -11,8 +10,7 @@ use Rattle.grb_core.specs.declared.monoid.Monoid.{Monoid}
 use Rattle.grb_core.specs.Value.{IsValueOf}
 use Rattle.grb_core.specs.Operator.{value_of_op}
 use Rattle.grb_core.specs.Monoid.{monoid_op, monoid_domain, identity_of}
-use Rattle.grb_core.specs.Fold.{fold_of, fold_of_some}
-use Rattle.grb_kernels.specs.Typed.{kept}
+use Rattle.grb_core.specs.Fold.{fold_of}
 use Rattle.grb_core.proofs.MonoidLaws.{monoid_laws}
 use Rattle.grb_core.proofs.Folds.{fold_of-append, fold_of-is}
 use Rattle.grb_core.proofs.Made.{all-append, all-map}
@@ -41,6 +39,12 @@ module _ (m : Monoid) where
     is_sum = e ∙ ap (λ x. value_of_op (monoid_op m) x v) h.is_sum ∙ sym (fold_of-more vs v h.of_domain is);
     of_domain = all_more vs v h.of_domain is;
   }
+
+  -- the identity changes no fold
+  pub added_nothing : (vs : List Value) (sum : Value) → IsFolding m vs sum → value_of_op (monoid_op m) sum (identity_of m) ≡ sum
+  added_nothing vs sum h =
+      let is : IsValueOf (monoid_domain m) sum = subst (IsValueOf (monoid_domain m)) (sym h.is_sum) (fold_of-is m vs h.of_domain) in
+      (monoid_laws m).commutative sum (identity_of m) is (monoid_laws m).identity_is ∙ (monoid_laws m).neutral sum is
 
   -- two lists that are folded apart
   pub folded_parts : (us vs : List Value) (a b sum : Value) → IsFolding m us a → IsFolding m vs b → sum ≡ value_of_op (monoid_op m) a b → IsFolding m (us ++ vs) sum
@@ -118,13 +122,3 @@ folded_next m value vs i read item sum next h is same lt at made =
 -- all values of a list
 pub folded_all : (m : Monoid) {V : Type 0} (value : V → Value) (vs : List V) (i : ℕ) (sum : Value) → IsFolding m (map value (take i vs)) sum → length vs ≤ i → IsFolding m (map value vs) sum
 folded_all m value vs i sum h le = subst (λ us. IsFolding m (map value us) sum) (take_all i vs le) h
-
-not_zero : (n : ℕ) → true ≡ (suc n == 0) → ⊥
-not_zero n t = grind (arith, nat_tests)
-
--- the fold of some values, and no value where there are none
-pub kept_fold : (m : Monoid) {V : Type 0} (value : V → Value) (vs : List V) (v : Value) (empty : Bool) → v ≡ fold_of m (map value vs) → empty ≡ (length vs == 0)
-    → kept v (not empty) ≡ fold_of_some m (map value vs)
-kept_fold m value [] v empty e t = ap (λ b. kept v (not b)) t
-kept_fold m value (x ∷ vs) v true e t = absurd (not_zero (length vs) t)
-kept_fold m value (x ∷ vs) v false e t = ap Some e

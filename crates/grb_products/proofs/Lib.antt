@@ -17,3 +17,12 @@ pub mod ColumnFolds
 pub mod RunFolds
 pub mod ChangedTotals
 pub mod Windows
+pub mod Full
+pub mod Asked
+pub mod WantedPlaces
+pub mod WantedRows
+pub mod RowLists
+pub mod Spans
+pub mod WantedResults
+pub mod MarkedPlaces
+pub mod MarkCounts

@@ -13,7 +13,7 @@ use Rattle.grb_core.specs.declared.operator.BinaryOp.{BinaryOp}
 use Rattle.grb_core.specs.declared.monoid.Monoid.{Monoid}
 use Rattle.grb_core.specs.Value.{IsValueOf}
 use Rattle.grb_core.specs.Operator.{value_of_op}
-use Rattle.grb_core.specs.Monoid.{monoid_op, monoid_domain}
+use Rattle.grb_core.specs.Monoid.{monoid_op, monoid_domain, identity_of}
 use Rattle.grb_core.specs.Entries.{VectorEntries}
 use Rattle.grb_core.specs.Written.{both_values}
 use Rattle.grb_kernels.specs.Typed.{kept, entries_of, first_entries, entries_from}
@@ -21,6 +21,7 @@ use Rattle.grb_kernels.proofs.Lists.{from-read}
 use Rattle.grb_core.specs.Fold.{fold_of_some}
 use Rattle.grb_products.specs.Open.{marked_at}
 use Rattle.grb_products.specs.Products.{list_of, products}
+use Rattle.grb_products.proofs.Folds.{added_nothing}
 use Rattle.grb_products.proofs.Sums.{IsSumming, summed_more, products-more, products-append, ended}
 
 module _ {V : Type 0} (value : V → Value) where
@@ -35,22 +36,25 @@ or_nothing : (xs : List Value) → xs ++ [] ≡ xs
 or_nothing [] = refl
 or_nothing (x ∷ xs) = ap (λ t. x ∷ t) (or_nothing xs)
 
--- one more entry of the row: its product is taken where there is a mark
-pub folded_step : (m : Monoid) (op : BinaryOp) (y : ℕ → Option Value) (x : VectorEntries) (k : ℕ) (v d product sum next sum' : Value) (here any any' : Bool)
+-- one more entry of the row: its product is added where there is a mark, and else what changes no sum
+pub folded_step : (m : Monoid) (op : BinaryOp) (y : ℕ → Option Value) (x : VectorEntries) (k : ℕ) (v d product sum sum' : Value) (here any any' : Bool)
     → IsSumming m (products op y x) sum any → y k ≡ kept d here → IsValueOf (monoid_domain m) product → product ≡ value_of_op op v d
-    → next ≡ value_of_op (monoid_op m) sum product → sum' ≡ cond here next sum → any' ≡ (here || any)
+    → sum' ≡ value_of_op (monoid_op m) sum (cond here product (identity_of m)) → any' ≡ (here || any)
     → IsSumming m (products op y (x ++ (k, v) ∷ [])) sum' any'
-folded_step m op y x k v d product sum next sum' here any any' h at is made add s a =
+folded_step m op y x k v d product sum sum' here any any' h at is made s a =
     let more : products op y (x ++ (k, v) ∷ []) ≡ products op y x ++ list_of (both_values (value_of_op op) (Some v) (kept d here)) =
     products-more op y x k v ∙ ap (λ w. products op y x ++ list_of (both_values (value_of_op op) (Some v) w)) at in
     subst (λ vs. IsSumming m vs sum' any') (sym more)
     (subst (λ w. IsSumming m (products op y x ++ list_of (both_values (value_of_op op) (Some v) (kept d here))) w any') (sym s)
-    (subst (λ w. IsSumming m (products op y x ++ list_of (both_values (value_of_op op) (Some v) (kept d here))) (cond here next sum) w) (sym a)
+    (subst (λ w. IsSumming m (products op y x ++ list_of (both_values (value_of_op op) (Some v) (kept d here))) (value_of_op (monoid_op m) sum (cond here product (identity_of m))) w) (sym a)
     (by_mark here)))
   where
-    by_mark : (b : Bool) → IsSumming m (products op y x ++ list_of (both_values (value_of_op op) (Some v) (kept d b))) (cond b next sum) (b || any)
-    by_mark true = subst (λ p. IsSumming m (products op y x ++ p ∷ []) next true) made (summed_more m (products op y x) sum product next any h is add)
-    by_mark false = subst (λ vs. IsSumming m vs sum any) (sym (or_nothing (products op y x))) h
+    unchanged : value_of_op (monoid_op m) sum (identity_of m) ≡ sum
+    unchanged = added_nothing m (products op y x) sum h.folding
+
+    by_mark : (b : Bool) → IsSumming m (products op y x ++ list_of (both_values (value_of_op op) (Some v) (kept d b))) (value_of_op (monoid_op m) sum (cond b product (identity_of m))) (b || any)
+    by_mark true = subst (λ p. IsSumming m (products op y x ++ p ∷ []) (value_of_op (monoid_op m) sum product) true) made (summed_more m (products op y x) sum product (value_of_op (monoid_op m) sum product) any h is refl)
+    by_mark false = subst (λ vs. IsSumming m vs (value_of_op (monoid_op m) sum (identity_of m)) any) (sym (or_nothing (products op y x))) (subst (λ w. IsSumming m (products op y x) w any) (sym unchanged) h)
 
 pub by_test : {A B : Type 0} (f : A → B) (b : Bool) (x y : A) → f (cond b x y) ≡ cond b (f x) (f y)
 by_test f true x y = refl

@@ -1,17 +1,19 @@
 -- What the entries of a vector make of the rows that they pick, entry by entry.
-use Rattle.std.proofs.Common.{◌≡◌, ℕ, true, false, cond, ◌+◌, ◌<◌, ◌≤◌, List, [], ◌∷◌, ◌++◌, refl, sym, ap, subst, ◌∙◌, append_assoc, length, get_or, set, arith}
+use Rattle.std.proofs.Common.{◌≡◌, ℕ, true, false, cond, ◌+◌, ◌<◌, ◌≤◌, List, [], ◌∷◌, ◌++◌, refl, sym, ap, subst, ◌∙◌, append_assoc, length, get_or, take, drop, arith}
 use Rattle.std.specs.Prelude.{map, filter}
 use Rattle.std.specs.List.{AllByRecursion}
 use Rattle.grb_core.specs.declared.value.Value.{Value}
 use Rattle.grb_core.specs.Entries.{VectorEntries, MatrixEntries}
 use Rattle.grb_core.specs.Results.{row_of}
 use Rattle.grb_core.proofs.Made.{all-append}
-use Rattle.grb_kernels.specs.Typed.{entries_of, first_entries}
-use Rattle.grb_kernels.proofs.Lists.{append_nil, first-all, first-set_more, first-read}
+use Rattle.std.proofs.lemmas.List.{drop_more, take_all}
+use Rattle.grb_kernels.specs.Typed.{first_entries}
+use Rattle.grb_kernels.proofs.Lists.{append_nil, first-read}
 use Rattle.grb_ewise.specs.Ranks.{Rise}
-use Rattle.grb_products.specs.ColumnSums.{with_values}
-use Rattle.grb_products.specs.Pushes.{pushed, at_numbers}
+use Rattle.grb_products.specs.ColumnSums.{as_entries, with_values}
+use Rattle.grb_products.specs.Pushes.{pushed, at_numbers, columns_at}
 use Rattle.grb_products.proofs.RowByRow.{in_its_row, is_in}
+use Rattle.grb_products.proofs.RunFolds.{as_entries-append, as_entries-more}
 
 module _ (f : Value → Value → Value) where
   pub pushed-append : (x y : VectorEntries) (a : MatrixEntries) → pushed f (x ++ y) a ≡ pushed f x a ++ pushed f y a
@@ -32,16 +34,15 @@ pub at_numbers-append : (numbers : List ℕ) (x y : VectorEntries) → at_number
 at_numbers-append numbers [] y = refl
 at_numbers-append numbers (e ∷ x) y = ap (λ (m : VectorEntries). (get_or numbers e.0 0, e.1) ∷ m) (at_numbers-append numbers x y)
 
-module _ {V : Type 0} (tv : V → Value) (a : MatrixEntries) (numbers places indices : List ℕ) (values us : List V) (k i : ℕ) (x : V) where
+module _ {V : Type 0} (tv : V → Value) (a : MatrixEntries) (numbers indices : List ℕ) (us : List V) (picks : List (ℕ × V)) (i : ℕ) (x : V) where
   -- one more entry of the vector, at a row that is picked
-  pub picked_here : (f : Value → Value → Value) (place : ℕ) → k < length places → length places ≡ length values → i < length indices → length indices ≡ length us
-      → x ≡ get_or us i x → get_or numbers place 0 ≡ get_or indices i 0
-      → pushed f (at_numbers numbers (first_entries tv k places values)) a ≡ pushed f (first_entries tv i indices us) a
-      → pushed f (at_numbers numbers (first_entries tv (k + 1) (set places k place) (set values k x))) a ≡ pushed f (first_entries tv (i + 1) indices us) a
-  picked_here f place inside same within rows is here was =
-      ap (λ (m : VectorEntries). pushed f (at_numbers numbers m) a) (first-set_more tv places values k place x inside same)
-      ∙ ap (λ (m : VectorEntries). pushed f m a) (at_numbers-append numbers (first_entries tv k places values) ((place, tv x) ∷ []))
-      ∙ pushed-more f (at_numbers numbers (first_entries tv k places values)) (get_or numbers place 0) (tv x) a
+  pub picked_here : (f : Value → Value → Value) (place : ℕ) → i < length indices → length indices ≡ length us → x ≡ get_or us i x → get_or numbers place 0 ≡ get_or indices i 0
+      → pushed f (at_numbers numbers (as_entries tv picks)) a ≡ pushed f (first_entries tv i indices us) a
+      → pushed f (at_numbers numbers (as_entries tv (picks ++ (place, x) ∷ []))) a ≡ pushed f (first_entries tv (i + 1) indices us) a
+  picked_here f place within rows is here was =
+      ap (λ (m : VectorEntries). pushed f (at_numbers numbers m) a) (as_entries-append tv picks ((place, x) ∷ []))
+      ∙ ap (λ (m : VectorEntries). pushed f m a) (at_numbers-append numbers (as_entries tv picks) ((place, tv x) ∷ []))
+      ∙ pushed-more f (at_numbers numbers (as_entries tv picks)) (get_or numbers place 0) (tv x) a
       ∙ ap (λ (m : VectorEntries). m ++ with_values (f (tv x)) (row_of (get_or numbers place 0) a)) was
       ∙ ap (λ j. pushed f (first_entries tv i indices us) a ++ with_values (f (tv x)) (row_of j a)) here
       ∙ sym (pushed-more f (first_entries tv i indices us) (get_or indices i 0) (tv x) a)
@@ -49,8 +50,8 @@ module _ {V : Type 0} (tv : V → Value) (a : MatrixEntries) (numbers places ind
 
   -- and at a row that stores nothing
   pub picked_nowhere : (f : Value → Value → Value) → i < length indices → length indices ≡ length us → x ≡ get_or us i x → row_of (get_or indices i 0) a ≡ []
-      → pushed f (at_numbers numbers (first_entries tv k places values)) a ≡ pushed f (first_entries tv i indices us) a
-      → pushed f (at_numbers numbers (first_entries tv k places values)) a ≡ pushed f (first_entries tv (i + 1) indices us) a
+      → pushed f (at_numbers numbers (as_entries tv picks)) a ≡ pushed f (first_entries tv i indices us) a
+      → pushed f (at_numbers numbers (as_entries tv picks)) a ≡ pushed f (first_entries tv (i + 1) indices us) a
   picked_nowhere f within rows is none was =
       was
       ∙ sym (pushed-nothing f (first_entries tv i indices us) (get_or indices i 0) (tv x) a none)
@@ -73,22 +74,31 @@ stands_nowhere rows named place number same rise below above apart =
     subst (λ (ks : List ℕ). (k : ℕ) → k < length ks → get_or ks k 0 ≡ number → ⊥) same
     (stands_nowhere_of rows place number (subst Rise (sym same) rise) below above apart)
 
-module _ {V : Type 0} (tv : V → Value) (f : Value → Value → Value) (numbers places : List ℕ) (values : List V) (a : MatrixEntries) where
+module _ {V : Type 0} (tv : V → Value) (f : Value → Value → Value) (numbers : List ℕ) (picks : List (ℕ × V)) (a : MatrixEntries) where
   -- one more pick is read
-  pub pushed-read : (i : ℕ) (x : V) → i < length places → length places ≡ length values → x ≡ get_or values i x
-      → pushed f (at_numbers numbers (first_entries tv (i + 1) places values)) a
-      ≡ pushed f (at_numbers numbers (first_entries tv i places values)) a ++ with_values (f (tv x)) (row_of (get_or numbers (get_or places i 0) 0) a)
-  pushed-read i x inside same is =
-      let before = first_entries tv i places values in
-      let place = get_or places i 0 in
-      ap (λ (m : VectorEntries). pushed f (at_numbers numbers m) a) (first-read tv places values i x inside same is)
-      ∙ ap (λ (m : VectorEntries). pushed f m a) (at_numbers-append numbers before ((place, tv x) ∷ []))
-      ∙ pushed-more f (at_numbers numbers before) (get_or numbers place 0) (tv x) a
+  pub pushed-read : (i : ℕ) (p : ℕ × V) → i < length picks → p ≡ get_or picks i p
+      → pushed f (at_numbers numbers (as_entries tv (take (i + 1) picks))) a
+      ≡ pushed f (at_numbers numbers (as_entries tv (take i picks))) a ++ with_values (f (tv p.1)) (row_of (get_or numbers p.0 0) a)
+  pushed-read i p inside is =
+      let before = as_entries tv (take i picks) in
+      ap (λ (m : VectorEntries). pushed f (at_numbers numbers m) a) (as_entries-more tv picks i p inside is)
+      ∙ ap (λ (m : VectorEntries). pushed f m a) (at_numbers-append numbers before ((p.0, tv p.1) ∷ []))
+      ∙ pushed-more f (at_numbers numbers before) (get_or numbers p.0 0) (tv p.1) a
 
   -- after the last one
-  pub pushed-all : (i : ℕ) → length places ≤ i → length places ≡ length values
-      → pushed f (at_numbers numbers (first_entries tv i places values)) a ≡ pushed f (at_numbers numbers (entries_of tv places values)) a
-  pushed-all i past same = ap (λ (m : VectorEntries). pushed f (at_numbers numbers m) a) (first-all tv places values i past same)
+  pub pushed-all : (i : ℕ) → length picks ≤ i → pushed f (at_numbers numbers (as_entries tv (take i picks))) a ≡ pushed f (at_numbers numbers (as_entries tv picks)) a
+  pushed-all i past = ap (λ (ps : List (ℕ × V)). pushed f (at_numbers numbers (as_entries tv ps)) a) (take_all i picks past)
+
+-- one more pick is counted
+pub columns_at-more : {V : Type 0} (numbers : List ℕ) (picks : List (ℕ × V)) (a : MatrixEntries) (i : ℕ) (p : ℕ × V) → i < length picks → p ≡ get_or picks i p
+    → length (columns_at numbers (drop i picks) a) ≡ length (map (λ e. e.0) (row_of (get_or numbers p.0 0) a)) + length (columns_at numbers (drop (i + 1) picks) a)
+columns_at-more {V = V} numbers picks a i p inside is =
+    ap (λ (ps : List (ℕ × V)). length (columns_at numbers ps a)) (drop_more picks i p inside ∙ ap (λ (x : ℕ × V). x ∷ drop (i + 1) picks) (sym is))
+    ∙ length-append (map (λ (e : ℕ × Value). e.0) (row_of (get_or numbers p.0 0) a)) (columns_at numbers (drop (i + 1) picks) a)
+  where
+    length-append : (xs ys : List ℕ) → length (xs ++ ys) ≡ length xs + length ys
+    length-append [] ys = omega arith
+    length-append (x ∷ xs) ys = let rest = length-append xs ys in omega (arith, rest)
 
 module _ (P : ℕ → Type 0) where
   within-row : (i : ℕ) (a : MatrixEntries) → AllByRecursion (λ e. P e.0.1) a → AllByRecursion (λ e. P e.0) (row_of i a)

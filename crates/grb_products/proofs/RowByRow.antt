@@ -1,19 +1,19 @@
 -- A value made of each row of a matrix, over the rows that have entries.
-use Rattle.std.proofs.Common.{◌≡◌, ℕ, zero, suc, ◌+◌, ◌<◌, ◌≤◌, Bool, true, false, cond, List, [], ◌∷◌, ◌++◌, refl, sym, ap, subst, ◌∙◌, append_assoc, arith, length, get_or, drop}
-use Rattle.std.specs.Prelude.{◌&&◌, ◌≢◌, Option, Some, None, is_some, IsTrue, map, filter, nat_eq, slice_index}
+use Rattle.std.proofs.Common.{◌≡◌, ℕ, zero, suc, ◌+◌, ◌<◌, Bool, true, false, cond, List, [], ◌∷◌, ◌++◌, refl, sym, ap, subst, ◌∙◌, append_assoc, arith, length, get_or, drop}
+use Rattle.std.specs.Prelude.{◌&&◌, ◌≢◌, Option, Some, None, is_some, map, filter, nat_eq, slice_index}
 use Rattle.std.specs.Ordering.{nat_cmp, is_lt, is_eq, eq_by_cmp}
 use Rattle.std.specs.declared.cmp.Ordering.{Ordering}
 use Rattle.std.specs.declared.cmp.Ordering.TheVariants.{Less, Equal, Greater}
 use Rattle.std.specs.Cmp.{nat_cmp_total, unsigned_tied, eq_by_cmp_equiv, nat_cmp_is}
 use Rattle.std.specs.FinMap.{is_sorted, nat_cmp-IsAntisymmetric, find}
 use Rattle.std.specs.FinMap.Entries.{below_all}
-use Rattle.std.proofs.lemmas.List.{drop_more, drop_all}
+use Rattle.std.proofs.lemmas.List.{drop_more}
 use lib.Dec.{T}
 use Rattle.grb_core.specs.declared.value.Value.{Value}
 use Rattle.grb_core.specs.Entries.{VectorEntries, MatrixEntries, before_entries, map_on}
-use Rattle.grb_core.proofs.Maps.{find-before, is_sorted-before, same_entries_at, find-map_on_indices, is_sorted-map_on_indices}
+use Rattle.grb_core.proofs.Maps.{find-before, is_sorted-before, find-map_on_indices, is_sorted-map_on_indices}
 use Rattle.grb_core.specs.Results.{row_of, each_row}
-use Rattle.grb_kernels.proofs.Lists.{before-append, append_nil}
+use Rattle.grb_kernels.proofs.Lists.{before-append}
 use Rattle.grb_kernels.proofs.Merges.{less}
 use Rattle.grb_ewise.specs.Ranks.{Rise}
 
@@ -97,13 +97,6 @@ find-map_rising g q (k ∷ ks) h out =
     apart_by : (r : Ordering) → nat_cmp q k ≡ r → (r ≡ Equal → ⊥) → nat_cmp q k ≡ Equal → ⊥
     apart_by r t n e = n (sym t ∙ e)
 
--- over all rows that have entries
-pub each_row-rows : (f : VectorEntries → Option Value) → f [] ≡ None → (a : MatrixEntries) (rows : List ℕ) → Rise rows
-    → ((i : ℕ) → ((k : ℕ) → k < length rows → slice_index rows k ≢ i) → row_of i a ≡ []) → map_on rows (λ i. f (row_of i a)) ≡ each_row f a
-each_row-rows f none a rows rise all =
-    same_entries_at nat_cmp nat_cmp_total nat_cmp-IsAntisymmetric _ _ (is_sorted-map_rising (λ i. f (row_of i a)) rows rise) (is_sorted-each_row f a)
-    (λ q. find-map_rising (λ i. f (row_of i a)) q rows rise (λ apart. ap f (all q apart) ∙ none) ∙ sym (find-each_row f none a q))
-
 -- one row more
 pub row_step : (g : ℕ → Option Value) (rows : List ℕ) (place : ℕ) (w : Option Value) (so_far next total : VectorEntries) → place < length rows
     → so_far ++ map_on (drop place rows) g ≡ total → w ≡ g (get_or rows place 0) → next ≡ so_far ++ before_entries (get_or rows place 0) w []
@@ -122,24 +115,3 @@ row_step g rows place w so_far next total h was is made =
 
     first : map_on (drop place rows) g ≡ before_entries k (g k) rest
     first = ap (λ (ks : List ℕ). map_on ks g) (drop_more rows place 0 h)
-
--- after the last row
-pub all_rows : (f : VectorEntries → Option Value) → f [] ≡ None → (a : MatrixEntries) (rows named : List ℕ) (place : ℕ) (so_far : VectorEntries) → rows ≡ named → Rise named
-    → ((i : ℕ) → ((k : ℕ) → k < length named → slice_index named k ≢ i) → row_of i a ≡ []) → length rows ≤ place
-    → so_far ++ map_on (drop place rows) (λ i. f (row_of i a)) ≡ map_on rows (λ i. f (row_of i a)) → so_far ≡ each_row f a
-all_rows f none a rows named place so_far same rise all past was =
-    sym (append_nil so_far)
-    ∙ ap (λ (ks : List ℕ). so_far ++ map_on ks g) (sym (drop_all place rows past))
-    ∙ was
-    ∙ ap (λ (ks : List ℕ). map_on ks g) same
-    ∙ each_row-rows f none a named rise all
-  where
-    g : ℕ → Option Value
-    g i = f (row_of i a)
-
-passes : (b : Bool) → T b → IsTrue b
-passes true h = refl
-passes false h = absurd h
-
-pub each_row-rising : (f : VectorEntries → Option Value) (a : MatrixEntries) (m : VectorEntries) → m ≡ each_row f a → IsTrue (is_sorted nat_cmp m)
-each_row-rising f a m e = subst (λ (k : VectorEntries). IsTrue (is_sorted nat_cmp k)) (sym e) (passes _ (is_sorted-each_row f a))

@@ -26,10 +26,10 @@ snd false b p = absurd p
 holds : (b : Bool) → IsTrue b → T b
 holds b e = subst T (sym e) tt
 
-same_index : (j c : ℕ) → c ≡ j → eq_by_cmp nat_cmp j c ≡ true
+pub same_index : (j c : ℕ) → c ≡ j → eq_by_cmp nat_cmp j c ≡ true
 same_index j c e = grind (arith, nat_tests)
 
-other_index : (j c : ℕ) → (c ≡ j → ⊥) → eq_by_cmp nat_cmp j c ≡ false
+pub other_index : (j c : ℕ) → (c ≡ j → ⊥) → eq_by_cmp nat_cmp j c ≡ false
 other_index j c h = grind (arith, nat_tests)
 
 module _ {V : Type 0} (value : V → Value) where

@@ -1,16 +1,13 @@
 -- Sums by column as entries are added, and as they are closed.
-use Rattle.std.proofs.Common.{◌≡◌, ℕ, zero, suc, ◌<◌, Bool, true, false, cond, List, [], ◌∷◌, ◌++◌, length, get_or, set, inl, inr, refl, sym, ap, subst, ◌∙◌, arith, append_assoc}
-use Rattle.std.specs.Prelude.{◌&&◌, ◌≢◌, Option, Some, None, slice_index, IsTrue}
+use Rattle.std.proofs.Common.{◌≡◌, ℕ, zero, suc, ◌*◌, ◌/◌, ◌%◌, ◌^◌, ◌<◌, ◌≤◌, Bool, true, false, cond, List, [], ◌∷◌, ◌++◌, length, get_or, set, inl, inr, refl, sym, ap, subst, ◌∙◌, arith, append_assoc}
+use Rattle.std.specs.Prelude.{◌≢◌, Some, None, slice_index, IsTrue}
 use Rattle.std.specs.List.{AllByRecursion}
-use Rattle.std.specs.Ordering.{nat_cmp, is_lt, eq_by_cmp}
-use Rattle.std.specs.declared.cmp.Ordering.TheVariants.{Less}
-use Rattle.std.specs.Cmp.{nat_cmp_is}
+use Rattle.std.specs.Ordering.{nat_cmp, eq_by_cmp}
 use Rattle.std.specs.FinMap.{is_sorted}
-use Rattle.std.specs.FinMap.Entries.{below_all}
 use Rattle.std.proofs.Math.ListN.{replicate}
 use Rattle.std.proofs.lemmas.Bool.{cases_eq, cases_order}
 use Rattle.std.proofs.lemmas.Bool.Decides.{nat_tests}
-use Rattle.std.proofs.lemmas.List.{get_or-set_same, get_or-set_other, get_or-replicate, length-set}
+use Rattle.std.proofs.lemmas.List.{get_or-set_same, get_or-set_other, get_or-replicate}
 use Rattle.std.proofs.lemmas.List.Elements.{filter-append}
 use lib.Dec.{T}
 use Rattle.grb_core.specs.declared.value.Value.{Value}
@@ -19,16 +16,14 @@ use Rattle.grb_core.specs.Value.{IsValueOf}
 use Rattle.grb_core.specs.Operator.{value_of_op}
 use Rattle.grb_core.specs.Monoid.{monoid_op, monoid_domain, identity_of}
 use Rattle.grb_core.specs.Fold.{fold_of, fold_of_some}
-use Rattle.grb_core.specs.Entries.{VectorEntries, before_entries, map_on, restricted, values_at, values_of}
-use Rattle.grb_core.proofs.Maps.{is_sorted-before}
+use Rattle.grb_core.specs.Entries.{VectorEntries, restricted, values_at, values_of}
 use Rattle.grb_kernels.proofs.Lists.{append_nil}
-use Rattle.grb_kernels.specs.Typed.{kept}
-use Rattle.grb_products.specs.Open.{marked_at}
 use Rattle.grb_ewise.specs.Ranks.{Rise}
-use Rattle.grb_products.specs.ColumnSums.{AreSums, column_folds, marked_entries, with_values}
+use Rattle.grb_products.specs.Bits.{is_marked, value_at, marked_values, AreMarked}
+use Rattle.grb_products.specs.ColumnSums.{AreSums, column_folds, with_values}
 use Rattle.grb_products.proofs.ColumnFolds.{other_column}
 use Rattle.grb_products.proofs.Folds.{IsFolding, folded_more}
-use Rattle.grb_products.proofs.Marks.{marked-set_same, marked-set_other, nothing_marked}
+use Rattle.grb_products.proofs.MarkedPlaces.{entries_at-made, is_sorted-entries_at, no_bit}
 use Rattle.grb_products.proofs.Sums.{fold_of_some-more}
 
 -- the values at a column, with one entry more
@@ -60,22 +55,43 @@ apart names rise p at l h n e =
       | inr (inr more) ↦ let r = rise at p more l in omega (arith, r, e)
     ]
 
+-- words without bits mark nothing
+nothing_marked : (k p : ℕ) → is_marked (replicate k 0) p ≡ false
+nothing_marked k p = no_bit (get_or (replicate k 0) (p / 64) 0) (p % 64) (each_zero k (p / 64))
+  where
+    each_zero : (k w : ℕ) → ◌≡◌ {A = ℕ} (get_or (replicate k 0) w 0) 0
+    each_zero zero w = refl
+    each_zero (suc k) zero = refl
+    each_zero (suc k) (suc w) = each_zero k w
+
+module _ {V : Type 0} (tv : V → Value) where
+  value-set_same : (ss : List V) (k : ℕ) (x : V) → k < length ss → value_at tv (set ss k x) k ≡ Some (tv x)
+  value-set_same [] k x h = absurd (omega arith)
+  value-set_same (s ∷ ss) zero x h = refl
+  value-set_same (s ∷ ss) (suc k) x h = value-set_same ss k x (omega arith)
+
+  value-set_other : (ss : List V) (k j : ℕ) (x : V) → (j ≡ k → ⊥) → value_at tv (set ss k x) j ≡ value_at tv ss j
+  value-set_other [] k j x n = refl
+  value-set_other (s ∷ ss) zero zero x n = absurd (n refl)
+  value-set_other (s ∷ ss) zero (suc j) x n = refl
+  value-set_other (s ∷ ss) (suc k) zero x n = refl
+  value-set_other (s ∷ ss) (suc k) (suc j) x n = value-set_other ss k j x (λ e. n (ap suc e))
+
+  pub value-read : (vs : List V) (j : ℕ) (x : V) → j < length vs → x ≡ get_or vs j x → Some (tv x) ≡ value_at tv vs j
+  value-read [] j x h is = absurd (omega arith)
+  value-read (v ∷ vs) zero x h is = ap (λ w. Some (tv w)) is
+  value-read (v ∷ vs) (suc j) x h is = value-read vs j x (omega arith) is
+
 module _ {V : Type 0} (tv : V → Value) (m : Monoid) (names : List ℕ) where
   -- nothing was added yet
-  pub sums_none : (n : ℕ) (identity : V) → length names ≡ n → tv identity ≡ identity_of m → AreSums tv m names [] (replicate n false) (replicate n identity)
-  sums_none n identity long is = record {
-    marks_long = replicate-length n false ∙ sym long;
-    sums_long = replicate-length n identity ∙ sym long;
-    held = λ p l. nothing_marked tv n (replicate n identity) p;
+  pub sums_none : (n k : ℕ) (identity : V) → length names ≡ n → tv identity ≡ identity_of m → AreSums tv m names [] (replicate k 0) (replicate n identity)
+  sums_none n k identity long is = record {
+    held = λ p l. ap (λ b. cond b (value_at tv (replicate n identity) p) None) (nothing_marked k p);
     summed = λ p d l. ap tv (get_or-replicate n p identity d (omega (arith, l, long))) ∙ is;
     of_domain = λ p l. tt;
   }
-    where
-      replicate-length : {A : Type 0} (n : ℕ) (x : A) → length (replicate n x) ≡ n
-      replicate-length zero x = refl
-      replicate-length (suc n) x = ap suc (replicate-length n x)
 
-  module _ (added : VectorEntries) (ms : List Bool) (ss : List V) (j : ℕ) (v : Value) (was : AreSums tv m names added ms ss) where
+  module _ (added : VectorEntries) (words : List ℕ) (ss : List V) (j : ℕ) (v : Value) (was : AreSums tv m names added words ss) where
     abbrev more : VectorEntries
     more = added ++ (j, v) ∷ []
 
@@ -83,16 +99,15 @@ module _ {V : Type 0} (tv : V → Value) (m : Monoid) (names : List ℕ) where
     other_place p n = values_at-other (slice_index names p) j v added (λ e. n (sym e))
 
     -- an entry at a column that has no place
-    pub sums_passed : ((p : ℕ) → p < length names → slice_index names p ≢ j) → AreSums tv m names more ms ss
+    pub sums_passed : ((p : ℕ) → p < length names → slice_index names p ≢ j) → AreSums tv m names more words ss
     sums_passed n = record {
-      marks_long = was.marks_long;
-      sums_long = was.sums_long;
       held = λ p l. was.held p l ∙ ap (fold_of_some m) (sym (other_place p (n p l)));
       summed = λ p d l. was.summed p d l ∙ ap (fold_of m) (sym (other_place p (n p l)));
       of_domain = λ p l. subst (AllByRecursion (IsValueOf (monoid_domain m))) (sym (other_place p (n p l))) (was.of_domain p l);
     }
 
-    module _ (rise : Rise names) (at : ℕ) (old new : V) (inside : at < length names) (named : slice_index names at ≡ j) (is : old ≡ get_or ss at old)
+    module _ (rise : Rise names) (words2 : List ℕ) (at : ℕ) (old new : V) (long : length ss ≡ length names) (here : is_marked words2 at ≡ true)
+        (others : (p : ℕ) → p ≢ at → is_marked words2 p ≡ is_marked words p) (inside : at < length names) (named : slice_index names at ≡ j) (is : old ≡ get_or ss at old)
         (of : IsValueOf (monoid_domain m) v) (made : tv new ≡ value_of_op (monoid_op m) (tv old) v) where
       folding : IsFolding m (values_at nat_cmp (slice_index names at) more) (tv new)
       folding =
@@ -110,18 +125,20 @@ module _ {V : Type 0} (tv : V → Value) (m : Monoid) (names : List ℕ) where
       not_here p l n e = apart names rise p at l inside n (e ∙ sym named)
 
       -- an entry at the column of a place
-      pub sums_more : AreSums tv m names more (set ms at true) (set ss at new)
+      pub sums_more : AreSums tv m names more words2 (set ss at new)
       sums_more = record {
-        marks_long = length-set ms at true ∙ was.marks_long;
-        sums_long = length-set ss at new ∙ was.sums_long;
         held = λ p l. elim (cases_eq p at) [
-          | inl e ↦ subst (λ q. marked_at tv (set ms at true) (set ss at new) q ≡ fold_of_some m (values_at nat_cmp (slice_index names q) more)) (sym e)
-              (marked-set_same tv ms ss at new (omega (arith, inside, was.marks_long)) (was.marks_long ∙ sym was.sums_long) ∙ some)
-          | inr n ↦ marked-set_other tv ms ss at p true new n ∙ was.held p l ∙ ap (fold_of_some m) (sym (other_place p (not_here p l n)))
+          | inl e ↦ subst (λ q. cond (is_marked words2 q) (value_at tv (set ss at new) q) None ≡ fold_of_some m (values_at nat_cmp (slice_index names q) more)) (sym e)
+              (ap (λ b. cond b (value_at tv (set ss at new) at) None) here ∙ value-set_same tv ss at new (omega (arith, inside, long)) ∙ some)
+          | inr n ↦
+              ap (λ b. cond b (value_at tv (set ss at new) p) None) (others p n)
+              ∙ ap (λ w. cond (is_marked words p) w None) (value-set_other tv ss at p new n)
+              ∙ was.held p l
+              ∙ ap (fold_of_some m) (sym (other_place p (not_here p l n)))
         ];
         summed = λ p d l. elim (cases_eq p at) [
           | inl e ↦ subst (λ q. tv (get_or (set ss at new) q d) ≡ fold_of m (values_at nat_cmp (slice_index names q) more)) (sym e)
-              (ap tv (get_or-set_same ss at new d (omega (arith, inside, was.sums_long))) ∙ folding.is_sum)
+              (ap tv (get_or-set_same ss at new d (omega (arith, inside, long))) ∙ folding.is_sum)
           | inr n ↦ ap tv (get_or-set_other ss at p new d n) ∙ was.summed p d l ∙ ap (fold_of m) (sym (other_place p (not_here p l n)))
         ];
         of_domain = λ p l. elim (cases_eq p at) [
@@ -146,46 +163,43 @@ added_more f added first next j v e =
     with_values-append [] = refl
     with_values-append (e ∷ m) = ap (λ (t : VectorEntries). (e.0, f e.1) ∷ t) (with_values-append m)
 
-module _ {V : Type 0} (tv : V → Value) where
-  -- the sums that have a mark, as what is made of each name
-  marked_entries-made : (g : ℕ → Option Value) (names : List ℕ) (ms : List Bool) (ss : List V) → length ms ≡ length names → length ss ≡ length names
-      → ((p : ℕ) → p < length names → marked_at tv ms ss p ≡ g (slice_index names p)) → marked_entries tv names ms ss ≡ map_on names g
-  marked_entries-made g [] ms ss h k is = refl
-  marked_entries-made g (j ∷ names) [] ss h k is = absurd (omega arith)
-  marked_entries-made g (j ∷ names) (b ∷ ms) [] h k is = absurd (omega arith)
-  marked_entries-made g (j ∷ names) (b ∷ ms) (v ∷ ss) h k is =
-      ap (λ w. before_entries j w (marked_entries tv names ms ss)) (is 0 (omega arith))
-      ∙ ap (before_entries j (g j)) (marked_entries-made g names ms ss (omega arith) (omega arith) (λ p l. is (suc p) (omega arith)))
-
-  pub marked_entries-sums : (m : Monoid) (names : List ℕ) (added : VectorEntries) (ms : List Bool) (ss : List V) → AreSums tv m names added ms ss → marked_entries tv names ms ss ≡ column_folds m names added
-  marked_entries-sums m names added ms ss are = marked_entries-made (λ j. fold_of_some m (values_at nat_cmp j added)) names ms ss are.marks_long are.sums_long are.held
+module _ {V : Type 0} (tv : V → Value) (names words : List ℕ) (ss : List V) where
+  -- the sums at marked places are the folds
+  pub marked_values-sums : (m : Monoid) (added : VectorEntries) → AreSums tv m names added words ss → marked_values tv names words ss ≡ column_folds m names added
+  marked_values-sums m added are = entries_at-made names (is_marked words) (value_at tv ss) (λ j. fold_of_some m (values_at nat_cmp j added)) 0 (length names) (omega arith) are.held
 
   -- they are in order
-  below_kept : (x j : ℕ) (w : Option Value) (m : VectorEntries) → x < j → T (below_all nat_cmp x m) → T (below_all nat_cmp x (before_entries j w m))
-  below_kept x j None m l h = h
-  below_kept x j (Some v) m l h = and _ _ (subst (λ r. T (is_lt r)) (nat_cmp_is x j Less l) tt) h
-    where
-      and : (a b : Bool) → T a → T b → T (a && b)
-      and true b p q = q
-      and false b p q = absurd p
-
-  below_marked : (x : ℕ) (names : List ℕ) (ms : List Bool) (ss : List V) → ((p : ℕ) → p < length names → x < slice_index names p) → T (below_all nat_cmp x (marked_entries tv names ms ss))
-  below_marked x [] ms ss h = tt
-  below_marked x (j ∷ names) [] ss h = tt
-  below_marked x (j ∷ names) (b ∷ ms) [] h = tt
-  below_marked x (j ∷ names) (b ∷ ms) (v ∷ ss) h = below_kept x j (kept (tv v) b) (marked_entries tv names ms ss) (h 0 (omega arith)) (below_marked x names ms ss (λ p l. h (suc p) (omega arith)))
-
-  sorted_marked : (names : List ℕ) (ms : List Bool) (ss : List V) → Rise names → T (is_sorted nat_cmp (marked_entries tv names ms ss))
-  sorted_marked [] ms ss h = tt
-  sorted_marked (j ∷ names) [] ss h = tt
-  sorted_marked (j ∷ names) (b ∷ ms) [] h = tt
-  sorted_marked (j ∷ names) (b ∷ ms) (v ∷ ss) h =
-      is_sorted-before nat_cmp j (kept (tv v) b) (marked_entries tv names ms ss) (below_marked j names ms ss (λ p l. h 0 (suc p) (omega arith) (omega arith)))
-      (sorted_marked names ms ss (λ p q l k. h (suc p) (suc q) (omega arith) (omega arith)))
-
-  pub marked_entries-rise : (names : List ℕ) (ms : List Bool) (ss : List V) → Rise names → IsTrue (is_sorted nat_cmp (marked_entries tv names ms ss))
-  marked_entries-rise names ms ss h = passes _ (sorted_marked names ms ss h)
+  pub marked_values-rise : Rise names → IsTrue (is_sorted nat_cmp (marked_values tv names words ss))
+  marked_values-rise rise = passes _ (is_sorted-entries_at (slice_index names) (is_marked words) (value_at tv ss) 0 (length names) (λ i j l h. rise i j l (omega (arith, h))))
     where
       passes : (b : Bool) → T b → IsTrue b
       passes true h = refl
       passes false h = absurd h
+
+-- words without bits
+pub marked_none : {V : Type 0} (n k : ℕ) (vs : List V) → k < 2 ^ 58 → n ≤ 64 * k → length vs ≡ n → AreMarked n (replicate k 0) vs
+marked_none n k vs few enough long =
+    let many = replicate-length {A = ℕ} k 0 in
+    record {
+      few = omega (arith, few, many);
+      enough = omega (arith, enough, many);
+      within = λ p e. absurd (differ (sym (nothing_marked k p) ∙ e));
+      long = long;
+    }
+  where
+    differ : false ≡ true → ⊥
+    differ e = cc
+
+    replicate-length : {A : Type 0} (n : ℕ) (x : A) → length (replicate n x) ≡ n
+    replicate-length zero x = refl
+    replicate-length (suc n) x = ap suc (replicate-length n x)
+
+-- one more place is marked
+pub marked_more : {V : Type 0} (n : ℕ) (words words2 : List ℕ) (vs vs2 : List V) (at : ℕ) → AreMarked n words vs → length words2 ≡ length words → length vs2 ≡ length vs → at < n
+    → ((p : ℕ) → p ≢ at → is_marked words2 p ≡ is_marked words p) → AreMarked n words2 vs2
+marked_more n words words2 vs vs2 at was same long inside others = record {
+  few = omega (arith, was.few, same);
+  enough = omega (arith, was.enough, same);
+  within = λ p e. elim (cases_eq p at) [ inl is ↦ omega (arith, is, inside) | inr m ↦ was.within p (sym (others p m) ∙ e) ];
+  long = omega (arith, long, was.long);
+}

@@ -30,7 +30,7 @@ holds : (b : Bool) → IsTrue b → T b
 holds b e = subst T (sym e) tt
 
 module _ (n : ℕ) (d : Domain) where
-  restricted_entries : (t : ℕ → Bool) (m : VectorEntries) → AreEntries nat_cmp (IsBelow n) d m → AreEntries nat_cmp (IsBelow n) d (restricted t m)
+  pub restricted_entries : (t : ℕ → Bool) (m : VectorEntries) → AreEntries nat_cmp (IsBelow n) d m → AreEntries nat_cmp (IsBelow n) d (restricted t m)
   restricted_entries t m h = record {
     ordered = passes _ (is_sorted-restricted t m (holds _ h.ordered));
     within = All-from_recursion (λ (e : ℕ × Value). e.0 < n) _ (all-restricted (λ e. e.0 < n) t m (recursion_from_All _ m h.within));

@@ -1,6 +1,6 @@
--- inside: no public contract names it. Sums by column (own): each column that is summed has a place, and at its place there lie the
--- fold of what was added to it so far, and a mark where something was.
-use Rattle.std.specs.Prelude.{◌≡◌, ℕ, zero, suc, ◌<◌, Bool, List, [], ◌∷◌, length, slice_index, slice_index_or, map}
+-- inside: no public contract names it. Sums by column (own): each column that is summed has a place, and at its place there lies the
+-- fold of what was added to it so far.
+use Rattle.std.specs.Prelude.{◌≡◌, ℕ, zero, suc, ◌<◌, if◌then◌else◌, List, [], ◌∷◌, None, length, slice_index, slice_index_or, map}
 use Rattle.std.specs.List.{AllByRecursion}
 use Rattle.std.specs.Ordering.{nat_cmp}
 use Rattle.grb_core.specs.declared.value.Value.{Value}
@@ -8,9 +8,8 @@ use Rattle.grb_core.specs.declared.monoid.Monoid.{Monoid}
 use Rattle.grb_core.specs.Value.{IsValueOf}
 use Rattle.grb_core.specs.Monoid.{monoid_domain}
 use Rattle.grb_core.specs.Fold.{fold_of, fold_of_some}
-use Rattle.grb_core.specs.Entries.{VectorEntries, MatrixEntries, before_entries, map_on, values_at}
-use Rattle.grb_kernels.specs.Typed.{kept}
-use Rattle.grb_products.specs.Open.{marked_at}
+use Rattle.grb_core.specs.Entries.{VectorEntries, MatrixEntries, map_on, values_at}
+use Rattle.grb_products.specs.Bits.{is_marked, value_at}
 
 -- the numbers below n
 abbrev pub numbers_from : ℕ → ℕ → List ℕ
@@ -36,17 +35,9 @@ as_entries tv ps = map (λ p. (p.0, tv p.1)) ps
 abbrev pub by_column : MatrixEntries → VectorEntries
 by_column a = map (λ e. (e.0.1, e.1)) a
 
--- the sums that have a mark, each at the name of its place
-abbrev pub marked_entries : {V : Type 0} → (V → Value) → List ℕ → List Bool → List V → VectorEntries
-marked_entries tv [] marks sums = []
-marked_entries tv (j ∷ names) [] sums = []
-marked_entries tv (j ∷ names) (m ∷ marks) [] = []
-marked_entries tv (j ∷ names) (m ∷ marks) (v ∷ sums) = before_entries j (kept (tv v) m) (marked_entries tv names marks sums)
-
--- at the place of each column lies the fold of what was added to it, with a mark where something was; so the identity, where nothing was
-pub record AreSums {V : Type 0} (tv : V → Value) (m : Monoid) (names : List ℕ) (added : VectorEntries) (marks : List Bool) (sums : List V) : Type 0 where
-  pub marks_long : length marks ≡ length names
-  pub sums_long : length sums ≡ length names
-  pub held : (p : ℕ) → p < length names → marked_at tv marks sums p ≡ fold_of_some m (values_at nat_cmp (slice_index names p) added)
+-- at the place of each column lies the fold of what was added to it, and the place is marked where something was; so the identity lies
+-- where nothing was
+pub record AreSums {V : Type 0} (tv : V → Value) (m : Monoid) (names : List ℕ) (added : VectorEntries) (words : List ℕ) (sums : List V) : Type 0 where
+  pub held : (p : ℕ) → p < length names → (if is_marked words p then value_at tv sums p else None) ≡ fold_of_some m (values_at nat_cmp (slice_index names p) added)
   pub summed : (p : ℕ) (d : V) → p < length names → tv (slice_index_or sums p d) ≡ fold_of m (values_at nat_cmp (slice_index names p) added)
   pub of_domain : (p : ℕ) → p < length names → AllByRecursion (IsValueOf (monoid_domain m)) (values_at nat_cmp (slice_index names p) added)

@@ -1,5 +1,5 @@
 -- inside: no public contract names it. The products of a row with a vector, one after another (own): what the fold of a row is made of.
-use Rattle.std.specs.Prelude.{ℕ, List, [], ◌∷◌, ◌++◌, Option, Some, None}
+use Rattle.std.specs.Prelude.{ℕ, Bool, false, ◌||◌, List, [], ◌∷◌, ◌++◌, Option, Some, None, is_some}
 use Rattle.grb_core.specs.declared.value.Value.{Value}
 use Rattle.grb_core.specs.declared.operator.BinaryOp.{BinaryOp}
 use Rattle.grb_core.specs.Operator.{value_of_op}
@@ -15,3 +15,8 @@ list_of (Some v) = v ∷ []
 abbrev pub products : BinaryOp → (ℕ → Option Value) → VectorEntries → List Value
 products op y [] = []
 products op y (e ∷ es) = list_of (both_values (value_of_op op) (Some e.1) (y e.0)) ++ products op y es
+
+-- whether `y`, which is given index by index, has a value at one of these indices
+abbrev pub is_any : (ℕ → Option Value) → List ℕ → Bool
+is_any y [] = false
+is_any y (j ∷ js) = is_some (y j) || is_any y js

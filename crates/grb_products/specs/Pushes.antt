@@ -24,10 +24,10 @@ pushed_of m f u a = each_column (λ c. fold_of_some m (values_of (pointwise nat_
 abbrev pub at_numbers : List ℕ → VectorEntries → VectorEntries
 at_numbers numbers m = map (λ e. (slice_index numbers e.0, e.1)) m
 
--- the columns of the rows whose numbers stand at these places, one row after another
-abbrev pub columns_at : List ℕ → List ℕ → MatrixEntries → List ℕ
+-- the columns of the rows whose numbers stand at the places of these picks, one row after another
+abbrev pub columns_at : {V : Type 0} → List ℕ → List (ℕ × V) → MatrixEntries → List ℕ
 columns_at numbers [] a = []
-columns_at numbers (p ∷ ps) a = map (λ e. e.0) (row_of (slice_index numbers p) a) ++ columns_at numbers ps a
+columns_at numbers (p ∷ ps) a = map (λ e. e.0) (row_of (slice_index numbers p.0) a) ++ columns_at numbers ps a
 
 -- whether a number stands in a list
 abbrev pub is_among : ℕ → List ℕ → Bool

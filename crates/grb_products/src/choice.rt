@@ -1,5 +1,5 @@
 //! The choice from a monoid, and from a semiring, to the types that stand for them: made once a call, and in one place.
-ghost use Rattle.std.specs.Prelude.{◌≡◌, All};
+ghost use Rattle.std.specs.Prelude.{◌≡◌, ◌≢◌, false, All};
 ghost use Rattle.grb_core.specs.Value.{IsValueOf};
 ghost use Rattle.grb_core.specs.declared.monoid.Monoid.{Monoid as MonoidOf};
 ghost use Rattle.grb_core.specs.Monoid.{monoid_domain};
@@ -44,6 +44,10 @@ pub trait Folded: Operated {
     fn read_all(values: &[Self])
         ensures { All (λ x. IsValueOf Self.domain (Self.value x)) values.now };
 
+    /// Whether two values are the same one.
+    fn is_same(self, other: Self) -> bool
+        ensures { result ≡ false → Self.value self ≢ Self.value other };
+
     /// Makes what a monoid of the domain makes, by the type that stands for it.
     fn choose_monoid<F: ByMonoid<Self>>(monoid: Monoid, made: F) -> F::Output
         requires domain { monoid_domain monoid ≡ Self.domain }
@@ -52,6 +56,10 @@ pub trait Folded: Operated {
 
 impl Folded for bool {
     fn read_all(_values: &[bool]) {}
+
+    fn is_same(self, other: bool) -> bool {
+        self == other
+    }
 
     fn choose_monoid<F: ByMonoid<bool>>(monoid: Monoid, made: F) -> F::Output {
         match monoid {
@@ -66,6 +74,10 @@ impl Folded for bool {
 
 impl Folded for u64 {
     fn read_all(_values: &[u64]) {}
+
+    fn is_same(self, other: u64) -> bool {
+        self == other
+    }
 
     fn choose_monoid<F: ByMonoid<u64>>(monoid: Monoid, made: F) -> F::Output {
         match monoid {

@@ -40,17 +40,17 @@ fn fold_these_columns<T: Stored + Drop, M: MonoidOver<T>, C: Columns>(
     ensures { IfOk result (λ made. entries_of T.value made.indices.items made.values.items ≡ column_folds M.monoid (C.names columns.now) (by_column (decoded lists.now.entries))) }
 {
     let mut opened = open_sums::<T, M>(alloc, columns.count())?;
-    let marks = opened.marks.as_mut_slice();
+    let words = opened.words.as_mut_slice();
     let sums = opened.sums.as_mut_slice();
     add_entries::<T, M, C, OwnValue>(
         columns,
         &OwnValue,
         lists.columns(),
         T::of_lists(lists),
-        marks,
+        words,
         sums,
     );
-    let made = close_sums(alloc, columns, marks, sums)?;
+    let made = close_sums(alloc, columns, words, sums)?;
     Ok(made)
 }
 

@@ -1,16 +1,19 @@
 //! Sums by column. What is added comes in any order of columns; the columns that are summed have places, and at each place a sum lies open.
-ghost use Rattle.std.specs.Prelude.{◌≡◌, ◌≢◌, ◌<◌, ◌≤◌, ◌^◌, ◌++◌, ℕ, [], List, length, slice_index, All, IfOk, IfSome, IfNone};
+ghost use Rattle.std.specs.Prelude.{◌≡◌, ◌≢◌, ◌+◌, ◌<◌, ◌≤◌, ◌^◌, ◌++◌, ℕ, true, [], List, length, slice_index, All, IfOk, IfSome, IfNone};
 ghost use Rattle.grb_core.specs.declared.value.Value.{Value};
 ghost use Rattle.grb_core.specs.declared.monoid.Monoid.{Monoid};
 ghost use Rattle.grb_core.specs.Entries.{VectorEntries};
+ghost use Rattle.grb_kernels.specs.Bits.{has_bit};
 ghost use Rattle.grb_kernels.specs.Typed.{entries_of, first_entries};
 ghost use Rattle.grb_ewise.specs.Ranks.{Rise};
-ghost use Rattle.grb_products.specs.ColumnSums.{AreSums, column_folds, marked_entries, numbers_below, with_values};
+ghost use Rattle.grb_products.specs.Bits.{marked_values, word_values, AreMarked};
+ghost use Rattle.grb_products.specs.ColumnSums.{AreSums, column_folds, numbers_below, with_values};
 ghost use Rattle.grb_products.specs.Numbers.{numbers_below-rise};
 
+use crate::bits::{count_marks, mark};
 use crate::monoids::MonoidOver;
 use grb_ewise::{Stored, place_of};
-use grb_kernels::{EntryList, Scalar, emit};
+use grb_kernels::{EntryList, Scalar, lowest_bit, without_bit};
 use std::alloc::{AllocError, Global};
 
 /// The columns that are summed: each has a place, in rising order.
@@ -104,23 +107,25 @@ pub(crate) trait Term<T: Scalar> {
         ensures { T.value result ≡ gives self.now (T.value value) };
 }
 
-/// A mark and a sum for each place.
+/// A sum for each place, and the marks of those to which something was added, as the bits of words.
 #[derive(Drop)]
 pub(crate) struct OpenSums<T> {
-    pub(crate) marks: Vec<bool>,
+    pub(crate) words: Vec<u64>,
     pub(crate) sums: Vec<T>,
 }
 
-/// Sums to which nothing was added. Takes memory for as many places. `AllocError` where that is refused; then nothing is made.
+/// Sums to which nothing was added. Takes memory for as many places, and for a bit of each. `AllocError` where that is refused; then
+/// nothing is made.
 pub(crate) fn open_sums<T: Stored + Drop, M: MonoidOver<T>>(
     alloc: Global,
     count: usize,
 ) -> Result<OpenSums<T>, AllocError>
-    ensures { IfOk result (λ made. (names : List ℕ) → length names ≡ count → AreSums T.value M.monoid names [] made.marks.items made.sums.items) }
+    ensures marked { IfOk result (λ made. AreMarked count made.words.items made.sums.items) }
+    ensures none { IfOk result (λ made. (names : List ℕ) → length names ≡ count → AreSums T.value M.monoid names [] made.words.items made.sums.items) }
 {
-    let marks = vec![in alloc; false; count]?;
+    let words = vec![in alloc; 0u64; count / 64 + 1]?;
     let sums = vec![in alloc; M::identity(); count]?;
-    Ok(OpenSums { marks, sums })
+    Ok(OpenSums { words, sums })
 }
 
 /// Adds entries, each at its column: what the term makes of its value. An entry at a column that has no place is passed over. Takes no
@@ -130,72 +135,95 @@ pub(crate) fn add_entries<T: Stored, M: MonoidOver<T>, C: Columns, R: Term<T>>(
     term: &R,
     indices: &[u32],
     values: &[T],
-    marks: &mut [bool],
+    words: &mut [u64],
     sums: &mut [T],
 )
     requires same { length indices.now ≡ length values.now }
     requires in_range { All (λ j. j < C.below columns.now) indices.now }
-    requires marks_long { length marks.old ≡ length (C.names columns.now) }
-    requires sums_long { length sums.old ≡ length (C.names columns.now) }
-    ensures marks_long { length marks.new ≡ length (C.names columns.now) }
-    ensures sums_long { length sums.new ≡ length (C.names columns.now) }
-    ensures added { (added : VectorEntries) → AreSums T.value M.monoid (C.names columns.now) added marks.old sums.old → AreSums T.value M.monoid (C.names columns.now) (added ++ with_values (R.gives term.now) (entries_of T.value indices.now values.now)) marks.new sums.new }
+    requires marked { AreMarked (length (C.names columns.now)) words.old sums.old }
+    ensures marked { AreMarked (length (C.names columns.now)) words.new sums.new }
+    ensures added { (added : VectorEntries) → AreSums T.value M.monoid (C.names columns.now) added words.old sums.old → AreSums T.value M.monoid (C.names columns.now) (added ++ with_values (R.gives term.now) (entries_of T.value indices.now values.now)) words.new sums.new }
 {
     'entries: for i in 0..indices.len() {
         if let Some(at) = columns.place(indices[i]) {
             let made = term.of(values[i]);
             let value = made.read();
             sums[at] = M::add(sums[at], value);
-            marks[at] = true;
+            mark(words, at);
         }
     }
 }
 
-/// The sums as entries: one at each column to which something was added. Takes memory for as many entries as there are places. `AllocError`
-/// where that is refused; then nothing is made.
+/// The sums as entries: one at each column to which something was added. Takes memory for these alone. `AllocError` where that is refused;
+/// then nothing is made.
 pub(crate) fn close_sums<T: Stored + Drop, C: Columns>(
     alloc: Global,
     columns: &C,
-    marks: &[bool],
+    words: &[u64],
     sums: &[T],
 ) -> Result<EntryList<T>, AllocError>
-    requires marks_long { length marks.now ≡ length (C.names columns.now) }
-    requires sums_long { length sums.now ≡ length (C.names columns.now) }
-    ensures { IfOk result (λ made. (m : Monoid) (added : VectorEntries) → AreSums T.value m (C.names columns.now) added marks.now sums.now → entries_of T.value made.indices.items made.values.items ≡ column_folds m (C.names columns.now) added) }
+    requires marked { AreMarked (length (C.names columns.now)) words.now sums.now }
+    ensures { IfOk result (λ made. (m : Monoid) (added : VectorEntries) → AreSums T.value m (C.names columns.now) added words.now sums.now → entries_of T.value made.indices.items made.values.items ≡ column_folds m (C.names columns.now) added) }
 {
-    let count = sums.len();
+    let count = count_marks(words);
     let mut indices = vec![in alloc; 0u32; count]?;
     let mut values = vec![in alloc; T::any(); count]?;
-    let made = close_into(
+    close_into(
         columns,
-        marks,
+        words,
         sums,
         indices.as_mut_slice(),
         values.as_mut_slice(),
     );
-    indices.truncate(made);
-    values.truncate(made);
     Ok(EntryList { indices, values })
 }
 
-/// The same, written to the front of `indices` and `values`. Answers how many there are.
+/// Writes them to `indices` and `values`, which have a place for each.
 fn close_into<T: Stored, C: Columns>(
     columns: &C,
-    marks: &[bool],
+    words: &[u64],
     sums: &[T],
     indices: &mut [u32],
     values: &mut [T],
-) -> usize
-    requires marks_long { length marks.now ≡ length (C.names columns.now) }
-    requires sums_long { length sums.now ≡ length (C.names columns.now) }
-    requires room { length indices.old ≡ length sums.now }
-    requires room_same { length values.old ≡ length sums.now }
-    ensures entries { first_entries T.value result indices.new values.new ≡ marked_entries T.value (C.names columns.now) marks.now sums.now }
-    ensures most { result ≤ length sums.now }
+)
+    requires marked { AreMarked (length (C.names columns.now)) words.now sums.now }
+    requires room { length indices.old ≡ length (marked_values T.value (C.names columns.now) words.now sums.now) }
+    requires room_same { length indices.old ≡ length values.old }
+    ensures { entries_of T.value indices.new values.new ≡ marked_values T.value (C.names columns.now) words.now sums.now }
 {
     let mut k = 0;
-    'places: for p in 0..sums.len() {
-        k = emit(indices, values, k, columns.name(p), sums[p], marks[p]);
+    'words: for w in 0..words.len() {
+        k = close_word(columns, 64 * w, words[w], sums, indices, values, k);
+    }
+}
+
+/// Writes the sums at the set bits of a word, from the lowest up, after the first `k` entries of a result: bit `t` stands for the place
+/// `base + t`. Answers how many entries there are then.
+fn close_word<T: Stored, C: Columns>(
+    columns: &C,
+    base: usize,
+    word: u64,
+    sums: &[T],
+    indices: &mut [u32],
+    values: &mut [T],
+    k: usize,
+) -> usize
+    requires in_range { (t : ℕ) → has_bit word t ≡ true → (base + t < length (C.names columns.now)) }
+    requires sums_long { length sums.now ≡ length (C.names columns.now) }
+    requires room { k + length (word_values T.value (C.names columns.now) word base sums.now) ≤ length indices.old }
+    requires room_same { length indices.old ≡ length values.old }
+    ensures entries { first_entries T.value result indices.new values.new ≡ first_entries T.value k indices.old values.old ++ word_values T.value (C.names columns.now) word base sums.now }
+    ensures count { result ≡ k + length (word_values T.value (C.names columns.now) word base sums.now) }
+{
+    let mut left = word;
+    let mut k = k;
+    'bits: while left != 0 {
+        let t = lowest_bit(left);
+        let at = base + t;
+        indices[k] = columns.name(at);
+        values[k] = sums[at];
+        k += 1;
+        left = without_bit(left, t);
     }
     k
 }

@@ -5,6 +5,7 @@
 //! lent is changed. Nothing here checks domains or dimensions, which the caller owes, and nothing here knows of stores or threads.
 #![tactic(auto)]
 
+mod bits;
 mod changed;
 mod choice;
 mod column_folds;
@@ -22,6 +23,7 @@ mod row_products;
 mod rows;
 mod runs;
 mod vxm_product;
+mod wanted;
 
 pub use choice::{ByMonoid, BySemiring, Folded, by_semiring};
 pub use matrix_rows::{MatrixRows, lend_matrix};

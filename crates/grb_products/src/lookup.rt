@@ -4,7 +4,9 @@ ghost use Rattle.std.specs.Ordering.{nat_cmp};
 ghost use Rattle.std.specs.FinMap.{find};
 ghost use Rattle.grb_core.specs.declared.value.Value.{Value};
 ghost use Rattle.grb_kernels.specs.Typed.{kept, entries_of};
+ghost use Rattle.grb_products.specs.Bits.{value_at};
 ghost use Rattle.grb_products.specs.Open.{marked_at};
+ghost use Rattle.grb_products.specs.Products.{is_any};
 
 use grb_ewise::place_of;
 use grb_kernels::{EntrySlice, Scalar};
@@ -21,6 +23,9 @@ pub(crate) trait Lookup<T: Scalar> {
     fn at(&self, index: u32) -> (T, bool)
         requires { index < size self.now }
         ensures { kept (T.value result.0) result.1 ≡ holds self.now index };
+
+    /// Whether it costs little to ask again where it has values: only in forms that lie open.
+    fn is_open() -> bool;
 }
 
 /// A vector that lies open: at each index a value, and a mark where it is stored.
@@ -40,6 +45,30 @@ impl<'a, T: Scalar> Lookup<T> for Open<'a, T> {
         let at = index as usize;
         (self.dense[at], self.marks[at])
     }
+
+    fn is_open() -> bool {
+        true
+    }
+}
+
+/// A vector that stores a value at each index, and so is read as it lies.
+#[derive(Drop)]
+pub(crate) struct Full<'a, T> {
+    pub(crate) values: &'a [T],
+}
+
+impl<'a, T: Scalar> Lookup<T> for Full<'a, T> {
+    ghost size = { λ vector. length vector.values.now };
+
+    ghost holds = { λ vector. value_at T.value vector.values.now };
+
+    fn at(&self, index: u32) -> (T, bool) {
+        (self.values[index as usize], true)
+    }
+
+    fn is_open() -> bool {
+        true
+    }
 }
 
 /// A vector whose entries are searched, so that nothing as long as its size is kept.
@@ -54,6 +83,24 @@ impl<'a, T: Scalar> Lookup<T> for EntrySlice<'a, T> {
             None => (T::any(), false),
         }
     }
+
+    fn is_open() -> bool {
+        false
+    }
+}
+
+/// Whether a vector has a value at one of these columns.
+pub(crate) fn has_any<T: Scalar, L: Lookup<T>>(vector: &L, columns: &[u32]) -> bool
+    requires in_range { All (λ c. c < L.size vector.now) columns.now }
+    ensures { result ≡ is_any (L.holds vector.now) columns.now }
+{
+    'columns: for column in columns {
+        let (_value, here) = vector.at(*column);
+        if here {
+            return true;
+        }
+    }
+    false
 }
 
 /// Lays the entries of a vector open: marks each index, and puts its value there.

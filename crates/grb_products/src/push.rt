@@ -1,5 +1,5 @@
 //! The product of a vector and a matrix by the rows that the vector picks: each is read once and added by column.
-ghost use Rattle.std.specs.Prelude.{◌≡◌, ◌-◌, ◌<◌, ◌^◌, [], length, min, All, IfOk, IfSome};
+ghost use Rattle.std.specs.Prelude.{◌≡◌, ◌-◌, ◌*◌, ◌<◌, ◌≤◌, ◌^◌, true, [], length, min, All, IfOk, IfSome};
 ghost use Rattle.std.specs.Option.{option_map};
 ghost use Rattle.std.specs.Ordering.{nat_cmp};
 ghost use Rattle.grb_core.specs.declared.value.Value.{Value};
@@ -11,6 +11,7 @@ ghost use Rattle.grb_core.specs.Entries.{built_from, restricted};
 ghost use Rattle.grb_kernels.specs.Typed.{entries_of};
 ghost use Rattle.grb_rows.specs.Cells.{decoded};
 ghost use Rattle.grb_ewise.specs.Ranks.{Rise};
+ghost use Rattle.grb_products.specs.Bits.{AreMarked};
 ghost use Rattle.grb_products.specs.ColumnSums.{AreSums, as_entries, column_folds};
 ghost use Rattle.grb_products.specs.Pushes.{pushed, pushed_of, at_numbers, columns_at, is_among, IsBounded};
 
@@ -19,9 +20,9 @@ use crate::column_sums::{
 };
 use crate::matrix_rows::MatrixRows;
 use crate::monoids::MonoidOver;
-use crate::picks::{Picks, pick_rows};
+use crate::picks::pick_rows;
 use crate::runs::{folds_of, push_row};
-use grb_ewise::{Stored, is_worth_opening};
+use grb_ewise::Stored;
 use grb_kernels::{EntryList, EntrySlice, Operator, Scalar};
 use grb_rows::FlatRows;
 use std::alloc::{AllocError, Global};
@@ -81,44 +82,56 @@ impl<T: Scalar, O: Operator<T>, S: Side> Term<T> for Product<T, O, S> {
     }
 }
 
-/// How many entries the rows at these places have; 2^64 - 1, where they are more.
-fn picked_len(lists: &FlatRows, places: &[usize]) -> usize
-    requires within { All (λ p. p < length lists.now.rows) places.now }
-    ensures { result ≡ min (length (columns_at lists.now.rows places.now (decoded lists.now.entries))) (2 ^ 64 - 1) }
+/// How many entries the picked rows have; 2^64 - 1, where they are more.
+fn picked_len<T: Stored>(lists: &FlatRows, picks: &[(usize, T)]) -> usize
+    requires within { All (λ p. p.0 < length lists.now.rows) picks.now }
+    ensures { result ≡ min (length (columns_at lists.now.rows picks.now (decoded lists.now.entries))) (2 ^ 64 - 1) }
 {
     let mut count = 0usize;
-    'rows: for place in places {
-        count = count.saturating_add(lists.row_columns(*place).len());
+    'rows: for i in 0..picks.len() {
+        let pick = picks[i];
+        count = count.saturating_add(lists.row_columns(pick.0).len());
     }
     count
+}
+
+/// Whether a place for each of `ncols` columns is worth its memory: where they are no more than 32 times the `count` products. So many sums
+/// are zeroed, and their marks read, in less time than a product takes to be sorted. Takes no memory.
+fn is_worth_a_place_each(ncols: u64, count: usize) -> bool
+    requires few { ncols < 2 ^ 32 }
+    ensures short { result ≡ true → ncols ≤ 32 * count }
+{
+    (ncols + 31) / 32 <= count as u64
 }
 
 /// Adds the picked rows, each with the products of its pick's value, to sums of which none lies open.
 fn add_rows<T: Stored, M: MonoidOver<T>, O: Operator<T>, S: Side, C: Columns>(
     columns: &C,
     lists: &FlatRows,
-    picks: &Picks<T>,
-    marks: &mut [bool],
+    picks: &[(usize, T)],
+    words: &mut [u64],
     sums: &mut [T],
 )
     requires domain { lists.now.domain ≡ T.domain }
-    requires within { All (λ p. p < length lists.now.rows) picks.now.places.items }
+    requires within { All (λ p. p.0 < length lists.now.rows) picks.now }
     requires in_range { All (λ e. e.0.1 < C.below columns.now) (decoded lists.now.entries) }
-    requires none { AreSums T.value M.monoid (C.names columns.now) [] marks.old sums.old }
-    ensures { AreSums T.value M.monoid (C.names columns.now) (pushed (S.makes O.op) (at_numbers lists.now.rows (entries_of T.value picks.now.places.items picks.now.values.items)) (decoded lists.now.entries)) marks.new sums.new }
+    requires marked { AreMarked (length (C.names columns.now)) words.old sums.old }
+    requires none { AreSums T.value M.monoid (C.names columns.now) [] words.old sums.old }
+    ensures marked { AreMarked (length (C.names columns.now)) words.new sums.new }
+    ensures added { AreSums T.value M.monoid (C.names columns.now) (pushed (S.makes O.op) (at_numbers lists.now.rows (as_entries T.value picks.now)) (decoded lists.now.entries)) words.new sums.new }
 {
-    'rows: for i in 0..picks.places.len() {
-        let place = picks.places[i];
+    'rows: for i in 0..picks.len() {
+        let pick = picks[i];
         let term: Product<T, O, S> = Product {
-            x: picks.values[i],
+            x: pick.1,
             of: PhantomData,
         };
         add_entries::<T, M, C, Product<T, O, S>>(
             columns,
             &term,
-            lists.row_columns(place),
-            T::of_row(lists, place),
-            marks,
+            lists.row_columns(pick.0),
+            T::of_row(lists, pick.0),
+            words,
             sums,
         );
     }
@@ -130,39 +143,41 @@ fn sum_rows<T: Stored + Drop, M: MonoidOver<T>, O: Operator<T>, S: Side, C: Colu
     alloc: Global,
     columns: &C,
     lists: &FlatRows,
-    picks: &Picks<T>,
+    picks: &[(usize, T)],
 ) -> Result<EntryList<T>, AllocError>
     requires domain { lists.now.domain ≡ T.domain }
-    requires within { All (λ p. p < length lists.now.rows) picks.now.places.items }
+    requires within { All (λ p. p.0 < length lists.now.rows) picks.now }
     requires in_range { All (λ e. e.0.1 < C.below columns.now) (decoded lists.now.entries) }
-    ensures { IfOk result (λ made. entries_of T.value made.indices.items made.values.items ≡ column_folds M.monoid (C.names columns.now) (pushed (S.makes O.op) (at_numbers lists.now.rows (entries_of T.value picks.now.places.items picks.now.values.items)) (decoded lists.now.entries))) }
+    ensures { IfOk result (λ made. entries_of T.value made.indices.items made.values.items ≡ column_folds M.monoid (C.names columns.now) (pushed (S.makes O.op) (at_numbers lists.now.rows (as_entries T.value picks.now)) (decoded lists.now.entries))) }
 {
     let open = open_sums::<T, M>(alloc, columns.count())?;
     let OpenSums {
-        mut marks,
+        mut words,
         mut sums,
     } = open;
     add_rows::<T, M, O, S, C>(
         columns,
         lists,
         picks,
-        marks.as_mut_slice(),
+        words.as_mut_slice(),
         sums.as_mut_slice(),
     );
-    close_sums(alloc, columns, marks.as_slice(), sums.as_slice())
+    close_sums(alloc, columns, words.as_slice(), sums.as_slice())
 }
 
-/// The sums of the picked rows, by a place for each of `ncols` columns. `AllocError` where memory is refused; then nothing is made.
+/// The sums of the picked rows, by a place for each of `ncols` columns: no more than 32 for each entry of these rows. `AllocError` where
+/// memory is refused; then nothing is made.
 fn sum_all<T: Stored + Drop, M: MonoidOver<T>, O: Operator<T>, S: Side>(
     alloc: Global,
     ncols: u32,
     lists: &FlatRows,
-    picks: &Picks<T>,
+    picks: &[(usize, T)],
 ) -> Result<EntryList<T>, AllocError>
     requires domain { lists.now.domain ≡ T.domain }
-    requires within { All (λ p. p < length lists.now.rows) picks.now.places.items }
+    requires within { All (λ p. p.0 < length lists.now.rows) picks.now }
     requires in_range { All (λ e. e.0.1 < ncols) (decoded lists.now.entries) }
-    ensures { IfOk result (λ made. entries_of T.value made.indices.items made.values.items ≡ built_from nat_cmp M.monoid (pushed (S.makes O.op) (at_numbers lists.now.rows (entries_of T.value picks.now.places.items picks.now.values.items)) (decoded lists.now.entries))) }
+    requires short { ncols ≤ 32 * length (columns_at lists.now.rows picks.now (decoded lists.now.entries)) }
+    ensures { IfOk result (λ made. entries_of T.value made.indices.items made.values.items ≡ built_from nat_cmp M.monoid (pushed (S.makes O.op) (at_numbers lists.now.rows (as_entries T.value picks.now)) (decoded lists.now.entries))) }
 {
     let all = AllColumns { ncols };
     let made = sum_rows::<T, M, O, S, AllColumns>(alloc, &all, lists, picks)?;
@@ -174,24 +189,24 @@ fn sum_all<T: Stored + Drop, M: MonoidOver<T>, O: Operator<T>, S: Side>(
 fn picked_products<T: Stored + Drop, O: Operator<T>, S: Side>(
     alloc: Global,
     lists: &FlatRows,
-    picks: &Picks<T>,
+    picks: &[(usize, T)],
     room: usize,
 ) -> Result<Vec<(u32, T)>, AllocError>
     requires domain { lists.now.domain ≡ T.domain }
-    requires within { All (λ p. p < length lists.now.rows) picks.now.places.items }
+    requires within { All (λ p. p.0 < length lists.now.rows) picks.now }
     ensures of_domain { IfOk result (λ products. All (λ p. IsValueOf T.domain (T.value p.1)) products.items) }
-    ensures pushed { IfOk result (λ products. as_entries T.value products.items ≡ pushed (S.makes O.op) (at_numbers lists.now.rows (entries_of T.value picks.now.places.items picks.now.values.items)) (decoded lists.now.entries)) }
+    ensures pushed { IfOk result (λ products. as_entries T.value products.items ≡ pushed (S.makes O.op) (at_numbers lists.now.rows (as_entries T.value picks.now)) (decoded lists.now.entries)) }
 {
     let mut products = Vec::with_capacity(alloc, room)?;
-    'picks: for i in 0..picks.places.len() {
-        let place = picks.places[i];
+    'picks: for i in 0..picks.len() {
+        let pick = picks[i];
         let term: Product<T, O, S> = Product {
-            x: picks.values[i],
+            x: pick.1,
             of: PhantomData,
         };
-        let columns = lists.row_columns(place);
+        let columns = lists.row_columns(pick.0);
         products.reserve(columns.len())?;
-        push_row(&term, columns, T::of_row(lists, place), &mut products);
+        push_row(&term, columns, T::of_row(lists, pick.0), &mut products);
     }
     Ok(products)
 }
@@ -201,13 +216,13 @@ fn picked_products<T: Stored + Drop, O: Operator<T>, S: Side>(
 fn sum_named<T: Stored + Drop, M: MonoidOver<T>, O: Operator<T>, S: Side>(
     alloc: Global,
     lists: &FlatRows,
-    picks: &Picks<T>,
+    picks: &[(usize, T)],
     count: usize,
 ) -> Result<EntryList<T>, AllocError>
     requires domain { lists.now.domain ≡ T.domain }
-    requires within { All (λ p. p < length lists.now.rows) picks.now.places.items }
+    requires within { All (λ p. p.0 < length lists.now.rows) picks.now }
     requires in_range { All (λ e. e.0.1 < 2 ^ 32) (decoded lists.now.entries) }
-    ensures { IfOk result (λ made. entries_of T.value made.indices.items made.values.items ≡ built_from nat_cmp M.monoid (pushed (S.makes O.op) (at_numbers lists.now.rows (entries_of T.value picks.now.places.items picks.now.values.items)) (decoded lists.now.entries))) }
+    ensures { IfOk result (λ made. entries_of T.value made.indices.items made.values.items ≡ built_from nat_cmp M.monoid (pushed (S.makes O.op) (at_numbers lists.now.rows (as_entries T.value picks.now)) (decoded lists.now.entries))) }
 {
     let mut products = picked_products::<T, O, S>(alloc, lists, picks, count)?;
     let made = folds_of::<T, M>(alloc, products.as_mut_slice())?;
@@ -219,13 +234,13 @@ fn sum_bounded<T: Stored + Drop, M: MonoidOver<T>, O: Operator<T>, S: Side>(
     alloc: Global,
     names: &[u32],
     lists: &FlatRows,
-    picks: &Picks<T>,
+    picks: &[(usize, T)],
 ) -> Result<EntryList<T>, AllocError>
     requires rising { Rise names.now }
     requires domain { lists.now.domain ≡ T.domain }
-    requires within { All (λ p. p < length lists.now.rows) picks.now.places.items }
+    requires within { All (λ p. p.0 < length lists.now.rows) picks.now }
     requires in_range { All (λ e. e.0.1 < 2 ^ 32) (decoded lists.now.entries) }
-    ensures { IfOk result (λ made. entries_of T.value made.indices.items made.values.items ≡ restricted (λ j. is_among j names.now) (built_from nat_cmp M.monoid (pushed (S.makes O.op) (at_numbers lists.now.rows (entries_of T.value picks.now.places.items picks.now.values.items)) (decoded lists.now.entries)))) }
+    ensures { IfOk result (λ made. entries_of T.value made.indices.items made.values.items ≡ restricted (λ j. is_among j names.now) (built_from nat_cmp M.monoid (pushed (S.makes O.op) (at_numbers lists.now.rows (as_entries T.value picks.now)) (decoded lists.now.entries)))) }
 {
     let named = NamedColumns { names };
     let made = sum_rows::<T, M, O, S, NamedColumns>(alloc, &named, lists, picks)?;
@@ -238,14 +253,14 @@ fn sum_few<T: Stored + Drop, M: MonoidOver<T>, O: Operator<T>, S: Side>(
     alloc: Global,
     bound: Option<&[u32]>,
     lists: &FlatRows,
-    picks: &Picks<T>,
+    picks: &[(usize, T)],
     count: usize,
 ) -> Result<EntryList<T>, AllocError>
     requires rising { IfSome bound (λ names. Rise names.now) }
     requires domain { lists.now.domain ≡ T.domain }
-    requires within { All (λ p. p < length lists.now.rows) picks.now.places.items }
+    requires within { All (λ p. p.0 < length lists.now.rows) picks.now }
     requires in_range { All (λ e. e.0.1 < 2 ^ 32) (decoded lists.now.entries) }
-    ensures { IfOk result (λ made. IsBounded (option_map (λ names. names.now) bound.entry) (built_from nat_cmp M.monoid (pushed (S.makes O.op) (at_numbers lists.now.rows (entries_of T.value picks.now.places.items picks.now.values.items)) (decoded lists.now.entries))) (entries_of T.value made.indices.items made.values.items)) }
+    ensures { IfOk result (λ made. IsBounded (option_map (λ names. names.now) bound.entry) (built_from nat_cmp M.monoid (pushed (S.makes O.op) (at_numbers lists.now.rows (as_entries T.value picks.now)) (decoded lists.now.entries))) (entries_of T.value made.indices.items made.values.items)) }
 {
     if let Some(names) = bound {
         if names.len() <= count {
@@ -270,12 +285,13 @@ pub(crate) fn push<T: Stored + Drop, M: MonoidOver<T>, O: Operator<T>, S: Side>(
     ensures { IfOk result (λ made. IsBounded (option_map (λ names. names.now) bound.entry) (pushed_of M.monoid (S.makes O.op) (entries_of T.value u.now.indices.now u.now.values.now) (decoded rows.now.lists.now.entries)) (entries_of T.value made.indices.items made.values.items)) }
 {
     let lists = rows.lists;
-    let picks = pick_rows(alloc, lists, u)?;
-    let count = picked_len(lists, picks.places.as_slice());
-    if is_worth_opening(rows.ncols, count) {
-        let made = sum_all::<T, M, O, S>(alloc, rows.ncols as u32, lists, &picks)?;
+    let picked = pick_rows(alloc, lists, u)?;
+    let picks = picked.as_slice();
+    let count = picked_len(lists, picks);
+    if is_worth_a_place_each(rows.ncols, count) {
+        let made = sum_all::<T, M, O, S>(alloc, rows.ncols as u32, lists, picks)?;
         return Ok(made);
     }
-    let made = sum_few::<T, M, O, S>(alloc, bound, lists, &picks, count)?;
+    let made = sum_few::<T, M, O, S>(alloc, bound, lists, picks, count)?;
     Ok(made)
 }

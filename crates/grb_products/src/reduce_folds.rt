@@ -1,24 +1,23 @@
 //! Each row of a matrix, or of its transposed, folded to one value.
 ghost use Rattle.std.specs.Prelude.{◌≡◌, true, refl, if◌then◌else◌, IfOk, All, ◌<◌};
-ghost use Rattle.std.specs.Ordering.{nat_cmp};
-ghost use Rattle.std.specs.Option.{option_map};
 ghost use Rattle.grb_core.specs.Monoid.{monoid_domain};
 ghost use Rattle.grb_core.specs.Entries.{values_of};
 ghost use Rattle.grb_core.specs.Fold.{fold_of_some};
-ghost use Rattle.grb_core.specs.Contents.{edited_vector};
-ghost use Rattle.grb_core.specs.Mask.{is_inside};
 ghost use Rattle.grb_core.specs.Written.{written};
 ghost use Rattle.grb_core.specs.Results.{reduce_rows_of, turned};
 ghost use Rattle.grb_kernels.specs.Typed.{entries_of};
 ghost use Rattle.grb_ewise.specs.Premises.{IsMatrixInput, IsVectorOutput};
+ghost use Rattle.grb_ewise.specs.Written.{written_into_vector};
 ghost use Rattle.grb_rows.specs.Cells.{decoded};
+ghost use Rattle.grb_products.specs.Wanted.{is_wanted, IsMade};
 
 use crate::choice::{ByMonoid, Folded};
 use crate::column_folds::fold_columns;
-use crate::folding::fold_values;
+use crate::folding::{fold_part, fold_values};
 use crate::matrix_rows::{MatrixRows, lend_matrix};
 use crate::monoids::MonoidOver;
 use crate::rows::{RowRule, made_rows};
+use crate::wanted::{Wanted, wanted_of};
 use grb_call::Descriptor;
 use grb_core::{BinaryOp, Domain, Monoid};
 use grb_ewise::{Stored, keep_bools, keep_numbers, write_masked_vector};
@@ -32,6 +31,8 @@ use std::marker::PhantomData;
 struct Sum<M> {
     /// Columns are below this.
     ncols: u64,
+    /// Rows have so few entries that parts of them are folded whole.
+    short: bool,
     of: PhantomData<M>,
 }
 
@@ -40,38 +41,59 @@ impl<T: Stored + Folded, M: MonoidOver<T>> RowRule<T> for Sum<M> {
 
     ghost gives = { λ rule. λ x. fold_of_some M.monoid (values_of x) };
 
-    fn row(&self, _columns: &[u32], values: &[T]) -> (T, bool) {
-        (fold_values::<T, M>(values), !values.is_empty())
+    fn row(&self, _columns: &[u32], values: &[T], start: usize, end: usize) -> (T, bool) {
+        if self.short {
+            return (fold_part::<T, M>(values, start, end), true);
+        }
+        (fold_values::<T, M>(&values[start..end]), true)
     }
 
     ghost none = { λ rule. refl };
 }
 
-/// Each row folded by a monoid as a type; each column, where `tran` says that the matrix is read transposed. `AllocError` where memory is
-/// refused; then nothing is made.
+/// Where rows have this many entries on average, or more, the end of a row that is guessed badly is dearer than some values too many.
+const SHORT: usize = 6;
+
+/// So many rows are looked at to tell whether their lengths are unlike.
+const LOOKED_AT: usize = 64;
+
+/// Each row that is wanted folded by a monoid as a type; each column, where `tran` says that the matrix is read transposed. `AllocError`
+/// where memory is refused; then nothing is made.
 fn fold_rows<T: Stored + Folded + Drop, M: MonoidOver<T>>(
     alloc: Global,
+    wanted: &Wanted,
     tran: bool,
     rows: &MatrixRows<T>,
 ) -> Result<EntryList<T>, AllocError>
-    ensures { IfOk result (λ made. entries_of T.value made.indices.items made.values.items ≡ reduce_rows_of M.monoid (turned tran (decoded rows.now.lists.now.entries))) }
+    ensures { IfOk result (λ made. IsMade (is_wanted wanted.now.among wanted.now.names.now) (reduce_rows_of M.monoid (turned tran (decoded rows.now.lists.now.entries))) (entries_of T.value made.indices.items made.values.items)) }
 {
     if tran {
         let made = fold_columns::<T, M>(alloc, rows)?;
         return Ok(made);
     }
+    // where a row ends is guessed badly where rows of unlike lengths follow each other, and well where they are alike
+    let starts = rows.lists.starts();
+    let mut changes = 0usize;
+    'rows: for k in 2..starts.len().min(LOOKED_AT) {
+        let before = starts[k - 1].wrapping_sub(starts[k - 2]);
+        let here = starts[k].wrapping_sub(starts[k - 1]);
+        changes = changes.wrapping_add(usize::from(before != here));
+    }
     let rule: Sum<M> = Sum {
         ncols: rows.ncols,
+        short: (rows.lists.rows().len() <= rows.lists.len() / SHORT)
+            & (changes > starts.len().min(LOOKED_AT) / 4),
         of: PhantomData,
     };
-    let made = made_rows(alloc, &rule, rows.lists)?;
+    let made = made_rows(alloc, &rule, rows.lists, wanted)?;
     Ok(made)
 }
 
-/// A matrix whose rows are folded by whichever monoid; its columns, where `tran` says that it is read transposed.
+/// A matrix whose wanted rows are folded by whichever monoid; its columns, where `tran` says that it is read transposed.
 #[derive(Drop)]
 struct Rows<'a, T: Scalar> {
     alloc: Global,
+    wanted: &'a Wanted<'a>,
     tran: bool,
     rows: MatrixRows<'a, T>,
 }
@@ -79,26 +101,33 @@ struct Rows<'a, T: Scalar> {
 impl<'a, T: Stored + Folded + Drop> ByMonoid<T> for Rows<'a, T> {
     type Output = Result<EntryList<T>, AllocError>;
 
-    ghost Gives = { λ r monoid result. IfOk result (λ made. entries_of T.value made.indices.items made.values.items ≡ reduce_rows_of monoid (turned r.tran (decoded r.rows.lists.now.entries))) };
+    ghost Gives = { λ r monoid result. IfOk result (λ made. IsMade (is_wanted r.wanted.now.among r.wanted.now.names.now) (reduce_rows_of monoid (turned r.tran (decoded r.rows.lists.now.entries))) (entries_of T.value made.indices.items made.values.items)) };
 
     /// The folds of the rows, by a monoid as a type. `AllocError` where memory is refused; then nothing is made.
     fn by<M: MonoidOver<T>>(self) -> Result<EntryList<T>, AllocError> {
-        fold_rows::<T, M>(self.alloc, self.tran, &self.rows)
+        fold_rows::<T, M>(self.alloc, self.wanted, self.tran, &self.rows)
     }
 }
 
-/// Each row folded by a monoid; each column, where `tran` says that the matrix is read transposed. `AllocError` where memory is refused;
+/// Each row that is wanted folded by a monoid; each column, where `tran` says that the matrix is read transposed. `AllocError` where memory is refused;
 /// then nothing is made.
 fn fold_rows_by<T: Stored + Folded + Drop>(
     alloc: Global,
     monoid: Monoid,
+    wanted: &Wanted,
     tran: bool,
     rows: MatrixRows<T>,
 ) -> Result<EntryList<T>, AllocError>
     requires monoid_domain { monoid_domain monoid ≡ T.domain }
-    ensures { IfOk result (λ made. entries_of T.value made.indices.items made.values.items ≡ reduce_rows_of monoid (turned tran (decoded rows.entry.lists.now.entries))) }
+    ensures { IfOk result (λ made. IsMade (is_wanted wanted.now.among wanted.now.names.now) (reduce_rows_of monoid (turned tran (decoded rows.entry.lists.now.entries))) (entries_of T.value made.indices.items made.values.items)) }
 {
-    T::choose_monoid(monoid, Rows { alloc, tran, rows })
+    let made = Rows {
+        alloc,
+        wanted,
+        tran,
+        rows,
+    };
+    T::choose_monoid(monoid, made)
 }
 
 /// The number of rows of a matrix with these dimensions; of its columns, where it is read transposed.
@@ -108,28 +137,31 @@ fn turned_rows(tran: bool, nrows: u64, ncols: u64) -> u64
     if tran { ncols } else { nrows }
 }
 
-/// The folds of the rows of a matrix, which `tran` has read transposed, as a vector. `AllocError` where memory is refused; then nothing is
-/// made.
+/// The folds of the rows of a matrix, which `tran` has read transposed, as a vector; rows that are not wanted may be left out. `AllocError`
+/// where memory is refused; then nothing is made.
 fn row_folds(
     alloc: Global,
     monoid: Monoid,
+    wanted: &Wanted,
     tran: bool,
     a: &SparseMatrix,
 ) -> Result<SparseVector, AllocError>
     requires assembled { a.now.assembled ≡ true }
     requires domain { monoid_domain monoid ≡ a.now.matrix.domain }
-    ensures vector { IfOk result (λ made. made.vector ≡ record { domain = a.now.matrix.domain; size = (if tran then a.now.matrix.ncols else a.now.matrix.nrows); entries = reduce_rows_of monoid (turned tran a.now.matrix.entries) }) }
+    ensures domain { IfOk result (λ made. made.vector.domain ≡ a.now.matrix.domain) }
+    ensures size { IfOk result (λ made. made.vector.size ≡ (if tran then a.now.matrix.ncols else a.now.matrix.nrows)) }
+    ensures entries { IfOk result (λ made. IsMade (is_wanted wanted.now.among wanted.now.names.now) (reduce_rows_of monoid (turned tran a.now.matrix.entries)) made.vector.entries) }
     ensures assembled { IfOk result (λ made. made.assembled ≡ true) }
 {
     let (nrows, ncols) = a.dims();
     let size = turned_rows(tran, nrows, ncols);
     match a.domain() {
         Domain::Bool => {
-            let entries = fold_rows_by::<bool>(alloc, monoid, tran, lend_matrix(a))?;
+            let entries = fold_rows_by::<bool>(alloc, monoid, wanted, tran, lend_matrix(a))?;
             keep_bools(alloc, size, entries)
         }
         Domain::Uint64 => {
-            let entries = fold_rows_by::<u64>(alloc, monoid, tran, lend_matrix(a))?;
+            let entries = fold_rows_by::<u64>(alloc, monoid, wanted, tran, lend_matrix(a))?;
             keep_numbers(alloc, size, entries)
         }
     }
@@ -147,7 +179,7 @@ fn row_folds(
 /// - `descriptor`: how the mask is read, whether what lies outside of it is removed, and whether `a` is read transposed.
 ///
 /// All are of one domain, the mask aside, and the output and the mask have one place for each row of `a`; for each column, with `tran`.
-/// Time and memory are in proportion to the stored entries. With `tran` they are read once, and there is memory for a sum at each column;
+/// Time and memory are in proportion to the stored entries. Rows at which a mask lets nothing be written are not folded. With `tran` they are read once, and there is memory for a sum at each column;
 /// where the columns are more than 8 times the entries, at each that stores something: these are sorted first, and searched for each entry.
 ///
 /// Source: GraphBLAS C API 2.0, "reduce", of a matrix to a vector.
@@ -162,10 +194,13 @@ pub fn reduce_rows(
 ) -> Result<SparseVector, AllocError>
     requires output { IsVectorOutput output.now mask accum }
     requires monoid_domain { monoid_domain monoid ≡ output.now.vector.domain }
-    requires a { IsMatrixInput descriptor.tran output.now.vector.domain output.now.vector.size (if descriptor.tran then a.now.matrix.nrows else a.now.matrix.ncols) a.now }
-    ensures vector { IfOk result (λ made. made.vector ≡ edited_vector (λ w. written nat_cmp (is_inside nat_cmp descriptor.structure descriptor.comp (option_map (λ m. m.now.vector.entries) mask.entry)) descriptor.replace accum w (reduce_rows_of monoid (turned descriptor.tran a.now.matrix.entries))) output.now.vector) }
+    requires a { IsMatrixInput descriptor.tran output.now.vector.domain output.now.vector.size
+        (if descriptor.tran then a.now.matrix.nrows else a.now.matrix.ncols) a.now }
+    ensures vector { IfOk result (λ made. made.vector ≡ written_into_vector output.now mask.entry accum descriptor
+        (reduce_rows_of monoid (turned descriptor.tran a.now.matrix.entries))) }
     ensures assembled { IfOk result (λ made. made.assembled ≡ true) }
 {
-    let computed = row_folds(alloc, monoid, descriptor.tran, a)?;
+    let wanted = wanted_of(mask, descriptor);
+    let computed = row_folds(alloc, monoid, &wanted, descriptor.tran, a)?;
     write_masked_vector(alloc, output, mask, accum, descriptor, computed)
 }

@@ -1,10 +1,12 @@
 //! The product of a row with a vector.
-ghost use Rattle.std.specs.Prelude.{◌≡◌, ◌<◌, length, All, refl};
+ghost use Rattle.std.specs.Prelude.{◌≡◌, ◌<◌, false, length, All, refl};
+ghost use Rattle.grb_core.specs.Monoid.{identity_of};
 ghost use Rattle.grb_core.specs.Fold.{fold_of_some};
 ghost use Rattle.grb_kernels.specs.Typed.{kept, entries_of};
-ghost use Rattle.grb_products.specs.Products.{products};
+ghost use Rattle.grb_products.specs.Products.{products, is_any};
 
-use crate::lookup::Lookup;
+use crate::choice::Folded;
+use crate::lookup::{Lookup, has_any};
 use crate::monoids::MonoidOver;
 use crate::rows::RowRule;
 use grb_ewise::Stored;
@@ -12,7 +14,7 @@ use grb_kernels::{Operator, chosen};
 use std::marker::PhantomData;
 
 /// The fold of the products of a row with a vector, and whether there is one. Products after a terminal one are not made.
-pub(crate) fn dot<T: Stored, M: MonoidOver<T>, O: Operator<T>, L: Lookup<T>>(
+pub(crate) fn dot<T: Stored + Folded, M: MonoidOver<T>, O: Operator<T>, L: Lookup<T>>(
     vector: &L,
     columns: &[u32],
     values: &[T],
@@ -30,11 +32,29 @@ pub(crate) fn dot<T: Stored, M: MonoidOver<T>, O: Operator<T>, L: Lookup<T>>(
         if here & M::is_terminal(product) {
             return (product, true);
         }
-        let next = M::add(sum, product);
-        sum = chosen(here, next, sum);
+        sum = M::add(sum, chosen(here, product, M::identity()));
         any = here | any;
     }
+    if L::is_open() {
+        return (sum, is_made::<T, M, L>(vector, columns, sum));
+    }
     (sum, any)
+}
+
+/// Whether a row has products, of which this is the sum: none has only the identity as its sum, so the vector is asked again only there.
+fn is_made<T: Stored + Folded, M: MonoidOver<T>, L: Lookup<T>>(
+    vector: &L,
+    columns: &[u32],
+    sum: T,
+) -> bool
+    requires in_range { All (λ c. c < L.size vector.now) columns.now }
+    ensures other { result ≡ false → is_any (L.holds vector.now) columns.now ≡ false }
+    ensures same { T.value sum ≡ identity_of M.monoid → result ≡ is_any (L.holds vector.now) columns.now }
+{
+    if T::is_same(sum, M::identity()) {
+        return has_any(vector, columns);
+    }
+    true
 }
 
 /// The product of each row with a vector.
@@ -44,14 +64,14 @@ pub(crate) struct RowTimesVector<'a, L, M, O> {
     pub(crate) of: PhantomData<(M, O)>,
 }
 
-impl<'a, T: Stored, M: MonoidOver<T>, O: Operator<T>, L: Lookup<T>> RowRule<T>
+impl<'a, T: Stored + Folded, M: MonoidOver<T>, O: Operator<T>, L: Lookup<T>> RowRule<T>
     for RowTimesVector<'a, L, M, O> {
     ghost reads = { λ rule. L.size rule.vector.now };
 
     ghost gives = { λ rule. λ x. fold_of_some M.monoid (products O.op (L.holds rule.vector.now) x) };
 
-    fn row(&self, columns: &[u32], values: &[T]) -> (T, bool) {
-        dot::<T, M, O, L>(self.vector, columns, values)
+    fn row(&self, columns: &[u32], values: &[T], start: usize, end: usize) -> (T, bool) {
+        dot::<T, M, O, L>(self.vector, &columns[start..end], &values[start..end])
     }
 
     ghost none = { λ rule. refl };

@@ -115,8 +115,8 @@ fn fold_runs<T: Stored, M: MonoidOver<T>>(
     k
 }
 
-/// The fold of the products at each column, which come in any order. Takes memory for as many entries as there are products. `AllocError`
-/// where that is refused; the products are sorted by column in any case.
+/// The fold of the products at each column, which come in any order. Takes memory for as many entries as there are products, and gives back
+/// what is not needed. `AllocError` where it is refused; the products are sorted by column in any case.
 pub(crate) fn folds_of<T: Stored + Drop, M: MonoidOver<T>>(
     alloc: Global,
     products: &mut [(u32, T)],
@@ -130,6 +130,8 @@ pub(crate) fn folds_of<T: Stored + Drop, M: MonoidOver<T>>(
     let mut values = vec![in alloc; T::any(); count]?;
     let made = fold_runs::<T, M>(products, indices.as_mut_slice(), values.as_mut_slice());
     indices.truncate(made);
+    indices.shrink_to_fit();
     values.truncate(made);
+    values.shrink_to_fit();
     Ok(EntryList { indices, values })
 }

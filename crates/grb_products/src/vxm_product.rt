@@ -5,12 +5,12 @@ ghost use Rattle.std.specs.Ordering.{nat_cmp};
 ghost use Rattle.std.specs.Option.{option_map};
 ghost use Rattle.grb_core.specs.Operator.{op_domain};
 ghost use Rattle.grb_core.specs.Monoid.{monoid_domain};
-ghost use Rattle.grb_core.specs.Contents.{edited_vector};
 ghost use Rattle.grb_core.specs.Mask.{is_inside};
 ghost use Rattle.grb_core.specs.Written.{written};
 ghost use Rattle.grb_core.specs.Results.{vxm_of};
 ghost use Rattle.grb_kernels.specs.Typed.{entries_of};
 ghost use Rattle.grb_ewise.specs.Premises.{IsMatrixInput, IsVectorInput, IsVectorOutput};
+ghost use Rattle.grb_ewise.specs.Written.{written_into_vector};
 ghost use Rattle.grb_rows.specs.Cells.{decoded};
 ghost use Rattle.grb_ewise.specs.Ranks.{Rise};
 ghost use Rattle.grb_products.specs.Pushes.{pushed_of, Covers, IsBounded};
@@ -133,7 +133,7 @@ pub(crate) fn bound_of(mask: Option<&SparseVector>, descriptor: Descriptor) -> O
 ///
 /// All are of one domain, the mask aside; `u` has one place for each row of `a`, and the output and the mask one for each column. Only
 /// the rows are read at which `u` stores something. Time is in proportion to their entries, to those of `u` and to what is written, and so
-/// is memory: a work array of one place for each column is made only where it is no longer than 8 times the entries of these rows. Else
+/// is memory: a work array of one place for each column is made only where it is no longer than 32 times the entries of these rows. Else
 /// the products are sorted by column; or, where the mask's indices are no more than these entries and bound what is written, each entry
 /// costs a binary search among them.
 ///
@@ -152,7 +152,8 @@ pub fn vxm(
     requires semiring_domain { op_domain semiring.op ≡ output.now.vector.domain }
     requires u { IsVectorInput output.now.vector.domain u.now.vector.size u.now }
     requires a { IsMatrixInput false output.now.vector.domain u.now.vector.size output.now.vector.size a.now }
-    ensures vector { IfOk result (λ made. made.vector ≡ edited_vector (λ w. written nat_cmp (is_inside nat_cmp descriptor.structure descriptor.comp (option_map (λ m. m.now.vector.entries) mask.entry)) descriptor.replace accum w (vxm_of semiring u.now.vector.entries a.now.matrix.entries)) output.now.vector) }
+    ensures vector { IfOk result (λ made. made.vector ≡ written_into_vector output.now mask.entry accum descriptor
+        (vxm_of semiring u.now.vector.entries a.now.matrix.entries)) }
     ensures assembled { IfOk result (λ made. made.assembled ≡ true) }
 {
     let bound = bound_of(mask, descriptor);

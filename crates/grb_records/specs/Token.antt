@@ -12,7 +12,7 @@ pub record Shown : Type 0 where
   pub pass : ℕ
   pub index : ℕ
   pub call : Call
-  pub place : ℕ
+  pub cell : ℕ
 
 -- the call that a cell is known to hold. No token stands for a cell of which nothing is known
 abbrev pub held : Option Call → Call
@@ -45,7 +45,7 @@ HasRows passes room records = (length records ≡ passes) × All (λ row. length
 
 -- the token is of these records
 abbrev pub IsOf : Shelf → Shown → Type 0
-IsOf records token = cell_at records token.pass token.index ≡ Some token.place
+IsOf records token = cell_at records token.pass token.index ≡ Some token.cell
 
 -- the tokens are of one record
 abbrev pub IsSameRecord : Shown → Shown → Type 0

@@ -106,7 +106,7 @@ impl Records {
 
     /// The record of the pass at this index, and a token of it; `None` where it is not shown. Takes no memory and does not wait.
     pub fn show(&self, pass: u32, index: u64) -> Option<(&Call, Token)>
-        ensures asked { IfSome result (λ shown. (shown.1.pass ≡ pass) × (shown.1.index ≡ index)) }
+        ensures token { IfSome result (λ shown. (shown.1.pass ≡ pass) × (shown.1.index ≡ index)) }
         ensures call { IfSome result (λ shown. shown.0.now ≡ shown.1.call) }
         ensures of { IfSome result (λ shown. IsOf self.now shown.1) }
     {

@@ -20,7 +20,7 @@ impl Model for Token {
 
     ghost Value = { Shown };
 
-    ghost view = { λ t. record { pass = t.pass; index = t.index; call = held t.note.known; place = t.note.cell } };
+    ghost view = { λ t. record { pass = t.pass; index = t.index; call = held t.note.known; cell = t.note.cell } };
 
     ghost invariant = { λ t. IsSome t.note.known };
 }

@@ -1,5 +1,5 @@
 -- Entries that pass a test, one after the other, and the dimensions of a vector as those of a matrix with one row.
-use Rattle.std.proofs.Common.{inl, inr, suc, ◌≡◌, ℕ, ◌+◌, ◌-◌, ◌/◌, ◌%◌, ◌<◌, ◌≤◌, Bool, true, false, cond, [], ◌∷◌, ◌++◌, length, get_or, take, nat_lt, refl, sym, ap, subst, ◌∙◌, arith}
+use Rattle.std.proofs.Common.{inl, inr, suc, ◌≡◌, ℕ, ◌-◌, ◌/◌, ◌%◌, ◌<◌, ◌≤◌, Bool, true, false, cond, [], ◌∷◌, ◌++◌, length, get_or, nat_lt, refl, ap, ◌∙◌, arith}
 use lib.Dec.{T}
 use Rattle.std.specs.Prelude.{◌&&◌}
 use Rattle.std.specs.List.{AllByRecursion}
@@ -7,16 +7,14 @@ use Rattle.std.specs.Ordering.{nat_cmp}
 use Rattle.std.specs.FinMap.{is_sorted}
 use Rattle.std.proofs.lemmas.Bool.{cases_eq}
 use Rattle.std.proofs.lemmas.Bool.Decides.{nat_tests}
-use Rattle.std.proofs.lemmas.List.{take_more}
 use Rattle.grb_core.specs.declared.value.Value.{Value}
-use Rattle.grb_core.specs.declared.value.Value.TheVariants as value
 use Rattle.grb_core.specs.Entries.{restricted, VectorEntries}
 use Rattle.grb_core.specs.Contents.{is_index_in, is_cell_in}
 use Rattle.grb_rows.specs.Cells.{cell_of}
-use Rattle.grb_rows.proofs.Ends.{below_taken, keys_rise}
+use Rattle.grb_rows.proofs.Ends.{keys_rise}
 
 module _ (t : ℕ → Bool) where
-  restricted-push : (m : VectorEntries) (k : ℕ) (v : Value) → restricted t (m ++ (k, v) ∷ []) ≡ cond (t k) (restricted t m ++ (k, v) ∷ []) (restricted t m)
+  pub restricted-push : (m : VectorEntries) (k : ℕ) (v : Value) → restricted t (m ++ (k, v) ∷ []) ≡ cond (t k) (restricted t m ++ (k, v) ∷ []) (restricted t m)
   restricted-push [] k v = refl
   restricted-push (e ∷ m) k v =
       ap (λ (s : VectorEntries). cond (t e.0) (e ∷ s) s) (restricted-push m k v)
@@ -25,23 +23,11 @@ module _ (t : ℕ → Bool) where
         | false ↦ refl
       ]
 
-  all-restricted : (k : ℕ) (m : VectorEntries) → AllByRecursion (λ e. e.0 < k) m → AllByRecursion (λ e. e.0 < k) (restricted t m)
+  pub all-restricted : (k : ℕ) (m : VectorEntries) → AllByRecursion (λ e. e.0 < k) m → AllByRecursion (λ e. e.0 < k) (restricted t m)
   all-restricted k [] h = tt
   all-restricted k (e ∷ m) h =
       let rest = all-restricted k m h.1 in
       elim (t e.0) as (λ b. AllByRecursion (λ e. e.0 < k) (cond b (e ∷ restricted t m) (restricted t m))) [ true ↦ (h.0, rest) | false ↦ rest ]
-
-  pub all-restricted_so_far : (m : VectorEntries) (i k : ℕ) → T (is_sorted nat_cmp m) → i < length m → ((d : ℕ × Value) → k ≡ (get_or m i d).0) → AllByRecursion (λ e. e.0 < k) (restricted t (take i m))
-  all-restricted_so_far m i k h l is = all-restricted k (take i m) (below_taken k m i (λ a d b n. subst (λ (x : ℕ). (get_or m a d).0 < x) (sym (is d)) (keys_rise m d h a i b l)))
-
-  pub restricted_more : (m : VectorEntries) (i k : ℕ) (v : Value) → i < length m → ((d : ℕ × Value) → k ≡ (get_or m i d).0) → ((d : ℕ × Value) → v ≡ (get_or m i d).1)
-      → cond (t k) (restricted t (take i m) ++ (k, v) ∷ []) (restricted t (take i m)) ≡ restricted t (take (i + 1) m)
-  restricted_more m i k v l is are =
-      let d : ℕ × Value = (0, value.Bool true) in
-      let here : (k, v) ≡ get_or m i d = λ z. (is d z, are d z) in
-      sym (restricted-push (take i m) k v)
-      ∙ ap (λ (e : ℕ × Value). restricted t (take i m ++ e ∷ [])) here
-      ∙ ap (restricted t) (sym (take_more m i d l))
 
 -- where all entries pass, all are left
 pub restricted_all : (t : ℕ → Bool) (m : VectorEntries) → ((q : ℕ) (d : ℕ × Value) → q < length m → t (get_or m q d).0 ≡ true) → restricted t m ≡ m

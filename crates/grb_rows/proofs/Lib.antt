@@ -9,6 +9,7 @@ pub mod Layered
 pub mod CellCodes
 pub mod FlatCells
 pub mod Cut
+pub mod Kept
 pub mod CellLists
 pub mod OneRow
 pub mod Packing

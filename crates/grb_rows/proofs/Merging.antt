@@ -25,7 +25,7 @@ none_between (suc s) (suc e) (x ∷ m) l = none_between s e m (omega arith)
 take_part : (s e : ℕ) (m : VectorEntries) → s ≤ e → take e m ≡ take s m ++ drop s (take e m)
 take_part s e m l = sym (take-append-drop s (take e m)) ∙ ap (λ (r : VectorEntries). r ++ drop s (take e m)) (take-take s e m l)
 
-all-part : (P : ℕ × Value → Type 0) (s e : ℕ) (m : VectorEntries) → ((q : ℕ) (d : ℕ × Value) → s ≤ q → q < e → q < length m → P (get_or m q d)) → AllByRecursion P (drop s (take e m))
+pub all-part : (P : ℕ × Value → Type 0) (s e : ℕ) (m : VectorEntries) → ((q : ℕ) (d : ℕ × Value) → s ≤ q → q < e → q < length m → P (get_or m q d)) → AllByRecursion P (drop s (take e m))
 all-part P zero zero m h = tt
 all-part P zero (suc e) [] h = tt
 all-part P zero (suc e) (x ∷ m) h = (h 0 x (omega arith) (omega arith) (omega arith), all-part P zero e m (λ q d a b c. h (suc q) d (omega arith) (omega arith) (omega arith)))

@@ -31,6 +31,16 @@ abbrev pub held_view : RowView → PendingView → Bool → HeldView
 held_view row p a =
     record { entries = stored row p.changes; domain = row.domain; assembled = a; reserved = p.reserved; pending = p.apart }
 
+-- these entries of a domain, with no place reserved for a change and none counted as pending; `assembled` is what the object says of itself
+abbrev pub settled_view : VectorEntries → Domain → Bool → HeldView
+settled_view entries domain assembled =
+    record { entries = entries; domain = domain; assembled = assembled; reserved = 0; pending = 0 }
+
+-- what is held, with no place reserved for a change
+abbrev pub unreserved_view : HeldView → HeldView
+unreserved_view held =
+    record { entries = held.entries; domain = held.domain; assembled = held.assembled; reserved = 0; pending = held.pending }
+
 -- the number of entries and the places of those that have a change are kept, and what is assembled has no change
 pub record IsHeld (row : RowView) (p : PendingView) (nvals : ℕ) (a : Bool) : Type 0 where
   pub laid : IsLaid row p.changes

@@ -1,16 +1,15 @@
 //! Entries as flat lists: the rows that have some, where each begins, and the column and the value of each entry.
-ghost use Rattle.std.specs.Prelude.{◌≡◌, ◌≢◌, ◌+◌, ◌-◌, ◌*◌, ◌/◌, ◌%◌, ◌<◌, ◌≤◌, ◌^◌, ◌++◌, ℕ, [], ◌∷◌, Some, None, true, cond, nat_eq, filter, take, drop, length, map, All, IfOk, IfSome, IfNone, IsTrue, slice_set, slice_index_or, slice_index};
+ghost use Rattle.std.specs.Prelude.{◌≡◌, ◌≢◌, ◌+◌, ◌-◌, ◌*◌, ◌/◌, ◌%◌, ◌<◌, ◌≤◌, ◌^◌, ◌++◌, ℕ, [], ◌∷◌, Some, None, true, nat_eq, filter, take, drop, length, map, All, IfOk, IfSome, IfNone, IsTrue, slice_set, slice_index_or, slice_index};
 ghost use Rattle.std.specs.List.{AllByRecursion};
 ghost use Rattle.std.specs.Ordering.{nat_cmp};
 ghost use Rattle.std.specs.FinMap.{find, is_sorted};
 ghost use Rattle.std.specs.Vec.{vec_len, vec_capacity};
 ghost use Rattle.grb_core.specs.declared.value.Value.{Value as Stored};
 ghost use Rattle.grb_core.specs.Value.{value_domain};
-ghost use Rattle.grb_core.specs.Entries.{restricted, values_of};
-ghost use Rattle.grb_core.specs.Contents.{is_cell_in};
+ghost use Rattle.grb_core.specs.Entries.{values_of};
 ghost use Rattle.grb_core.specs.Results.{row_of};
-ghost use Rattle.grb_rows.specs.Cells.{row_at, codes_of, cell_of, decoded, in_row, IsFlat};
-ghost use Rattle.grb_rows.specs.Stored.{IsInRow};
+ghost use Rattle.grb_rows.specs.Cells.{row_at, codes_of, decoded, entries_within, in_row, IsFlat};
+ghost use Rattle.grb_rows.specs.Stored.{row_entries, started_at, IsCellAt, IsInRow};
 
 use crate::values::{self, Values};
 use grb_core::{Domain, Value};
@@ -163,7 +162,7 @@ impl FlatRows {
 
     /// The number of the last entry's cell, if there is an entry.
     pub fn last_index(&self) -> Option<u64>
-        ensures some { IfSome result (λ index. (0 < length self.now.entries) × ((d : ℕ × Stored) → index ≡ (slice_index_or self.now.entries (length self.now.entries - 1) d).0)) }
+        ensures some { IfSome result (λ index. (0 < length self.now.entries) × IsCellAt self.now.entries (length self.now.entries - 1) index) }
         ensures none { IfNone result (self.now.entries ≡ []) }
     {
         let count = self.len();
@@ -249,7 +248,7 @@ impl FlatRows {
 
     /// Whether all entries are within `nrows` rows and `ncols` columns.
     pub(crate) fn is_within(&self, nrows: u64, ncols: u64) -> bool
-        ensures { result ≡ true → restricted (λ k. is_cell_in nrows ncols (cell_of k)) self.now.entries ≡ self.now.entries }
+        ensures { result ≡ true → entries_within nrows ncols self.now.entries ≡ self.now.entries }
     {
         let count = self.len();
         if count == 0 {
@@ -258,21 +257,6 @@ impl FlatRows {
         let mut hint = self.rows.len().saturating_sub(1);
         let last = self.index_at(count - 1, &mut hint);
         last / 0x1_0000_0000 < nrows && self.has_columns_below(ncols)
-    }
-
-    /// The entries within `nrows` rows and `ncols` columns, as a row of their own.
-    pub(crate) fn within(&self, nrows: u64, ncols: u64) -> Result<FlatRows, AllocError>
-        ensures entries { IfOk result (λ new. new.entries ≡ restricted (λ k. is_cell_in nrows ncols (cell_of k)) self.now.entries) }
-        ensures domain { IfOk result (λ new. new.domain ≡ self.now.domain) }
-    {
-        let mut new = FlatRows::with_capacity(self.allocator(), self.domain(), self.len())?;
-        let mut hint = 0;
-        for at in 0..self.len() {
-            let index = self.index_at(at, &mut hint);
-            keep_within(&mut new, index, self.value_at(at), nrows, ncols);
-        }
-        new.shrink();
-        Ok(new)
     }
 
     /// The rows that have entries, in rising order.
@@ -291,7 +275,7 @@ impl FlatRows {
         ensures len { length result.now ≡ length self.now.rows }
         ensures rise { (i j : ℕ) → i < j → j < length result.now → slice_index result.now i < slice_index result.now j }
         ensures within { (k : ℕ) → k < length result.now → slice_index result.now k < length self.now.entries }
-        ensures spans { (k : ℕ) → k < length self.now.rows → row_of (slice_index self.now.rows k) (decoded self.now.entries) ≡ in_row (drop (slice_index result.now k) (take (slice_index_or result.now (k + 1) (length self.now.entries)) self.now.entries)) }
+        ensures spans { (k : ℕ) → k < length self.now.rows → row_entries self.now k ≡ in_row (started_at result.now k self.now.entries) }
     {
         &self.starts
     }
@@ -341,7 +325,7 @@ impl FlatRows {
     /// The columns of the `k`th row that has entries, in rising order.
     pub fn row_columns(&self, k: usize) -> &[u32]
         requires { k < length self.now.rows }
-        ensures columns { result.now ≡ map (λ e. e.0) (row_of (slice_index self.now.rows k) (decoded self.now.entries)) }
+        ensures columns { result.now ≡ map (λ e. e.0) (row_entries self.now k) }
         ensures some { 0 < length result.now }
         ensures below { (n : ℕ) → All (λ e. e.0.1 < n) (decoded self.now.entries) → All (λ j. j < n) result.now }
     {
@@ -353,7 +337,7 @@ impl FlatRows {
     pub fn row_bools(&self, k: usize) -> &[bool]
         requires at { k < length self.now.rows }
         requires domain { self.now.domain ≡ Domain.Bool }
-        ensures { map (λ b. Value.Bool b) result.now ≡ values_of (row_of (slice_index self.now.rows k) (decoded self.now.entries)) }
+        ensures { map (λ b. Value.Bool b) result.now ≡ values_of (row_entries self.now k) }
     {
         let (start, end) = bounds(&self.rows, &self.starts, &self.columns, k);
         match &self.values {
@@ -366,28 +350,13 @@ impl FlatRows {
     pub fn row_numbers(&self, k: usize) -> &[u64]
         requires at { k < length self.now.rows }
         requires domain { self.now.domain ≡ Domain.Uint64 }
-        ensures { map (λ n. Value.Uint64 n) result.now ≡ values_of (row_of (slice_index self.now.rows k) (decoded self.now.entries)) }
+        ensures { map (λ n. Value.Uint64 n) result.now ≡ values_of (row_entries self.now k) }
     {
         let (start, end) = bounds(&self.rows, &self.starts, &self.columns, k);
         match &self.values {
             Values::Uint64(numbers) => part(numbers, start, end),
             Values::Bool(_) => unreachable!(),
         }
-    }
-}
-
-/// One more entry at the end, if its cell is within the dimensions.
-fn keep_within(new: &mut FlatRows, index: u64, value: Value, nrows: u64, ncols: u64)
-    requires room { 0 < new.old.room }
-    requires above { AllByRecursion (λ e. e.0 < index) new.old.entries }
-    requires domain { value_domain value ≡ new.old.domain }
-    ensures entries { new.new.entries ≡ cond (is_cell_in nrows ncols (cell_of index)) (new.old.entries ++ (index, value) ∷ []) new.old.entries }
-    ensures domain { new.new.domain ≡ new.old.domain }
-    ensures room { new.old.room ≤ new.new.room + 1 }
-{
-    let inside = index / 0x1_0000_0000 < nrows && index % 0x1_0000_0000 < ncols;
-    if inside {
-        new.push_reserved(index, value);
     }
 }
 

@@ -4,10 +4,9 @@ ghost use Rattle.std.specs.Ordering.{nat_cmp};
 ghost use Rattle.std.specs.FinMap.{find, put};
 ghost use Rattle.grb_core.specs.declared.value.Value.{Value as Stored};
 ghost use Rattle.grb_core.specs.Value.{value_domain};
-ghost use Rattle.grb_core.specs.Entries.{restricted, without_entry};
-ghost use Rattle.grb_core.specs.Contents.{is_cell_in};
-ghost use Rattle.grb_rows.specs.Cells.{cell_of};
-ghost use Rattle.grb_rows.specs.Held.{stored, IsLaid};
+ghost use Rattle.grb_core.specs.Entries.{without_entry};
+ghost use Rattle.grb_rows.specs.Cells.{entries_within};
+ghost use Rattle.grb_rows.specs.Held.{stored, settled_view, unreserved_view, IsLaid};
 ghost use Rattle.grb_rows.specs.Layers.{IsPlaced};
 ghost use Rattle.grb_rows.specs.Pending.{changed};
 
@@ -59,21 +58,21 @@ impl Model for Held {
 impl Held {
     /// These rows and no change. `assembled` is what it says of itself. Takes no memory.
     pub fn of(alloc: Global, rows: FlatRows, assembled: bool) -> Held
-        ensures { result ≡ record { entries = rows.entries; domain = rows.domain; assembled = assembled; reserved = 0; pending = 0 } }
+        ensures { result ≡ settled_view rows.entries rows.domain assembled }
     {
         Held::over(alloc, Base::own(rows), assembled)
     }
 
     /// The same, and copies may share the rows; where memory is refused for that, they copy them.
     pub fn shareable(alloc: Global, rows: FlatRows, assembled: bool) -> Held
-        ensures { result ≡ record { entries = rows.entries; domain = rows.domain; assembled = assembled; reserved = 0; pending = 0 } }
+        ensures { result ≡ settled_view rows.entries rows.domain assembled }
     {
         Held::over(alloc, Base::shareable(rows), assembled)
     }
 
     /// The same rows, whether copies may share them or not.
     fn over(alloc: Global, base: Base, assembled: bool) -> Held
-        ensures { result ≡ record { entries = base.entries; domain = base.domain; assembled = assembled; reserved = 0; pending = 0 } }
+        ensures { result ≡ settled_view base.entries base.domain assembled }
     {
         let nvals = base.rows().len() as u64;
         Held {
@@ -86,7 +85,7 @@ impl Held {
 
     /// No entries and no change. Takes no memory.
     pub fn new(alloc: Global, domain: Domain) -> Held
-        ensures { result ≡ record { entries = []; domain = domain; assembled = true; reserved = 0; pending = 0 } }
+        ensures { result ≡ settled_view [] domain true }
     {
         Held::of(alloc, FlatRows::new(alloc, domain), true)
     }
@@ -236,38 +235,34 @@ impl Held {
 
     /// Puts rows in place of all that is held, and gives back what waited with its memory. Takes no memory.
     fn settle(&mut self, base: Base, assembled: bool)
-        ensures { self.new ≡ record { entries = base.entries; domain = base.domain; assembled = assembled; reserved = 0; pending = 0 } }
+        ensures { self.new ≡ settled_view base.entries base.domain assembled }
     {
         *self = Held::over(base.rows().allocator(), base, assembled);
     }
 
     /// Takes away all entries, changes and reserved places. Takes no memory.
     pub fn clear(&mut self)
-        ensures { self.new ≡ record { entries = []; domain = self.old.domain; assembled = true; reserved = 0; pending = 0 } }
+        ensures { self.new ≡ settled_view [] self.old.domain true }
     {
         let none = FlatRows::new(self.allocator(), self.domain());
         self.settle(Base::own(none), true);
     }
 
-    /// What is stored within `nrows` rows and `ncols` columns, as rows of their own.
+    /// What is stored within `nrows` rows and `ncols` columns, as rows of their own: the changes merged with the entries, and each entry that
+    /// is kept copied once.
     fn merged_within(&self, nrows: u64, ncols: u64) -> Result<FlatRows, AllocError>
-        ensures entries { IfOk result (λ new. new.entries ≡ restricted (λ k. is_cell_in nrows ncols (cell_of k)) self.now.entries) }
+        ensures entries { IfOk result (λ new. new.entries ≡ entries_within nrows ncols self.now.entries) }
         ensures domain { IfOk result (λ new. new.domain ≡ self.now.domain) }
     {
-        if self.pending.is_empty() {
-            return self.base.rows().within(nrows, ncols);
-        }
-        let whole = self.merged_rows()?;
-        if whole.is_within(nrows, ncols) {
-            return Ok(whole);
-        }
-        whole.within(nrows, ncols)
+        let changes = self.pending.in_order(self.allocator())?;
+        merge::merged_within(self.base.rows(), &changes, (nrows, ncols))
     }
 
     /// Keeps the entries within `nrows` rows and `ncols` columns alone, with no change that waits. `AllocError` where memory is refused,
-    /// and then nothing changes. Where nothing waits and all entries are within, nothing is copied, and it takes no memory.
+    /// and then nothing changes. Where nothing waits and all entries are within, nothing is copied, and it takes no memory; else each entry
+    /// that it keeps is copied once.
     pub fn resize(&mut self, nrows: u64, ncols: u64) -> Result<(), AllocError>
-        ensures ok { OnOk result (self.new ≡ record { entries = restricted (λ k. is_cell_in nrows ncols (cell_of k)) self.old.entries; domain = self.old.domain; assembled = self.old.assembled; reserved = 0; pending = 0 }) }
+        ensures ok { OnOk result (self.new ≡ settled_view (entries_within nrows ncols self.old.entries) self.old.domain self.old.assembled) }
         ensures err { OnErr result (self.new ≡ self.old) }
     {
         if self.pending.is_empty() && self.base.rows().is_within(nrows, ncols) {
@@ -282,7 +277,7 @@ impl Held {
     /// The same entries, with no change that waits and no reserved places. `AllocError` where memory is refused. Where nothing waits it
     /// shares the entries, if they can be shared, and then copies none of them.
     pub fn try_clone(&self) -> Result<Held, AllocError>
-        ensures { IfOk result (λ copy. copy ≡ record { entries = self.now.entries; domain = self.now.domain; assembled = self.now.assembled; reserved = 0; pending = 0 }) }
+        ensures { IfOk result (λ copy. copy ≡ settled_view self.now.entries self.now.domain self.now.assembled) }
     {
         let copy = self.merged()?;
         Ok(Held::over(self.allocator(), copy, self.assembled))
@@ -291,7 +286,7 @@ impl Held {
     /// The same entries and the same changes that wait, with no reserved places: the entries that were assembled are shared, if they can
     /// be, and the changes copied. `AllocError` where memory is refused, or where 2^63 - 1 objects share the entries.
     pub fn try_share(&self) -> Result<Held, AllocError>
-        ensures { IfOk result (λ copy. copy ≡ record { entries = self.now.entries; domain = self.now.domain; assembled = self.now.assembled; reserved = 0; pending = self.now.pending }) }
+        ensures { IfOk result (λ copy. copy ≡ unreserved_view self.now) }
     {
         let base = self.base.try_clone()?;
         let pending = self.pending.try_clone()?;
@@ -316,7 +311,7 @@ impl Held {
     /// Merges the changes with the entries, and gives up the reserved places. `AllocError` where memory is refused, and then nothing
     /// changes. With n entries and p changes it takes time `O(n + p log p)`. Where nothing waits it does none of this and takes no memory.
     pub fn assemble(&mut self) -> Result<(), AllocError>
-        ensures ok { OnOk result (self.new ≡ record { entries = self.old.entries; domain = self.old.domain; assembled = true; reserved = 0; pending = 0 }) }
+        ensures ok { OnOk result (self.new ≡ settled_view self.old.entries self.old.domain true) }
         ensures done { self.old.assembled ≡ true → IsOk result }
         ensures err { OnErr result (self.new ≡ self.old) }
     {

@@ -1,10 +1,9 @@
 //! Flat lists made of lists that were written elsewhere, with no copy.
-ghost use Rattle.std.specs.Prelude.{◌≡◌, ◌<◌, ◌^◌, [], ◌∷◌, length, map, All, IfOk, IsTrue};
+ghost use Rattle.std.specs.Prelude.{◌≡◌, ◌<◌, ◌^◌, [], ◌∷◌, length, All, IfOk, IsTrue};
 ghost use Rattle.std.specs.Ordering.{nat_cmp};
 ghost use Rattle.std.specs.FinMap.{is_sorted};
-ghost use Rattle.grb_core.specs.declared.value.Value.TheVariants as value;
 ghost use Rattle.grb_rows.specs.Cells.{codes_of, IsFlat};
-ghost use Rattle.grb_rows.specs.Stored.{paired};
+ghost use Rattle.grb_rows.specs.Stored.{bool_entries, number_entries};
 
 use crate::flat::FlatRows;
 use crate::values::Values;
@@ -31,8 +30,8 @@ impl FlatRows {
     ) -> FlatRows
         requires flat { IsFlat rows.items starts.items columns.items }
         requires same { length bools.items ≡ length columns.items }
-        requires ordered { IsTrue (is_sorted nat_cmp (paired (codes_of rows.items starts.items columns.items) (map (λ b. value.Bool b) bools.items))) }
-        ensures entries { result.entries ≡ paired (codes_of rows.items starts.items columns.items) (map (λ b. value.Bool b) bools.items) }
+        requires ordered { IsTrue (is_sorted nat_cmp (bool_entries (codes_of rows.items starts.items columns.items) bools.items)) }
+        ensures entries { result.entries ≡ bool_entries (codes_of rows.items starts.items columns.items) bools.items }
         ensures domain { result.domain ≡ Domain.Bool }
     {
         FlatRows {
@@ -52,8 +51,8 @@ impl FlatRows {
     ) -> FlatRows
         requires flat { IsFlat rows.items starts.items columns.items }
         requires same { length numbers.items ≡ length columns.items }
-        requires ordered { IsTrue (is_sorted nat_cmp (paired (codes_of rows.items starts.items columns.items) (map (λ n. value.Uint64 n) numbers.items))) }
-        ensures entries { result.entries ≡ paired (codes_of rows.items starts.items columns.items) (map (λ n. value.Uint64 n) numbers.items) }
+        requires ordered { IsTrue (is_sorted nat_cmp (number_entries (codes_of rows.items starts.items columns.items) numbers.items)) }
+        ensures entries { result.entries ≡ number_entries (codes_of rows.items starts.items columns.items) numbers.items }
         ensures domain { result.domain ≡ Domain.Uint64 }
     {
         FlatRows {
@@ -72,8 +71,8 @@ impl FlatRows {
     ) -> Result<FlatRows, AllocError>
         requires fit { All (λ j. j < 2 ^ 32) columns.items }
         requires same { length bools.items ≡ length columns.items }
-        requires ordered { IsTrue (is_sorted nat_cmp (paired columns.items (map (λ b. value.Bool b) bools.items))) }
-        ensures entries { IfOk result (λ row. row.entries ≡ paired columns.items (map (λ b. value.Bool b) bools.items)) }
+        requires ordered { IsTrue (is_sorted nat_cmp (bool_entries columns.items bools.items)) }
+        ensures entries { IfOk result (λ row. row.entries ≡ bool_entries columns.items bools.items) }
         ensures domain { IfOk result (λ row. row.domain ≡ Domain.Bool) }
     {
         if columns.is_empty() {
@@ -91,8 +90,8 @@ impl FlatRows {
     ) -> Result<FlatRows, AllocError>
         requires fit { All (λ j. j < 2 ^ 32) columns.items }
         requires same { length numbers.items ≡ length columns.items }
-        requires ordered { IsTrue (is_sorted nat_cmp (paired columns.items (map (λ n. value.Uint64 n) numbers.items))) }
-        ensures entries { IfOk result (λ row. row.entries ≡ paired columns.items (map (λ n. value.Uint64 n) numbers.items)) }
+        requires ordered { IsTrue (is_sorted nat_cmp (number_entries columns.items numbers.items)) }
+        ensures entries { IfOk result (λ row. row.entries ≡ number_entries columns.items numbers.items) }
         ensures domain { IfOk result (λ row. row.domain ≡ Domain.Uint64) }
     {
         if columns.is_empty() {

@@ -176,7 +176,7 @@ module _ (files : Files) where
 
   -- what is written where a load ends with a fault: nothing
   pub ends : (room : ℕ) (told : Option (List ℕ)) (text : List ℕ) (before after : Option (List ℕ)) → IsGiven told MAX_SCRIPT text → script_fault text ≡ None → seats_of room text ≤ MOST_SEATS → after ≡ before
-      → (fault : RunFault) → IsWhyNotLoaded files (all_of (sections_of text)) fault → EndsWith room told files fault before after
+      → (fault : RunFault) → IsWhyNotLoaded files (all_of (sections_of text)) fault → EndsWith room told files before after fault
   ends room told text before after given none fits same (run.Script line kind) why = absurd (no_script_fault why.asked.line line kind why.asked.command why.stops)
   ends room told text before after given none fits same (run.Load line fault) why = (record { text = text; given = given; faultless = none; fits = fits; stops = why }, same)
   ends room told text before after given none fits same run.TooManySections why = absurd (no_crowd why.asked.line why.asked.command why.stops)

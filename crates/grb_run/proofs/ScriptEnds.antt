@@ -67,14 +67,14 @@ seats_fit room text script n count is fits = subst (λ (k : ℕ). k ≤ MOST_SEA
 -- what is written where the sections are too many: nothing
 pub crowded : (room : ℕ) (told : Option (List ℕ)) (files : Files) (text : List ℕ) (script : Script) (n : ℕ) (before after : Option (List ℕ)) → IsGiven told MAX_SCRIPT text
     → script_fault text ≡ None → n ≡ length script.threads.items → listed script ≡ sections_of text → after ≡ before → (fault : RunFault)
-    → (fault ≡ run.TooManySections) × (MOST_SEATS < room * (n + 1)) → EndsWith room told files fault before after
+    → (fault ≡ run.TooManySections) × (MOST_SEATS < room * (n + 1)) → EndsWith room told files before after fault
 crowded room told files text script n before after given none count is same fault why =
-    subst (λ (f : RunFault). EndsWith room told files f before after) (sym why.0)
+    subst (EndsWith room told files before after) (sym why.0)
     (record { text = text; given = given; faultless = none; crowded = subst (λ (k : ℕ). MOST_SEATS < k) (ap (λ (k : ℕ). room * (k + 1)) count ∙ seats_read room text script is) why.1 }, same)
 
 -- what is written where the threads are stopped: nothing
 pub stopped : (room : ℕ) (told : Option (List ℕ)) (files : Files) (text : List ℕ) (script : Steps) (before after : Option (List ℕ)) → IsGiven told MAX_SCRIPT text
-    → script_fault text ≡ None → seats_of room text ≤ MOST_SEATS → AreScriptSteps files (sections_of text) script → after ≡ before → (fault : RunFault) → IsStopOf script.threads fault → EndsWith room told files fault before after
+    → script_fault text ≡ None → seats_of room text ≤ MOST_SEATS → AreScriptSteps files (sections_of text) script → after ≡ before → (fault : RunFault) → IsStopOf script.threads fault → EndsWith room told files before after fault
 stopped room told files text script before after given none fits loaded same (run.Script line kind) is = absurd is
 stopped room told files text script before after given none fits loaded same (run.Load line fault) is = absurd is
 stopped room told files text script before after given none fits loaded same run.TooManySections is = absurd is

@@ -88,18 +88,18 @@ pub record IsThreaded (room : ℕ) (told : Option (List ℕ)) (files : Files) : 
   pub threaded : script.threads ≢ []
 
 -- what a run that ended with this fault wrote: nothing, but where the sink failed
-abbrev pub EndsWith : ℕ → Option (List ℕ) → Files → RunFault → Option (List ℕ) → Option (List ℕ) → Type 0
-EndsWith room told files (run.Script line kind) before after = IsFirstFault told line kind × (after ≡ before)
-EndsWith room told files (run.Load line fault) before after = StopsAtLoad room told files (run.Load line fault) × (after ≡ before)
-EndsWith room told files run.TooManySections before after = IsCrowded room told × (after ≡ before)
-EndsWith room told files run.CannotReadScript before after = after ≡ before
-EndsWith room told files (run.CannotReadFile line) before after = StopsAtLoad room told files (run.CannotReadFile line) × (after ≡ before)
-EndsWith room told files run.ScriptTooLong before after = after ≡ before
-EndsWith room told files (run.FileTooLong line) before after = StopsAtLoad room told files (run.FileTooLong line) × (after ≡ before)
-EndsWith room told files run.OutOfMemory before after = after ≡ before
-EndsWith room told files run.NoThread before after = IsThreaded room told files × (after ≡ before)
-EndsWith room told files run.Panic before after = IsThreaded room told files × (after ≡ before)
-EndsWith room told files run.CannotWrite before after = WroteBeginning room told files before after
+abbrev pub EndsWith : ℕ → Option (List ℕ) → Files → Option (List ℕ) → Option (List ℕ) → RunFault → Type 0
+EndsWith room told files before after (run.Script line kind) = IsFirstFault told line kind × (after ≡ before)
+EndsWith room told files before after (run.Load line fault) = StopsAtLoad room told files (run.Load line fault) × (after ≡ before)
+EndsWith room told files before after run.TooManySections = IsCrowded room told × (after ≡ before)
+EndsWith room told files before after run.CannotReadScript = after ≡ before
+EndsWith room told files before after (run.CannotReadFile line) = StopsAtLoad room told files (run.CannotReadFile line) × (after ≡ before)
+EndsWith room told files before after run.ScriptTooLong = after ≡ before
+EndsWith room told files before after (run.FileTooLong line) = StopsAtLoad room told files (run.FileTooLong line) × (after ≡ before)
+EndsWith room told files before after run.OutOfMemory = after ≡ before
+EndsWith room told files before after run.NoThread = IsThreaded room told files × (after ≡ before)
+EndsWith room told files before after run.Panic = IsThreaded room told files × (after ≡ before)
+EndsWith room told files before after run.CannotWrite = WroteBeginning room told files before after
 
 -- how often the sink has failed behind a run: once more where it could not write, and no more where it did not
 abbrev pub sink_failures_after : ℕ → Result (Unit {0}) RunFault → ℕ

@@ -127,7 +127,7 @@ pub fn run_script<R: Threads + Wait + Sync, S: Source, W: Sink, G: Gate + Sync>(
     requires source { AreCountable (S.faults source.old) }
     requires sink { W.failures sink.old < 2 ^ 64 - 1 }
     ensures ok { OnOk result (WroteAll room (S.script_bytes source.old) (S.file_bytes source.old) (W.taken sink.old) (W.taken sink.new)) }
-    ensures err { IfErr result (λ fault. EndsWith room (S.script_bytes source.old) (S.file_bytes source.old) fault (W.taken sink.old) (W.taken sink.new)) }
+    ensures err { IfErr result (EndsWith room (S.script_bytes source.old) (S.file_bytes source.old) (W.taken sink.old) (W.taken sink.new)) }
     ensures sink_failures { W.failures sink.new ≡ sink_failures_after (W.failures sink.old) result }
     ensures source_faults { MetFaults (S.faults source.old) result (S.faults source.new) }
     ensures script_stays { S.script_bytes source.new ≡ S.script_bytes source.old }

@@ -109,7 +109,7 @@ fn steps_of<S: Source>(
     ensures script_stays { S.script_bytes source.new ≡ S.script_bytes source.old }
     ensures files_stay { (path : List ℕ) → S.file_bytes source.new path ≡ S.file_bytes source.old path }
 {
-    let mut steps = Vec::new(alloc);
+    let mut steps = Vec::with_capacity(alloc, commands.len())?;
     for asked in commands {
         let step = step_of(alloc, source, asked.line, asked.command)?;
         steps.push(step).map_err(AllocError::from)?;

@@ -1,10 +1,12 @@
 -- What a map from names to sorts is as a list.
-use Rattle.std.proofs.Common.{◌≡◌, ℕ, ◌+◌, Bool, true, false, not, cond, List, [], ◌∷◌, ◌++◌, map, Option, Some, None, is_some, position, refl, sym, ap, true≢false, ◌∙◌}
-use Rattle.std.specs.List.{position_or_len}
+use Rattle.std.proofs.Common.{◌≡◌, ℕ, zero, suc, ◌+◌, Bool, true, false, not, cond, List, [], ◌∷◌, ◌++◌, map, take, Option, Some, None, is_some, position, refl, sym, ap, true≢false, ◌∙◌, arith}
+use Rattle.std.specs.List.{position_or_len, slice_get}
+use Rattle.std.proofs.lemmas.Option.{none-some, same_Some}
 use Rattle.std.specs.Map.{lookup, keys_of}
 use Rattle.std.specs.Option.{option_map}
 use Rattle.std.specs.Str.{bytes_eq}
 use Rattle.indexmap.specs.IndexMap.{insert_entry}
+use Rattle.grb_words.specs.Line.{Word}
 use Rattle.grb_script.specs.declared.names.Sort.{Sort}
 use Rattle.grb_script.specs.Names.{Name, sort_of, stands, number_in, name_found}
 
@@ -52,3 +54,44 @@ module _ {V : Type 0} (bytes : V → List ℕ) where
       ap (λ b. names_in (cond b ((x.0, sort) ∷ xs) (x ∷ insert_entry (λ a b. bytes_eq (bytes a) (bytes b)) xs value sort)))
       (ap (λ n. bytes_eq n (bytes x.0)) e ∙ absent.0)
       ∙ ap (λ names. (bytes x.0, x.1) ∷ names) (insert_entry-names_in xs name value sort e absent.1)
+
+-- where a name is none of the first names, and the next is another, it is none of these together
+pub not_among-next : (names : List Name) (n : ℕ) (e : Name) (name : Word) → slice_get names n ≡ Some e → stands (take n names) name ≡ false → bytes_eq name e.0 ≡ false
+    → stands (take (suc n) names) name ≡ false
+not_among-next [] n e name at none differs = absurd (none-some e at)
+not_among-next (x ∷ xs) zero e name at none differs =
+    let no_more : Option Sort = None in
+    ap (λ b. is_some (cond b (Some x.1) no_more)) (ap (λ (y : Name). bytes_eq name y.0) (same_Some x e at) ∙ differs)
+not_among-next (x ∷ xs) (suc n) e name at none differs =
+    let p = none_of (λ (v : Name). v.0) (bytes_eq name x.0) x.1 _ none in
+    ap (λ b. is_some (cond b (Some x.1) (sort_of (take (suc n) xs) name))) p.0 ∙ not_among-next xs n e name at p.1 differs
+
+-- a name of this number and this sort, and the sort, if there is one, with this number
+abbrev numbered : ℕ → Sort → ℕ × Sort
+numbered n sort = (n, sort)
+
+abbrev found : ℕ → Option Sort → Option (ℕ × Sort)
+found n sort = option_map (numbered n) sort
+
+-- what is found at the front of names, and behind another name
+found_here : (b : Bool) (rest : Option Sort) (k : ℕ) (s : Sort) → b ≡ true → Some (numbered 0 s) ≡ found (cond (not b) (1 + k) 0) (cond b (Some s) rest)
+found_here true rest k s h = refl
+found_here false rest k s h = absurd (true≢false (sym h))
+
+found_later : (b : Bool) (o : Option Sort) (k n : ℕ) (s t : Sort) → b ≡ false → Some (numbered n t) ≡ found k o → Some (numbered (suc n) t) ≡ found (cond (not b) (1 + k) 0) (cond b (Some s) o)
+found_later true o k n s t h e = absurd (true≢false h)
+found_later false None k n s t h e = absurd (none-some (numbered n t) (sym e))
+found_later false (Some u) k n s t h e =
+    let one : suc n ≡ 1 + n = omega arith in
+    ap (λ m. Some (numbered m t)) one ∙ ap (option_map (λ (p : ℕ × Sort). numbered (1 + p.0) p.1)) e
+
+-- the first name that is this one is the one that is found
+pub name_found-at : (names : List Name) (n : ℕ) (e : Name) (name : Word) → slice_get names n ≡ Some e → stands (take n names) name ≡ false → bytes_eq name e.0 ≡ true
+    → Some (numbered n e.1) ≡ name_found names name
+name_found-at [] n e name at none same = absurd (none-some e at)
+name_found-at (x ∷ xs) zero e name at none same =
+    let is = same_Some x e at in
+    ap (λ (y : Name). Some (numbered 0 y.1)) (sym is) ∙ found_here (bytes_eq name x.0) (sort_of xs name) (number_in xs name) x.1 (ap (λ (y : Name). bytes_eq name y.0) is ∙ same)
+name_found-at (x ∷ xs) (suc n) e name at none same =
+    let p = none_of (λ (v : Name). v.0) (bytes_eq name x.0) x.1 _ none in
+    found_later (bytes_eq name x.0) (sort_of xs name) (number_in xs name) n x.1 e.1 p.0 (name_found-at xs n e name at p.1 same)

@@ -1,5 +1,5 @@
 //! A script, read whole: its lines, section by section, or its first fault.
-ghost use Rattle.std.specs.Prelude.{◌≡◌, ◌≤◌, [], None, IfOk, IfErr, OnOk, length};
+ghost use Rattle.std.specs.Prelude.{◌≡◌, ◌≤◌, [], ◌++◌, None, IfOk, IfErr, OnOk, length};
 ghost use Rattle.grb_market.specs.Line.{ended};
 ghost use Rattle.grb_words.specs.Line.{words_of};
 ghost use Rattle.grb_words.specs.declared.version.Version.TheVariants as versions;
@@ -29,6 +29,22 @@ pub struct Script {
     pub finally: Vec<NumberedCommand>,
 }
 
+/// Moves the commands behind those of the list, and empties theirs. Where that list has none it takes theirs as it lies, and no memory.
+/// `AllocError` where memory is refused; then nothing is moved.
+fn move_behind(
+    list: &mut Vec<NumberedCommand>,
+    commands: &mut Vec<NumberedCommand>,
+) -> Result<(), AllocError>
+    ensures moved { OnOk result (list.new.items ≡ list.old.items ++ commands.old.items) }
+    ensures emptied { OnOk result (commands.new.items ≡ []) }
+{
+    if list.is_empty() {
+        mem::swap(list, commands);
+        return Ok(());
+    }
+    list.append(commands)
+}
+
 /// Adds the commands of a section to a script, and empties their list. `AllocError` where memory is refused; what the script has then,
 /// no clause says.
 fn end_section(
@@ -41,8 +57,8 @@ fn end_section(
     ensures emptied { OnOk result (commands.new.items ≡ []) }
 {
     match section {
-        None => script.main.append(commands),
-        Some(Section::Finally) => script.finally.append(commands),
+        None => move_behind(&mut script.main, commands),
+        Some(Section::Finally) => move_behind(&mut script.finally, commands),
         Some(Section::Thread(_)) => {
             let thread = mem::replace(commands, Vec::new(alloc));
             script.threads.push(thread).map_err(AllocError::from)

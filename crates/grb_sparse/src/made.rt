@@ -1,9 +1,10 @@
 //! Objects made of flat lists that were written elsewhere, with no copy.
-ghost use Rattle.std.specs.Prelude.{◌≡◌, true, length, map, IfOk};
-ghost use Rattle.grb_core.specs.declared.value.Value.TheVariants as value;
+ghost use Rattle.std.specs.Prelude.{◌≡◌, length, IfOk};
 ghost use Rattle.grb_core.specs.Contents.{IsVector, IsMatrix};
-ghost use Rattle.grb_rows.specs.Stored.{paired};
+ghost use Rattle.grb_rows.specs.Stored.{bool_entries, number_entries};
 ghost use Rattle.grb_rows.specs.Cells.{decoded};
+ghost use Rattle.grb_sparse.specs.Vector.{settled_vector};
+ghost use Rattle.grb_sparse.specs.Matrix.{settled_matrix};
 
 use crate::matrix::SparseMatrix;
 use crate::vector::SparseVector;
@@ -15,7 +16,7 @@ impl SparseVector {
     /// The vector of these entries, assembled. Takes no memory, and gives back what no entry takes.
     fn from_row(alloc: Global, size: u64, mut row: FlatRows) -> SparseVector
         requires whole { IsVector (record { domain = row.domain; size = size; entries = row.entries }) }
-        ensures { result ≡ record { vector = record { domain = row.domain; size = size; entries = row.entries }; assembled = true; reserved = 0; pending = 0 } }
+        ensures { result ≡ settled_vector row.domain size row.entries }
     {
         row.shrink();
         SparseVector {
@@ -35,8 +36,8 @@ impl SparseVector {
         bools: Vec<bool>,
     ) -> Result<SparseVector, AllocError>
         requires same { length bools.items ≡ length indices.items }
-        requires whole { IsVector (record { domain = Domain.Bool; size = size; entries = paired indices.items (map (λ b. value.Bool b) bools.items) }) }
-        ensures { IfOk result (λ v. v ≡ record { vector = record { domain = Domain.Bool; size = size; entries = paired indices.items (map (λ b. value.Bool b) bools.items) }; assembled = true; reserved = 0; pending = 0 }) }
+        requires whole { IsVector (record { domain = Domain.Bool; size = size; entries = bool_entries indices.items bools.items }) }
+        ensures { IfOk result (λ v. v ≡ settled_vector Domain.Bool size (bool_entries indices.items bools.items)) }
     {
         let row = FlatRows::row_from_bools(alloc, indices, bools)?;
         Ok(SparseVector::from_row(alloc, size, row))
@@ -53,8 +54,8 @@ impl SparseVector {
         numbers: Vec<u64>,
     ) -> Result<SparseVector, AllocError>
         requires same { length numbers.items ≡ length indices.items }
-        requires whole { IsVector (record { domain = Domain.Uint64; size = size; entries = paired indices.items (map (λ n. value.Uint64 n) numbers.items) }) }
-        ensures { IfOk result (λ v. v ≡ record { vector = record { domain = Domain.Uint64; size = size; entries = paired indices.items (map (λ n. value.Uint64 n) numbers.items) }; assembled = true; reserved = 0; pending = 0 }) }
+        requires whole { IsVector (record { domain = Domain.Uint64; size = size; entries = number_entries indices.items numbers.items }) }
+        ensures { IfOk result (λ v. v ≡ settled_vector Domain.Uint64 size (number_entries indices.items numbers.items)) }
     {
         let row = FlatRows::row_from_numbers(alloc, indices, numbers)?;
         Ok(SparseVector::from_row(alloc, size, row))
@@ -68,7 +69,7 @@ impl SparseMatrix {
     /// Source: own.
     pub fn from_lists(alloc: Global, nrows: u64, ncols: u64, mut lists: FlatRows) -> SparseMatrix
         requires whole { IsMatrix (record { domain = lists.domain; nrows = nrows; ncols = ncols; entries = decoded lists.entries }) }
-        ensures { result ≡ record { matrix = record { domain = lists.domain; nrows = nrows; ncols = ncols; entries = decoded lists.entries }; assembled = true; reserved = 0; pending = 0 } }
+        ensures { result ≡ settled_matrix lists.domain nrows ncols (decoded lists.entries) }
     {
         lists.shrink();
         SparseMatrix {

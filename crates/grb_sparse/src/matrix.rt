@@ -7,6 +7,7 @@ ghost use Rattle.grb_core.specs.Monoid.{monoid_domain};
 ghost use Rattle.grb_core.specs.Results.{row_of};
 ghost use Rattle.grb_rows.specs.Cells.{decoded};
 ghost use Rattle.grb_rows.specs.Pending.{changed};
+ghost use Rattle.grb_sparse.specs.Matrix.{settled_matrix};
 ghost use Rattle.grb_core.specs.Contents.{IsDimension, IsMatrix, edited_matrix, resized_matrix};
 
 use crate::iter::{Entries, Row};
@@ -59,7 +60,7 @@ impl SparseMatrix {
     pub fn new(alloc: Global, domain: Domain, nrows: u64, ncols: u64) -> SparseMatrix
         requires rows { IsDimension nrows }
         requires columns { IsDimension ncols }
-        ensures { result ≡ record { matrix = record { domain = domain; nrows = nrows; ncols = ncols; entries = [] }; assembled = true; reserved = 0; pending = 0 } }
+        ensures { result ≡ settled_matrix domain nrows ncols [] }
     {
         SparseMatrix {
             nrows,

@@ -7,6 +7,7 @@ ghost use Rattle.grb_core.specs.Entries.{nvals_of, values_of, without_entry, bui
 ghost use Rattle.grb_core.specs.Monoid.{monoid_domain};
 ghost use Rattle.grb_core.specs.Contents.{IsDimension, IsVector, edited_vector, resized_vector};
 ghost use Rattle.grb_rows.specs.Pending.{changed};
+ghost use Rattle.grb_sparse.specs.Vector.{settled_vector};
 
 use crate::iter::EntriesByIndex;
 use crate::tuples;
@@ -51,7 +52,7 @@ impl SparseVector {
     /// Source: GraphBLAS C API 2.0, `GrB_Vector_new`.
     pub fn new(alloc: Global, domain: Domain, size: u64) -> SparseVector
         requires dimension { IsDimension size }
-        ensures { result ≡ record { vector = record { domain = domain; size = size; entries = [] }; assembled = true; reserved = 0; pending = 0 } }
+        ensures { result ≡ settled_vector domain size [] }
     {
         SparseVector {
             size,

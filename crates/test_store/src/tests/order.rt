@@ -1,51 +1,51 @@
-//! Words of two places of one order. A contract lets a try be lost, or won, by what the atomic step finds; which of them comes, and that two
+//! Words of two seats of one order. A contract lets a try be lost, or won, by what the atomic step finds; which of them comes, and that two
 //! threads enter each word once, no contract says. No script sees the words of an order.
 ghost use Rattle.std.specs.Prelude.{◌≡◌, ◌<◌, ◌≤◌, ◌^◌, ◌+◌, IfOk};
 ghost use Rattle.grb_order.specs.declared.limits.TheConstants.{MOST_ROOM};
 ghost use Rattle.grb_order.specs.Order.{room_of};
 
 use crate::tests::same::same;
-use grb_order::{Entered, Look, MOST_PASSES, MOST_ROOM, Order, Place};
+use grb_order::{Entered, Look, MOST_PASSES, MOST_ROOM, Order, Seat};
 use std::alloc::{AllocError, Global};
 use std::process::Abort;
 use std::thread::join_mut;
 
-fn two_places(alloc: Global, room: u32) -> Result<(Order, Place, Place), AllocError>
+fn two_seats(alloc: Global, room: u32) -> Result<(Order, Seat, Seat), AllocError>
     requires { (0 < room) × (room ≤ MOST_ROOM) }
     ensures { IfOk result (λ made. (made.1.table_id ≡ made.0) × (made.2.table_id ≡ made.0)) }
 {
-    let (order, mut places) = Order::open(alloc, room, 2)?;
-    let Some(second) = places.pop() else {
+    let (order, mut seats) = Order::open(alloc, room, 2)?;
+    let Some(second) = seats.pop() else {
         unreachable!()
     };
-    let Some(first) = places.pop() else {
+    let Some(first) = seats.pop() else {
         unreachable!()
     };
     Ok((order, first, second))
 }
 
 // Enters records with the indices below `count` in turn, as long as there is room.
-fn enter_all(order: &Order, place: &mut Place, count: u64)
-    requires order { place.old.table_id ≡ order.now }
+fn enter_all(order: &Order, seat: &mut Seat, count: u64)
+    requires order { seat.old.table_id ≡ order.now }
     requires indices { count ≤ 2 ^ 48 }
-    ensures { place.new.table_id ≡ order.now }
+    ensures { seat.new.table_id ≡ order.now }
 {
     for index in 0..count {
-        enter_next(order, place, index);
+        enter_next(order, seat, index);
     }
 }
 
-fn enter_next(order: &Order, place: &mut Place, index: u64) -> bool
-    requires order { place.old.table_id ≡ order.now }
+fn enter_next(order: &Order, seat: &mut Seat, index: u64) -> bool
+    requires order { seat.old.table_id ≡ order.now }
     requires index { index < 2 ^ 48 }
-    ensures { place.new.table_id ≡ order.now }
+    ensures { seat.new.table_id ≡ order.now }
 {
     loop {
-        match order.look(place) {
+        match order.look(seat) {
             Look::Next(_) => {}
             Look::Full => return false,
             Look::Vacant => {
-                if order.enter(place, index) == Entered::Won {
+                if order.enter(seat, index) == Entered::Won {
                     return true;
                 }
             }
@@ -53,14 +53,14 @@ fn enter_next(order: &Order, place: &mut Place, index: u64) -> bool
     }
 }
 
-fn look_at_all(order: &Order, place: &mut Place)
-    requires { place.old.table_id ≡ order.now }
-    ensures { place.new.table_id ≡ order.now }
+fn look_at_all(order: &Order, seat: &mut Seat)
+    requires { seat.old.table_id ≡ order.now }
+    ensures { seat.new.table_id ≡ order.now }
 {
-    while let Look::Next(_) = order.look(place) {}
+    while let Look::Next(_) = order.look(seat) {}
 }
 
-fn expect_found(rt: &impl Abort, order: &Order, p: &mut Place, q: &mut Place)
+fn expect_found(rt: &impl Abort, order: &Order, p: &mut Seat, q: &mut Seat)
     requires first { p.old.table_id ≡ order.now }
     requires second { q.old.table_id ≡ order.now }
 {
@@ -86,8 +86,8 @@ fn expect_found(rt: &impl Abort, order: &Order, p: &mut Place, q: &mut Place)
 }
 
 #[test]
-fn a_place_finds_what_the_other_entered(rt: HostRuntime) -> Result<(), AllocError> {
-    let (order, mut p, mut q) = two_places(rt.alloc(), 2)?;
+fn a_seat_finds_what_the_other_entered(rt: HostRuntime) -> Result<(), AllocError> {
+    let (order, mut p, mut q) = two_seats(rt.alloc(), 2)?;
     expect_found(&rt, &order, &mut p, &mut q);
     Ok(())
 }
@@ -105,7 +105,7 @@ fn expect_indices(rt: &impl Abort, words: &[u64], number: u64) {
 }
 
 /// Both know 200 words, a hundred of each.
-fn expect_words(rt: &impl Abort, p: &Place, q: &Place) {
+fn expect_words(rt: &impl Abort, p: &Seat, q: &Seat) {
     same(rt, p.words() == q.words(), true, "the words of both");
     same(rt, p.words().len(), 200, "the count of words");
     expect_indices(rt, p.words(), 1);
@@ -114,7 +114,7 @@ fn expect_words(rt: &impl Abort, p: &Place, q: &Place) {
 
 #[test]
 fn two_threads_enter_each_record_once(rt: HostRuntime) -> Result<(), AllocError> {
-    let (order, mut p, mut q) = two_places(rt.alloc(), 200)?;
+    let (order, mut p, mut q) = two_seats(rt.alloc(), 200)?;
     join_mut(
         &rt,
         &mut || enter_all(&order, &mut p, 100),
@@ -126,15 +126,15 @@ fn two_threads_enter_each_record_once(rt: HostRuntime) -> Result<(), AllocError>
     Ok(())
 }
 
-/// The words of two places of a full order, which are the same.
-fn expect_full(rt: &impl Abort, p: &Place, q: &Place) {
+/// The words of two seats of a full order, which are the same.
+fn expect_full(rt: &impl Abort, p: &Seat, q: &Seat) {
     same(rt, p.words().len(), MOST_ROOM as usize, "the words");
     same(rt, p.words() == q.words(), true, "the same words");
 }
 
 #[test]
 fn two_threads_fill_an_order_of_65536_words(rt: HostRuntime) -> Result<(), AllocError> {
-    let (order, mut p, mut q) = two_places(rt.alloc(), MOST_ROOM)?;
+    let (order, mut p, mut q) = two_seats(rt.alloc(), MOST_ROOM)?;
     join_mut(
         &rt,
         &mut || enter_all(&order, &mut p, 65_536),
@@ -151,8 +151,8 @@ fn two_threads_fill_an_order_of_65536_words(rt: HostRuntime) -> Result<(), Alloc
 fn the_last_record_of_the_last_pass_has_the_greatest_word(
     rt: HostRuntime,
 ) -> Result<(), AllocError> {
-    let (order, mut places) = Order::open(rt.alloc(), 1, MOST_PASSES)?;
-    let Some(mut last) = places.pop() else {
+    let (order, mut seats) = Order::open(rt.alloc(), 1, MOST_PASSES)?;
+    let Some(mut last) = seats.pop() else {
         unreachable!()
     };
     enter_next(&order, &mut last, 65_535);

@@ -1,4 +1,4 @@
-use Rattle.std.proofs.Common.{◌≡◌, ◌<◌, ◌+◌, ◌∷◌, ap, sym, subst, ◌∙◌, length, get_or, false}
+use Rattle.std.proofs.Common.{◌≡◌, ◌<◌, ◌+◌, ◌∷◌, List, Bool, ap, sym, subst, ◌∙◌, length, get_or, false}
 use Rattle.std.specs.Prelude.{Some, IsTrue}
 use Rattle.std.specs.List.{AllByRecursion}
 use Rattle.std.specs.Ordering.{nat_cmp}
@@ -10,6 +10,7 @@ use Rattle.grb_core.specs.Written.{either_value, both_values}
 use Rattle.grb_kernels.specs.Typed.{entries_of, entries_from, first_entries}
 use Rattle.grb_kernels.proofs.Lists.{from-read, first-read}
 use Rattle.grb_products.specs.Open.{marked_at}
+use Rattle.grb_mxm.specs.Bits.{allowed_of, summed_of}
 use Rattle.grb_mxm.proofs.RowSums.{all_and, below_rest, rest_ordered}
 use Rattle.grb_mxm.proofs.MaskedSums.{allowed_step}
 use Rattle.grb_mxm.proofs.allowed_sums.add_allowed.Goals as goal
@@ -22,10 +23,10 @@ row-preserved g c =
     let mul = value_of_op g.O.Operator.op in
     let cs = c.args.places.now in
     let vs = c.args.values.now in
-    let al = c.args.allowed.now in
-    let ms = c.row.marks in
+    let al = allowed_of c.args.states.now in
+    let ms = summed_of c.row.states in
     let ss = c.row.sums in
-    let ms2 = c.add_where.new.marks in
+    let ms2 = summed_of c.add_where.new.states in
     let ss2 = c.add_where.new.sums in
     let i = c.row.i in
     let q = get_or cs i 0 in
@@ -40,16 +41,16 @@ row-preserved g c =
     record {
       added = λ p a.
           allowed_step add mul p q xv (tv y) rest (marked_at tv ms ss p) (marked_at tv ms2 ss2 p)
-          (either_value add (marked_at tv c.args.marks.now c.args.sums.now p) (both_values mul (Some xv) (find nat_cmp p (entries_of tv cs vs))))
+          (either_value add (marked_at tv (summed_of c.args.states.now) c.args.sums.now p) (both_values mul (Some xv) (find nat_cmp p (entries_of tv cs vs))))
           (λ e.
           ap (marked_at tv ms2 ss2) e
-          ∙ c.add_where.ensures.added (sym (ap (λ k. get_or al k false) e) ∙ a)
+          ∙ c.add_where.ensures.added (ap (λ (x : List Bool). get_or x q false) c.row.invariant.allowed ∙ sym (ap (λ k. get_or al k false) e) ∙ a)
           ∙ ap (λ v. either_value add (marked_at tv ms ss q) (Some v)) product
           ∙ ap (λ k. either_value add (marked_at tv ms ss k) (Some (mul xv (tv y)))) (sym e))
           (λ n. c.add_where.ensures.others p n)
           (below_rest q (tv y) rest ordered)
           (ap (λ m. either_value add (marked_at tv ms ss p) (both_values mul (Some xv) (find nat_cmp p m))) (sym front) ∙ c.row.invariant.added p a);
-      among = c.add_where.ensures.among;
+      allowed = c.add_where.ensures.allowed ∙ c.row.invariant.allowed;
       clear = c.add_where.ensures.clear;
       ordered = rest_ordered q (tv y) rest ordered;
       of_domain = subst (AllByRecursion (λ e. IsValueOf g.T.Scalar.domain (mul xv e.1))) (sym (first-read tv cs vs i y inside c.requires.same c.index-values-i.is))

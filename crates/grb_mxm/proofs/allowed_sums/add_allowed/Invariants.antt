@@ -9,7 +9,7 @@ use Rattle.grb_core.specs.Monoid.{monoid_op, identity_of}
 use Rattle.grb_core.specs.Written.{either_value, both_values}
 use Rattle.grb_kernels.specs.Typed.{entries_of, entries_from, first_entries}
 use Rattle.grb_products.specs.Open.{marked_at}
-use Rattle.grb_mxm.specs.Bits.{AreAmong, HoldUnmarked}
+use Rattle.grb_mxm.specs.Bits.{HoldUnmarked, allowed_of, summed_of}
 use Rattle.grb_mxm.proofs.allowed_sums.add_allowed.Given as goal
 
 -- where it is allowed, the sums so far with what is left of the row are all
@@ -19,10 +19,10 @@ invariant-row g l =
     let add = value_of_op (monoid_op g.M.MonoidOver.monoid) in
     let mul = value_of_op g.O.Operator.op in
     record {
-      added : (p : ℕ) → get_or l.allowed p false ≡ true → either_value add (marked_at tv l.marks l.sums p) (both_values mul (Some (tv l.x)) (find nat_cmp p (entries_from tv l.i l.places l.values)))
-          ≡ either_value add (marked_at tv l.fn.marks l.fn.sums p) (both_values mul (Some (tv l.x)) (find nat_cmp p (entries_of tv l.places l.values)));
-      among : AreAmong l.marks l.allowed;
-      clear : HoldUnmarked tv (identity_of g.M.MonoidOver.monoid) l.marks l.sums;
+      added : (p : ℕ) → get_or (allowed_of l.fn.states) p false ≡ true → either_value add (marked_at tv (summed_of l.states) l.sums p) (both_values mul (Some (tv l.x)) (find nat_cmp p (entries_from tv l.i l.places l.values)))
+          ≡ either_value add (marked_at tv (summed_of l.fn.states) l.fn.sums p) (both_values mul (Some (tv l.x)) (find nat_cmp p (entries_of tv l.places l.values)));
+      allowed : allowed_of l.states ≡ allowed_of l.fn.states;
+      clear : HoldUnmarked tv (identity_of g.M.MonoidOver.monoid) (summed_of l.states) l.sums;
       ordered : IsTrue (is_sorted nat_cmp (entries_from tv l.i l.places l.values));
       of_domain : AllByRecursion (λ e. IsValueOf g.T.Scalar.domain (mul (tv l.x) e.1)) (first_entries tv l.i l.places l.values);
     }

@@ -1,27 +1,20 @@
-use Rattle.std.proofs.Common.{◌≡◌, ◌<◌, ◌+◌, ◌++◌, [], ℕ, Bool, true, false, refl, ap, sym, ◌∙◌, arith, inl, inr, length, set}
+use Rattle.std.proofs.Common.{◌≡◌, ◌<◌, ◌+◌, ◌++◌, [], ◌∷◌, ℕ, true, false, refl, ap, sym, ◌∙◌, arith, length, set}
 use Rattle.std.specs.Prelude.{nat_eq, Some}
-use Rattle.std.proofs.lemmas.Bool.{cases_order}
 use Rattle.std.proofs.lemmas.Nat.Bits.{bit_at-zero}
 use Rattle.grb_core.specs.Monoid.{identity_of}
 use Rattle.grb_kernels.specs.Typed.{first_entries}
 use Rattle.grb_mxm.specs.Rows.{name_in}
-use Rattle.grb_mxm.specs.Bits.{has_bit, value_at, bits_from}
+use Rattle.grb_kernels.specs.Bits.{has_bit}
+use Rattle.grb_products.specs.Bits.{value_at}
+use Rattle.grb_mxm.specs.Bits.{bits_from}
 use Rattle.grb_kernels.proofs.Lists.{append_nil, first-set_more}
 use Rattle.grb_mxm.proofs.Cleared.{value-set_other, cleared_here, stays_cleared}
 use Rattle.grb_mxm.proofs.LowestBit.{took_lowest, no_bits, value-read}
+use Rattle.grb_mxm.proofs.Tops.{after_lowest}
 use Rattle.grb_mxm.proofs.bits.take_word.Goals as goal
 
 differ : false ≡ true → ⊥
 differ e = cc
-
--- a bit that is left is above the lowest
-after_lowest : (bit bit' : ℕ → Bool) (low t : ℕ) → ((i : ℕ) → i < low → bit i ≡ false) → bit' low ≡ false → ((i : ℕ) → bit' i ≡ true → bit i ≡ true) → bit' t ≡ true → low < t
-after_lowest bit bit' low t below gone among set =
-    elim (cases_order t low) [
-      | inl e ↦ absurd (differ (sym gone ∙ ap bit' (sym e) ∙ set))
-      | inr (inl h) ↦ absurd (differ (sym (below t h) ∙ among t set))
-      | inr (inr h) ↦ h
-    ]
 
 pub bits-init : goal.bits-init
 bits-init g c = record {
@@ -41,9 +34,9 @@ bits-preserved g c =
     let tv = g.T.Scalar.value in
     let v = identity_of g.M.MonoidOver.monoid in
     let held = c.bits.invariant in
-    let low = c.lowest-t.result in
-    let lowest = c.lowest-t.ensures in
-    let rest = c.without-left.ensures in
+    let low = c.lowest_bit-t.result in
+    let lowest = c.lowest_bit-t.ensures in
+    let rest = c.without_bit-left.ensures in
     let base = c.args.base in
     let ss = c.bits.sums in
     let name = name_in c.args.names.now in
@@ -57,7 +50,7 @@ bits-preserved g c =
     let before = held.before low lowest.set in
     let room : k < length columns = omega (arith, inside, before) in
     let same : length columns ≡ length values = omega arith in
-    let above : (t : ℕ) → has_bit c.without-left.result t ≡ true → low < t = λ t h. after_lowest (has_bit c.bits.left) (has_bit c.without-left.result) low t lowest.below rest.gone rest.among h in
+    let above : (t : ℕ) → has_bit c.without_bit-left.result t ≡ true → low < t = λ t h. after_lowest (has_bit c.bits.left) (has_bit c.without_bit-left.result) low t lowest.below rest.gone rest.among h in
     record {
       in_range = λ t h. held.in_range t (rest.among t h);
       before = λ t h. omega (arith, before, above t h);
@@ -65,13 +58,13 @@ bits-preserved g c =
       most = omega (arith, before, lowest.low);
       left = λ t h. value-set_other tv ss at (base + t) _ (λ e. omega (arith, e, above t h)) ∙ held.left t (rest.among t h);
       above = λ i h. value-set_other tv ss at i _ (λ e. omega (arith, e, h, lowest.low)) ∙ held.above i h;
-      clear = λ t l h n. cleared_here tv v (has_bit c.bits.left) (has_bit c.without-left.result) ss base low t _ l inside_sums c.identity.ensures rest.same (λ m. held.clear t l h m) n;
+      clear = λ t l h n. cleared_here tv v (has_bit c.bits.left) (has_bit c.without_bit-left.result) ss base low t _ l inside_sums c.identity.ensures rest.same (λ m. held.clear t l h m) n;
       stay = λ i h. stays_cleared tv v ss at i _ inside_sums c.identity.ensures (held.stay i h);
-      so_far = took_lowest name (has_bit c.bits.left) (has_bit c.without-left.result) (value_at tv c.args.sums.now) base low lowest.set lowest.below rest.gone rest.same
-          (first_entries tv k columns values) (first_entries tv (k + 1) (set columns k (name at)) (set values k x))
+      so_far = took_lowest name (has_bit c.bits.left) (has_bit c.without_bit-left.result) (value_at tv c.args.sums.now) base low lowest.set lowest.below rest.gone rest.same
+          (first_entries tv k columns values) (first_entries tv (k + 1) (set columns k c.name.result) (set values k x))
           (first_entries tv c.args.k c.args.columns.now c.args.values.now ++ bits_from name (has_bit c.args.word) (value_at tv c.args.sums.now) base 64 0)
           (Some (tv x)) lowest.low held.so_far (value-read tv ss at x inside_sums c.index-sums-at.is ∙ held.left low lowest.set)
-          (first-set_more tv columns values k (name at) x room same);
+          (first-set_more tv columns values k c.name.result x room same ∙ ap (λ j. first_entries tv k columns values ++ (j, tv x) ∷ []) c.name.ensures);
     }
 
 pub returns-clause-entries : goal.returns-clause-entries

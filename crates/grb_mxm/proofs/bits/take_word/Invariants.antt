@@ -3,7 +3,9 @@ use Rattle.std.specs.Prelude.{Some}
 use Rattle.grb_core.specs.Monoid.{identity_of}
 use Rattle.grb_kernels.specs.Typed.{first_entries}
 use Rattle.grb_mxm.specs.Rows.{name_in}
-use Rattle.grb_mxm.specs.Bits.{has_bit, value_at, bits_from}
+use Rattle.grb_kernels.specs.Bits.{has_bit}
+use Rattle.grb_products.specs.Bits.{value_at}
+use Rattle.grb_mxm.specs.Bits.{bits_from}
 use Rattle.grb_mxm.proofs.bits.take_word.Given as goal
 
 -- the entries so far, and those of the bits that are left, whose sums are as they were; the others are cleared

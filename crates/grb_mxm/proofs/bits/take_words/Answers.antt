@@ -1,7 +1,8 @@
 use Rattle.std.proofs.Common.{◌≡◌, ◌<◌, ◌^◌, true, arith, length, subst}
 use Rattle.grb_core.specs.Monoid.{identity_of}
 use Rattle.grb_mxm.specs.Rows.{name_in}
-use Rattle.grb_mxm.specs.Bits.{has_bit, marks_of}
+use Rattle.grb_kernels.specs.Bits.{has_bit}
+use Rattle.grb_mxm.specs.Bits.{marks_of}
 use Rattle.grb_mxm.proofs.MarksOf.{length-marks_of}
 use Rattle.grb_mxm.proofs.Taken.{taken_begins, taken_more, taken_entries, taken_zeros}
 use Rattle.grb_mxm.proofs.WordByWord.{bit_in_range}
@@ -45,7 +46,7 @@ returns g c =
       most = c.words.invariant.within;
       ready = record {
         long = omega arith;
-        enough = omega arith;
+        words_long = omega arith;
         words_few = omega arith;
         none = taken_zeros tv v name c.args.words.now c.args.sums.now c.words.w _ _ _ _ _ held (omega arith);
         clear = λ p l. held.clear p (omega (arith, l)) (omega (arith, l));

@@ -9,7 +9,7 @@ use Rattle.grb_core.specs.Monoid.{monoid_op, identity_of}
 use Rattle.grb_core.specs.Written.{either_value, both_values}
 use Rattle.grb_kernels.specs.Typed.{entries_of, entries_from, first_entries}
 use Rattle.grb_products.specs.Open.{marked_at}
-use Rattle.grb_mxm.specs.Bits.{marks_of, AreMarks, HoldUnmarked, AreTouched}
+use Rattle.grb_mxm.specs.Bits.{marks_of, AreMarks, HoldUnmarked}
 use Rattle.grb_mxm.proofs.open_sums.add_row.Given as goal
 
 -- the sums so far with what is left of the row are all
@@ -23,7 +23,6 @@ invariant-row g l =
           ≡ either_value add (marked_at tv (marks_of (length l.fn.sums) l.fn.words) l.fn.sums p) (both_values mul (Some (tv l.x)) (find nat_cmp p (entries_of tv l.places l.values)));
       bits : AreMarks (marks_of (length l.sums) l.words) l.words;
       clear : HoldUnmarked tv (identity_of g.M.MonoidOver.monoid) (marks_of (length l.sums) l.words) l.sums;
-      listed : AreTouched l.words l.touched l.count;
       ordered : IsTrue (is_sorted nat_cmp (entries_from tv l.i l.places l.values));
       of_domain : AllByRecursion (λ e. IsValueOf g.T.Scalar.domain (mul (tv l.x) e.1)) (first_entries tv l.i l.places l.values);
     }

@@ -7,5 +7,5 @@ abbrev pub invariant-loop-number : goal.invariant-loop-number
 invariant-loop-number l = record {
   table : l.dealer.table_id ≡ l.row.table_id;
   dealer : l.dealer.me ≡ (dealing l.number l.size.passes, []);
-  places : AreFresh l.row.table_id l.size.passes l.places.items l.number;
+  seats : AreFresh l.row.table_id l.size.passes l.seats.items l.number;
 }

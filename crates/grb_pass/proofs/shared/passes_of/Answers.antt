@@ -5,45 +5,45 @@ use Rattle.grb_order.specs.Holding.{Holding, TableId}
 use Rattle.grb_order.specs.Order.{room_of}
 use Rattle.grb_call.specs.Statuses.{no_rows}
 use Rattle.grb_pass.specs.Known.{Knowing, AreNew}
-use Rattle.grb_pass.proofs.Opening.{next_place, fresh_at, new_at, new_more, all_opened, none_left}
+use Rattle.grb_pass.proofs.Opening.{next_seat, fresh_at, new_at, new_more, all_opened, none_left}
 use Rattle.grb_pass.proofs.shared.passes_of.Goals as goal
 
 pub open-requires-clause-number : goal.open-requires-clause-number
 open-requires-clause-number c =
-    let now : (length c.loop-place.opened.items < c.args.passes) × (c.in-Some.place ≡ fresh_at c.args.order.now c.args.passes (length c.loop-place.opened.items)) × (drop (suc (length c.loop-place.opened.items)) c.args.places.items ≡ c.next.new.self.rest.items)
-    = next_place c.args.order.now c.args.passes c.args.places.items (length c.loop-place.opened.items) c.in-Some.place c.next.new.self.rest.items c.requires.places (sym c.loop-place.invariant.rest ∙ c.in-Some.ensures.steps.0) in
-    let n : c.len-number.result ≡ length c.loop-place.opened.items = c.len-number.ensures ∙ c.loop-place.opened.ok.0 in
-    let passes : c.in-Some.place.view.passes ≡ c.args.passes = ap (λ (h : Holding). h.view.passes) now.1 in
+    let now : (length c.loop-seat.opened.items < c.args.passes) × (c.in-Some.seat ≡ fresh_at c.args.order.now c.args.passes (length c.loop-seat.opened.items)) × (drop (suc (length c.loop-seat.opened.items)) c.args.seats.items ≡ c.next.new.self.rest.items)
+    = next_seat c.args.order.now c.args.passes c.args.seats.items (length c.loop-seat.opened.items) c.in-Some.seat c.next.new.self.rest.items c.requires.seats (sym c.loop-seat.invariant.rest ∙ c.in-Some.ensures.steps.0) in
+    let n : c.len-number.result ≡ length c.loop-seat.opened.items = c.len-number.ensures ∙ c.loop-seat.opened.ok.0 in
+    let passes : c.in-Some.seat.view.passes ≡ c.args.passes = ap (λ (h : Holding). h.view.passes) now.1 in
     (n ∙ sym (ap (λ (h : Holding). h.view.number) now.1), omega (arith, now.0))
 
 pub open-requires-clause-room : goal.open-requires-clause-room
 open-requires-clause-room c =
-    let now : (length c.loop-place.opened.items < c.args.passes) × (c.in-Some.place ≡ fresh_at c.args.order.now c.args.passes (length c.loop-place.opened.items)) × (drop (suc (length c.loop-place.opened.items)) c.args.places.items ≡ c.next.new.self.rest.items)
-    = next_place c.args.order.now c.args.passes c.args.places.items (length c.loop-place.opened.items) c.in-Some.place c.next.new.self.rest.items c.requires.places (sym c.loop-place.invariant.rest ∙ c.in-Some.ensures.steps.0) in
+    let now : (length c.loop-seat.opened.items < c.args.passes) × (c.in-Some.seat ≡ fresh_at c.args.order.now c.args.passes (length c.loop-seat.opened.items)) × (drop (suc (length c.loop-seat.opened.items)) c.args.seats.items ≡ c.next.new.self.rest.items)
+    = next_seat c.args.order.now c.args.passes c.args.seats.items (length c.loop-seat.opened.items) c.in-Some.seat c.next.new.self.rest.items c.requires.seats (sym c.loop-seat.invariant.rest ∙ c.in-Some.ensures.steps.0) in
     (sym c.requires.room.0 ∙ sym (ap (λ (h : Holding). room_of h.table_id) now.1), c.requires.room.1)
 
 pub open-requires-clause-fresh : goal.open-requires-clause-fresh
 open-requires-clause-fresh c =
-    let now : (length c.loop-place.opened.items < c.args.passes) × (c.in-Some.place ≡ fresh_at c.args.order.now c.args.passes (length c.loop-place.opened.items)) × (drop (suc (length c.loop-place.opened.items)) c.args.places.items ≡ c.next.new.self.rest.items)
-    = next_place c.args.order.now c.args.passes c.args.places.items (length c.loop-place.opened.items) c.in-Some.place c.next.new.self.rest.items c.requires.places (sym c.loop-place.invariant.rest ∙ c.in-Some.ensures.steps.0) in
-    let n : c.len-number.result ≡ length c.loop-place.opened.items = c.len-number.ensures ∙ c.loop-place.opened.ok.0 in
+    let now : (length c.loop-seat.opened.items < c.args.passes) × (c.in-Some.seat ≡ fresh_at c.args.order.now c.args.passes (length c.loop-seat.opened.items)) × (drop (suc (length c.loop-seat.opened.items)) c.args.seats.items ≡ c.next.new.self.rest.items)
+    = next_seat c.args.order.now c.args.passes c.args.seats.items (length c.loop-seat.opened.items) c.in-Some.seat c.next.new.self.rest.items c.requires.seats (sym c.loop-seat.invariant.rest ∙ c.in-Some.ensures.steps.0) in
+    let n : c.len-number.result ≡ length c.loop-seat.opened.items = c.len-number.ensures ∙ c.loop-seat.opened.ok.0 in
     ap (λ (h : Holding). h.view) now.1 ∙ (λ i. fresh (sym n i) (sym (ap (λ (h : Holding). h.view.passes) now.1) i))
 
-pub loop-place-preserved : goal.loop-place-preserved
-loop-place-preserved c =
-    let order : TableId = c.args.order.now in let passes : ℕ = c.args.passes in let opened : List Knowing = c.loop-place.opened.items in
-    let now : (length opened < passes) × (c.in-Some.place ≡ fresh_at order passes (length opened)) × (drop (suc (length opened)) c.args.places.items ≡ c.next.new.self.rest.items)
-    = next_place order passes c.args.places.items (length opened) c.in-Some.place c.next.new.self.rest.items c.requires.places (sym c.loop-place.invariant.rest ∙ c.in-Some.ensures.steps.0) in
+pub loop-seat-preserved : goal.loop-seat-preserved
+loop-seat-preserved c =
+    let order : TableId = c.args.order.now in let passes : ℕ = c.args.passes in let opened : List Knowing = c.loop-seat.opened.items in
+    let now : (length opened < passes) × (c.in-Some.seat ≡ fresh_at order passes (length opened)) × (drop (suc (length opened)) c.args.seats.items ≡ c.next.new.self.rest.items)
+    = next_seat order passes c.args.seats.items (length opened) c.in-Some.seat c.next.new.self.rest.items c.requires.seats (sym c.loop-seat.invariant.rest ∙ c.in-Some.ensures.steps.0) in
     let pass : Knowing = c.in_ok-open.field-0 in
     let is : pass ≡ new_at order passes (length opened) = c.in_ok-open.ensures ∙ ap (λ (h : Holding). record { order = h.table_id; view = h.view; shown = []; steps = 0; statuses = no_rows (room_of h.table_id); settled = 0; made = 0 }) now.1 in
     let n : length c.push_reserved.new.self.items ≡ length opened + 1 = ap length c.push_reserved.ensures.items ∙ length_push opened pass in
-    let more : AreNew order passes (opened ++ pass ∷ []) (length opened + 1) = new_more order passes opened pass c.loop-place.invariant.opened is in
+    let more : AreNew order passes (opened ++ pass ∷ []) (length opened + 1) = new_more order passes opened pass c.loop-seat.invariant.opened is in
     record {
-      rest = sym now.2 ∙ ap (λ (m : ℕ). drop m c.args.places.items) (sym (n ∙ add-one (length opened)));
+      rest = sym now.2 ∙ ap (λ (m : ℕ). drop m c.args.seats.items) (sym (n ∙ add-one (length opened)));
       opened = subst (λ (y : List Knowing × ℕ). AreNew order passes y.0 y.1) (λ i. (sym c.push_reserved.ensures.items i, sym n i)) more;
       few = omega (arith, now.0);
-      capacity = subst (λ (m : ℕ). c.args.passes ≤ m) (sym c.push_reserved.ensures.capacity) c.loop-place.invariant.capacity;
+      capacity = subst (λ (m : ℕ). c.args.passes ≤ m) (sym c.push_reserved.ensures.capacity) c.loop-seat.invariant.capacity;
     }
 
 pub returns : goal.returns
-returns c = all_opened c.args.order.now c.args.passes c.args.places.items c.loop-place.opened.items c.requires.places (sym c.loop-place.invariant.rest ∙ none_left c.loop-place.place-iterator.rest.items _ c.loop-place.place-iterator.rest.ok.0 c.in-None.ensures.steps.0) c.loop-place.invariant.few c.loop-place.invariant.opened
+returns c = all_opened c.args.order.now c.args.passes c.args.seats.items c.loop-seat.opened.items c.requires.seats (sym c.loop-seat.invariant.rest ∙ none_left c.loop-seat.seat-iterator.rest.items _ c.loop-seat.seat-iterator.rest.ok.0 c.in-None.ensures.steps.0) c.loop-seat.invariant.few c.loop-seat.invariant.opened

@@ -1,6 +1,7 @@
-use Rattle.std.proofs.Common.{◌≡◌, ◌++◌, length}
+use Rattle.std.proofs.Common.{◌++◌, length}
 use Rattle.grb_core.specs.Entries.{VectorEntries}
 use Rattle.grb_kernels.specs.Typed.{first_entries}
+use Rattle.grb_products.specs.Bits.{AreMarked}
 use Rattle.grb_products.specs.ColumnSums.{AreSums, with_values}
 use Rattle.grb_products.proofs.column_sums.add_entries.Given as goal
 
@@ -10,8 +11,7 @@ invariant-entries g l =
     let tv = g.T.Scalar.value in
     let names = g.C.Columns.names l.columns in
     record {
-      marks_long : length l.marks ≡ length names;
-      sums_long : length l.sums ≡ length names;
-      added : (added : VectorEntries) → AreSums tv g.M.MonoidOver.monoid names added l.fn.marks l.fn.sums
-          → AreSums tv g.M.MonoidOver.monoid names (added ++ with_values (g.R.Term.gives l.term) (first_entries tv l.i l.indices l.values)) l.marks l.sums;
+      marked : AreMarked (length names) l.words l.sums;
+      added : (added : VectorEntries) → AreSums tv g.M.MonoidOver.monoid names added l.fn.words l.fn.sums
+          → AreSums tv g.M.MonoidOver.monoid names (added ++ with_values (g.R.Term.gives l.term) (first_entries tv l.i l.indices l.values)) l.words l.sums;
     }

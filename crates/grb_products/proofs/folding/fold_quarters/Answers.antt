@@ -1,10 +1,9 @@
-use Rattle.std.proofs.Common.{◌≡◌, ◌++◌, ◌<◌, ◌≤◌, ℕ, List, ap, sym, subst, ◌∙◌, length, get_or, take, arith}
+use Rattle.std.proofs.Common.{◌++◌, ap, sym, subst, ◌∙◌, arith}
 use Rattle.std.specs.Prelude.{map}
 use Rattle.std.proofs.lemmas.List.{map-append}
 use Rattle.grb_core.specs.Value.{IsValueOf}
-use Rattle.grb_core.specs.Monoid.{monoid_domain}
 use Rattle.grb_core.specs.Fold.{fold_of}
-use Rattle.grb_products.proofs.Folds.{IsFolding, folded_next, folded_all, folded_parts}
+use Rattle.grb_products.proofs.Folds.{folded_next, folded_all, folded_parts}
 use Rattle.grb_products.proofs.folding.fold_quarters.Goals as goal
 
 pub loop-i-preserved : goal.loop-i-preserved

@@ -1,8 +1,10 @@
 use Rattle.std.proofs.Common.{ap, ◌∙◌, List, Bool}
+use Rattle.grb_core.specs.Entries.{restricted}
 use Rattle.grb_kernels.specs.Typed.{entries_of}
 use Rattle.grb_rows.specs.Cells.{decoded}
 use Rattle.grb_products.specs.Open.{marked_at}
 use Rattle.grb_products.proofs.Marks.{nothing_marked}
+use Rattle.grb_products.specs.Wanted.{is_wanted}
 use Rattle.grb_products.proofs.Ordered.{mxv_of-products}
 use Rattle.grb_products.proofs.mxv_product.multiply_open.Goals as goal
 
@@ -18,5 +20,6 @@ returns g c =
     let tv = g.T.Scalar.value in
     let u = c.args.u.now in
     c.in_ok-made.ensures
-    ∙ mxv_of-products (record { monoid = g.M.MonoidOver.monoid; op = g.O.Operator.op }) (decoded c.args.rows.now.lists.now.entries) (entries_of tv u.indices.now u.values.now)
-    (marked_at tv c.scatter.new.marks c.scatter.new.dense) c.args.rows.now.ordered c.scatter.ensures
+    ∙ ap (restricted (is_wanted c.args.wanted.now.among c.args.wanted.now.names.now))
+    (mxv_of-products (record { monoid = g.M.MonoidOver.monoid; op = g.O.Operator.op }) (decoded c.args.rows.now.lists.now.entries) (entries_of tv u.indices.now u.values.now)
+    (marked_at tv c.scatter.new.marks c.scatter.new.dense) c.args.rows.now.ordered c.scatter.ensures)

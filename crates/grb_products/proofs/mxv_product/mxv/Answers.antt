@@ -5,15 +5,16 @@ use Rattle.grb_core.specs.Contents.{edited_vector}
 use Rattle.grb_core.specs.Entries.{VectorEntries}
 use Rattle.grb_core.specs.Mask.{is_inside}
 use Rattle.grb_core.specs.Results.{mxv_of, turned}
-use Rattle.grb_products.proofs.Bounded.{written-bounded}
+use Rattle.grb_products.specs.Wanted.{is_wanted}
+use Rattle.grb_products.proofs.WantedPlaces.{written-made}
 use Rattle.grb_products.proofs.mxv_product.mxv.Goals as goal
 
 pub returns-clause-vector : goal.returns-clause-vector
 returns-clause-vector c =
     let d = c.args.descriptor in
+    let w = c.wanted_of-wanted.result in
     let inside = is_inside nat_cmp d.structure d.comp (option_map (λ m. m.now.vector.entries) c.args.mask) in
     let total = mxv_of c.args.semiring (turned d.tran c.args.a.now.matrix.entries) c.args.u.now.vector.entries in
-    let bound = option_map (λ names. names.now) c.bound_of-bound.result in
     subst (λ (f : VectorEntries → VectorEntries). IfOk c.write_masked_vector.result (λ made. made.vector ≡ edited_vector f c.args.output.now.vector))
-    (λ i w. written-bounded inside d.replace c.args.accum w total bound c.in_ok-computed.computed.vector.entries c.bound_of-bound.ensures.covers c.in_ok-computed.ensures.entries i)
+    (λ i v. written-made inside d.replace c.args.accum v total c.in_ok-computed.computed.vector.entries (is_wanted w.among w.names.now) c.wanted_of-wanted.ensures.covers c.in_ok-computed.ensures.entries i)
     c.write_masked_vector.ensures.vector

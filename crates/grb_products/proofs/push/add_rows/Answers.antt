@@ -1,11 +1,9 @@
-use Rattle.std.proofs.Common.{◌<◌, ◌++◌, length, get_or, arith, sym, ap, subst, ◌∙◌}
-use Rattle.std.proofs.lemmas.List.{get_or_default}
+use Rattle.std.proofs.Common.{◌++◌, take, get_or, arith, sym, ap, subst, ◌∙◌}
 use Rattle.grb_core.specs.Entries.{VectorEntries}
 use Rattle.grb_core.specs.Results.{row_of}
-use Rattle.grb_kernels.specs.Typed.{first_entries}
 use Rattle.grb_ewise.proofs.Lent.{lent}
 use Rattle.grb_rows.specs.Cells.{decoded}
-use Rattle.grb_products.specs.ColumnSums.{AreSums, with_values}
+use Rattle.grb_products.specs.ColumnSums.{AreSums, as_entries, with_values}
 use Rattle.grb_products.specs.Pushes.{pushed, at_numbers}
 use Rattle.grb_products.proofs.Pushing.{pushed-read, pushed-all}
 use Rattle.grb_products.proofs.push.add_rows.Goals as goal
@@ -17,22 +15,19 @@ rows-preserved g c =
     let names = g.C.Columns.names c.args.columns.now in
     let rows = c.args.lists.now.rows in
     let a = decoded c.args.lists.now.entries in
-    let places = c.args.picks.now.places.items in
-    let values = c.args.picks.now.values.items in
-    let before = pushed f (at_numbers rows (first_entries tv c.rows.i places values)) a in
-    let inside : c.rows.i < length places = omega arith in
-    let added = c.add_entries.ensures.added before c.rows.invariant in
-    let row = lent tv c.row_columns.result.now c.of_row.result.now (row_of (get_or rows c.index-place.result.now 0) a) c.row_columns.ensures.columns c.of_row.ensures in
-    let here = c.index-place.ensures ∙ get_or_default places c.rows.i c.index-place.result.now 0 inside in
-    subst (λ (x : VectorEntries). AreSums tv g.M.MonoidOver.monoid names x c.add_entries.new.marks c.add_entries.new.sums)
-    (ap (λ (m : VectorEntries). before ++ with_values (f (tv c.index.result.now)) m) row
-    ∙ ap (λ p. before ++ with_values (f (tv c.index.result.now)) (row_of (get_or rows p 0) a)) here
-    ∙ sym (pushed-read tv f rows places values a c.rows.i c.index.result.now inside c.args.picks.now.same c.index.ensures))
-    added
+    let picks = c.args.picks.now in
+    let pick = c.index-picks-i.result in
+    let before = pushed f (at_numbers rows (as_entries tv (take c.rows.i picks))) a in
+    let added = c.add_entries.ensures.added before c.rows.invariant.added in
+    let row = lent tv c.row_columns.result.now c.of_row.result.now (row_of (get_or rows pick.0 0) a) c.row_columns.ensures.columns c.of_row.ensures in
+    record {
+      marked = c.add_entries.ensures.marked;
+      added = subst (λ (x : VectorEntries). AreSums tv g.M.MonoidOver.monoid names x c.add_entries.new.words c.add_entries.new.sums)
+          (ap (λ (m : VectorEntries). before ++ with_values (f (tv pick.1)) m) row ∙ sym (pushed-read tv f rows picks a c.rows.i pick (omega arith) c.index-picks-i.is)) added;
+    }
 
-pub returns : goal.returns
-returns g c =
-    subst (λ (x : VectorEntries). AreSums g.T.Scalar.value g.M.MonoidOver.monoid (g.C.Columns.names c.args.columns.now) x c.rows.marks c.rows.sums)
-    (pushed-all g.T.Scalar.value (g.S.Side.makes g.O.Operator.op) c.args.lists.now.rows c.args.picks.now.places.items c.args.picks.now.values.items (decoded c.args.lists.now.entries)
-    c.rows.i (omega (arith, c.rows-test.false)) c.args.picks.now.same)
-    c.rows.invariant
+pub returns-clause-added : goal.returns-clause-added
+returns-clause-added g c =
+    subst (λ (x : VectorEntries). AreSums g.T.Scalar.value g.M.MonoidOver.monoid (g.C.Columns.names c.args.columns.now) x c.rows.words c.rows.sums)
+    (pushed-all g.T.Scalar.value (g.S.Side.makes g.O.Operator.op) c.args.lists.now.rows c.args.picks.now (decoded c.args.lists.now.entries) c.rows.i (omega (arith, c.rows-test.false)))
+    c.rows.invariant.added

@@ -5,8 +5,8 @@ use Rattle.grb_products.proofs.push.picked_len.Given as goal
 
 -- the rows so far, and those that are left
 abbrev pub invariant-rows : goal.invariant-rows
-invariant-rows l = record {
+invariant-rows g l = record {
   count : l.count ≤ 2 ^ 64 - 1;
-  so_far : min (l.count + length (columns_at l.lists.rows (drop l.place-index l.places) (decoded l.lists.entries))) (2 ^ 64 - 1)
-      ≡ min (length (columns_at l.lists.rows l.places (decoded l.lists.entries))) (2 ^ 64 - 1);
+  so_far : min (l.count + length (columns_at l.lists.rows (drop l.i l.picks) (decoded l.lists.entries))) (2 ^ 64 - 1)
+      ≡ min (length (columns_at l.lists.rows l.picks (decoded l.lists.entries))) (2 ^ 64 - 1);
 }

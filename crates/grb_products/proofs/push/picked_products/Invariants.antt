@@ -1,6 +1,5 @@
-use Rattle.std.proofs.Common.{◌≡◌, All}
+use Rattle.std.proofs.Common.{◌≡◌, All, take}
 use Rattle.grb_core.specs.Value.{IsValueOf}
-use Rattle.grb_kernels.specs.Typed.{first_entries}
 use Rattle.grb_rows.specs.Cells.{decoded}
 use Rattle.grb_products.specs.ColumnSums.{as_entries}
 use Rattle.grb_products.specs.Pushes.{pushed, at_numbers}
@@ -12,5 +11,5 @@ invariant-picks g l =
     let tv = g.T.Scalar.value in
     record {
       of_domain : All (λ p. IsValueOf g.T.Scalar.domain (tv p.1)) l.products.items;
-      pushed : as_entries tv l.products.items ≡ pushed (g.S.Side.makes g.O.Operator.op) (at_numbers l.lists.rows (first_entries tv l.i l.picks.places.items l.picks.values.items)) (decoded l.lists.entries);
+      pushed : as_entries tv l.products.items ≡ pushed (g.S.Side.makes g.O.Operator.op) (at_numbers l.lists.rows (as_entries tv (take l.i l.picks))) (decoded l.lists.entries);
     }

@@ -20,7 +20,7 @@ pub invariant_of-result : goal.invariant_of-result
 invariant_of-result g c =
     let tv = g.T.Scalar.value in
     let front = first_entries tv c.fold_runs-made.result c.fold_runs-made.new.indices c.fold_runs-made.new.values in
-    let made : entries_of tv c.truncate.new.self.items c.truncate-2.new.self.items ≡ front = grind (arith, common_steps) in
+    let made : entries_of tv c.shrink_to_fit.new.self.items c.shrink_to_fit-2.new.self.items ≡ front = grind (arith, common_steps) in
     record {
       same = search rules;
       rising = subst (λ (m : VectorEntries). IsTrue (is_sorted nat_cmp m)) (sym made) c.fold_runs-made.ensures.rising;
@@ -31,7 +31,7 @@ returns g c =
     let tv = g.T.Scalar.value in
     let m = g.M.MonoidOver.monoid in
     let front = first_entries tv c.fold_runs-made.result c.fold_runs-made.new.indices c.fold_runs-made.new.values in
-    let made : entries_of tv c.truncate.new.self.items c.truncate-2.new.self.items ≡ front = grind (arith, common_steps) in
+    let made : entries_of tv c.shrink_to_fit.new.self.items c.shrink_to_fit-2.new.self.items ≡ front = grind (arith, common_steps) in
     made
     ∙ c.fold_runs-made.ensures.entries
     ∙ built-moved tv m g.T.Scalar.domain g.met.M.MonoidOver.same_domain c.args.products.now c.requires.of_domain c.put_in_order.new.products c.put_in_order.ensures.permutation

@@ -10,7 +10,7 @@ loop-asked-init g c =
     record {
       before = [];
       are = are;
-      loaded = subst (AreSteps (g.S.Source.file_bytes c.args.source.now) []) (sym c.new-steps.ensures.items) tt;
+      loaded = subst (AreSteps (g.S.Source.file_bytes c.args.source.now) []) (sym c.in_ok-steps.ensures.items) tt;
       faults = refl;
       script = refl;
       files = λ path. refl;
@@ -36,7 +36,7 @@ pub returns-in_err-step-clause-fault : goal.returns-in_err-step-clause-fault
 returns-in_err-step-clause-fault g c =
     let now = c.loop-asked in
     let are : now.asked-iterator.rest.items ≡ c.in-Some.asked ∷ c.next.new.self.rest.items = search rules in
-    let p = err_from_is_err_and c.from_residual.result c.from_residual.ensures.1 in
+    let p = err_from_is_err_and c.from_residual-in_err-step.result c.from_residual-in_err-step.ensures.1 in
     rw (p.1, p.2)
     (StopsWith-of _ _ now.invariant.before c.in-Some.asked c.next.new.self.rest.items _ _ _ (now.invariant.are ∙ ap (λ l. now.invariant.before ++ l) are) now.invariant.loaded now.invariant.files
     c.in_err-step.ensures.fault)

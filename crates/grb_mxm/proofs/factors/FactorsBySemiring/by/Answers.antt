@@ -1,4 +1,4 @@
-use Rattle.std.proofs.Common.{◌≡◌, ◌<◌, ℕ, List, refl, ap, sym, subst, ◌∙◌, get_or}
+use Rattle.std.proofs.Common.{◌≡◌, ◌<◌, ℕ, List, refl, ap, sym, subst, ◌∙◌}
 use Rattle.std.specs.Prelude.{map, Option, Some, None, IfSome}
 use Rattle.std.specs.List.{Contains}
 use Rattle.std.proofs.lemmas.List.Elements.{recursion_from_All}
@@ -13,21 +13,22 @@ if_some P (Some m) h = h m refl
 pub multiply_ranked-requires-clause-named : goal.multiply_ranked-requires-clause-named
 multiply_ranked-requires-clause-named g c =
     let n = c.args.self.b.ncols in
-    let each = subst (λ (s : List ℕ). (p : ℕ) → p < n → get_or s p 0 ≡ p) (sym c.as_slice.ensures.value) c.in_ok-names.ensures.each in
-    own-named c.as_slice.result.now n _ each (recursion_from_All (λ j. j < n) _ (c.columns-columns.ensures.below n c.args.self.b.in_range)) ∙ c.columns-columns.ensures.columns
+    own-named c.own-own.result n _ c.own-own.ensures.each (recursion_from_All (λ j. j < n) _ (c.columns-columns.ensures.below n c.args.self.b.in_range)) ∙ c.columns-columns.ensures.columns
 
 pub multiply_ranked-requires-clause-mask_named : goal.multiply_ranked-requires-clause-mask_named
 multiply_ranked-requires-clause-mask_named g c =
     let n = c.args.self.b.ncols in
-    let each = subst (λ (s : List ℕ). (p : ℕ) → p < n → get_or s p 0 ≡ p) (sym c.as_slice.ensures.value) c.in_ok-names.ensures.each in
-    own-named c.as_slice.result.now n _ each (recursion_from_All (λ j. j < n) _ (c.columns_of-mask_columns.ensures.below n (if_some _ c.args.self.mask c.args.self.mask_in_range))) ∙ c.columns_of-mask_columns.ensures.columns
+    own-named c.own-own.result n _ c.own-own.ensures.each (recursion_from_All (λ j. j < n) _ (c.columns_of-mask_columns.ensures.below n (if_some _ c.args.self.mask c.args.self.mask_in_range))) ∙ c.columns_of-mask_columns.ensures.columns
 
 pub ranks_of-requires-clause-all : goal.ranks_of-requires-clause-all
-ranks_of-requires-clause-all g c j h = subst (λ (s : List ℕ). Contains s j) (sym c.as_slice-names.ensures.value) (c.in_ok-stored.ensures.all j h)
+ranks_of-requires-clause-all g c j h = subst (λ (s : List ℕ). Contains s j) (sym c.as_slice-listed.ensures.value) (c.in_ok-stored.ensures.all j h)
 
 pub ranks_of-requires-2-clause-all : goal.ranks_of-requires-2-clause-all
-ranks_of-requires-2-clause-all g c j h = subst (λ (s : List ℕ). Contains s j) (sym c.as_slice-names.ensures.value) (c.in_ok-stored.ensures.others j h)
+ranks_of-requires-2-clause-all g c j h = subst (λ (s : List ℕ). Contains s j) (sym c.as_slice-listed.ensures.value) (c.in_ok-stored.ensures.others j h)
 
 pub multiply_ranked-requires-2-clause-mask_named : goal.multiply_ranked-requires-2-clause-mask_named
 multiply_ranked-requires-2-clause-mask_named g c =
-    ap (map (name_in c.as_slice-names.result.now)) c.as_slice-3.ensures.value ∙ c.in_ok-mask_ranks.ensures.named ∙ c.columns_of-mask_columns.ensures.columns
+    ap (λ (ns : List ℕ). map (name_in ns) c.as_slice-2.result.now) c.listed-names.ensures
+    ∙ ap (map (name_in c.as_slice-listed.result.now)) c.as_slice-2.ensures.value
+    ∙ c.in_ok-mask_ranks.ensures.named
+    ∙ c.columns_of-mask_columns.ensures.columns

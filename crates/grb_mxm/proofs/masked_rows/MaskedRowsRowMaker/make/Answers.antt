@@ -1,4 +1,4 @@
-use Rattle.std.proofs.Common.{◌<◌, ap, sym, subst, ◌∙◌, ℕ, List, Bool, length, get_or}
+use Rattle.std.proofs.Common.{◌<◌, ap, sym, subst, ◌∙◌, ℕ, List, length, get_or}
 use Rattle.std.specs.Ordering.{nat_cmp}
 use Rattle.std.specs.FinMap.{find}
 use Rattle.std.proofs.lemmas.List.Elements.{recursion_from_All}
@@ -13,22 +13,20 @@ use Rattle.grb_products.specs.Open.{marked_at}
 use Rattle.grb_mxm.specs.Rows.{name_in, picked, product_row}
 use Rattle.grb_mxm.proofs.Cleared.{none_marked}
 use Rattle.grb_mxm.proofs.MaskedProduct.{picked_row, row_of-selected}
-use Rattle.grb_mxm.proofs.MaskedSums.{among_none}
-use Rattle.grb_mxm.specs.Bits.{AreSelected}
+use Rattle.grb_mxm.proofs.States.{among_allowed}
+use Rattle.grb_mxm.specs.Bits.{AreSelected, allowed_of, summed_of}
 use Rattle.grb_mxm.proofs.masked_rows.MaskedRowsRowMaker.make.Goals as goal
 
 pub sum_row-requires-clause-sound : goal.sum_row-requires-clause-sound
 sum_row-requires-clause-sound g c =
     let ready = c.requires.ready in
     record {
-      marks_long = ready.marks_long ∙ sym ready.long;
-      allowed_long = c.allow-places.ensures.long ∙ ready.allowed_long ∙ sym ready.marks_long;
-      among = among_none c.args.work.now.marks.items _ ready.none;
-      clear = ready.clear;
+      long = c.allow-places.ensures.long ∙ ready.states_long ∙ sym ready.long;
+      clear = λ p l n. ready.clear p l;
     }
 
 pub sum_row-requires-clause-none : goal.sum_row-requires-clause-none
-sum_row-requires-clause-none g c p = none_marked g.T.Scalar.value c.args.work.now.marks.items c.args.work.now.sums.items c.requires.ready.none p
+sum_row-requires-clause-none g c p = none_marked g.T.Scalar.value (summed_of c.allow-places.new.states.items) c.args.work.now.sums.items c.allow-places.ensures.selected.none p
 
 pub returns-clause-entries : goal.returns-clause-entries
 returns-clause-entries g c =
@@ -44,12 +42,12 @@ returns-clause-entries g c =
     let row = c.row_numbered-row.result in
     let places = c.allow-places.result.now in
     let made = c.sum_row.new.sums in
-    let selected : AreSelected names mask.structure m c.allow-places.new.allowed.items places = subst (λ (ns : List ℕ). AreSelected ns mask.structure m c.allow-places.new.allowed.items places) self.names c.allow-places.ensures.selected in
+    let selected : AreSelected names mask.structure m c.allow-places.new.states.items places = subst (λ (ns : List ℕ). AreSelected ns mask.structure m c.allow-places.new.states.items places) self.names c.allow-places.ensures.selected in
     c.take_picked.ensures.entries
-    ∙ ap (λ (ms : List Bool). picked (name_in names) (marked_at tv ms c.as_mut_slice-3.result.now) places) c.as_mut_slice-2.ensures.value
-    ∙ ap (λ (ss : List g.row.T.Denot). picked (name_in names) (marked_at tv made.marks.items ss) places) c.as_mut_slice-3.ensures.value
+    ∙ ap (λ (m : List ℕ). picked (name_in names) (marked_at tv (summed_of m) c.as_mut_slice-2.result.now) places) c.as_mut_slice.ensures.value
+    ∙ ap (λ (ss : List g.row.T.Denot). picked (name_in names) (marked_at tv (summed_of made.states.items) ss) places) c.as_mut_slice-2.ensures.value
     ∙ picked_row tv (length names) (name_in names) mask.structure s (entries_of tv row.indices.now row.values.now) (decoded b.lists.now.entries) m row.rising (row_in_order number (decoded mask.lists.now.entries) mask.ordered)
-    made.allowed.items made.marks.items made.sums.items places (λ p l. c.sum_row.ensures.asks p ∙ selected.allowed p l) c.sum_row.ensures.sound.among c.sum_row.ensures.sums
+    (allowed_of made.states.items) (summed_of made.states.items) made.sums.items places (λ p l. c.sum_row.ensures.asks p ∙ selected.allowed p l) (among_allowed made.states.items) c.sum_row.ensures.sums
     selected.named (recursion_from_All (λ p. p < length names) places selected.in_range)
     ∙ ap (λ (x : VectorEntries). restricted (λ j. selects mask.structure (find nat_cmp j m)) (product_row s x (decoded b.lists.now.entries)))
     (c.row_numbered-row.ensures ∙ ap (λ (ns : List ℕ). row_of (get_or ns c.args.place 0) a) c.rows.ensures.list)

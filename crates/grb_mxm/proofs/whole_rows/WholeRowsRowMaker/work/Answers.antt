@@ -1,5 +1,5 @@
 use Prim.{search}
-use Rattle.std.proofs.Common.{◌≡◌, ℕ, List, length, get_or, rules, ap, sym, subst, ◌∙◌}
+use Rattle.std.proofs.Common.{◌≡◌, ℕ, List, get_or, rules, ap, sym, subst, ◌∙◌}
 use Rattle.std.proofs.Math.ListN.{replicate}
 use Rattle.grb_core.specs.Monoid.{identity_of}
 use Rattle.grb_mxm.specs.Bits.{HoldAll}
@@ -11,11 +11,16 @@ returns g c =
     let tv = g.T.Scalar.value in
     let v = identity_of g.M.MonoidOver.monoid in
     let identity = c.identity.result in
-    let sums : c.in_ok-sums.sums.items ≡ replicate (length c.args.self.now.b.now.names.now) identity = c.in_ok-sums.ensures.items_if_clones_equal (λ y e. g.met.T.Stored.same_clone identity y e) in
-    record {
-      long = search rules;
-      enough = search rules;
-      words_few = search rules;
-      none = λ w. ap (λ (ws : List ℕ). get_or ws w 0) (c.in_ok-words.ensures.items_if_clones_equal (λ y e. e)) ∙ replicate-at _ 0 w;
-      clear = subst (λ (ss : List g.row.T.Denot). HoldAll tv v ss) (sym sums) (hold_all-replicate tv v _ identity c.identity.ensures);
-    }
+    let sums : c.in_ok-sums.sums.items ≡ replicate c.len-count.result identity = c.in_ok-sums.ensures.items_if_clones_equal (λ y e. g.met.T.Stored.same_clone identity y e) in (
+      record {
+        long = search rules;
+        words_long = search rules;
+        words_few = search rules;
+        none = λ w. ap (λ (ws : List ℕ). get_or ws w 0) (c.in_ok-words.ensures.items_if_clones_equal (λ y e. e)) ∙ replicate-at _ 0 w;
+        clear = subst (λ (ss : List g.row.T.Denot). HoldAll tv v ss) (sym sums) (hold_all-replicate tv v _ identity c.identity.ensures);
+      },
+      record {
+        long = search rules;
+        none = λ w. ap (λ (ws : List ℕ). get_or ws w 0) (c.in_ok-tops.ensures.items_if_clones_equal (λ y e. e)) ∙ replicate-at _ 0 w;
+      },
+    )

@@ -18,22 +18,22 @@ take_in-requires-clause-accepted c =
 
 pub invariant_of-self : goal.invariant_of-self
 invariant_of-self c =
-    let place = c.self.inside.place in let token = c.args.token in let back = sym c.self.view_is in
-    let same : c.enter.new.place.table_id ≡ place.table_id = c.enter.ensures.order ∙ sym (ap (λ p. p.order) c.self.view_is ∙ c.requires.order) in
+    let seat = c.self.inside.seat in let token = c.args.token in let back = sym c.self.view_is in
+    let same : c.enter.new.seat.table_id ≡ seat.table_id = c.enter.ensures.order ∙ sym (ap (λ p. p.order) c.self.view_is ∙ c.requires.order) in
     let index : c.index.result ≡ token.index = c.index.ensures in
     kept_order _ _ _ _ _ _ _ _ same
     (kept_won _ _ _ _ _ _ _ c.self.invariant token c.args.call.now _ _ _ _
     (subst (λ (p : Knowing). length p.shown ≡ length p.view.words) back c.requires.shown)
     (subst (λ (p : Knowing). token.pass ≡ p.view.number) back c.requires.pass)
     c.requires.index
-    (c.in-Won.ensures.entered.0 ∙ ap (λ n. enters_word place.view (order_word place.view.number n)) index)
+    (c.in-Won.ensures.entered.0 ∙ ap (λ n. enters_word seat.view (order_word seat.view.number n)) index)
     (sound_order _ _ _ same c.enter.ensures.sound)
     c.requires.call c.push_reserved.ensures.items c.push_reserved.ensures.capacity c.take_in.ensures.shapes c.take_in.ensures.room c.take_in.ensures.targets)
 
 pub invariant_of-self-in-Lost : goal.invariant_of-self-in-Lost
 invariant_of-self-in-Lost c =
-    let place = c.self.inside.place in
-    let same : c.enter.new.place.table_id ≡ place.table_id = c.enter.ensures.order ∙ sym (ap (λ p. p.order) c.self.view_is ∙ c.requires.order) in
+    let seat = c.self.inside.seat in
+    let same : c.enter.new.seat.table_id ≡ seat.table_id = c.enter.ensures.order ∙ sym (ap (λ p. p.order) c.self.view_is ∙ c.requires.order) in
     let lost = c.in-Lost.ensures.entered in
     kept_order _ _ _ _ _ _ _ _ same (kept_lost _ _ _ _ _ _ _ c.self.invariant c.in-Lost.field-0 _ lost.0 lost.1 (sound_order _ _ _ same c.enter.ensures.sound))
 

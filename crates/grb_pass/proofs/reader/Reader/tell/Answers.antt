@@ -5,15 +5,15 @@ use Rattle.grb_pass.proofs.reader.Reader.tell.Goals as goal
 
 pub invariant_of-self : goal.invariant_of-self
 invariant_of-self c =
-    let place = c.self.inside.place in
-    let same : c.tell.new.place.table_id ≡ place.table_id = c.tell.ensures.order ∙ sym (ap (λ p. p.order) c.self.view_is ∙ c.requires.order) in
-    kept_told _ _ _ _ _ _ c.other.inside.place.view.words _ _ _ c.self.invariant same c.tell.ensures.told c.tell.ensures.others c.tell.ensures.sound
+    let seat = c.self.inside.seat in
+    let same : c.tell.new.seat.table_id ≡ seat.table_id = c.tell.ensures.order ∙ sym (ap (λ p. p.order) c.self.view_is ∙ c.requires.order) in
+    kept_told _ _ _ _ _ _ c.other.inside.seat.view.words _ _ _ c.self.invariant same c.tell.ensures.told c.tell.ensures.others c.tell.ensures.sound
 
 pub invariant_of-self-2 : goal.invariant_of-self-2
 invariant_of-self-2 c =
-    let place = c.self.inside.place in
-    let same : c.tell.new.place.table_id ≡ place.table_id = c.tell.ensures.order ∙ sym (ap (λ p. p.order) c.self.view_is ∙ c.requires.order) in
-    kept_told _ _ _ _ _ _ c.other.inside.place.view.words _ _ _ c.self.invariant same c.tell.ensures.told c.tell.ensures.others c.tell.ensures.sound
+    let seat = c.self.inside.seat in
+    let same : c.tell.new.seat.table_id ≡ seat.table_id = c.tell.ensures.order ∙ sym (ap (λ p. p.order) c.self.view_is ∙ c.requires.order) in
+    kept_told _ _ _ _ _ _ c.other.inside.seat.view.words _ _ _ c.self.invariant same c.tell.ensures.told c.tell.ensures.others c.tell.ensures.sound
 
 pub returns-clause-steady : goal.returns-clause-steady
 returns-clause-steady c = steady _ _ _ _ _ _ (invariant_of-self-2 c) _ _ _ _

@@ -1,12 +1,17 @@
-use Rattle.std.proofs.Common.{ap, sym, ◌∙◌}
-use Rattle.grb_core.specs.Fold.{fold_of_some}
-use Rattle.grb_kernels.proofs.Lists.{values_of-entries}
-use Rattle.grb_products.proofs.Folds.{kept_fold}
+use Rattle.std.proofs.Common.{arith, ap, ◌∙◌}
+use Rattle.std.specs.Prelude.{map}
+use Rattle.grb_core.specs.Fold.{fold_of}
+use Rattle.grb_products.proofs.Spans.{span_is, some_fold}
 use Rattle.grb_products.proofs.reduce_folds.SumRowRule.row.Goals as goal
+
+pub returns-then-self : goal.returns-then-self
+returns-then-self g c =
+    some_fold g.M.MonoidOver.monoid g.T.Scalar.value c.args._columns.now c.args.values.now c.args.start c.args.end (g.T.Scalar.value c.fold_part.result) c.requires.same c.requires.some c.requires.within c.fold_part.ensures
 
 pub returns : goal.returns
 returns g c =
     let tv = g.T.Scalar.value in
     let m = g.M.MonoidOver.monoid in
-    kept_fold m tv c.args.values.now (tv c.fold_values.result) c.is_empty.result c.fold_values.ensures c.is_empty.ensures
-    ∙ ap (fold_of_some m) (sym (values_of-entries tv c.args._columns.now c.args.values.now c.requires.same))
+    let vs = c.args.values.now in
+    some_fold m tv c.args._columns.now vs c.args.start c.args.end (tv c.fold_values.result) c.requires.same c.requires.some c.requires.within
+    (c.fold_values.ensures ∙ ap (λ us. fold_of m (map tv us)) (span_is vs c.args.start c.args.end (let l = c.requires.some in omega (arith, l))))

@@ -1,16 +1,27 @@
-use Rattle.std.proofs.Common.{◌∙◌, ap, sym}
+use Rattle.std.proofs.Common.{◌∙◌, sym, ap, subst}
 use Rattle.std.proofs.lemmas.Result.{IfOk-weaker}
-use Rattle.grb_core.specs.Entries.{restricted}
-use Rattle.grb_core.specs.Contents.{is_cell_in}
-use Rattle.grb_rows.specs.Cells.{cell_of}
+use Rattle.std.specs.Prelude.{IfSome}
+use Rattle.std.specs.List.{All}
+use Rattle.grb_rows.specs.Cells.{entries_within}
+use Rattle.grb_rows.specs.Pending.{changed, IsChangeOf}
 use Rattle.grb_rows.specs.Stored.{RowView}
 use Rattle.grb_rows.specs.Held.{HeldView}
-use Rattle.grb_rows.proofs.Holding.{stored-settled}
+use Rattle.grb_rows.proofs.Places.{holds}
+use Rattle.grb_rows.proofs.Latest.{all_found}
+use Rattle.grb_rows.proofs.LaidOut.{last_at-sorted, same_changes}
 use Rattle.grb_rows.proofs.held.Held.merged_within.Goals as goal
 
--- where nothing waits, the rows are what is stored
-pub returns-then-is_empty-clause-entries : goal.returns-then-is_empty-clause-entries
-returns-then-is_empty-clause-entries c =
+pub merged_within-requires-clause-inside : goal.merged_within-requires-clause-inside
+merged_within-requires-clause-inside c =
+    subst (λ (r : RowView). All (IsChangeOf r.domain) c.in_ok-changes.changes.items) (sym c.rows.ensures)
+    (all_found c.self.inside.base.domain c.in_ok-changes.changes.items (holds c.in_ok-changes.ensures.sorted)
+    (λ q. subst (λ l. IfSome l (λ d. IsChangeOf c.self.inside.base.domain (q, d))) (sym (c.in_ok-changes.ensures.found q)) (c.self.invariant.laid.inside q)))
+
+pub returns-clause-entries : goal.returns-clause-entries
+returns-clause-entries c =
     let i = c.self.inside in
-    let all = stored-settled i.base i.pending.changes (c.is_empty.ensures.0 c.if-is_empty.true) in
-    IfOk-weaker c.within.result _ _ (λ new h. h ∙ ap (restricted (λ k. is_cell_in c.args.nrows c.args.ncols (cell_of k))) (ap (λ (r : RowView). r.entries) c.rows.ensures ∙ sym all ∙ ap (λ (v : HeldView). v.entries) c.self.view_is)) c.within.ensures.entries
+    let m = i.base.entries in
+    let last = c.in_ok-changes.changes.items in
+    let sorted = holds c.in_ok-changes.ensures.sorted in
+    IfOk-weaker c.merged_within.result _ _ (λ new h. h ∙ ap (entries_within c.args.nrows c.args.ncols) (ap (λ (r : RowView). changed r.entries last) c.rows.ensures ∙ same_changes m last i.pending.changes (holds c.self.invariant.laid.ordered) (λ q. last_at-sorted q last sorted ∙ c.in_ok-changes.ensures.found q)
+    ∙ ap (λ (v : HeldView). v.entries) c.self.view_is)) c.merged_within.ensures.entries

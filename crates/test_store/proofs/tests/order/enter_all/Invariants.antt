@@ -2,4 +2,4 @@ use Rattle.std.proofs.Common.{◌≡◌}
 use Rattle.test_store.proofs.tests.order.enter_all.Given as goal
 
 abbrev pub invariant-loop-index : goal.invariant-loop-index
-invariant-loop-index l = l.place.table_id ≡ l.order
+invariant-loop-index l = l.seat.table_id ≡ l.order

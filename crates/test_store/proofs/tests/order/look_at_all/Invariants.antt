@@ -3,7 +3,7 @@ use Rattle.grb_order.specs.Order.{room_of}
 use Rattle.test_store.proofs.tests.order.look_at_all.Given as goal
 
 abbrev pub invariant-loop : goal.invariant-loop
-invariant-loop l = l.place.table_id ≡ l.order
+invariant-loop l = l.seat.table_id ≡ l.order
 
 abbrev pub decreases-loop : goal.decreases-loop
-decreases-loop l = room_of l.order - length l.place.view.words
+decreases-loop l = room_of l.order - length l.seat.view.words
