@@ -6,9 +6,10 @@
  * A graph has 2^SCALE vertices (12 where it is not given) and some 8 edges for each: drawn as R-MAT draws them,
  * drawn at random with 8 to each row, or those of a grid in which each vertex is joined with the 8 round it.
  * The service runs THREADS threads (4). Times go to standard error: the least of five rounds, in seconds, and
- * ours divided by theirs and by those by hand. Standard output has one line for each thing that was timed and
- * was right in each round: what the store answers is, entry by entry, what the loop by hand makes, and what
- * SuiteSparse answers.
+ * ours divided by theirs and by those by hand. In front of them stands the most memory that a round of each side
+ * takes, in kilobytes, above what was held before it; under Linux alone. Standard output has one line for each thing
+ * that was timed and was right in each round: what the store answers is, entry by entry, what the loop by hand makes,
+ * and what SuiteSparse answers.
  *
  *     cc -std=c11 -O2 -o bench bench.c bench_by_hand.c libgrb_c.a liblibc_c.a -lpthread
  *     cc -std=c11 -O2 -DTRB_SUITESPARSE -o bench bench*.c libgrb_c.a liblibc_c.a -lpthread -lgraphblas
@@ -22,6 +23,11 @@
 #include <stdio.h>
 #include <stdlib.h>
 #include <time.h>
+#ifdef __linux__
+#include <malloc.h>
+#include <sys/wait.h>
+#include <unistd.h>
+#endif
 
 #ifdef TRB_SUITESPARSE
 #define BESIDE(round) (round)
@@ -31,6 +37,8 @@
 
 /* The largest grid has a thousand fronts, for each of which a search takes two changes. */
 enum { ROOM = 32768, MOST_THREADS = 32 };
+
+bool reads_all = true;
 
 double now(void)
 {
@@ -268,6 +276,9 @@ static void load(void)
 /* Reads all entries. */
 static void see_matrix(TrB_Matrix c, Outcome *outcome)
 {
+    if (!reads_all) {
+        return;
+    }
     Tuples found = room_for(outcome->nvals, true);
     OK(TrB_Matrix_extractTuples_UINT64(&pass, found.rows, found.columns, found.values, &found.nvals, c));
     HOLDS(found.nvals == outcome->nvals);
@@ -278,6 +289,9 @@ static void see_matrix(TrB_Matrix c, Outcome *outcome)
 /* Reads all entries of a matrix of truth values, as 0 and 1. */
 static void see_truths(TrB_Matrix c, Outcome *outcome)
 {
+    if (!reads_all) {
+        return;
+    }
     Tuples found = room_for(outcome->nvals, true);
     bool *values = (bool *)space(found.nvals, sizeof *values);
     OK(TrB_Matrix_extractTuples_BOOL(&pass, found.rows, found.columns, values, &found.nvals, c));
@@ -292,6 +306,9 @@ static void see_truths(TrB_Matrix c, Outcome *outcome)
 
 static void see_vector(TrB_Vector w, Outcome *outcome)
 {
+    if (!reads_all) {
+        return;
+    }
     Tuples found = room_for(outcome->nvals, false);
     OK(TrB_Vector_extractTuples_UINT64(&pass, found.rows, found.values, &found.nvals, w));
     HOLDS(found.nvals == outcome->nvals);
@@ -649,6 +666,98 @@ typedef struct {
 
 static const Kind kinds[] = {{"R-MAT", rmat_edge}, {"random", random_edge}, {"grid", grid_edge}};
 
+/* ---- Memory ------------------------------------------------------------------------------------ */
+
+#ifdef __linux__
+
+/* A number of kilobytes that the system tells of this process; 0 where it does not. */
+static uint64_t told(const char *format)
+{
+    char line[128];
+    uint64_t kilobytes = 0;
+    FILE *status = fopen("/proc/self/status", "r");
+    while (status != NULL && fgets(line, sizeof line, status) != NULL && sscanf(line, format, &kilobytes) != 1) {
+    }
+    if (status != NULL) {
+        fclose(status);
+    }
+    return kilobytes;
+}
+
+/* Lets the most that this process ever held be what it holds now. Whether the system takes that. */
+static bool forget_most(void)
+{
+    FILE *refs = fopen("/proc/self/clear_refs", "w");
+    if (refs == NULL) {
+        return false;
+    }
+    bool is_written = fputs("5", refs) >= 0;
+    return fclose(refs) == 0 && is_written;
+}
+
+/* The most memory that a round takes, in kilobytes; 0 where the system does not tell it. The round runs in a copy of
+ * this process, so that nothing is left from rounds before. */
+static uint64_t memory_of(Round *side)
+{
+    int ends[2];
+    uint64_t kilobytes = 0;
+    HOLDS(pipe(ends) == 0);
+    fflush(NULL);
+    malloc_trim(0);
+    pid_t copy = fork();
+    HOLDS(copy >= 0);
+    if (copy == 0) {
+        Outcome outcome = {0, 0};
+        reads_all = false;
+        bool is_told = forget_most();
+        uint64_t before = told("VmRSS: %" SCNu64);
+        side(&outcome);
+        uint64_t most = told("VmHWM: %" SCNu64);
+        kilobytes = is_told && most > before ? most - before : 0;
+        HOLDS(write(ends[1], &kilobytes, sizeof kilobytes) == sizeof kilobytes);
+        _exit(EXIT_SUCCESS);
+    }
+    int status;
+    HOLDS(waitpid(copy, &status, 0) == copy && status == 0);
+    HOLDS(read(ends[0], &kilobytes, sizeof kilobytes) == sizeof kilobytes);
+    close(ends[0]);
+    close(ends[1]);
+    return kilobytes;
+}
+
+/* Tells the memory of all sides, and ours divided by each other's. */
+static void weigh_line(const Line *line)
+{
+    Round *sides[3] = {line->ours, line->theirs, line->by_hand};
+    uint64_t ours = memory_of(sides[0]);
+    fprintf(stderr, "%-32s %13" PRIu64, line->name, ours);
+    for (int side = 1; side < 3; side++) {
+        uint64_t other = sides[side] == NULL ? 0 : memory_of(sides[side]);
+        if (ours == 0 || other == 0) {
+            fprintf(stderr, " %13s %7s", "-", "-");
+        } else {
+            fprintf(stderr, " %13" PRIu64 " %7.2f", other, (double)ours / (double)other);
+        }
+    }
+    fprintf(stderr, "\n");
+}
+
+static void weigh(void)
+{
+    fprintf(stderr, "%-32s %13s %13s %7s %13s %7s\n", "kilobytes", "ours", "theirs", "ratio", "by hand", "ratio");
+    for (size_t k = 0; k < sizeof lines / sizeof lines[0]; k++) {
+        weigh_line(&lines[k]);
+    }
+}
+
+#else
+
+static void weigh(void) {}
+
+#endif
+
+/* ---- Times ------------------------------------------------------------------------------------- */
+
 /* Tells the time of another side, and ours divided by it. */
 static void tell(double ours, double other, bool is_there)
 {
@@ -694,6 +803,7 @@ static void time_kind(const Kind *kind)
 #endif
     fprintf(stderr, "%s: %" PRIu64 " vertices, %" PRIu64 " edges; %zu threads in the service\n", kind->name, vertices,
             graph.nvals, threads);
+    weigh();
     fprintf(stderr, "%-32s %13s %13s %7s %13s %7s\n", "seconds", "ours", "theirs", "ratio", "by hand", "ratio");
     for (size_t k = 0; k < sizeof lines / sizeof lines[0]; k++) {
         time_line(kind->name, &lines[k]);

@@ -25,6 +25,9 @@ typedef struct {
 /* One round. It answers the seconds of the part that is timed. */
 typedef double Round(Outcome *outcome);
 
+/* Whether a round reads all that it made, for the sum. Where its memory is taken it does not. */
+extern bool reads_all;
+
 /* ---- The graph --------------------------------------------------------------------------------- */
 
 /* Entries as a build takes them, in rising order of row, then column. Those of a vector have no columns. */

@@ -7,19 +7,17 @@ use Rattle.grb_core.proofs.Written.{is_sorted-pointwise}
 use Rattle.grb_ewise.proofs.RowEntries.{passes}
 use Rattle.std.specs.Ordering.{nat_cmp}
 use Rattle.std.proofs.lemmas.Bool.{cases_eq, cases_lt}
-use Rattle.std.proofs.lemmas.List.{length_push, length-take-le, length-drop, drop_all, get_or-take, get_or-drop, get_or_append_left}
-use Rattle.std.proofs.Math.Seq.{take-add, get_or-append_seam}
+use Rattle.std.proofs.lemmas.List.{length_push, length-append, length-drop, drop_all, get_or-drop, get_or_append_left, take-append-drop, take-append-le, take_all}
+use Rattle.std.proofs.Math.Seq.{get_or-append_seam}
 use Rattle.grb_core.specs.declared.value.Value.{Value}
 use Rattle.grb_core.specs.Entries.{VectorEntries, MatrixEntries, cell_cmp}
 use Rattle.grb_core.specs.Results.{row_of}
 use Rattle.grb_core.specs.Written.{pointwise}
-use Rattle.grb_kernels.specs.Merging.{most_of}
 use Rattle.grb_kernels.specs.Typed.{entries_of}
 use Rattle.grb_kernels.proofs.Lists.{append_nil}
-use Rattle.grb_kernels.proofs.Room.{most-mono, most-add}
 use Rattle.grb_rows.specs.Cells.{IsFlat}
 use Rattle.grb_ewise.specs.Rows.{flat_entries}
-use Rattle.grb_ewise.proofs.MatrixRows.{with_row, rows_from, rows_from-more, below-rows_from, length-with_row, pointwise-with_row}
+use Rattle.grb_ewise.proofs.MatrixRows.{with_row, rows_from, rows_from-more, below-rows_from, pointwise-with_row}
 use Rattle.grb_ewise.proofs.PushedRows.{entries-pushed_row, flat-pushed_row}
 
 abbrev pub Rises : List ℕ → Type 0
@@ -109,41 +107,25 @@ one_goes_on true false i j i2 j2 p q h k on stays on' stays' = omega (arith, on 
 one_goes_on false true i j i2 j2 p q h k on stays on' stays' = omega (arith, stays refl, on' refl)
 one_goes_on false false i j i2 j2 p q h k on stays on' stays' = absurd (omega (arith, h refl, k refl))
 
--- a row is among those from a cursor on
-pub row_room : (m : MatrixEntries) (rs : List ℕ) (i : ℕ) (here : Bool) (x : VectorEntries) → (here ≡ true → i < length rs) → (here ≡ true → x ≡ row_of (get_or rs i 0) m) → (here ≡ false → x ≡ [])
-    → length x ≤ length (rows_from m (drop i rs))
-row_room m rs i true x at row none =
-    let whole = ap length (rows_from-more m rs i (at refl)) ∙ length-with_row (get_or rs i 0) (row_of (get_or rs i 0) m) (rows_from m (drop (i + 1) rs)) in
-    let is = ap length (row refl) in
-    omega (arith, whole, is)
-row_room m rs i false x at row none = let is = ap length (none refl) in omega (arith, is)
-
-pub length-entries_of : {V : Type 0} (value : V → Value) (ks : List ℕ) (vs : List V) → length ks ≡ length vs → length (entries_of value ks vs) ≡ length ks
-length-entries_of value [] vs e = refl
-length-entries_of value (k ∷ ks) [] e = absurd (omega arith)
-length-entries_of value (k ∷ ks) (v ∷ vs) e = let rest = length-entries_of value ks vs (omega arith) in omega (arith, rest)
-
-module _ {V : Type 0} (tv : V → Value) (f : Option Value → Option Value → Option Value) (none : f None None ≡ None) (keeps_a keeps_b : Bool) (a b : MatrixEntries) (ra rb : List ℕ) (total : MatrixEntries) where
-  -- what is written so far, in the first k columns and values, and the rows from both cursors on
-  pub record IsFilling (i j k : ℕ) (rows starts columns : List ℕ) (values : List V) : Type 0 where
+module _ {V : Type 0} (tv : V → Value) (f : Option Value → Option Value → Option Value) (none : f None None ≡ None) (a b : MatrixEntries) (ra rb : List ℕ) (total : MatrixEntries) where
+  -- what is written so far, and the rows from both cursors on
+  pub record IsFilling (i j : ℕ) (rows starts columns : List ℕ) (values : List V) : Type 0 where
     pub left : i ≤ length ra
     pub right : j ≤ length rb
-    pub room : k + most_of keeps_a keeps_b (length (rows_from a (drop i ra))) (length (rows_from b (drop j rb))) ≤ length columns
-    pub same : length columns ≡ length values
-    pub flat : IsFlat rows starts (take k columns)
+    pub same : length values ≡ length columns
+    pub flat : IsFlat rows starts columns
     pub below_a : (n m : ℕ) → n < length rows → i ≤ m → m < length ra → get_or rows n 0 < get_or ra m 0
     pub below_b : (n m : ℕ) → n < length rows → j ≤ m → m < length rb → get_or rows n 0 < get_or rb m 0
-    pub so_far : flat_entries tv rows starts (take k columns) (take k values) ++ pointwise cell_cmp f (rows_from a (drop i ra)) (rows_from b (drop j rb)) ≡ total
+    pub so_far : flat_entries tv rows starts columns values ++ pointwise cell_cmp f (rows_from a (drop i ra)) (rows_from b (drop j rb)) ≡ total
 
-  module _ (i j k i2 j2 count r : ℕ) (rows starts rows2 starts2 columns columns2 : List ℕ) (values values2 : List V) (x y : VectorEntries)
-      (before : IsFilling i j k rows starts columns values) (turn_a : IsTurn a ra i i2 r x) (turn_b : IsTurn b rb j j2 r y)
-      (columns_before : take k columns2 ≡ take k columns) (values_before : take k values2 ≡ take k values)
-      (columns_length : length columns2 ≡ length columns) (values_length : length values2 ≡ length values)
-      (made : entries_of tv (take count (drop k columns2)) (take count (drop k values2)) ≡ pointwise nat_cmp f x y)
-      (most : count ≤ most_of keeps_a keeps_b (length x) (length y))
-      (fit : (n : ℕ) → n < length columns2 → get_or columns2 n 0 < 4294967296)
+  -- the columns js and the values ws come after those so far
+  module _ (i j i2 j2 count r : ℕ) (rows starts rows2 starts2 columns columns2 js : List ℕ) (values values2 ws : List V) (x y : VectorEntries)
+      (before : IsFilling i j rows starts columns values) (turn_a : IsTurn a ra i i2 r x) (turn_b : IsTurn b rb j j2 r y)
+      (columns_are : columns2 ≡ columns ++ js) (values_are : values2 ≡ values ++ ws) (js_long : length js ≡ count) (ws_long : length ws ≡ count)
+      (made : entries_of tv js ws ≡ pointwise nat_cmp f x y)
+      (js_fit : (n : ℕ) → n < length js → get_or js n 0 < 4294967296)
       (stands_at : ((i < length ra) × (r ≡ get_or ra i 0)) ⊎ ((j < length rb) × (r ≡ get_or rb j 0)))
-      (rows_pushed : 0 < count → rows2 ≡ rows ++ r ∷ []) (starts_pushed : 0 < count → starts2 ≡ starts ++ k ∷ [])
+      (rows_pushed : 0 < count → rows2 ≡ rows ++ r ∷ []) (starts_pushed : 0 < count → starts2 ≡ starts ++ length columns ∷ [])
       (rows_same : count ≡ 0 → rows2 ≡ rows) (starts_same : count ≡ 0 → starts2 ≡ starts) where
     abbrev rest_a : MatrixEntries
     rest_a = rows_from a (drop i2 ra)
@@ -151,51 +133,8 @@ module _ {V : Type 0} (tv : V → Value) (f : Option Value → Option Value → 
     abbrev rest_b : MatrixEntries
     rest_b = rows_from b (drop j2 rb)
 
-    room_a : length (rows_from a (drop i ra)) ≡ length x + length rest_a
-    room_a = ap length turn_a.front ∙ length-with_row r x rest_a
-
-    room_b : length (rows_from b (drop j rb)) ≡ length y + length rest_b
-    room_b = ap length turn_b.front ∙ length-with_row r y rest_b
-
-    within : k + count + most_of keeps_a keeps_b (length rest_a) (length rest_b) ≤ length columns2
-    within =
-        let room = before.room in
-        let parts = most-add keeps_a keeps_b (length x) (length rest_a) (length y) (length rest_b) in
-        let whole = most-mono keeps_a keeps_b (length x + length rest_a) (length y + length rest_b) (length (rows_from a (drop i ra))) (length (rows_from b (drop j rb)))
-        (omega (arith, room_a)) (omega (arith, room_b)) in
-        omega (arith, room, parts, whole, most, columns_length)
-
-    inside : k + count ≤ length columns2
-    inside = omega (arith, within)
-
-    so_long : length (take k columns) ≡ k
-    so_long = length-take-le k columns (omega (arith, inside, columns_length))
-
-    values_so_long : length (take k values) ≡ k
-    values_so_long = let same = before.same in length-take-le k values (omega (arith, inside, columns_length, same))
-
-    abbrev js : List ℕ
-    js = take count (drop k columns2)
-
-    abbrev ws : List V
-    ws = take count (drop k values2)
-
-    js_long : length js ≡ count
-    js_long = let rest = length-drop k columns2 in length-take-le count (drop k columns2) (omega (arith, inside, rest))
-
-    js_fit : (n : ℕ) → n < length js → get_or js n 0 < 4294967296
-    js_fit n l =
-        let m : n < count = omega (arith, l, js_long) in
-        subst (λ v. v < 4294967296) (sym (get_or-take count (drop k columns2) n 0 m ∙ get_or-drop k columns2 n 0)) (fit (k + n) (omega (arith, inside, m)))
-
-    columns_are : take (k + count) columns2 ≡ take k columns ++ js
-    columns_are = take-add k count columns2 ∙ ap (λ (s : List ℕ). s ++ js) columns_before
-
-    values_are : take (k + count) values2 ≡ take k values ++ ws
-    values_are = take-add k count values2 ∙ ap (λ (s : List V). s ++ ws) values_before
-
     abbrev out : MatrixEntries
-    out = flat_entries tv rows starts (take k columns) (take k values)
+    out = flat_entries tv rows starts columns values
 
     -- the rows so far come before this one
     below_this : (n : ℕ) → n < length rows → get_or rows n 0 < r
@@ -204,25 +143,32 @@ module _ {V : Type 0} (tv : V → Value) (f : Option Value → Option Value → 
       | inr h ↦ let b = before.below_b n j l (omega arith) h.0 in let e = h.1 in omega (arith, b, e)
     ]
 
+    none_of : {A : Type 0} (xs : List A) → length xs ≡ 0 → xs ≡ []
+    none_of [] e = refl
+    none_of (x ∷ xs) e = absurd (omega (arith, e))
+
+    add_same : {m n o p : ℕ} → m ≡ n → o ≡ p → m + o ≡ n + p
+    add_same {m} {n} {o} {p} e h = ap (λ k. k + o) e ∙ ap (λ k. n + k) h
+
     -- what becomes of the lists
     record IsPushed : Type 0 where
-      pub is_flat : IsFlat rows2 starts2 (take (k + count) columns2)
-      pub entries : flat_entries tv rows2 starts2 (take (k + count) columns2) (take (k + count) values2) ≡ out ++ with_row r (entries_of tv js ws)
+      pub is_flat : IsFlat rows2 starts2 columns2
+      pub entries : flat_entries tv rows2 starts2 columns2 values2 ≡ out ++ with_row r (entries_of tv js ws)
       pub each : (n : ℕ) → n < length rows2 → ((n < length rows) × (get_or rows2 n 0 ≡ get_or rows n 0)) ⊎ (get_or rows2 n 0 ≡ r)
 
     pushed_none : count ≡ 0 → IsPushed
     pushed_none e =
-        let no_js : js ≡ [] = ap (λ n. take n (drop k columns2)) e in
-        let no_ws : ws ≡ [] = ap (λ n. take n (drop k values2)) e in
-        let columns_same : take (k + count) columns2 ≡ take k columns = columns_are ∙ ap (λ (s : List ℕ). take k columns ++ s) no_js ∙ append_nil (take k columns) in
-        let values_same : take (k + count) values2 ≡ take k values = values_are ∙ ap (λ (s : List V). take k values ++ s) no_ws ∙ append_nil (take k values) in
+        let no_js : js ≡ [] = none_of js (js_long ∙ e) in
+        let no_ws : ws ≡ [] = none_of ws (ws_long ∙ e) in
+        let columns_same : columns2 ≡ columns = columns_are ∙ ap (λ (s : List ℕ). columns ++ s) no_js ∙ append_nil columns in
+        let values_same : values2 ≡ values = values_are ∙ ap (λ (s : List V). values ++ s) no_ws ∙ append_nil values in
         record {
-          is_flat = subst (λ (s : List ℕ). IsFlat s starts2 (take (k + count) columns2)) (sym (rows_same e))
-              (subst (λ (s : List ℕ). IsFlat rows s (take (k + count) columns2)) (sym (starts_same e)) (subst (IsFlat rows starts) (sym columns_same) before.flat));
-          entries = ap (λ (s : List ℕ). flat_entries tv s starts2 (take (k + count) columns2) (take (k + count) values2)) (rows_same e)
-              ∙ ap (λ (s : List ℕ). flat_entries tv rows s (take (k + count) columns2) (take (k + count) values2)) (starts_same e)
-              ∙ ap (λ (s : List ℕ). flat_entries tv rows starts s (take (k + count) values2)) columns_same
-              ∙ ap (flat_entries tv rows starts (take k columns)) values_same
+          is_flat = subst (λ (s : List ℕ). IsFlat s starts2 columns2) (sym (rows_same e))
+              (subst (λ (s : List ℕ). IsFlat rows s columns2) (sym (starts_same e)) (subst (IsFlat rows starts) (sym columns_same) before.flat));
+          entries = ap (λ (s : List ℕ). flat_entries tv s starts2 columns2 values2) (rows_same e)
+              ∙ ap (λ (s : List ℕ). flat_entries tv rows s columns2 values2) (starts_same e)
+              ∙ ap (λ (s : List ℕ). flat_entries tv rows starts s values2) columns_same
+              ∙ ap (flat_entries tv rows starts columns) values_same
               ∙ sym (append_nil out)
               ∙ ap (λ (m : VectorEntries). out ++ with_row r m) (sym (ap (λ (s : List ℕ). entries_of tv s ws) no_js));
           each = λ n l. inl (subst (λ (s : List ℕ). n < length s) (rows_same e) l, ap (λ (s : List ℕ). get_or s n 0) (rows_same e));
@@ -230,17 +176,17 @@ module _ {V : Type 0} (tv : V → Value) (f : Option Value → Option Value → 
 
     pushed_some : 0 < count → IsPushed
     pushed_some l =
-        let starts_are : starts2 ≡ starts ++ length (take k columns) ∷ [] = starts_pushed l ∙ ap (λ n. starts ++ n ∷ []) (sym so_long) in
+        let starts_are : starts2 ≡ starts ++ length columns ∷ [] = starts_pushed l in
         record {
-          is_flat = subst (λ (s : List ℕ). IsFlat s starts2 (take (k + count) columns2)) (sym (rows_pushed l))
-              (subst (λ (s : List ℕ). IsFlat (rows ++ r ∷ []) s (take (k + count) columns2)) (sym starts_are)
-              (subst (IsFlat (rows ++ r ∷ []) (starts ++ length (take k columns) ∷ [])) (sym columns_are)
-              (flat-pushed_row tv rows starts (take k columns) (take k values) r js ws before.flat js_fit (omega (arith, l, js_long)) below_this)));
-          entries = ap (λ (s : List ℕ). flat_entries tv s starts2 (take (k + count) columns2) (take (k + count) values2)) (rows_pushed l)
-              ∙ ap (λ (s : List ℕ). flat_entries tv (rows ++ r ∷ []) s (take (k + count) columns2) (take (k + count) values2)) starts_are
-              ∙ ap (λ (s : List ℕ). flat_entries tv (rows ++ r ∷ []) (starts ++ length (take k columns) ∷ []) s (take (k + count) values2)) columns_are
-              ∙ ap (flat_entries tv (rows ++ r ∷ []) (starts ++ length (take k columns) ∷ []) (take k columns ++ js)) values_are
-              ∙ entries-pushed_row tv rows starts (take k columns) (take k values) r js ws before.flat js_fit (omega (arith, so_long, values_so_long));
+          is_flat = subst (λ (s : List ℕ). IsFlat s starts2 columns2) (sym (rows_pushed l))
+              (subst (λ (s : List ℕ). IsFlat (rows ++ r ∷ []) s columns2) (sym starts_are)
+              (subst (IsFlat (rows ++ r ∷ []) (starts ++ length columns ∷ [])) (sym columns_are)
+              (flat-pushed_row tv rows starts columns values r js ws before.flat js_fit (omega (arith, l, js_long)) below_this)));
+          entries = ap (λ (s : List ℕ). flat_entries tv s starts2 columns2 values2) (rows_pushed l)
+              ∙ ap (λ (s : List ℕ). flat_entries tv (rows ++ r ∷ []) s columns2 values2) starts_are
+              ∙ ap (λ (s : List ℕ). flat_entries tv (rows ++ r ∷ []) (starts ++ length columns ∷ []) s values2) columns_are
+              ∙ ap (flat_entries tv (rows ++ r ∷ []) (starts ++ length columns ∷ []) (columns ++ js)) values_are
+              ∙ entries-pushed_row tv rows starts columns values r js ws before.flat js_fit (sym before.same);
           each = λ n m.
               let long : length rows2 ≡ length rows + 1 = ap length (rows_pushed l) ∙ length_push rows r in
               elim (cases_eq n (length rows)) [
@@ -257,12 +203,11 @@ module _ {V : Type 0} (tv : V → Value) (f : Option Value → Option Value → 
         some : (n : ℕ) → (n ≡ 0 → ⊥) → 0 < n
         some n h = omega (arith, h)
 
-    pub filled : IsFilling i2 j2 (k + count) rows2 starts2 columns2 values2
+    pub filled : IsFilling i2 j2 rows2 starts2 columns2 values2
     filled = record {
       left = turn_a.inside;
       right = turn_b.inside;
-      room = within;
-      same = let same = before.same in omega (arith, columns_length, values_length, same);
+      same = ap length values_are ∙ length-append values ws ∙ add_same before.same (ws_long ∙ sym js_long) ∙ sym (ap length columns_are ∙ length-append columns js);
       flat = is_pushed.is_flat;
       below_a = λ n m l u v. elim (is_pushed.each n l) [
         | inl h ↦ let on = turn_a.on in let b = before.below_a n m h.0 (omega (arith, on, u)) v in let e = h.1 in omega (arith, b, e)
@@ -281,22 +226,21 @@ module _ {V : Type 0} (tv : V → Value) (f : Option Value → Option Value → 
     }
 
 -- before the first turn nothing is written
-pub filling_begins : {V : Type 0} (tv : V → Value) (f : Option Value → Option Value → Option Value) (none : f None None ≡ None) (keeps_a keeps_b : Bool) (a b : MatrixEntries) (ra rb rows starts columns : List ℕ) (values : List V)
-    → rows_from a ra ≡ a → rows_from b rb ≡ b → rows ≡ [] → starts ≡ [] → most_of keeps_a keeps_b (length a) (length b) ≤ length columns → length columns ≡ length values
-    → IsFilling tv f none keeps_a keeps_b a b ra rb (pointwise cell_cmp f a b) 0 0 0 rows starts columns values
-filling_begins tv f none keeps_a keeps_b a b ra rb rows starts columns values whole_a whole_b no_rows no_starts room same =
+pub filling_begins : {V : Type 0} (tv : V → Value) (f : Option Value → Option Value → Option Value) (none : f None None ≡ None) (a b : MatrixEntries) (ra rb rows starts columns : List ℕ) (values : List V)
+    → rows_from a ra ≡ a → rows_from b rb ≡ b → rows ≡ [] → starts ≡ [] → columns ≡ [] → values ≡ []
+    → IsFilling tv f none a b ra rb (pointwise cell_cmp f a b) 0 0 rows starts columns values
+filling_begins tv f none a b ra rb rows starts columns values whole_a whole_b no_rows no_starts no_columns no_values =
     let is_rows : length rows ≡ 0 = ap length no_rows in
     record {
       left = omega arith;
       right = omega arith;
-      room = let la = ap length whole_a in let lb = ap length whole_b in
-          let whole = most-mono keeps_a keeps_b (length (rows_from a ra)) (length (rows_from b rb)) (length a) (length b) (omega (arith, la)) (omega (arith, lb)) in
-          omega (arith, whole, room);
-      same = same;
-      flat = subst (λ (s : List ℕ). IsFlat s starts []) (sym no_rows) (subst (λ (s : List ℕ). IsFlat [] s []) (sym no_starts) flat_nothing);
+      same = ap length no_values ∙ sym (ap length no_columns);
+      flat = subst (λ (s : List ℕ). IsFlat s starts columns) (sym no_rows) (subst (λ (s : List ℕ). IsFlat [] s columns) (sym no_starts) (subst (IsFlat [] []) (sym no_columns) flat_nothing));
       below_a = λ n m l u v. absurd (omega (arith, l, is_rows));
       below_b = λ n m l u v. absurd (omega (arith, l, is_rows));
-      so_far = ap (λ (m : MatrixEntries). pointwise cell_cmp f m (rows_from b rb)) whole_a ∙ ap (pointwise cell_cmp f a) whole_b;
+      so_far = ap (λ (m : MatrixEntries). m ++ pointwise cell_cmp f (rows_from a ra) (rows_from b rb))
+          (ap (λ (s : List ℕ). flat_entries tv s starts columns values) no_rows ∙ ap (λ (s : List ℕ). flat_entries tv [] s columns values) no_starts ∙ ap (λ (s : List ℕ). flat_entries tv [] [] s values) no_columns)
+          ∙ ap (λ (m : MatrixEntries). pointwise cell_cmp f m (rows_from b rb)) whole_a ∙ ap (pointwise cell_cmp f a) whole_b;
     }
   where
     flat_nothing : IsFlat [] [] []
@@ -315,14 +259,27 @@ pub merged_in_order : (f : Option Value → Option Value → Option Value) (a b 
 merged_in_order f a b made e = subst (λ (m : MatrixEntries). IsTrue (is_sorted cell_cmp m)) (sym e) (passes _ (is_sorted-pointwise cell_cmp_total cell_cmp-IsAntisymmetric f a b))
 
 -- after the last turn all is written
-pub filling_ends : {V : Type 0} (tv : V → Value) (f : Option Value → Option Value → Option Value) (none : f None None ≡ None) (keeps_a keeps_b : Bool) (a b : MatrixEntries) (ra rb rows starts columns : List ℕ) (values : List V) (total : MatrixEntries) (i j k : ℕ)
-    → IsFilling tv f none keeps_a keeps_b a b ra rb total i j k rows starts columns values → length ra + length rb ≤ i + j → flat_entries tv rows starts (take k columns) (take k values) ≡ total
-filling_ends tv f none keeps_a keeps_b a b ra rb rows starts columns values total i j k held past =
+pub filling_ends : {V : Type 0} (tv : V → Value) (f : Option Value → Option Value → Option Value) (none : f None None ≡ None) (a b : MatrixEntries) (ra rb rows starts columns : List ℕ) (values : List V) (total : MatrixEntries) (i j : ℕ)
+    → IsFilling tv f none a b ra rb total i j rows starts columns values → length ra + length rb ≤ i + j → flat_entries tv rows starts columns values ≡ total
+filling_ends tv f none a b ra rb rows starts columns values total i j held past =
     let left = held.left in
     let right = held.right in
     let no_a : rows_from a (drop i ra) ≡ [] = ap (rows_from a) (drop_all i ra (omega (arith, past, left, right))) in
     let no_b : rows_from b (drop j rb) ≡ [] = ap (rows_from b) (drop_all j rb (omega (arith, past, left, right))) in
-    let written = flat_entries tv rows starts (take k columns) (take k values) in
+    let written = flat_entries tv rows starts columns values in
     sym (append_nil written)
     ∙ ap (λ (m : MatrixEntries). written ++ m) (sym (ap (λ (m : MatrixEntries). pointwise cell_cmp f m (rows_from b (drop j rb))) no_a ∙ ap (pointwise cell_cmp f []) no_b))
     ∙ held.so_far
+
+-- a list that begins with another one
+pub parted : {A : Type 0} (xs ys : List A) (k : ℕ) → take k ys ≡ xs → ys ≡ xs ++ drop k ys
+parted {A} xs ys k e = sym (take-append-drop k ys) ∙ ap (λ (s : List A). s ++ drop k ys) e
+
+pub fit-dropped : (ys : List ℕ) (k : ℕ) → k ≤ length ys → ((n : ℕ) → n < length ys → get_or ys n 0 < 4294967296) → (n : ℕ) → n < length (drop k ys) → get_or (drop k ys) n 0 < 4294967296
+fit-dropped ys k h fit n l =
+    let rest = length-drop k ys in
+    subst (λ v. v < 4294967296) (sym (get_or-drop k ys n 0)) (fit (k + n) (omega (arith, h, l, rest)))
+
+-- of a list that was lent as a slice, the first n are those of the slice
+pub of_lent : {A : Type 0} (n l : ℕ) (xs ys : List A) → length xs ≡ l → take n (take l (xs ++ ys)) ≡ take n xs
+of_lent n l xs ys e = ap (take n) (take-append-le l xs ys (omega (arith, e)) ∙ take_all l xs (omega (arith, e)))

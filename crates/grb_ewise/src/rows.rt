@@ -1,5 +1,5 @@
 //! Two matrices made into one, row by row.
-ghost use Rattle.std.specs.Prelude.{◌≡◌, ◌+◌, ◌<◌, ◌≤◌, ◌^◌, ◌++◌, [], ◌∷◌, length, take, drop, slice_index, true, false, All, IsTrue, IfOk};
+ghost use Rattle.std.specs.Prelude.{◌≡◌, ◌+◌, ◌<◌, ◌≤◌, ◌^◌, ◌++◌, ℕ, [], ◌∷◌, length, take, drop, slice_index, true, false, All, IsTrue, IfOk, OnOk};
 ghost use Rattle.std.specs.Ordering.{nat_cmp};
 ghost use Rattle.std.specs.FinMap.{is_sorted};
 ghost use Rattle.std.specs.Vec.{vec_len, vec_capacity};
@@ -99,6 +99,33 @@ fn merge_row<T: Stored, U: Stored, R: Rule<T, U>>(
     )
 }
 
+/// Puts what the rule makes of two rows after the columns and values so far, and answers how many entries that is. The lists are made longer
+/// by as many as it may be, and then cut. `AllocError` where memory is refused; then more may stand in them than so far.
+fn append_row<T: Stored, U: Stored, R: Rule<T, U>>(
+    rule: &R,
+    x: &EntrySlice<T>,
+    y: &EntrySlice<U>,
+    columns: &mut Vec<u32>,
+    values: &mut Vec<T>,
+) -> Result<usize, AllocError>
+    requires same { length columns.old.items ≡ length values.old.items }
+    ensures columns_before { OnOk result (take (length columns.old.items) columns.new.items ≡ columns.old.items) }
+    ensures values_before { OnOk result (take (length columns.old.items) values.new.items ≡ values.old.items) }
+    ensures columns_long { IfOk result (λ count. length columns.new.items ≡ length columns.old.items + count) }
+    ensures values_long { IfOk result (λ count. length values.new.items ≡ length columns.old.items + count) }
+    ensures entries { OnOk result (entries_of T.value (drop (length columns.old.items) columns.new.items) (drop (length columns.old.items) values.new.items) ≡ pointwise nat_cmp (R.gives rule.now) (entries_of T.value x.now.indices.now x.now.values.now) (entries_of U.value y.now.indices.now y.now.values.now)) }
+    ensures fit { (n : ℕ) → n < length columns.new.items → slice_index columns.new.items n < 2 ^ 32 }
+{
+    let k = columns.len();
+    let most = most_entries::<T, U, R>(rule, x.indices.len(), y.indices.len());
+    columns.resize(k.saturating_add(most), 0)?;
+    values.resize(k.saturating_add(most), T::any())?;
+    let count = merge_row(rule, x, y, columns.as_mut_slice(), values.as_mut_slice(), k);
+    columns.truncate(k + count);
+    values.truncate(k + count);
+    Ok(count)
+}
+
 /// Puts a row after those so far, where it has entries, the first of which is the `start`th of all.
 fn push_row(rows: &mut Vec<u32>, starts: &mut Vec<usize>, row: u32, start: usize, count: usize)
     requires rows_room { vec_len rows.old < vec_capacity rows.old }
@@ -118,50 +145,49 @@ fn push_row(rows: &mut Vec<u32>, starts: &mut Vec<usize>, row: u32, start: usize
     }
 }
 
-/// Writes what the rule makes of two matrices, row by row: each row by the two cursors over the rows of both. Answers how many entries
-/// it has.
+/// Puts what the rule makes of two matrices into empty lists, row by row: each row by the two cursors over the rows of both. `AllocError`
+/// where memory is refused; then a part may stand in the lists.
 fn fill_rows<T: Stored, U: Stored, R: Rule<T, U>>(
     rule: &R,
     a: &TypedRows<T>,
     b: &TypedRows<U>,
     rows: &mut Vec<u32>,
     starts: &mut Vec<usize>,
-    columns: &mut [u32],
-    values: &mut [T],
-) -> usize
+    columns: &mut Vec<u32>,
+    values: &mut Vec<T>,
+) -> Result<(), AllocError>
     requires no_rows { rows.old.items ≡ [] }
     requires no_starts { starts.old.items ≡ [] }
+    requires no_columns { columns.old.items ≡ [] }
+    requires no_values { values.old.items ≡ [] }
     requires rows_room { length a.now.lists.now.rows + length b.now.lists.now.rows ≤ vec_capacity rows.old }
     requires starts_room { length a.now.lists.now.rows + length b.now.lists.now.rows ≤ vec_capacity starts.old }
-    requires room { most_of (R.left rule.now) (R.right rule.now) (length a.now.lists.now.entries) (length b.now.lists.now.entries) ≤ length columns.old }
-    requires same { length columns.old ≡ length values.old }
-    ensures flat { IsFlat rows.new.items starts.new.items (take result columns.new) }
-    ensures entries { flat_entries T.value rows.new.items starts.new.items (take result columns.new) (take result values.new) ≡ pointwise cell_cmp (R.gives rule.now) (decoded a.now.lists.now.entries) (decoded b.now.lists.now.entries) }
-    ensures ordered { IsTrue (is_sorted cell_cmp (flat_entries T.value rows.new.items starts.new.items (take result columns.new) (take result values.new))) }
-    ensures most { result ≤ length columns.new }
+    ensures flat { OnOk result (IsFlat rows.new.items starts.new.items columns.new.items) }
+    ensures same { OnOk result (length values.new.items ≡ length columns.new.items) }
+    ensures entries { OnOk result (flat_entries T.value rows.new.items starts.new.items columns.new.items values.new.items ≡ pointwise cell_cmp (R.gives rule.now) (decoded a.now.lists.now.entries) (decoded b.now.lists.now.entries)) }
+    ensures ordered { OnOk result (IsTrue (is_sorted cell_cmp (flat_entries T.value rows.new.items starts.new.items columns.new.items values.new.items))) }
 {
     let rows_a = a.lists.rows();
     let rows_b = b.lists.rows();
     let total = rows_a.len() + rows_b.len();
     let mut i = 0;
     let mut j = 0;
-    let mut k = 0;
     'merging: while i + j < total {
         let p = number_at(rows_a, i);
         let q = number_at(rows_b, j);
         let (x, next_i) = take_row::<T>(&*a, i, is_upto(p, q));
         let (y, next_j) = take_row::<U>(&*b, j, is_upto(q, p));
-        let count = merge_row(rule, &x, &y, columns, values, k);
-        push_row(rows, starts, lower(p, q), k, count);
-        k += count;
+        let start = columns.len();
+        let count = append_row(rule, &x, &y, columns, values)?;
+        push_row(rows, starts, lower(p, q), start, count);
         i = next_i;
         j = next_j;
     }
-    k
+    Ok(())
 }
 
-/// The map that the rule makes of two matrices. Takes memory for as many entries as it has at most and as many rows as both have; none is refused
-/// once anything was written. `AllocError` where that is refused; then nothing is made.
+/// The map that the rule makes of two matrices. Memory is reserved for as many entries as it has at most and as many rows as both have;
+/// what is not written of it is not touched. `AllocError` where that is refused; then nothing is made.
 pub(crate) fn merge_rows<T: Stored + Drop, U: Stored, R: Rule<T, U>>(
     alloc: Global,
     rule: &R,
@@ -177,19 +203,17 @@ pub(crate) fn merge_rows<T: Stored + Drop, U: Stored, R: Rule<T, U>>(
     let rows_room = a.lists.rows().len() + b.lists.rows().len();
     let mut rows = Vec::with_capacity(alloc, rows_room)?;
     let mut starts = Vec::with_capacity(alloc, rows_room)?;
-    let mut columns = vec![in alloc; 0u32; room]?;
-    let mut values = vec![in alloc; T::any(); room]?;
-    let count = fill_rows(
+    let mut columns = Vec::with_capacity(alloc, room)?;
+    let mut values = Vec::with_capacity(alloc, room)?;
+    fill_rows(
         rule,
         a,
         b,
         &mut rows,
         &mut starts,
-        columns.as_mut_slice(),
-        values.as_mut_slice(),
-    );
-    columns.truncate(count);
-    values.truncate(count);
+        &mut columns,
+        &mut values,
+    )?;
     T::show(values.as_slice());
     Ok(T::keep(rows, starts, columns, values))
 }

@@ -1,5 +1,5 @@
 //! Two lists of entries in rising order of their indices, made into one.
-ghost use Rattle.std.specs.Prelude.{◌≡◌, ◌+◌, ◌<◌, ◌≤◌, ◌^◌, ◌++◌, ℕ, Bool, [], length, slice_index, true, false, Option, Some, None, IsTrue, IfOk};
+ghost use Rattle.std.specs.Prelude.{◌≡◌, ◌≢◌, ◌+◌, ◌<◌, ◌≤◌, ◌^◌, ◌++◌, ℕ, Bool, [], length, slice_index, slice_index_or, true, false, Option, Some, None, IsTrue, IfOk};
 ghost use Rattle.std.specs.Ordering.{nat_cmp};
 ghost use Rattle.std.specs.FinMap.{is_sorted, find};
 ghost use Rattle.grb_core.specs.declared.value.Value.{Value};
@@ -269,13 +269,11 @@ fn step_through<T: Scalar, U: Scalar, R: Rule<T, U>>(
     finish(rule, ac, av, i, bc, bv, j, columns, values, k)
 }
 
-/// What a list stores at an index, by the place where the indices that are not below it begin: the value, and whether there is one.
+/// What a list stores at a place, if the index there is this one: the value, and whether it is.
 fn stored_at<T: Scalar>(indices: &[u32], values: &[T], place: usize, index: u32) -> (T, bool)
     requires same { length indices.now ≡ length values.now }
-    requires rising { IsTrue (is_sorted nat_cmp (entries_of T.value indices.now values.now)) }
-    requires below { (q : ℕ) → q < place → slice_index indices.now q < index }
-    requires above { (q : ℕ) → place ≤ q → q < length indices.now → index ≤ slice_index indices.now q }
-    ensures { kept (T.value result.0) result.1 ≡ find nat_cmp index (entries_of T.value indices.now values.now) }
+    ensures here { result.1 ≡ true → (place < length indices.now) × (slice_index indices.now place ≡ index) × (result.0 ≡ slice_index_or values.now place result.0) }
+    ensures not_here { result.1 ≡ false → place < length indices.now → slice_index indices.now place ≢ index }
 {
     if place < indices.len() && indices[place] == index {
         return (values[place], true);
@@ -283,12 +281,55 @@ fn stored_at<T: Scalar>(indices: &[u32], values: &[T], place: usize, index: u32)
     (T::any(), false)
 }
 
-/// Makes the result by a search of the other list for each index of one, where nothing is kept of the other list alone. The time is the
-/// length of the one by the logarithm of what lies between two of its indices in the other.
+/// Writes what the rule makes of an entry of one map, and of what the other stores at its index, after the first `k` entries of a result.
+fn put_entry<T: Scalar, U: Scalar, X: Scalar, Y: Scalar, R: Rule<T, U>, S: Side<T, U, X, Y>>(
+    rule: &R,
+    index: u32,
+    x: X,
+    y: Y,
+    there: bool,
+    columns: &mut [u32],
+    values: &mut [T],
+    k: usize,
+) -> usize
+    requires room { there ≡ true → k < length columns.old }
+    requires room_alone { S.own (R.left rule.now) (R.right rule.now) ≡ true → k < length columns.old }
+    requires same { length columns.old ≡ length values.old }
+    ensures first { first_entries T.value result columns.new values.new ≡ first_entries T.value k columns.old values.old ++ before_entries index (S.turned (R.gives rule.now) (Some (X.value x)) (kept (Y.value y) there)) [] }
+    ensures most { result ≤ k + 1 }
+    ensures nothing { there ≡ false → S.own (R.left rule.now) (R.right rule.now) ≡ false → result ≡ k }
+{
+    if !there && !S::is_kept(rule) {
+        return k;
+    }
+    let (value, keep) = S::pick(rule, x, y, there);
+    emit(columns, values, k, index, value, keep)
+}
+
+/// The place after one, if what stands there was taken; else the same place.
+fn place_past(place: usize, taken: bool) -> usize
+    requires { taken ≡ true → place < 2 ^ 63 }
+    ensures on { taken ≡ true → result ≡ place + 1 }
+    ensures stays { taken ≡ false → result ≡ place }
+{
+    if taken { place + 1 } else { place }
+}
+
+/// Makes the result by a search of the longer list for each index of the shorter one. What lies between two of these is written in one
+/// loop, or passed over, where nothing is kept of the longer list alone. Then the time is the length of the shorter one by the logarithm of
+/// what lies between.
 ///
-/// - `ac`, `av`: the indices and the values of the one.
-/// - `bc`, `bv`: those of the other.
-fn search_other<T: Scalar, U: Scalar, X: Scalar, Y: Scalar, R: Rule<T, U>, S: Side<T, U, X, Y>>(
+/// - `ac`, `av`: the indices and the values of the shorter list.
+/// - `bc`, `bv`: those of the longer.
+fn search_longer<
+    T: Scalar,
+    U: Scalar,
+    X: Scalar,
+    Y: Scalar,
+    R: Rule<T, U>,
+    S: Side<T, U, X, Y>,
+    L: Side<T, U, Y, X>,
+>(
     rule: &R,
     ac: &[u32],
     av: &[X],
@@ -301,22 +342,25 @@ fn search_other<T: Scalar, U: Scalar, X: Scalar, Y: Scalar, R: Rule<T, U>, S: Si
     requires b { length bc.now ≡ length bv.now }
     requires a_rising { IsTrue (is_sorted nat_cmp (entries_of X.value ac.now av.now)) }
     requires b_rising { IsTrue (is_sorted nat_cmp (entries_of Y.value bc.now bv.now)) }
-    requires nothing { (y : Value) → S.turned (R.gives rule.now) None (Some y) ≡ None }
-    requires room { length ac.now ≤ length columns.old }
+    requires shorter { length ac.now ≤ length bc.now }
+    requires turned { (x y : Option Value) → L.turned (R.gives rule.now) y x ≡ S.turned (R.gives rule.now) x y }
+    requires room { most_of (S.own (R.left rule.now) (R.right rule.now)) (L.own (R.left rule.now) (R.right rule.now)) (length ac.now) (length bc.now) ≤ length columns.old }
     requires same { length columns.old ≡ length values.old }
     ensures entries { first_entries T.value result columns.new values.new ≡ pointwise nat_cmp (S.turned (R.gives rule.now)) (entries_of X.value ac.now av.now) (entries_of Y.value bc.now bv.now) }
-    ensures most { result ≤ length ac.now }
+    ensures most { result ≤ most_of (S.own (R.left rule.now) (R.right rule.now)) (L.own (R.left rule.now) (R.right rule.now)) (length ac.now) (length bc.now) }
 {
     let mut place = 0;
     let mut k = 0;
     'entries: for i in 0..ac.len() {
         let index = ac[i];
-        place = next_place(bc, place, index);
-        let (y, there) = stored_at(bc, bv, place, index);
-        let (value, keep) = S::pick(rule, av[i], y, there);
-        k = emit(columns, values, k, index, value, keep);
+        let next = next_place(bc, place, index);
+        let (before, passed) = (&bc[..next], &bv[..next]);
+        k = finish_rest::<T, U, Y, X, R, L>(rule, before, passed, place, columns, values, k);
+        let (y, there) = stored_at(bc, bv, next, index);
+        k = put_entry::<T, U, X, Y, R, S>(rule, index, av[i], y, there, columns, values, k);
+        place = place_past(next, there);
     }
-    k
+    finish_rest::<T, U, Y, X, R, L>(rule, bc, bv, place, columns, values, k)
 }
 
 /// The most entries of what the rule makes of a map of `a` entries and one of `b`. Takes no memory.
@@ -335,7 +379,8 @@ pub fn most_entries<T: Scalar, U: Scalar, R: Rule<T, U>>(rule: &R, a: usize, b: 
 }
 
 /// The map that the rule makes of two others, written to the front of `columns` and `values`. Answers how many entries it has. Where one
-/// list is far longer than the other, and nothing is kept of it alone, it is searched for the indices of the other and not read.
+/// list is far longer than the other, it is searched for the indices of the other; what lies between is not read, where nothing is kept of
+/// it alone.
 ///
 /// - `rule`: what stands at an index, by the values that the two store there.
 /// - `ac`, `av`: the indices and the values of the first map, in rising order of index.
@@ -361,11 +406,15 @@ pub fn merge<T: Scalar, U: Scalar, R: Rule<T, U>>(
     ensures most { result ≤ length ac.now + length bc.now }
     ensures within { result ≤ most_of (R.left rule.now) (R.right rule.now) (length ac.now) (length bc.now) }
 {
-    if !rule.keeps_right() && bc.len() / FAR_LONGER >= ac.len() {
-        return search_other::<T, U, T, U, R, FirstMap>(rule, ac, av, bc, bv, columns, values);
+    if bc.len() / FAR_LONGER >= ac.len() {
+        return search_longer::<T, U, T, U, R, FirstMap, SecondMap>(
+            rule, ac, av, bc, bv, columns, values,
+        );
     }
-    if !rule.keeps_left() && ac.len() / FAR_LONGER >= bc.len() {
-        return search_other::<T, U, U, T, R, SecondMap>(rule, bc, bv, ac, av, columns, values);
+    if ac.len() / FAR_LONGER >= bc.len() {
+        return search_longer::<T, U, U, T, R, SecondMap, FirstMap>(
+            rule, bc, bv, ac, av, columns, values,
+        );
     }
     step_through(rule, ac, av, bc, bv, columns, values)
 }

@@ -4,10 +4,12 @@ pub mod WordByWord
 pub mod Cleared
 pub mod Taken
 pub mod Tops
+pub mod Reach
 pub mod Renamed
 pub mod RowSums
 pub mod OpenRow
 pub mod ProductRows
+pub mod ScaledRow
 pub mod Making
 pub mod WholeProduct
 pub mod MaskedSums

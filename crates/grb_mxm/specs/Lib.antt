@@ -1,3 +1,4 @@
 pub mod Rows
 pub mod Bits
 pub mod Open
+pub mod Reach

@@ -1,12 +1,14 @@
 //! The marks of a row of sums as the bits of words, so that a row is read in order and cleared by what was marked. For a row of few products
 //! a second level, `tops`, has a bit for each word that has one, so that no other word is looked at.
-ghost use Rattle.std.specs.Prelude.{◌≡◌, ◌+◌, ◌<◌, ◌≤◌, ◌≢◌, ◌*◌, ◌/◌, ◌++◌, ℕ, Bool, List, length, slice_index, slice_set, true, Some};
+ghost use Rattle.std.specs.Prelude.{◌≡◌, ◌+◌, ◌<◌, ◌≤◌, ◌≢◌, ◌*◌, ◌/◌, ◌^◌, ◌++◌, ℕ, Bool, List, length, slice_index, slice_set, true, Some, None};
 ghost use Rattle.grb_core.specs.Monoid.{identity_of};
 ghost use Rattle.grb_kernels.specs.Typed.{first_entries};
 ghost use Rattle.grb_mxm.specs.Rows.{name_in};
 ghost use Rattle.grb_kernels.specs.Bits.{has_bit};
 ghost use Rattle.grb_products.specs.Bits.{value_at};
-ghost use Rattle.grb_mxm.specs.Bits.{touched, bits_from, AreMarks, AreTops, AreNoTops, AreOpen, AreTaken};
+ghost use Rattle.grb_mxm.specs.Bits.{touched, bits_from, AreMarks, AreTops, AreNoTops, AreOpen, AreTaken, marks_of};
+ghost use Rattle.grb_mxm.specs.Reach.{IsOutside};
+ghost use Rattle.grb_products.specs.Open.{marked_at};
 
 use crate::naming::Names;
 use grb_kernels::{Scalar, lowest_bit, without_bit};
@@ -72,7 +74,7 @@ pub(crate) fn take_words<T: Scalar, M: MonoidOver<T>>(
 }
 
 /// So many words are looked at together, where words without a bit are passed over.
-const LOOKED_AT: usize = 16;
+pub(crate) const LOOKED_AT: usize = 16;
 
 /// Whether none of the words has a bit.
 fn are_untouched(words: &[u64]) -> bool
@@ -85,42 +87,47 @@ fn are_untouched(words: &[u64]) -> bool
     none
 }
 
-/// Whether 16 words stand from a place on, none of which has a bit.
-fn has_untouched(words: &[u64], at: usize) -> bool
-    requires { at ≤ length words.now }
-    ensures within { result ≡ true → at + 16 ≤ length words.now }
+/// Whether 16 words stand from a place up to another, none of which has a bit.
+fn has_untouched(words: &[u64], at: usize, upto: usize) -> bool
+    requires up { at ≤ upto }
+    requires within { upto ≤ length words.now }
+    ensures within { result ≡ true → at + 16 ≤ upto }
     ensures none { result ≡ true → (u : ℕ) → at ≤ u → u < at + 16 → slice_index words.now u ≡ 0 }
 {
-    if words.len() - at < LOOKED_AT {
+    if upto - at < LOOKED_AT {
         return false;
     }
     are_untouched(&words[at..at + LOOKED_AT])
 }
 
-/// The first place from one on at which a word has a bit, or the end. Words without one are passed over 16 at a time.
-fn next_touched(words: &[u64], from: usize) -> usize
-    requires { from ≤ length words.now }
+/// The first place from one up to another at which a word has a bit, or else the other. Words without one are passed over 16 at a time.
+fn next_touched(words: &[u64], from: usize, upto: usize) -> usize
+    requires up { from ≤ upto }
+    requires within { upto ≤ length words.now }
+    ensures fit { (u : ℕ) → u < length words.now → slice_index words.now u < 2 ^ 64 }
     ensures onward { from ≤ result }
-    ensures within { result ≤ length words.now }
+    ensures within { result ≤ upto }
     ensures none { (u : ℕ) → from ≤ u → u < result → slice_index words.now u ≡ 0 }
 {
-    if from < words.len() && words[from] != 0 {
+    if from < upto && words[from] != 0 {
         return from;
     }
     let mut at = from;
-    'blocks: while has_untouched(words, at) {
+    'blocks: while has_untouched(words, at, upto) {
         at += LOOKED_AT;
     }
-    'rest: while at < words.len() && words[at] == 0 {
+    'rest: while at < upto && words[at] == 0 {
         at += 1;
     }
     at
 }
 
 /// Writes and clears as `take_words` does, and looks at no word but those of which `tops` has the bit, among which is each that has a bit.
-/// Takes those bits away too.
+/// Takes those bits away too. No sum lies open outside of the words of `tops` from `from` up to `upto`, and no others are looked at.
 pub(crate) fn take_topped<T: Scalar, M: MonoidOver<T>>(
     tops: &mut [u64],
+    from: usize,
+    upto: usize,
     words: &mut [u64],
     names: &Names,
     sums: &mut [T],
@@ -128,13 +135,16 @@ pub(crate) fn take_topped<T: Scalar, M: MonoidOver<T>>(
     values: &mut [T],
 ) -> usize
     requires tops { AreTops words.old tops.old }
+    requires up { from ≤ upto }
+    requires within { upto ≤ length tops.old }
+    requires outside { (p : ℕ) → p < length sums.old → IsOutside from upto (p / 4096) → marked_at T.value (marks_of (length sums.old) words.old) sums.old p ≡ None }
     requires sound { AreOpen T.value (identity_of M.monoid) words.old sums.old names.now columns.old values.old }
     ensures taken { AreTaken T.value (identity_of M.monoid) words.old sums.old names.now result words.new sums.new columns.new values.new }
     ensures none { AreNoTops words.new tops.new }
 {
     let mut k = 0;
-    let mut h = next_touched(tops, 0);
-    'tops: while h < tops.len() {
+    let mut h = next_touched(tops, from, upto);
+    'tops: while h < upto {
         let mut left = tops[h];
         tops[h] = 0;
         'words: while left != 0 {
@@ -144,7 +154,7 @@ pub(crate) fn take_topped<T: Scalar, M: MonoidOver<T>>(
             words[w] = 0;
             left = without_bit(left, t);
         }
-        h = next_touched(tops, h + 1);
+        h = next_touched(tops, h + 1, upto);
     }
     k
 }

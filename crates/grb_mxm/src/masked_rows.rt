@@ -98,7 +98,8 @@ impl<'a, T: Stored + Drop, M: MonoidOver<T>, O: Operator<T>> RowMaker<T>
 }
 
 /// The product of two matrices at the cells that a mask selects, by a monoid and an operator as types. Takes memory to work in, some places
-/// for each name, for where the rows of the first begin, and for the result. `AllocError` where that is refused; then nothing is made.
+/// for each name, for where the rows of the first begin, and for the result, which is no longer than the mask. `AllocError` where that is
+/// refused; then nothing is made.
 pub(crate) fn multiply_masked<T: Stored + Drop, M: MonoidOver<T>, O: Operator<T>>(
     alloc: Global,
     a: &MatrixRows<T>,
@@ -116,5 +117,5 @@ pub(crate) fn multiply_masked<T: Stored + Drop, M: MonoidOver<T>, O: Operator<T>
         mask,
         of: PhantomData,
     };
-    make_rows(alloc, &rows, 0)
+    make_rows(alloc, &rows, mask.lists.len())
 }

@@ -153,8 +153,10 @@ fn turned_product(
 ///
 /// A mask that is given and not complemented bounds the work: sums are made at the cells that it selects alone, for the
 /// rows in which it stores something, in time in proportion to the products that are looked at and to the mask's entries. Else time is in
-/// proportion to the products that there are; for a row of `a` with few of them one step for 4096 columns is added, and for one with many
-/// one step for 64 columns.
+/// proportion to the products that there are. A row of `a` with one entry takes no more than that, as rows of a permutation or of a
+/// diagonal matrix do. For another with few products one step for 4096 columns is added: where there are more than 65,536 columns, and
+/// rows of `b` are found by a list, for the columns from the least to the greatest with a product alone. For one with many products one
+/// step for 64 columns is added.
 ///
 /// Work arrays of one place for each column are made where that is no more than 8 times the entries of `a` and `b`; else the columns in
 /// which `b` or the mask stores something are numbered first, by a sort and a binary search for each entry. A row is found by a list of

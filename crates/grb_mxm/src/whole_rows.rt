@@ -1,12 +1,21 @@
 //! The rows of the product of two matrices, all of whose cells are computed.
-ghost use Rattle.std.specs.Prelude.{◌≤◌, length, IfOk};
+ghost use Rattle.std.specs.Prelude.{◌≡◌, ◌<◌, ◌≤◌, ◌*◌, ◌/◌, ℕ, None, All, length, slice_index, IfOk};
+ghost use Rattle.std.specs.List.{AllByRecursion};
+ghost use Rattle.std.specs.Ordering.{nat_cmp};
+ghost use Rattle.std.specs.FinMap.{find};
+ghost use Rattle.grb_core.specs.Value.{IsValueOf};
+ghost use Rattle.grb_core.specs.Operator.{value_of_op};
 ghost use Rattle.grb_core.specs.Monoid.{identity_of};
-ghost use Rattle.grb_core.specs.Results.{mxm_of};
+ghost use Rattle.grb_core.specs.Results.{row_of, mxm_of};
+ghost use Rattle.grb_kernels.specs.Typed.{first_entries};
 ghost use Rattle.grb_rows.specs.Cells.{decoded};
-ghost use Rattle.grb_mxm.specs.Rows.{AreRows};
+ghost use Rattle.grb_ewise.specs.Ranks.{Rise};
+ghost use Rattle.grb_products.specs.ColumnSums.{with_values};
+ghost use Rattle.grb_mxm.specs.Rows.{AreRows, name_in};
 ghost use Rattle.grb_mxm.specs.Bits.{IsCleared, AreNoTops};
+ghost use Rattle.grb_mxm.specs.Reach.{IsOutside};
 
-use crate::bits::{take_topped, take_words};
+use crate::bits::{LOOKED_AT, take_topped, take_words};
 use crate::gustavson::sum_row;
 use crate::open_sums::{OpenSums, ToppedSums};
 use crate::ranked::RankedRows;
@@ -49,6 +58,78 @@ fn has_few_products<T: Stored>(columns: &[u32], b: &RankedRows<T>, words: usize)
     }
     let many = words.saturating_mul(PRODUCTS_FOR_ONE_WORD);
     products_up_to(columns, b, many) < many
+}
+
+/// A word of `tops` stands for so many places: 64 words of 64.
+const PLACES_OF_TOP: usize = 4096;
+
+/// Widens the words of `tops` from one place up to another, so that those in which a row's places are marked are among them.
+fn widened(places: &[u32], from: usize, upto: usize) -> (usize, usize)
+    requires rising { Rise places.now }
+    ensures from { result.0 ≤ from }
+    ensures upto { upto ≤ result.1 }
+    ensures within { (n : ℕ) → upto ≤ n → All (λ p. p < 4096 * n) places.now → result.1 ≤ n }
+    ensures after { (k : ℕ) → k < length places.now → result.0 ≤ slice_index places.now k / 4096 }
+    ensures before { (k : ℕ) → k < length places.now → slice_index places.now k / 4096 < result.1 }
+{
+    if places.len() == 0 {
+        return (from, upto);
+    }
+    let first = places[0] as usize / PLACES_OF_TOP;
+    let last = places[places.len() - 1] as usize / PLACES_OF_TOP;
+    (from.min(first), upto.max(last + 1))
+}
+
+/// Where the words of `tops` stand that the rows of these columns may mark: from one place up to another. It is all words where there are
+/// no more than are looked at together, and where rows are found by search.
+fn reached<T: Stored>(columns: &[u32], b: &RankedRows<T>, tops: usize) -> (usize, usize)
+    requires enough { length b.now.names.now ≤ 4096 * tops }
+    ensures up { result.0 ≤ result.1 }
+    ensures within { result.1 ≤ tops }
+    ensures none { (k p : ℕ) → k < length columns.now → p < length b.now.names.now → IsOutside result.0 result.1 (p / 4096) → find nat_cmp (name_in b.now.names.now p) (row_of (slice_index columns.now k) (decoded b.now.lists.now.entries)) ≡ None }
+{
+    if tops <= LOOKED_AT {
+        return (0, tops);
+    }
+    if b.spans.len() == 0 {
+        return (0, tops);
+    }
+    let mut from = tops;
+    let mut upto = 0;
+    'entries: for i in 0..columns.len() {
+        let row = (&*b).row(columns[i]);
+        let wider = widened(row.indices, from, upto);
+        from = wider.0;
+        upto = wider.1;
+    }
+    (from.min(upto), upto)
+}
+
+/// The row of a product where the row of the first matrix has one entry, `x` in the column `number`: writes the second's row of that number
+/// to the front of `columns` and `values`, with each value multiplied by `x`. No two products meet, so there are no sums. Answers how many
+/// entries there are.
+fn scale_row<T: Stored, O: Operator<T>>(
+    number: u32,
+    x: T,
+    b: &RankedRows<T>,
+    columns: &mut [u32],
+    values: &mut [T],
+) -> usize
+    requires room { length b.now.names.now ≤ length columns.old }
+    requires room_same { length columns.old ≡ length values.old }
+    ensures within { result ≤ length columns.new }
+    ensures entries { first_entries T.value result columns.new values.new ≡ with_values (value_of_op O.op (T.value x)) (row_of number (decoded b.now.lists.now.entries)) }
+    ensures of_domain { AllByRecursion (λ e. IsValueOf T.domain (value_of_op O.op (T.value x) e.1)) (row_of number (decoded b.now.lists.now.entries)) }
+{
+    let row = (&*b).row(number);
+    let (places, factors) = (row.indices, row.values);
+    'entries: for i in 0..places.len() {
+        let made = O::apply(x, factors[i]);
+        let product = made.read();
+        columns[i] = b.names.name(places[i] as usize);
+        values[i] = product;
+    }
+    places.len()
 }
 
 /// All cells of the product of two matrices.
@@ -96,10 +177,16 @@ impl<'a, T: Stored + Drop, M: MonoidOver<T>, O: Operator<T>> RowMaker<T>
         values: &mut [T],
     ) -> usize {
         let row = T::row(self.a.lists, place);
+        if row.indices.len() == 1 {
+            return scale_row::<T, O>(row.indices[0], row.values[0], self.b, columns, values);
+        }
         if has_few_products(row.indices, self.b, work.lower.words.len()) {
+            let (from, upto) = reached(row.indices, self.b, work.tops.len());
             sum_row::<T, M, O, ToppedSums<T>>(&row, self.b, work);
             return take_topped::<T, M>(
                 work.tops.as_mut_slice(),
+                from,
+                upto,
                 work.lower.words.as_mut_slice(),
                 self.b.names,
                 work.lower.sums.as_mut_slice(),

@@ -10,6 +10,7 @@ use Rattle.grb_core.specs.Fold.{fold_of, fold_of_some}
 use Rattle.grb_core.specs.Written.{both_values}
 use Rattle.grb_kernels.specs.Typed.{kept, entries_of}
 use Rattle.grb_products.specs.Products.{list_of, products, is_any}
+use Rattle.grb_products.proofs.Folds.{IsFolding}
 use Rattle.grb_products.proofs.Sums.{IsSumming}
 
 -- a row without products has the identity as its sum
@@ -20,7 +21,7 @@ nothing_asked m (v ∷ vs) sum h = absurd (never h.is_some)
     never : None ≡ Some (fold_of m (v ∷ vs)) → ⊥
     never n = cc
 
-abbrev is_filled : List Value → Bool
+abbrev pub is_filled : List Value → Bool
 is_filled [] = false
 is_filled (v ∷ vs) = true
 
@@ -62,3 +63,17 @@ asked m value op y cs vs sum any made e h other same =
     by_case true true s t = t ∙ sym s
     by_case true false s t = t ∙ sym (other t) ∙ sym there
     by_case false b s t = same (nothing_asked m (products op y (entries_of value cs vs)) sum (subst (IsSumming m (products op y (entries_of value cs vs)) sum) s h)) ∙ sym there
+
+-- a fold of products is the sum of a row, if there are any
+pub summing : (m : Monoid) (vs : List Value) (sum : Value) → IsFolding m vs sum → IsSumming m vs sum (is_filled vs)
+summing m [] sum h = record { folding = h; is_some = refl }
+summing m (v ∷ vs) sum h = record { folding = h; is_some = ap Some h.is_sum }
+
+-- where none is there, nothing is made
+pub none_met : (m : Monoid) {V : Type 0} (value : V → Value) (op : BinaryOp) (y : ℕ → Option Value) (cs : List ℕ) (vs : List V) (v : Value) → length cs ≡ length vs
+    → is_any y cs ≡ false → kept v false ≡ fold_of_some m (products op y (entries_of value cs vs))
+none_met m value op y cs vs v e none = empty (products op y (entries_of value cs vs)) (any_products value op y cs vs e ∙ none)
+  where
+    empty : (ps : List Value) → is_filled ps ≡ false → None ≡ fold_of_some m ps
+    empty [] h = refl
+    empty (p ∷ ps) h = cc

@@ -19,7 +19,7 @@ use Rattle.grb_products.specs.Numbers.{numbers_below-at, numbers_below-length, n
 use Rattle.grb_products.proofs.RowByRow.{find-map_rising, is_sorted-map_rising}
 
 -- nothing came to a column that is not among those added
-values_at-none : (q : ℕ) (added : VectorEntries) → find nat_cmp q added ≡ None → values_at nat_cmp q added ≡ []
+pub values_at-none : (q : ℕ) (added : VectorEntries) → find nat_cmp q added ≡ None → values_at nat_cmp q added ≡ []
 values_at-none q [] h = refl
 values_at-none q (e ∷ es) h =
     elim (eq_by_cmp nat_cmp q e.0) as (λ b. cond b (Some e.1) (find nat_cmp q es) ≡ None → values_of (cond b (e ∷ restricted (λ l. eq_by_cmp nat_cmp q l) es) (restricted (λ l. eq_by_cmp nat_cmp q l) es)) ≡ []) [

@@ -81,11 +81,11 @@ met_terminal m value vs i x sum h is stays lt e =
     sym (fold_of-terminal m (map value (take i vs)) (value x) (map value (drop (suc i) vs)) h.of_domain is stays)
     ∙ ap (fold_of m) (sym (map-parted value vs i x lt e))
 
-all_later : (P : Value → Type 0) (us vs : List Value) → AllByRecursion P (us ++ vs) → AllByRecursion P vs
+pub all_later : (P : Value → Type 0) (us vs : List Value) → AllByRecursion P (us ++ vs) → AllByRecursion P vs
 all_later P [] vs h = h
 all_later P (u ∷ us) vs h = all_later P us vs h.1
 
-all_before : (P : Value → Type 0) (us vs : List Value) → AllByRecursion P (us ++ vs) → AllByRecursion P us
+pub all_before : (P : Value → Type 0) (us vs : List Value) → AllByRecursion P (us ++ vs) → AllByRecursion P us
 all_before P [] vs h = tt
 all_before P (u ∷ us) vs h = (h.0, all_before P us vs h.1)
 

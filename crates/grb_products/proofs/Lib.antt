@@ -15,6 +15,7 @@ pub mod ByColumn
 pub mod SumsByColumn
 pub mod ColumnFolds
 pub mod RunFolds
+pub mod LoneRows
 pub mod ChangedTotals
 pub mod Windows
 pub mod Full
@@ -26,3 +27,4 @@ pub mod Spans
 pub mod WantedResults
 pub mod MarkedPlaces
 pub mod MarkCounts
+pub mod RowSums

@@ -16,12 +16,12 @@ use Rattle.grb_core.specs.Fold.{fold_of, fold_of_some}
 use Rattle.grb_core.proofs.Made.{all-map}
 use Rattle.grb_products.proofs.Folds.{IsFolding, folded_parts, fold_of-one}
 
-nothing_between : {X : Type 0} (s : ℕ) (xs : List X) → drop s (take s xs) ≡ []
+pub nothing_between : {X : Type 0} (s : ℕ) (xs : List X) → drop s (take s xs) ≡ []
 nothing_between zero xs = refl
 nothing_between (suc s) [] = refl
 nothing_between (suc s) (x ∷ xs) = nothing_between s xs
 
-span-join : {X : Type 0} (xs : List X) (s m e : ℕ) → s ≤ m → m ≤ e → drop s (take m xs) ++ drop m (take e xs) ≡ drop s (take e xs)
+pub span-join : {X : Type 0} (xs : List X) (s m e : ℕ) → s ≤ m → m ≤ e → drop s (take m xs) ++ drop m (take e xs) ≡ drop s (take e xs)
 span-join xs zero zero e a b = refl
 span-join xs zero (suc m) zero a b = absurd (omega arith)
 span-join [] zero (suc m) (suc e) a b = refl
@@ -31,7 +31,7 @@ span-join xs (suc s) (suc m) zero a b = absurd (omega arith)
 span-join [] (suc s) (suc m) (suc e) a b = refl
 span-join (x ∷ xs) (suc s) (suc m) (suc e) a b = span-join xs s m e (omega arith) (omega arith)
 
-span-one : {X : Type 0} (xs : List X) (s : ℕ) (x : X) → s < length xs → x ≡ get_or xs s x → drop s (take (suc s) xs) ≡ x ∷ []
+pub span-one : {X : Type 0} (xs : List X) (s : ℕ) (x : X) → s < length xs → x ≡ get_or xs s x → drop s (take (suc s) xs) ≡ x ∷ []
 span-one [] s x h is = absurd (omega arith)
 span-one (y ∷ xs) zero x h is = ap (λ z. z ∷ []) (sym is)
 span-one (y ∷ xs) (suc s) x h is = span-one xs s x (omega arith) is
@@ -40,7 +40,7 @@ span-one (y ∷ xs) (suc s) x h is = span-one xs s x (omega arith) is
 pub span_is : {X : Type 0} (xs : List X) (s e : ℕ) → s ≤ e → take (e - s) (drop s xs) ≡ drop s (take e xs)
 span_is xs s e h = sym (drop-take s (e - s) xs) ∙ ap (λ n. drop s (take n xs)) (let is : s + (e - s) ≡ e = omega (arith, h) in is)
 
-long_span : {X : Type 0} (xs : List X) (s e : ℕ) → s ≤ e → e ≤ length xs → length (drop s (take e xs)) + s ≡ e
+pub long_span : {X : Type 0} (xs : List X) (s e : ℕ) → s ≤ e → e ≤ length xs → length (drop s (take e xs)) + s ≡ e
 long_span xs zero zero a b = refl
 long_span xs (suc s) zero a b = absurd (omega arith)
 long_span [] s (suc e) a b = absurd (omega arith)

@@ -6,3 +6,4 @@ pub mod ColumnSums
 pub mod Numbers
 pub mod Changed
 pub mod Wanted
+pub mod RowSums

@@ -1,5 +1,5 @@
 -- inside: no public contract names it. Values that lie open, one for each index, with a mark where one is stored (own).
-use Rattle.std.specs.Prelude.{ℕ, zero, suc, Bool, List, [], ◌∷◌, Option, Some, None}
+use Rattle.std.specs.Prelude.{ℕ, zero, suc, Bool, List, [], ◌∷◌, Option, None}
 use Rattle.grb_core.specs.declared.value.Value.{Value}
 use Rattle.grb_kernels.specs.Typed.{kept}
 

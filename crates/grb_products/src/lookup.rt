@@ -26,6 +26,9 @@ pub(crate) trait Lookup<T: Scalar> {
 
     /// Whether it costs little to ask again where it has values: only in forms that lie open.
     fn is_open() -> bool;
+
+    /// Whether it has so few values that most rows meet none, and so it is asked first whether a row does.
+    fn is_scarce() -> bool;
 }
 
 /// A vector that lies open: at each index a value, and a mark where it is stored.
@@ -49,6 +52,37 @@ impl<'a, T: Scalar> Lookup<T> for Open<'a, T> {
     fn is_open() -> bool {
         true
     }
+
+    fn is_scarce() -> bool {
+        false
+    }
+}
+
+/// A vector of few entries that lies open. It is asked first whether a row meets one of them, and then no more.
+#[derive(Drop)]
+pub(crate) struct Scarce<'a, T> {
+    pub(crate) marks: &'a [bool],
+    pub(crate) dense: &'a [T],
+    ghost same: { length marks.now ≡ length dense.now },
+}
+
+impl<'a, T: Scalar> Lookup<T> for Scarce<'a, T> {
+    ghost size = { λ vector. length vector.marks.now };
+
+    ghost holds = { λ vector. marked_at T.value vector.marks.now vector.dense.now };
+
+    fn at(&self, index: u32) -> (T, bool) {
+        let at = index as usize;
+        (self.dense[at], self.marks[at])
+    }
+
+    fn is_open() -> bool {
+        false
+    }
+
+    fn is_scarce() -> bool {
+        true
+    }
 }
 
 /// A vector that stores a value at each index, and so is read as it lies.
@@ -69,6 +103,10 @@ impl<'a, T: Scalar> Lookup<T> for Full<'a, T> {
     fn is_open() -> bool {
         true
     }
+
+    fn is_scarce() -> bool {
+        false
+    }
 }
 
 /// A vector whose entries are searched, so that nothing as long as its size is kept.
@@ -87,6 +125,10 @@ impl<'a, T: Scalar> Lookup<T> for EntrySlice<'a, T> {
     fn is_open() -> bool {
         false
     }
+
+    fn is_scarce() -> bool {
+        false
+    }
 }
 
 /// Whether a vector has a value at one of these columns.
@@ -101,6 +143,19 @@ pub(crate) fn has_any<T: Scalar, L: Lookup<T>>(vector: &L, columns: &[u32]) -> b
         }
     }
     false
+}
+
+/// The same without an end at the first: where there is none in most rows, no branch is guessed.
+pub(crate) fn meets<T: Scalar, L: Lookup<T>>(vector: &L, columns: &[u32]) -> bool
+    requires in_range { All (λ c. c < L.size vector.now) columns.now }
+    ensures { result ≡ is_any (L.holds vector.now) columns.now }
+{
+    let mut any = false;
+    'columns: for column in columns {
+        let (_value, here) = vector.at(*column);
+        any = any | here;
+    }
+    any
 }
 
 /// Lays the entries of a vector open: marks each index, and puts its value there.

@@ -1,7 +1,7 @@
 //! Each monoid as a type, so that a fold is made for it and has no choice in its loop.
 //!
 //! Source: GraphBLAS C API 2.0, "Monoids".
-ghost use Rattle.std.specs.Prelude.{◌≡◌, refl, true};
+ghost use Rattle.std.specs.Prelude.{◌≡◌, refl, true, IfSome};
 ghost use Rattle.grb_core.specs.declared.value.Value.{Value};
 ghost use Rattle.grb_core.specs.declared.monoid.Monoid.{Monoid};
 ghost use Rattle.grb_core.specs.declared.monoid.Monoid.TheVariants as monoid;
@@ -34,6 +34,10 @@ pub trait MonoidOver<T: Scalar> {
     fn is_final(sum: T) -> bool
         ensures { result ≡ true → (v : Value) → IsValueOf (monoid_domain monoid) v → value_of_op (monoid_op monoid) (T.value sum) v ≡ T.value sum };
 
+    /// What a sum has beyond a part of it, where the two tell that. Else `None`, whatever they are.
+    fn difference(sum: T, part: T) -> Option<T>
+        ensures { IfSome result (λ rest. (v : Value) → IsValueOf (monoid_domain monoid) v → value_of_op (monoid_op monoid) (T.value part) v ≡ T.value sum → T.value rest ≡ v) };
+
     /// Its values are those of the type.
     ghost same_domain: { monoid_domain monoid ≡ T.domain };
 }
@@ -55,6 +59,10 @@ impl MonoidOver<bool> for Lor {
 
     fn is_final(sum: bool) -> bool {
         sum
+    }
+
+    fn difference(_sum: bool, _part: bool) -> Option<bool> {
+        None
     }
 
     ghost same_domain = { refl };
@@ -79,6 +87,10 @@ impl MonoidOver<bool> for Land {
         !sum
     }
 
+    fn difference(_sum: bool, _part: bool) -> Option<bool> {
+        None
+    }
+
     ghost same_domain = { refl };
 }
 
@@ -99,6 +111,10 @@ impl MonoidOver<bool> for Lxor {
 
     fn is_final(_sum: bool) -> bool {
         false
+    }
+
+    fn difference(_sum: bool, _part: bool) -> Option<bool> {
+        None
     }
 
     ghost same_domain = { refl };
@@ -123,6 +139,10 @@ impl MonoidOver<bool> for Lxnor {
         false
     }
 
+    fn difference(_sum: bool, _part: bool) -> Option<bool> {
+        None
+    }
+
     ghost same_domain = { refl };
 }
 
@@ -143,6 +163,10 @@ impl MonoidOver<u64> for Plus {
 
     fn is_final(_sum: u64) -> bool {
         false
+    }
+
+    fn difference(sum: u64, part: u64) -> Option<u64> {
+        Some(sum.wrapping_sub(part))
     }
 
     ghost same_domain = { refl };
@@ -167,6 +191,10 @@ impl MonoidOver<u64> for Times {
         sum == 0
     }
 
+    fn difference(_sum: u64, _part: u64) -> Option<u64> {
+        None
+    }
+
     ghost same_domain = { refl };
 }
 
@@ -189,6 +217,10 @@ impl MonoidOver<u64> for Min {
         sum == 0
     }
 
+    fn difference(_sum: u64, _part: u64) -> Option<u64> {
+        None
+    }
+
     ghost same_domain = { refl };
 }
 
@@ -209,6 +241,10 @@ impl MonoidOver<u64> for Max {
 
     fn is_final(sum: u64) -> bool {
         sum == u64::MAX
+    }
+
+    fn difference(_sum: u64, _part: u64) -> Option<u64> {
+        None
     }
 
     ghost same_domain = { refl };

@@ -13,12 +13,12 @@ ghost use Rattle.grb_products.specs.Products.{products};
 ghost use Rattle.grb_products.specs.Wanted.{is_wanted, IsMade};
 
 use crate::choice::{BySemiring, Folded, by_semiring};
-use crate::lookup::{Full, Lookup, Open, scatter};
+use crate::lookup::{Full, Lookup, Open, Scarce, scatter};
 use crate::matrix_rows::{MatrixRows, lend_matrix};
 use crate::monoids::MonoidOver;
 use crate::push::MatrixFirst;
 use crate::row_products::RowTimesVector;
-use crate::rows::made_rows;
+use crate::rows::{made_rows, seem_unlike, summed_rows};
 use crate::vxm_product::pushed_product;
 use crate::wanted::{Wanted, wanted_of};
 use grb_call::Descriptor;
@@ -46,8 +46,15 @@ fn multiply_each_row<T: Stored + Folded + Drop, M: MonoidOver<T>, O: Operator<T>
         vector,
         of: PhantomData,
     };
+    if L::is_open() && seem_unlike(lists) {
+        let made = summed_rows::<T, M, RowTimesVector<L, M, O>>(alloc, &rule, lists, wanted)?;
+        return Ok(made);
+    }
     made_rows(alloc, &rule, lists, wanted)
 }
+
+/// A vector has few entries for its rows, where there are so many columns for each.
+const COLUMNS_FOR_ONE: usize = 8;
 
 /// The product of a matrix and a vector that is laid open first, which takes memory for `ncols` places: no more than 8 times the entries
 /// that are there. `AllocError` where that is refused; then nothing is made.
@@ -67,6 +74,14 @@ fn multiply_open<T: Stored + Folded + Drop, M: MonoidOver<T>, O: Operator<T>>(
     let open_marks = marks.as_mut_slice();
     let open_values = dense.as_mut_slice();
     scatter(u.indices, u.values, open_marks, open_values);
+    if u.indices.len() <= ncols / COLUMNS_FOR_ONE {
+        let vector = Scarce {
+            marks: open_marks,
+            dense: open_values,
+        };
+        let made = multiply_each_row::<T, M, O, Scarce<T>>(alloc, rows.lists, wanted, &vector)?;
+        return Ok(made);
+    }
     let vector = Open {
         marks: open_marks,
         dense: open_values,
@@ -224,8 +239,9 @@ fn turned_product(
 /// All are of one domain, the mask aside; `u` has one place for each column of `a`, and the output and the mask one for each row. Time is
 /// in proportion to the stored entries, and so is memory: a work array of one place for each column is made only where it is no longer
 /// than 8 times the entries of `a` and `u`. Else each entry of `a` costs a binary search in `u`. A `u` that stores a value at each index is
-/// read as it lies. Rows at which a mask lets nothing be written are not multiplied: those that it does not store, and with the complement
-/// of a structural mask those that it stores.
+/// read as it lies. Where the products are numbers that are added up, a row is the difference of two running sums if all rows are made and
+/// their lengths seem unlike: these stand in a work list of 1,025 at most. Rows at which a mask lets nothing be written are not multiplied:
+/// those that it does not store, and with the complement of a structural mask those that it stores.
 ///
 /// With `tran` the matrix is the transposed of `a`, whose rows are the columns of `a`. It is not made: time and memory are those of `vxm`.
 ///

@@ -1,5 +1,6 @@
 //! The product of a vector and a matrix by the rows that the vector picks: each is read once and added by column.
-ghost use Rattle.std.specs.Prelude.{◌≡◌, ◌-◌, ◌*◌, ◌<◌, ◌≤◌, ◌^◌, true, [], length, min, All, IfOk, IfSome};
+ghost use Rattle.std.specs.Prelude.{◌≡◌, ◌-◌, ◌*◌, ◌<◌, ◌≤◌, ◌^◌, ℕ, true, [], length, map, min, slice_index, All, IfOk, IfSome, IsTrue};
+ghost use Rattle.std.specs.FinMap.{is_sorted};
 ghost use Rattle.std.specs.Option.{option_map};
 ghost use Rattle.std.specs.Ordering.{nat_cmp};
 ghost use Rattle.grb_core.specs.declared.value.Value.{Value};
@@ -7,12 +8,13 @@ ghost use Rattle.grb_core.specs.declared.operator.BinaryOp.{BinaryOp};
 ghost use Rattle.grb_core.specs.Value.{IsValueOf};
 ghost use Rattle.grb_core.specs.Operator.{op_domain, value_of_op};
 ghost use Rattle.grb_core.proofs.Made.{op_closed};
-ghost use Rattle.grb_core.specs.Entries.{built_from, restricted};
+ghost use Rattle.grb_core.specs.Entries.{built_from, cell_cmp, restricted};
+ghost use Rattle.grb_core.specs.Results.{row_of};
 ghost use Rattle.grb_kernels.specs.Typed.{entries_of};
 ghost use Rattle.grb_rows.specs.Cells.{decoded};
 ghost use Rattle.grb_ewise.specs.Ranks.{Rise};
 ghost use Rattle.grb_products.specs.Bits.{AreMarked};
-ghost use Rattle.grb_products.specs.ColumnSums.{AreSums, as_entries, column_folds};
+ghost use Rattle.grb_products.specs.ColumnSums.{AreSums, as_entries, column_folds, with_values};
 ghost use Rattle.grb_products.specs.Pushes.{pushed, pushed_of, at_numbers, columns_at, is_among, IsBounded};
 
 use crate::column_sums::{
@@ -22,7 +24,7 @@ use crate::matrix_rows::MatrixRows;
 use crate::monoids::MonoidOver;
 use crate::picks::pick_rows;
 use crate::runs::{folds_of, push_row};
-use grb_ewise::Stored;
+use grb_ewise::{Stored, place_of};
 use grb_kernels::{EntryList, EntrySlice, Operator, Scalar};
 use grb_rows::FlatRows;
 use std::alloc::{AllocError, Global};
@@ -95,13 +97,32 @@ fn picked_len<T: Stored>(lists: &FlatRows, picks: &[(usize, T)]) -> usize
     count
 }
 
-/// Whether a place for each of `ncols` columns is worth its memory: where they are no more than 32 times the `count` products. So many sums
-/// are zeroed, and their marks read, in less time than a product takes to be sorted. Takes no memory.
-fn is_worth_a_place_each(ncols: u64, count: usize) -> bool
-    requires few { ncols < 2 ^ 32 }
-    ensures short { result ≡ true → ncols ≤ 32 * count }
-{
-    (ncols + 31) / 32 <= count as u64
+/// A Rust type of which sums lie open: one for each column, where these are few.
+pub(crate) trait Placed {
+    /// How many sums are zeroed, and their marks read, in less time than a product takes to be sorted.
+    ghost places: { ℕ };
+
+    /// Whether a place for each of `ncols` columns is worth its memory: where they are no more than so many times the `count` products.
+    /// Takes no memory.
+    fn is_worth_a_place_each(ncols: u64, count: usize) -> bool
+        requires few { ncols < 2 ^ 32 }
+        ensures short { result ≡ true → ncols ≤ places * count };
+}
+
+impl Placed for bool {
+    ghost places = { 128 };
+
+    fn is_worth_a_place_each(ncols: u64, count: usize) -> bool {
+        (ncols + 127) / 128 <= count as u64
+    }
+}
+
+impl Placed for u64 {
+    ghost places = { 32 };
+
+    fn is_worth_a_place_each(ncols: u64, count: usize) -> bool {
+        (ncols + 31) / 32 <= count as u64
+    }
 }
 
 /// Adds the picked rows, each with the products of its pick's value, to sums of which none lies open.
@@ -165,9 +186,9 @@ fn sum_rows<T: Stored + Drop, M: MonoidOver<T>, O: Operator<T>, S: Side, C: Colu
     close_sums(alloc, columns, words.as_slice(), sums.as_slice())
 }
 
-/// The sums of the picked rows, by a place for each of `ncols` columns: no more than 32 for each entry of these rows. `AllocError` where
-/// memory is refused; then nothing is made.
-fn sum_all<T: Stored + Drop, M: MonoidOver<T>, O: Operator<T>, S: Side>(
+/// The sums of the picked rows, by a place for each of `ncols` columns: no more for each entry of these rows than the type is worth.
+/// `AllocError` where memory is refused; then nothing is made.
+fn sum_all<T: Stored + Placed + Drop, M: MonoidOver<T>, O: Operator<T>, S: Side>(
     alloc: Global,
     ncols: u32,
     lists: &FlatRows,
@@ -176,7 +197,7 @@ fn sum_all<T: Stored + Drop, M: MonoidOver<T>, O: Operator<T>, S: Side>(
     requires domain { lists.now.domain ≡ T.domain }
     requires within { All (λ p. p.0 < length lists.now.rows) picks.now }
     requires in_range { All (λ e. e.0.1 < ncols) (decoded lists.now.entries) }
-    requires short { ncols ≤ 32 * length (columns_at lists.now.rows picks.now (decoded lists.now.entries)) }
+    requires short { ncols ≤ T.places * length (columns_at lists.now.rows picks.now (decoded lists.now.entries)) }
     ensures { IfOk result (λ made. entries_of T.value made.indices.items made.values.items ≡ built_from nat_cmp M.monoid (pushed (S.makes O.op) (at_numbers lists.now.rows (as_entries T.value picks.now)) (decoded lists.now.entries))) }
 {
     let all = AllColumns { ncols };
@@ -272,10 +293,68 @@ fn sum_few<T: Stored + Drop, M: MonoidOver<T>, O: Operator<T>, S: Side>(
     Ok(made)
 }
 
+/// Writes to `made` what the term makes of each of these values.
+fn make_each<T: Stored, R: Term<T>>(term: &R, values: &[T], made: &mut [T])
+    requires room { length made.old ≡ length values.now }
+    ensures { map T.value made.new ≡ map (λ v. R.gives term.now (T.value v)) values.now }
+{
+    'values: for i in 0..values.len() {
+        made[i] = term.of(values[i]);
+    }
+}
+
+/// The products of a value with those of one row: its columns rise, so they are copied. Takes memory for these entries alone. `AllocError`
+/// where that is refused; then nothing is made.
+fn multiply_row<T: Stored + Drop, O: Operator<T>, S: Side>(
+    alloc: Global,
+    lists: &FlatRows,
+    place: usize,
+    x: T,
+) -> Result<EntryList<T>, AllocError>
+    requires domain { lists.now.domain ≡ T.domain }
+    requires ordered { IsTrue (is_sorted cell_cmp (decoded lists.now.entries)) }
+    requires within { place < length lists.now.rows }
+    ensures of_domain { IfOk result (λ made. All (λ v. IsValueOf T.domain (T.value v)) made.values.items) }
+    ensures products { IfOk result (λ made. entries_of T.value made.indices.items made.values.items ≡ with_values (S.makes O.op (T.value x)) (row_of (slice_index lists.now.rows place) (decoded lists.now.entries))) }
+{
+    let row = T::row(lists, place);
+    let term: Product<T, O, S> = Product { x, of: PhantomData };
+    let indices = Vec::from_slice(alloc, row.indices)?;
+    let mut values = vec![in alloc; T::any(); row.values.len()]?;
+    make_each(&term, row.values, values.as_mut_slice());
+    T::show(values.as_slice());
+    Ok(EntryList { indices, values })
+}
+
+/// The product of a vector that stores one value: of the row that it picks, if the matrix stores something there. Nothing is listed or
+/// sorted. `AllocError` where memory for the result is refused; then nothing is made.
+fn push_one<T: Stored + Drop, M: MonoidOver<T>, O: Operator<T>, S: Side>(
+    alloc: Global,
+    u: &EntrySlice<T>,
+    lists: &FlatRows,
+) -> Result<EntryList<T>, AllocError>
+    requires one { length u.now.indices.now ≡ 1 }
+    requires domain { lists.now.domain ≡ T.domain }
+    requires ordered { IsTrue (is_sorted cell_cmp (decoded lists.now.entries)) }
+    ensures { IfOk result (λ made. entries_of T.value made.indices.items made.values.items ≡ built_from nat_cmp M.monoid (pushed (S.makes O.op) (entries_of T.value u.now.indices.now u.now.values.now) (decoded lists.now.entries))) }
+{
+    match place_of(lists.rows(), u.indices[0]) {
+        Some(place) => {
+            let made = multiply_row::<T, O, S>(alloc, lists, place, u.values[0])?;
+            Ok(made)
+        }
+        None => Ok(EntryList {
+            indices: Vec::new(alloc),
+            values: Vec::new(alloc),
+        }),
+    }
+}
+
 /// The product of a vector and a matrix by a monoid and an operator as types: at each column the fold of the products where both store
 /// something. Where columns bound it, others may be left out. Time and memory are in proportion to the entries of the vector and of the
-/// rows that it picks. `AllocError` where memory is refused; then nothing is made.
-pub(crate) fn push<T: Stored + Drop, M: MonoidOver<T>, O: Operator<T>, S: Side>(
+/// rows that it picks; of a vector that stores one value memory is taken for the result alone. `AllocError` where memory is refused; then
+/// nothing is made.
+pub(crate) fn push<T: Stored + Placed + Drop, M: MonoidOver<T>, O: Operator<T>, S: Side>(
     alloc: Global,
     bound: Option<&[u32]>,
     u: &EntrySlice<T>,
@@ -285,10 +364,14 @@ pub(crate) fn push<T: Stored + Drop, M: MonoidOver<T>, O: Operator<T>, S: Side>(
     ensures { IfOk result (λ made. IsBounded (option_map (λ names. names.now) bound.entry) (pushed_of M.monoid (S.makes O.op) (entries_of T.value u.now.indices.now u.now.values.now) (decoded rows.now.lists.now.entries)) (entries_of T.value made.indices.items made.values.items)) }
 {
     let lists = rows.lists;
+    if u.indices.len() == 1 {
+        let made = push_one::<T, M, O, S>(alloc, u, lists)?;
+        return Ok(made);
+    }
     let picked = pick_rows(alloc, lists, u)?;
     let picks = picked.as_slice();
     let count = picked_len(lists, picks);
-    if is_worth_a_place_each(rows.ncols, count) {
+    if T::is_worth_a_place_each(rows.ncols, count) {
         let made = sum_all::<T, M, O, S>(alloc, rows.ncols as u32, lists, picks)?;
         return Ok(made);
     }

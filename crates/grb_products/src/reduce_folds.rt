@@ -16,7 +16,7 @@ use crate::column_folds::fold_columns;
 use crate::folding::{fold_part, fold_values};
 use crate::matrix_rows::{MatrixRows, lend_matrix};
 use crate::monoids::MonoidOver;
-use crate::rows::{RowRule, made_rows};
+use crate::rows::{RowRule, SumRule, seem_unlike, summed_rows};
 use crate::wanted::{Wanted, wanted_of};
 use grb_call::Descriptor;
 use grb_core::{BinaryOp, Domain, Monoid};
@@ -51,11 +51,24 @@ impl<T: Stored + Folded, M: MonoidOver<T>> RowRule<T> for Sum<M> {
     ghost none = { λ rule. refl };
 }
 
-/// Where rows have this many entries on average, or more, the end of a row that is guessed badly is dearer than some values too many.
-const SHORT: usize = 6;
+impl<T: Stored + Folded, M: MonoidOver<T>> SumRule<T, M> for Sum<M> {
+    ghost adds = { λ rule. λ e. e.1 };
 
-/// So many rows are looked at to tell whether their lengths are unlike.
-const LOOKED_AT: usize = 64;
+    fn term(&self, _column: u32, value: T) -> T {
+        value.read()
+    }
+
+    fn is_kept(
+        &self,
+        _columns: &[u32],
+        _values: &[T],
+        _start: usize,
+        _end: usize,
+        _sum: T,
+    ) -> bool {
+        true
+    }
+}
 
 /// Each row that is wanted folded by a monoid as a type; each column, where `tran` says that the matrix is read transposed. `AllocError`
 /// where memory is refused; then nothing is made.
@@ -71,21 +84,12 @@ fn fold_rows<T: Stored + Folded + Drop, M: MonoidOver<T>>(
         let made = fold_columns::<T, M>(alloc, rows)?;
         return Ok(made);
     }
-    // where a row ends is guessed badly where rows of unlike lengths follow each other, and well where they are alike
-    let starts = rows.lists.starts();
-    let mut changes = 0usize;
-    'rows: for k in 2..starts.len().min(LOOKED_AT) {
-        let before = starts[k - 1].wrapping_sub(starts[k - 2]);
-        let here = starts[k].wrapping_sub(starts[k - 1]);
-        changes = changes.wrapping_add(usize::from(before != here));
-    }
     let rule: Sum<M> = Sum {
         ncols: rows.ncols,
-        short: (rows.lists.rows().len() <= rows.lists.len() / SHORT)
-            & (changes > starts.len().min(LOOKED_AT) / 4),
+        short: seem_unlike(rows.lists),
         of: PhantomData,
     };
-    let made = made_rows(alloc, &rule, rows.lists, wanted)?;
+    let made = summed_rows::<T, M, Sum<M>>(alloc, &rule, rows.lists, wanted)?;
     Ok(made)
 }
 
@@ -109,8 +113,8 @@ impl<'a, T: Stored + Folded + Drop> ByMonoid<T> for Rows<'a, T> {
     }
 }
 
-/// Each row that is wanted folded by a monoid; each column, where `tran` says that the matrix is read transposed. `AllocError` where memory is refused;
-/// then nothing is made.
+/// Each row that is wanted folded by a monoid; each column, where `tran` says that the matrix is read transposed. `AllocError` where memory
+/// is refused; then nothing is made.
 fn fold_rows_by<T: Stored + Folded + Drop>(
     alloc: Global,
     monoid: Monoid,
@@ -179,8 +183,10 @@ fn row_folds(
 /// - `descriptor`: how the mask is read, whether what lies outside of it is removed, and whether `a` is read transposed.
 ///
 /// All are of one domain, the mask aside, and the output and the mask have one place for each row of `a`; for each column, with `tran`.
-/// Time and memory are in proportion to the stored entries. Rows at which a mask lets nothing be written are not folded. With `tran` they are read once, and there is memory for a sum at each column;
-/// where the columns are more than 8 times the entries, at each that stores something: these are sorted first, and searched for each entry.
+/// Time and memory are in proportion to the stored entries. Rows at which a mask lets nothing be written are not folded. Where numbers are
+/// added up and all rows are made, a row is the difference of two running sums, which stand in a work list of 1,025 at most. With `tran`
+/// they are read once, and there is memory for a sum at each column; where the columns are more than 8 times the entries, at each that
+/// stores something: these are sorted first, and searched for each entry.
 ///
 /// Source: GraphBLAS C API 2.0, "reduce", of a matrix to a vector.
 pub fn reduce_rows(

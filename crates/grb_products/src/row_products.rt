@@ -4,17 +4,18 @@ ghost use Rattle.grb_core.specs.Monoid.{identity_of};
 ghost use Rattle.grb_core.specs.Fold.{fold_of_some};
 ghost use Rattle.grb_kernels.specs.Typed.{kept, entries_of};
 ghost use Rattle.grb_products.specs.Products.{products, is_any};
+ghost use Rattle.grb_products.specs.RowSums.{product_or};
 
 use crate::choice::Folded;
-use crate::lookup::{Lookup, has_any};
+use crate::lookup::{Lookup, has_any, meets};
 use crate::monoids::MonoidOver;
-use crate::rows::RowRule;
+use crate::rows::{RowRule, SumRule};
 use grb_ewise::Stored;
 use grb_kernels::{Operator, chosen};
 use std::marker::PhantomData;
 
 /// The fold of the products of a row with a vector, and whether there is one. Products after a terminal one are not made.
-pub(crate) fn dot<T: Stored + Folded, M: MonoidOver<T>, O: Operator<T>, L: Lookup<T>>(
+fn dot<T: Stored + Folded, M: MonoidOver<T>, O: Operator<T>, L: Lookup<T>>(
     vector: &L,
     columns: &[u32],
     values: &[T],
@@ -39,6 +40,22 @@ pub(crate) fn dot<T: Stored + Folded, M: MonoidOver<T>, O: Operator<T>, L: Looku
         return (sum, is_made::<T, M, L>(vector, columns, sum));
     }
     (sum, any)
+}
+
+/// The same. Of a vector of few entries it is asked first whether the row meets one.
+fn met_dot<T: Stored + Folded, M: MonoidOver<T>, O: Operator<T>, L: Lookup<T>>(
+    vector: &L,
+    columns: &[u32],
+    values: &[T],
+) -> (T, bool)
+    requires row { length columns.now ≡ length values.now }
+    requires in_range { All (λ c. c < L.size vector.now) columns.now }
+    ensures { kept (T.value result.0) result.1 ≡ fold_of_some M.monoid (products O.op (L.holds vector.now) (entries_of T.value columns.now values.now)) }
+{
+    if L::is_scarce() && !meets(vector, columns) {
+        return (M::identity(), false);
+    }
+    dot::<T, M, O, L>(vector, columns, values)
 }
 
 /// Whether a row has products, of which this is the sum: none has only the identity as its sum, so the vector is asked again only there.
@@ -71,8 +88,24 @@ impl<'a, T: Stored + Folded, M: MonoidOver<T>, O: Operator<T>, L: Lookup<T>> Row
     ghost gives = { λ rule. λ x. fold_of_some M.monoid (products O.op (L.holds rule.vector.now) x) };
 
     fn row(&self, columns: &[u32], values: &[T], start: usize, end: usize) -> (T, bool) {
-        dot::<T, M, O, L>(self.vector, &columns[start..end], &values[start..end])
+        met_dot::<T, M, O, L>(self.vector, &columns[start..end], &values[start..end])
     }
 
     ghost none = { λ rule. refl };
+}
+
+impl<'a, T: Stored + Folded, M: MonoidOver<T>, O: Operator<T>, L: Lookup<T>> SumRule<T, M>
+    for RowTimesVector<'a, L, M, O> {
+    ghost adds = { λ rule. λ e. product_or M.monoid O.op (L.holds rule.vector.now) e };
+
+    fn term(&self, column: u32, value: T) -> T {
+        let (held, here) = self.vector.at(column);
+        let made = O::apply(value, held);
+        let product = made.read();
+        chosen(here, product, M::identity())
+    }
+
+    fn is_kept(&self, columns: &[u32], _values: &[T], start: usize, end: usize, sum: T) -> bool {
+        is_made::<T, M, L>(self.vector, &columns[start..end], sum)
+    }
 }

@@ -18,7 +18,7 @@ ghost use Rattle.grb_products.specs.Pushes.{pushed_of, Covers, IsBounded};
 use crate::choice::{BySemiring, Folded, by_semiring};
 use crate::matrix_rows::{MatrixRows, lend_matrix};
 use crate::monoids::MonoidOver;
-use crate::push::{Side, VectorFirst, push};
+use crate::push::{Placed, Side, VectorFirst, push};
 use grb_call::Descriptor;
 use grb_core::{BinaryOp, Domain, Semiring};
 use grb_ewise::{Stored, keep_bools, keep_numbers, write_masked_vector};
@@ -38,7 +38,7 @@ struct Factors<'a, T: Scalar, S> {
     ghost rising: { (names : Bor (List ℕ)) → bound ≡ Some names → Rise names.now },
 }
 
-impl<'a, T: Stored + Drop, S: Side> BySemiring<T> for Factors<'a, T, S> {
+impl<'a, T: Stored + Placed + Drop, S: Side> BySemiring<T> for Factors<'a, T, S> {
     type Output = Result<EntryList<T>, AllocError>;
 
     ghost Gives = { λ f semiring result. IfOk result (λ made. IsBounded (option_map (λ names. names.now) f.bound) (pushed_of semiring.monoid (S.makes semiring.op) (entries_of T.value f.u.now.indices.now f.u.now.values.now) (decoded f.rows.lists.now.entries)) (entries_of T.value made.indices.items made.values.items)) };
@@ -50,7 +50,7 @@ impl<'a, T: Stored + Drop, S: Side> BySemiring<T> for Factors<'a, T, S> {
 }
 
 /// The product of a vector and a matrix whose values are of one Rust type. `AllocError` where memory is refused; then nothing is made.
-fn push_by<T: Stored + Folded + Drop, S: Side>(
+fn push_by<T: Stored + Folded + Placed + Drop, S: Side>(
     alloc: Global,
     semiring: Semiring,
     bound: Option<&[u32]>,
@@ -133,9 +133,10 @@ pub(crate) fn bound_of(mask: Option<&SparseVector>, descriptor: Descriptor) -> O
 ///
 /// All are of one domain, the mask aside; `u` has one place for each row of `a`, and the output and the mask one for each column. Only
 /// the rows are read at which `u` stores something. Time is in proportion to their entries, to those of `u` and to what is written, and so
-/// is memory: a work array of one place for each column is made only where it is no longer than 32 times the entries of these rows. Else
-/// the products are sorted by column; or, where the mask's indices are no more than these entries and bound what is written, each entry
-/// costs a binary search among them.
+/// is memory: a work array of one place for each column is made only where it is no longer than 32 times the entries of these rows, or of
+/// truth values 128 times. Else the products are sorted by column; or, where the mask's indices are no more than these entries and bound
+/// what is written, each entry costs a binary search among them. Where `u` stores one value its row is copied with the products, and no
+/// work array is made.
 ///
 /// Source: GraphBLAS C API 2.0, "vxm".
 pub fn vxm(

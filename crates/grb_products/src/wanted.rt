@@ -30,6 +30,13 @@ impl<'a> Wanted<'a> {
         if self.among { Some(self.names) } else { None }
     }
 
+    /// Whether all rows are known to be wanted.
+    pub(crate) fn is_all(&self) -> bool
+        ensures { result ≡ true → (q : ℕ) → is_wanted self.now.among self.now.names.now q ≡ true }
+    {
+        self.names.is_empty() && !self.among
+    }
+
     /// Whether a row is wanted. The search begins at `from`, before which the numbers are known to be below the row; beside the answer is
     /// where it ended. Takes no memory.
     pub(crate) fn wants(&self, from: usize, row: u32) -> (bool, usize)

@@ -1,5 +1,5 @@
 //! Entries as flat lists: the rows that have some, where each begins, and the column and the value of each entry.
-ghost use Rattle.std.specs.Prelude.{◌≡◌, ◌≢◌, ◌+◌, ◌-◌, ◌*◌, ◌/◌, ◌%◌, ◌<◌, ◌≤◌, ◌^◌, ◌++◌, ℕ, [], ◌∷◌, Some, None, true, nat_eq, filter, take, drop, length, map, All, IfOk, IfSome, IfNone, IsTrue, slice_set, slice_index_or, slice_index};
+ghost use Rattle.std.specs.Prelude.{◌≡◌, ◌≢◌, ◌↔◌, ◌+◌, ◌-◌, ◌*◌, ◌/◌, ◌%◌, ◌<◌, ◌≤◌, ◌^◌, ◌++◌, ℕ, [], ◌∷◌, Some, None, true, nat_eq, filter, take, drop, length, map, All, IfOk, IfSome, IfNone, IsTrue, slice_set, slice_index_or, slice_index};
 ghost use Rattle.std.specs.List.{AllByRecursion};
 ghost use Rattle.std.specs.Ordering.{nat_cmp};
 ghost use Rattle.std.specs.FinMap.{find, is_sorted};
@@ -237,7 +237,7 @@ impl FlatRows {
 
     /// Whether all columns are below `ncols`.
     fn has_columns_below(&self, ncols: u64) -> bool
-        ensures { result ≡ true → (q : ℕ) (d : ℕ × Stored) → q < length self.now.entries → (slice_index_or self.now.entries q d).0 % 2 ^ 32 < ncols }
+        ensures { result ≡ true ↔ ((q : ℕ) (d : ℕ × Stored) → q < length self.now.entries → (slice_index_or self.now.entries q d).0 % 2 ^ 32 < ncols) }
     {
         let mut below = true;
         for at in 0..self.len() {
@@ -248,7 +248,7 @@ impl FlatRows {
 
     /// Whether all entries are within `nrows` rows and `ncols` columns.
     pub(crate) fn is_within(&self, nrows: u64, ncols: u64) -> bool
-        ensures { result ≡ true → entries_within nrows ncols self.now.entries ≡ self.now.entries }
+        ensures { result ≡ true ↔ (entries_within nrows ncols self.now.entries ≡ self.now.entries) }
     {
         let count = self.len();
         if count == 0 {

@@ -263,6 +263,7 @@ impl Held {
     /// that it keeps is copied once.
     pub fn resize(&mut self, nrows: u64, ncols: u64) -> Result<(), AllocError>
         ensures ok { OnOk result (self.new ≡ settled_view (entries_within nrows ncols self.old.entries) self.old.domain self.old.assembled) }
+        ensures done { self.old.assembled ≡ true → entries_within nrows ncols self.old.entries ≡ self.old.entries → IsOk result }
         ensures err { OnErr result (self.new ≡ self.old) }
     {
         if self.pending.is_empty() && self.base.rows().is_within(nrows, ncols) {

@@ -1,8 +1,8 @@
 -- Sections of the one pass of a context: their answers are those of a run.
-use Rattle.std.proofs.Common.{◌≡◌, ℕ, List, [], ◌∷◌, ◌++◌, length, sym, ap, ◌∙◌, subst}
+use Rattle.std.proofs.Common.{List, [], ◌∷◌, ◌++◌, length, sym, ap, ◌∙◌, subst}
 use Rattle.std.specs.Prelude.{Ok, Err}
 use Rattle.grb_order.specs.Order.{room_of}
-use Rattle.grb_context.specs.Explains.{Answer, history_after}
+use Rattle.grb_context.specs.Explains.{Answer}
 use Rattle.grb_context.specs.Known.{Shared, known, IsAlone}
 use Rattle.grb_run.specs.Calls.{call_of}
 use Rattle.grb_run.specs.Objects.{made_sort, objects_after}
@@ -17,9 +17,9 @@ abbrev pub standing : Stage → Standing
 standing at = record { objects = at.objects; history = known at.pass }
 
 module _ (context : Shared) where
-  said : (at : Stage) (s : Statement) (a : Answer) (after : Stage) → IsAlone at.pass → IsTold context at s a after
+  statement_alone : (at : Stage) (s : Statement) (a : Answer) (after : Stage) → IsAlone at.pass → IsTold context at s a after
       → IsSaid (room_of context.order) (standing at) s a (standing after) × IsAlone after.pass
-  said at s a after alone told =
+  statement_alone at s a after alone told =
       let is = explained context at.pass after.pass (call_of at.objects s) a alone told.answered in (
         record {
           answer = is.0;
@@ -33,13 +33,13 @@ module _ (context : Shared) where
   filled : (at : Stage) (s : Statement) (made a : Answer) (after : Stage) → IsAlone at.pass → IsFillTold context at s made a after
       → IsFilled (room_of context.order) (standing at) s made a (standing after) × IsAlone after.pass
   filled at s (Err refusal) a after alone told = ((told.0, ap standing told.1), subst (λ (at : Stage). IsAlone at.pass) (sym told.1) alone)
-  filled at s (Ok reply) a after alone told = said at s a after alone told
+  filled at s (Ok reply) a after alone told = statement_alone at s a after alone told
 
   done : (at : Stage) (s : Step) (a : Answer) (after : Stage) → IsAlone at.pass → IsStepTold context at s a after
       → IsDone (room_of context.order) (standing at) s a (standing after) × IsAlone after.pass
-  done at (step.Statement s) a after alone told = said at s a after alone told
+  done at (step.Statement s) a after alone told = statement_alone at s a after alone told
   done at (step.Load m) a after alone told =
-      let first = said at (making m) told.made told.between alone told.makes in
+      let first = statement_alone at (making m) told.made told.between alone told.makes in
       let second = filled told.between (filling (length at.objects) m) told.made a after first.1 told.fills in
       (record { made = told.made; between = standing told.between; makes = first.0; fills = second.0 }, second.1)
 

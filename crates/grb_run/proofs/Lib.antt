@@ -10,6 +10,7 @@ pub mod OnePass
 pub mod Runs
 pub mod ScriptEnds
 pub mod ScriptRuns
+pub mod SectionSteps
 pub mod Steps
 pub mod ThreadLemmas
 pub mod Wrote

@@ -1,5 +1,5 @@
 -- How a run of a script ends: its sections answered, its threads stopped, or its sink failed.
-use Rattle.std.proofs.Common.{◌≡◌, ℕ, ◌+◌, ◌*◌, ◌<◌, ◌≤◌, List, [], ◌∷◌, ◌++◌, length, map, refl, sym, ap, ◌∙◌, subst, append-nil, arith}
+use Rattle.std.proofs.Common.{◌≡◌, ℕ, ◌+◌, ◌*◌, ◌<◌, ◌≤◌, List, [], ◌∷◌, ◌++◌, length, refl, sym, ap, ◌∙◌, subst, append-nil, arith}
 use Rattle.std.specs.Prelude.{Option, None}
 use Rattle.std.proofs.lemmas.List.{length-map}
 use Rattle.std.specs.List.{flat_map}
@@ -25,18 +25,18 @@ use Rattle.grb_run.specs.Threads.{AreThreadsRun, IsStopOf}
 use Rattle.grb_run.proofs.ScriptRuns.{run_alone}
 
 -- where there are no thread sections, nothing is run
-pub none_run : {X : Type 0} (f : X → List Step) (context : Shared) (main : Stage) (passes : List Knowing) (xs : List X) (before : List Answer) → length xs ≡ 0 → length passes ≡ length xs
-    → AreThreadsRun context main passes (map f xs) before main.pass before
-none_run f context main [] [] before none count = record { answers = []; ended = []; told = tt; meets = refl; all_are = sym (append-nil before) }
-none_run f context main (p ∷ passes) [] before none count = absurd (omega (arith, count))
-none_run f context main passes (x ∷ xs) before none count = absurd (omega (arith, none))
+pub none_run : (context : Shared) (main : Stage) (passes : List Knowing) (threads : List (List Step)) (before : List Answer) → length threads ≡ 0 → length passes ≡ length threads
+    → AreThreadsRun context main passes threads before main.pass before
+none_run context main [] [] before none count = record { answers = []; ended = []; told = tt; meets = refl; all_are = sym (append-nil before) }
+none_run context main (p ∷ passes) [] before none count = absurd (omega (arith, count))
+none_run context main passes (steps ∷ threads) before none count = absurd (omega (arith, none))
 
 -- main, the threads and the last section, one behind another
-pub all_answered : (room : ℕ) (context : Shared) (script : Steps) (n : ℕ) (pass : Knowing) (passes : List Knowing) (objects : List Object) (behind_main : Stage) (first all last total : List Answer)
-    (met : Knowing) (behind : Stage) → room_of context.order ≡ room → n ≡ length script.threads → AreNew context.order (n + 1) (pass ∷ passes) (n + 1) → objects ≡ []
-    → AreTold context (record { objects = objects; pass = pass }) script.main first behind_main → AreThreadsRun context behind_main passes script.threads first met all
-    → AreTold context (record { objects = behind_main.objects; pass = met }) script.finally last behind → total ≡ all ++ last → AreAnswers room script total
-all_answered room context script n pass passes objects behind_main first all last total met behind room_is count new none main threads finally are = record {
+pub all_answered : (room : ℕ) (context : Shared) (script : Steps) (n : ℕ) (pass : Knowing) (passes : List Knowing) (objects : List Object) (after_main : Stage) (first all last total : List Answer)
+    (met : Knowing) (after_finally : Stage) → room_of context.order ≡ room → n ≡ length script.threads → AreNew context.order (n + 1) (pass ∷ passes) (n + 1) → objects ≡ []
+    → AreTold context (record { objects = objects; pass = pass }) script.main first after_main → AreThreadsRun context after_main passes script.threads first met all
+    → AreTold context (record { objects = after_main.objects; pass = met }) script.finally last after_finally → total ≡ all ++ last → AreAnswers room script total
+all_answered room context script n pass passes objects after_main first all last total met after_finally room_is count new none main threads finally are = record {
   answers = record { main = first; threads = threads.answers; finally = last };
   run = record {
     context = context;
@@ -44,13 +44,13 @@ all_answered room context script n pass passes objects behind_main first all las
     pass = pass;
     passes = passes;
     new = subst (λ k. AreNew context.order (k + 1) (pass ∷ passes) (k + 1)) count new;
-    behind_main = behind_main;
-    main = subst (λ o. AreTold context (record { objects = o; pass = pass }) script.main first behind_main) none main;
+    after_main = after_main;
+    main = subst (λ o. AreTold context (record { objects = o; pass = pass }) script.main first after_main) none main;
     ended = threads.ended;
     threads = threads.told;
     met = met;
     meets = threads.meets;
-    behind = behind;
+    after_finally = after_finally;
     finally = finally;
   };
   all_are = are ∙ ap (λ l. l ++ last) threads.all_are;
@@ -59,7 +59,7 @@ all_answered room context script n pass passes objects behind_main first all las
 -- the passes of a script that was read, and what they have places for
 pub seats_read : (room : ℕ) (text : List ℕ) (script : Script) → listed script ≡ sections_of text → room * (length script.threads.items + 1) ≡ seats_of room text
 seats_read room text script is =
-    ap (λ (n : ℕ). room * (n + 1)) (sym (length-map script.threads.items (λ asked. asked.items)) ∙ ap (λ (s : Sections). length s.threads) is)
+    ap (λ (n : ℕ). room * (n + 1)) (sym (length-map script.threads.items (λ commands. commands.items)) ∙ ap (λ (s : Sections). length s.threads) is)
 
 pub seats_fit : (room : ℕ) (text : List ℕ) (script : Script) (n : ℕ) → n ≡ length script.threads.items → listed script ≡ sections_of text → room * (n + 1) ≤ MOST_SEATS → seats_of room text ≤ MOST_SEATS
 seats_fit room text script n count is fits = subst (λ (k : ℕ). k ≤ MOST_SEATS) (ap (λ (k : ℕ). room * (k + 1)) count ∙ seats_read room text script is) fits

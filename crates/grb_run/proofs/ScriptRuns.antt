@@ -1,8 +1,6 @@
 -- A script without thread sections runs as one section.
-use Rattle.std.proofs.Common.{◌≡◌, ◌≢◌, ℕ, ◌+◌, List, [], ◌∷◌, ◌++◌, length, refl, sym, ap, ◌∙◌, subst, append-nil, arith}
-use Rattle.std.specs.Prelude.{Ok}
+use Rattle.std.proofs.Common.{◌≡◌, ℕ, ◌+◌, List, [], ◌∷◌, ◌++◌, length, refl, sym, ap, ◌∙◌, subst, append-nil, arith}
 use Rattle.std.specs.List.{flat_map}
-use Rattle.grb_order.specs.Order.{room_of}
 use Rattle.grb_context.specs.Explains.{Answer}
 use Rattle.grb_context.specs.Known.{Shared, Knowing, known, IsAlone, AreNew}
 use Rattle.grb_run.specs.declared.loads.Step.{Step}
@@ -27,17 +25,17 @@ met_none context p q (e ∷ ended) none meets = cc
 pub run_alone : (room : ℕ) (script : Steps) (answers : Answers) → IsScriptRun room script answers → script.threads ≡ []
     → IsRun room start (script.main ++ script.finally) (in_order answers)
 run_alone room script answers run none =
-    let none_there = none_told run.context run.behind_main run.passes script.threads answers.threads run.ended none run.threads in
-    let met : run.met ≡ run.behind_main.pass = met_none run.context run.behind_main.pass run.met run.ended none_there.1 run.meets in
+    let none_there = none_told run.context run.after_main run.passes script.threads answers.threads run.ended none run.threads in
+    let met : run.met ≡ run.after_main.pass = met_none run.context run.after_main.pass run.met run.ended none_there.1 run.meets in
     let one : length script.threads + 1 ≡ 1 = ap (λ (l : List (List Step)). length l + 1) none in
     let new : AreNew run.context.order 1 (run.pass ∷ run.passes) 1 = subst (λ n. AreNew run.context.order n (run.pass ∷ run.passes) n) one run.new in
     let is : run.pass ≡ new_pass run.context.order 1 = first_pass run.context.order 1 run.pass run.passes (omega arith) new in
     let alone : IsAlone run.pass = record { number = ap (λ (p : Knowing). p.view.number) is; passes = ap (λ (p : Knowing). p.view.passes) is } in
     let first : Stage = record { objects = []; pass = run.pass } in
-    let last : AreTold run.context run.behind_main script.finally answers.finally run.behind =
-    subst (λ p. AreTold run.context (record { objects = run.behind_main.objects; pass = p }) script.finally answers.finally run.behind) met run.finally in
-    let whole = AreTold-append run.context first script.main answers.main run.behind_main script.finally answers.finally run.behind run.main last in
-    let all = run_of run.context first (script.main ++ script.finally) (answers.main ++ answers.finally) run.behind alone whole in
+    let last : AreTold run.context run.after_main script.finally answers.finally run.after_finally =
+    subst (λ p. AreTold run.context (record { objects = run.after_main.objects; pass = p }) script.finally answers.finally run.after_finally) met run.finally in
+    let whole = AreTold-append run.context first script.main answers.main run.after_main script.finally answers.finally run.after_finally run.main last in
+    let all = run_of run.context first (script.main ++ script.finally) (answers.main ++ answers.finally) run.after_finally alone whole in
     let begins : standing first ≡ start = ap (λ h. record { objects = []; history = h }) (ap known is) in
     let ordered : answers.main ++ answers.finally ≡ in_order answers = ap (λ l. l ++ answers.finally) (sym (append-nil answers.main))
     ∙ ap (λ (l : List (List Answer)). (answers.main ++ flat_map (λ (more : List Answer). more) l) ++ answers.finally) (sym none_there.0) in

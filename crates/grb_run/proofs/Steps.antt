@@ -1,12 +1,11 @@
 -- Steps that are answered, one behind another.
-use Rattle.std.proofs.Common.{◌≡◌, ℕ, Bool, true, false, List, [], ◌∷◌, ◌++◌, length, refl, sym, ap, ◌∙◌, subst, append_assoc}
+use Rattle.std.proofs.Common.{◌≡◌, ℕ, false, List, [], ◌∷◌, ◌++◌, length, refl, sym, ap, ◌∙◌, subst, append_assoc}
 use Rattle.std.specs.Prelude.{Result, Ok, Err, IfOk}
 use Rattle.std.specs.Result.{is_err}
 use Rattle.std.specs.declared.alloc.AllocError.{AllocError}
-use Rattle.grb_call.specs.declared.ids.Object.{Object}
 use Rattle.grb_context.specs.Answered.{Answered}
 use Rattle.grb_context.specs.Explains.{Answer}
-use Rattle.grb_context.specs.Known.{Shared, Knowing}
+use Rattle.grb_context.specs.Known.{Shared}
 use Rattle.grb_run.specs.Calls.{call_of}
 use Rattle.grb_run.specs.Objects.{made_sort, objects_after}
 use Rattle.grb_market.specs.declared.loaded.Loaded.{Loaded}

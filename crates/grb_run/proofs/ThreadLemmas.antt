@@ -1,5 +1,5 @@
 -- Thread sections: jobs, what their threads return, and how main's pass gathers it.
-use Rattle.std.proofs.Common.{◌≡◌, ◌≢◌, ℕ, ◌+◌, ◌<◌, List, [], ◌∷◌, ◌++◌, length, refl, sym, ap, ◌∙◌, subst, append_assoc, append-nil, arith, suc}
+use Rattle.std.proofs.Common.{◌≡◌, ◌≢◌, ℕ, ◌<◌, List, [], ◌∷◌, ◌++◌, length, refl, sym, ap, ◌∙◌, subst, append_assoc, append-nil, arith, suc}
 use Rattle.std.specs.Prelude.{Result, Ok, Err, IfOk, All}
 use Rattle.std.specs.List.{flat_map, slice_index_or, remove}
 use Rattle.std.specs.declared.alloc.AllocError.{AllocError}
@@ -107,7 +107,7 @@ module _ (context : Shared) where
       let rest = gathered main passes threads more_jobs results are.0 are.1 after all jobs.1 ended.1 are.3 in
       let told : AreTold context (record { objects = main.objects; pass = job.pass }) steps one.answers.items (record { objects = ended.0.objects; pass = one.pass }) =
       subst (λ s. AreTold context (record { objects = main.objects; pass = job.pass }) s one.answers.items (record { objects = ended.0.objects; pass = one.pass })) jobs.0.steps_are
-      (subst (λ o. AreTold context (record { objects = o; pass = job.pass }) job.steps.items one.answers.items (record { objects = ended.0.objects; pass = one.pass })) jobs.0.objects ended.0.told) in (
+      (subst (λ o. AreTold context (record { objects = o; pass = job.pass }) job.steps one.answers.items (record { objects = ended.0.objects; pass = one.pass })) jobs.0.objects ended.0.told) in (
         one.answers.items ∷ rest.0,
         one.pass ∷ rest.1,
         (record { met = job.pass; meets = jobs.0.meets; objects = ended.0.objects; told = told }, rest.2),

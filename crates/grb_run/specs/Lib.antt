@@ -7,6 +7,7 @@ pub mod Printed
 pub mod ReplyLine
 pub mod Run
 pub mod RunFault
+pub mod SectionSteps
 pub mod Sections
 pub mod Source
 pub mod Threads

@@ -1,6 +1,6 @@
 -- believed: What the loads of a script give (own): the file of each is read and checked, in the order of the script, before
 -- anything runs.
-use Rattle.std.specs.Prelude.{◌≡◌, ℕ, List, [], ◌∷◌, ◌++◌, map, Option, Some}
+use Rattle.std.specs.Prelude.{◌≡◌, ℕ, List, [], ◌∷◌, ◌++◌, Option, Some}
 use Rattle.std.specs.List.{flat_map}
 use Rattle.grb_market.specs.declared.fault.MarketFault.{MarketFault}
 use Rattle.grb_market.specs.declared.loaded.Loaded.{Loaded}
@@ -44,8 +44,13 @@ IsStep files _ _ = ⊥
 -- the same of line after line
 abbrev pub AreSteps : Files → List NumberedCommand → List Step → Type 0
 AreSteps files [] [] = Unit {0}
-AreSteps files (asked ∷ more) (s ∷ steps) = IsStep files asked.command s × AreSteps files more steps
+AreSteps files (line ∷ more) (s ∷ steps) = IsStep files line.command s × AreSteps files more steps
 AreSteps files _ _ = ⊥
+
+-- the matrices of loads before and after what a line asks for was read: a load gives one more
+abbrev pub IsReadInto : Files → Command → List Loaded → List Loaded → Type 0
+IsReadInto files (command.Statement s) before after = after ≡ before
+IsReadInto files (command.Load path) before after = (m : Loaded) × IsLoaded (files path) m × (after ≡ before ++ m ∷ [])
 
 -- the load on this line ends with this fault: its file has a fault, was not read, or is too long; or memory was refused
 abbrev pub IsLoadFault : Option (List ℕ) → ℕ → RunFault → Type 0
@@ -63,12 +68,12 @@ IsStepFault files line (command.Statement s) fault = ⊥
 -- the first load of these lines that ends with a fault does so with this one: the file of each load before it spells a matrix
 pub record StopsWith (files : Files) (commands : List NumberedCommand) (fault : RunFault) : Type 0 where
   pub before : List NumberedCommand
-  pub asked : NumberedCommand
-  pub behind : List NumberedCommand
-  pub are : commands ≡ before ++ asked ∷ behind
+  pub load : NumberedCommand
+  pub after : List NumberedCommand
+  pub are : commands ≡ before ++ load ∷ after
   pub steps : List Step
   pub loaded : AreSteps files before steps
-  pub stops : IsStepFault files asked.line asked.command fault
+  pub stops : IsStepFault files load.line load.command fault
 
 -- why not all lines are steps: the first load that ends with a fault, or want of memory
 abbrev pub IsWhyNotLoaded : Files → List NumberedCommand → RunFault → Type 0
@@ -82,20 +87,20 @@ pub record Steps : Type 0 where
   pub finally : List Step
 
 abbrev pub steps_listed : ScriptSteps → Steps
-steps_listed script = record { main = script.main.items; threads = map (λ steps. steps.items) script.threads.items; finally = script.finally.items }
+steps_listed script = record { main = script.main; threads = script.threads.items; finally = script.finally }
 
 -- what all sections of a script ask for, in the order of its text
 abbrev pub all_of : Sections → List NumberedCommand
-all_of asked = asked.main ++ flat_map (λ more. more) asked.threads ++ asked.finally
+all_of script = script.main ++ flat_map (λ more. more) script.threads ++ script.finally
 
 -- what thread sections ask for as steps
 abbrev pub AreThreadSteps : Files → List (List NumberedCommand) → List (List Step) → Type 0
 AreThreadSteps files [] [] = Unit {0}
-AreThreadSteps files (asked ∷ threads) (steps ∷ more) = AreSteps files asked steps × AreThreadSteps files threads more
+AreThreadSteps files (lines ∷ threads) (steps ∷ more) = AreSteps files lines steps × AreThreadSteps files threads more
 AreThreadSteps files _ _ = ⊥
 
 -- the same of all sections of a script
-pub record AreScriptSteps (files : Files) (asked : Sections) (script : Steps) : Type 0 where
-  pub main : AreSteps files asked.main script.main
-  pub threads : AreThreadSteps files asked.threads script.threads
-  pub finally : AreSteps files asked.finally script.finally
+pub record AreScriptSteps (files : Files) (lines : Sections) (script : Steps) : Type 0 where
+  pub main : AreSteps files lines.main script.main
+  pub threads : AreThreadSteps files lines.threads script.threads
+  pub finally : AreSteps files lines.finally script.finally

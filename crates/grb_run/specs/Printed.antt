@@ -1,5 +1,5 @@
 -- believed: What a script prints (own): a line for each of its statements, loads too, in their order.
-use Rattle.std.specs.Prelude.{◌≡◌, ◌≢◌, ℕ, ◌<◌, Bool, true, false, IsTrue, ◌==◌, ◌&&◌, if◌then◌else◌, List, [], ◌∷◌, ◌++◌, length, is_none, All, Option, None, Ok, Err, codes}
+use Rattle.std.specs.Prelude.{◌≡◌, ◌≢◌, ℕ, Bool, ◌==◌, ◌&&◌, if◌then◌else◌, List, [], ◌∷◌, length, is_none, Ok, Err}
 use Rattle.std.specs.List.{flat_map}
 use Rattle.grb_core.specs.declared.refusal.Refusal.TheVariants.{OrderFull, OutOfMemory, Panic}
 use Rattle.grb_call.specs.declared.call.Call.{Call}
@@ -38,8 +38,8 @@ abbrev pub start : Standing
 start = record { objects = []; history = [] }
 
 -- where it stands behind a statement that was answered so
-abbrev pub behind : Standing → Statement → Answer → Standing
-behind at s a = record { objects = objects_after at.objects (made_sort s) a; history = history_after 0 (call_of at.objects s) a at.history }
+abbrev pub standing_after : Standing → Statement → Answer → Standing
+standing_after at s a = record { objects = objects_after at.objects (made_sort s) a; history = history_after 0 (call_of at.objects s) a at.history }
 
 -- the statements that a load stands for: its matrix is made, and then built, where so many names stood before. No place of the list
 -- repeats, so the monoid plays no part
@@ -54,19 +54,19 @@ abbrev pub filling : ℕ → Loaded → Statement
 filling name m = statement.BuildMatrix name m.tuples (sum_of m.domain)
 
 -- the answer to a statement where neither memory nor a record is refused, and where the script stands behind it
-abbrev pub said : ℕ → Standing → Statement → Answer × Standing
-said room at s = let a = answer_in room at.history (call_of at.objects s) in (a, behind at s a)
+abbrev pub statement_done : ℕ → Standing → Statement → Answer × Standing
+statement_done room at s = let a = answer_in room at.history (call_of at.objects s) in (a, standing_after at s a)
 
 -- the same of the second statement of a load, by the answer to its first: where the matrix is not made, that is the answer, and nothing
 -- is built
 abbrev pub filled : ℕ → Standing → Statement → Answer → Answer × Standing
 filled room at s (Err refusal) = (Err refusal, at)
-filled room at s (Ok reply) = said room at s
+filled room at s (Ok reply) = statement_done room at s
 
 -- the same of a step
 abbrev pub done : ℕ → Standing → Step → Answer × Standing
-done room at (step.Statement s) = said room at s
-done room at (step.Load m) = let made = said room at (making m) in filled room made.1 (filling (length at.objects) m) made.0
+done room at (step.Statement s) = statement_done room at s
+done room at (step.Load m) = let made = statement_done room at (making m) in filled room made.1 (filling (length at.objects) m) made.0
 
 -- the answers to these steps, one behind another, where neither memory nor a record is refused
 abbrev pub answers_in : ℕ → Standing → List Step → List Answer
@@ -82,7 +82,7 @@ IsAnswer room h c a = a ≡ answer_in room h c
 -- the answer to a statement, and where the script stands behind it
 pub record IsSaid (room : ℕ) (at : Standing) (s : Statement) (a : Answer) (after : Standing) : Type 0 where
   pub answer : IsAnswer room at.history (call_of at.objects s) a
-  pub after_is : after ≡ behind at s a
+  pub after_is : after ≡ standing_after at s a
 
 -- the same of the second statement of a load, by the answer to its first
 abbrev pub IsFilled : ℕ → Standing → Statement → Answer → Answer → Standing → Type 0

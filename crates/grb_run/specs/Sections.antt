@@ -88,14 +88,14 @@ pub record IsScriptRun (room : ℕ) (script : Steps) (answers : Answers) : Type 
   pub pass : Knowing
   pub passes : List Knowing
   pub new : AreNew context.order (length script.threads + 1) (pass ∷ passes) (length script.threads + 1)
-  pub behind_main : Stage
-  pub main : AreTold context (record { objects = []; pass = pass }) script.main answers.main behind_main
+  pub after_main : Stage
+  pub main : AreTold context (record { objects = []; pass = pass }) script.main answers.main after_main
   pub ended : List Knowing
-  pub threads : AreThreadsTold context behind_main passes script.threads answers.threads ended
+  pub threads : AreThreadsTold context after_main passes script.threads answers.threads ended
   pub met : Knowing
-  pub meets : MeetsAll context behind_main.pass ended met
-  pub behind : Stage
-  pub finally : AreTold context (record behind_main { pass = met }) script.finally answers.finally behind
+  pub meets : MeetsAll context after_main.pass ended met
+  pub after_finally : Stage
+  pub finally : AreTold context (record after_main { pass = met }) script.finally answers.finally after_finally
 
 -- these are the answers to the sections of a script, in their order
 pub record AreAnswers (room : ℕ) (script : Steps) (all : List Answer) : Type 0 where

@@ -20,7 +20,7 @@ pub record IsJob (context : Shared) (main : Stage) (new : Knowing) (steps : List
   pub pass : IsPassOf context job.pass
   pub meets : Met context new job.pass main.pass (Ok tt)
   pub objects : job.objects.items ≡ main.objects
-  pub steps_are : job.steps.items ≡ steps
+  pub steps_are : job.steps ≡ steps
 
 abbrev pub AreJobs : Shared → Stage → List Knowing → List (List Step) → List Job → Type 0
 AreJobs context main [] [] [] = Unit {0}
@@ -31,7 +31,7 @@ AreJobs context main _ _ _ = ⊥
 pub record IsEnded (context : Shared) (job : Job) (ended : FinishedSection) : Type 0 where
   pub pass : IsPassOf context ended.pass
   pub objects : List Object
-  pub told : AreTold context (record { objects = job.objects.items; pass = job.pass }) job.steps.items ended.answers.items (record { objects = objects; pass = ended.pass })
+  pub told : AreTold context (record { objects = job.objects.items; pass = job.pass }) job.steps ended.answers.items (record { objects = objects; pass = ended.pass })
 
 abbrev pub AreEnded : Shared → List Job → List (Result FinishedSection AllocError) → Type 0
 AreEnded context [] [] = Unit {0}

@@ -1,5 +1,5 @@
 //! A run of a script, from its bytes to its lines.
-ghost use Rattle.std.specs.Prelude.{◌≡◌, ℕ, ◌+◌, ◌-◌, ◌*◌, ◌^◌, ◌<◌, ◌≤◌, List, ◌∷◌, length, map, All, OnOk, IfOk, IfErr};
+ghost use Rattle.std.specs.Prelude.{◌≡◌, ℕ, ◌+◌, ◌-◌, ◌*◌, ◌^◌, ◌<◌, ◌≤◌, List, ◌∷◌, length, All, OnOk, IfOk, IfErr};
 ghost use Rattle.grb_order.specs.declared.limits.TheConstants.{MOST_PASSES, MOST_ROOM, MOST_SEATS};
 ghost use Rattle.grb_order.specs.Order.{room_of};
 ghost use Rattle.grb_context.specs.Known.{AreNew, IsPassOf};
@@ -60,7 +60,7 @@ fn run_sections<R: Threads + Wait + Sync, G: Gate + Sync>(
     requires new { AreNew context.now.order (length script.threads.items + 1) (main.old ∷ passes.items) (length script.threads.items + 1) }
     requires count { length passes.items ≡ length script.threads.items }
     ensures answers { IfOk result (λ answers. AreAnswers (room_of context.now.order) (steps_listed script) answers.items) }
-    ensures fault { IfErr result (IsStopOf (map (λ steps. steps.items) script.threads.items)) }
+    ensures fault { IfErr result (IsStopOf script.threads.items) }
 {
     let ScriptSteps {
         main: steps,
@@ -100,7 +100,7 @@ fn answers_to<R: Threads + Wait + Sync, G: Gate + Sync>(
     requires threads { length script.threads.items < MOST_PASSES }
     requires seats { room * (length script.threads.items + 1) ≤ MOST_SEATS }
     ensures answers { IfOk result (λ answers. AreAnswers room (steps_listed script) answers.items) }
-    ensures fault { IfErr result (IsStopOf (map (λ steps. steps.items) script.threads.items)) }
+    ensures fault { IfErr result (IsStopOf script.threads.items) }
 {
     let (context, mut main, passes) = open_store(alloc, room, script.threads.len())?;
     run_sections(rt, alloc, &context, &mut main, passes, script, gate)

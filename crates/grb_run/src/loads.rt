@@ -1,12 +1,15 @@
 //! The files that a script loads, read and checked before its first statement.
-ghost use Rattle.std.specs.Prelude.{◌≡◌, ℕ, List, length, map, IfOk, IfErr};
+ghost use Rattle.std.specs.Prelude.{◌≡◌, ◌+◌, ◌≤◌, ℕ, List, [], ◌∷◌, length, map, OnOk, IfOk, IfErr};
 ghost use Rattle.std.specs.List.{flat_map};
+ghost use Rattle.std.specs.Vec.Iter.{into_iter_items};
 ghost use Rattle.grb_market.specs.declared.fault.ReadError.{ReadError};
-ghost use Rattle.grb_run.specs.Loads.{IsLoaded, IsLoadFault, IsStep, IsStepFault, AreSteps, IsWhyNotLoaded, AreThreadSteps, AreScriptSteps, steps_listed, all_of};
+ghost use Rattle.grb_script.specs.declared.command.Command.{Command};
+ghost use Rattle.grb_run.specs.Loads.{IsLoaded, IsLoadFault, IsReadInto, IsStepFault, AreSteps, IsWhyNotLoaded, AreThreadSteps, AreScriptSteps, steps_listed, all_of};
 ghost use Rattle.grb_script.specs.Script.{listed};
 ghost use Rattle.grb_run.specs.Printed.{making, sum_of, filling};
 ghost use Rattle.grb_run.specs.Run.{MetFaults};
 ghost use Rattle.grb_run.specs.RunFault.{file_run_fault, load_run_fault};
+ghost use Rattle.grb_run.specs.SectionSteps.{commands_of, loads_among, steps_with};
 ghost use Rattle.grb_run.specs.Source.{AreCountable};
 
 use crate::fault::RunFault;
@@ -16,6 +19,8 @@ use grb_core::{Domain, Monoid};
 use grb_market::{Loaded, ReadError, read};
 use grb_script::{Command, FilePath, NumberedCommand, Script, Statement};
 use std::alloc::{AllocError, Global};
+use std::marker::Model;
+use std::vec::IntoIter;
 
 /// What a line of a script does in the store, once the file of each load is read.
 #[derive(Drop)]
@@ -24,6 +29,69 @@ pub enum Step {
     Statement(Statement),
     /// A matrix is made and filled, as a file spells it, and the next name made for it.
     Load(Loaded),
+}
+
+/// The steps of a section, in their order: what its lines ask for, as they were read, and the matrix of each load among them. It is seen as
+/// the list of the steps.
+#[derive(Drop)]
+pub(crate) struct SectionSteps {
+    pub(crate) commands: Vec<NumberedCommand>,
+    pub(crate) loads: Vec<Loaded>,
+}
+
+impl Model for SectionSteps {
+    ghost use Rattle.std.specs.Prelude.{◌≡◌, List, length};
+    ghost use Rattle.grb_run.specs.declared.loads.Step.{Step};
+    ghost use Rattle.grb_run.specs.SectionSteps.{commands_of, loads_among, steps_with};
+
+    ghost Value = { List Step };
+
+    ghost view = { λ s. steps_with (commands_of s.commands.items) s.loads.items };
+
+    ghost invariant = { λ s. length s.loads.items ≡ loads_among (commands_of s.commands.items) };
+}
+
+impl SectionSteps {
+    /// How many steps there are.
+    pub(crate) fn len(&self) -> usize
+        ensures { result ≡ length self.now }
+    {
+        self.commands.len()
+    }
+
+    /// Whether a statement of the section asks for entries, or checks them.
+    pub(crate) fn asks_for_entries(&self) -> bool {
+        for numbered in &self.commands {
+            if let Command::Statement(statement) = &numbered.command {
+                match statement {
+                    Statement::Nvals { .. }
+                    | Statement::GetMatrix { .. }
+                    | Statement::GetVector { .. }
+                    | Statement::BuildMatrix { .. }
+                    | Statement::BuildVector { .. }
+                    | Statement::Total { .. }
+                    | Statement::Wait { .. } => return true,
+                    _ => {}
+                }
+            }
+        }
+        false
+    }
+}
+
+/// The step of what a line asks for: a load takes the first of these matrices.
+pub(crate) fn step_of(command: Command, loads: &mut IntoIter<Loaded>) -> Step
+    requires { loads_among (command ∷ []) ≤ length (into_iter_items loads.old) }
+    ensures first { (more : List Command) → steps_with (command ∷ more) (into_iter_items loads.old) ≡ result ∷ steps_with more (into_iter_items loads.new) }
+    ensures rest { length (into_iter_items loads.new) + loads_among (command ∷ []) ≡ length (into_iter_items loads.old) }
+{
+    match command {
+        Command::Statement(statement) => Step::Statement(statement),
+        Command::Load(_) => match loads.next() {
+            Some(loaded) => Step::Load(loaded),
+            None => unreachable!(),
+        },
+    }
 }
 
 /// Why a run ends that was not given the file of the load on this line.
@@ -72,57 +140,76 @@ fn load_file<S: Source>(
     }
 }
 
-/// The step of what a line asks for. `OutOfMemory` where memory for them or for a file is refused; then no statement is run.
-fn step_of<S: Source>(
+/// Reads the file of a line that loads one, and puts its matrix after these. `OutOfMemory` where memory for it is refused.
+fn read_into<S: Source>(
     alloc: Global,
     source: &mut S,
-    line: u64,
-    command: Command,
-) -> Result<Step, RunFault>
+    numbered: &NumberedCommand,
+    loads: &mut Vec<Loaded>,
+) -> Result<(), RunFault>
     requires { AreCountable (S.faults source.old) }
-    ensures step { IfOk result (IsStep (S.file_bytes source.old) command) }
-    ensures fault { IfErr result (IsStepFault (S.file_bytes source.old) line command) }
+    ensures read { OnOk result (IsReadInto (S.file_bytes source.old) numbered.now.command loads.old.items loads.new.items) }
+    ensures fault { IfErr result (IsStepFault (S.file_bytes source.old) numbered.now.line numbered.now.command) }
     ensures source_faults { MetFaults (S.faults source.old) result (S.faults source.new) }
     ensures script_stays { S.script_bytes source.new ≡ S.script_bytes source.old }
     ensures files_stay { (path : List ℕ) → S.file_bytes source.new path ≡ S.file_bytes source.old path }
 {
-    match command {
-        Command::Statement(statement) => Ok(Step::Statement(statement)),
-        Command::Load(path) => match load_file(alloc, source, line, &path) {
-            Ok(loaded) => Ok(Step::Load(loaded)),
-            Err(fault) => Err(fault),
-        },
+    match &numbered.command {
+        Command::Statement(_) => Ok(()),
+        Command::Load(path) => {
+            let loaded = load_file(alloc, source, numbered.line, path)?;
+            loads.push(loaded).map_err(AllocError::from)?;
+            Ok(())
+        }
     }
 }
 
-/// The steps of what these lines ask for. The file of each load is read and checked, in their order. `OutOfMemory` where memory for them or
-/// for a file is refused; then no statement is run.
+/// The matrices that these lines load, in their order: the file of each load is read and checked. `OutOfMemory` where memory for them or
+/// for a file is refused.
+fn loads_of<S: Source>(
+    alloc: Global,
+    source: &mut S,
+    commands: &[NumberedCommand],
+) -> Result<Vec<Loaded>, RunFault>
+    requires { AreCountable (S.faults source.old) }
+    ensures steps { IfOk result (λ loads. AreSteps (S.file_bytes source.old) commands.now (steps_with (commands_of commands.now) loads.items)) }
+    ensures count { IfOk result (λ loads. length loads.items ≡ loads_among (commands_of commands.now)) }
+    ensures fault { IfErr result (IsWhyNotLoaded (S.file_bytes source.old) commands.now) }
+    ensures source_faults { MetFaults (S.faults source.old) result (S.faults source.new) }
+    ensures script_stays { S.script_bytes source.new ≡ S.script_bytes source.old }
+    ensures files_stay { (path : List ℕ) → S.file_bytes source.new path ≡ S.file_bytes source.old path }
+{
+    let mut loads = Vec::new(alloc);
+    for numbered in commands {
+        read_into(alloc, source, numbered, &mut loads)?;
+    }
+    Ok(loads)
+}
+
+/// The steps of what these lines ask for. The file of each load is read and checked, in their order. `OutOfMemory` where memory for a
+/// matrix or for a file is refused; then no statement is run.
 fn steps_of<S: Source>(
     alloc: Global,
     source: &mut S,
     commands: Vec<NumberedCommand>,
-) -> Result<Vec<Step>, RunFault>
+) -> Result<SectionSteps, RunFault>
     requires { AreCountable (S.faults source.old) }
-    ensures steps { IfOk result (λ steps. AreSteps (S.file_bytes source.old) commands.items steps.items) }
+    ensures steps { IfOk result (λ steps. AreSteps (S.file_bytes source.old) commands.items steps) }
     ensures fault { IfErr result (IsWhyNotLoaded (S.file_bytes source.old) commands.items) }
     ensures source_faults { MetFaults (S.faults source.old) result (S.faults source.new) }
     ensures script_stays { S.script_bytes source.new ≡ S.script_bytes source.old }
     ensures files_stay { (path : List ℕ) → S.file_bytes source.new path ≡ S.file_bytes source.old path }
 {
-    let mut steps = Vec::with_capacity(alloc, commands.len())?;
-    for asked in commands {
-        let step = step_of(alloc, source, asked.line, asked.command)?;
-        steps.push(step).map_err(AllocError::from)?;
-    }
-    Ok(steps)
+    let loads = loads_of(alloc, source, &commands)?;
+    Ok(SectionSteps { commands, loads })
 }
 
 /// The steps of a script, by section.
 #[derive(Drop)]
-pub struct ScriptSteps {
-    pub(crate) main: Vec<Step>,
-    pub(crate) threads: Vec<Vec<Step>>,
-    pub(crate) finally: Vec<Step>,
+pub(crate) struct ScriptSteps {
+    pub(crate) main: SectionSteps,
+    pub(crate) threads: Vec<SectionSteps>,
+    pub(crate) finally: SectionSteps,
 }
 
 /// The steps of thread sections, one after another. `OutOfMemory` where memory for them or for a file is refused; then no statement is run.
@@ -130,10 +217,10 @@ fn thread_steps<S: Source>(
     alloc: Global,
     source: &mut S,
     threads: Vec<Vec<NumberedCommand>>,
-) -> Result<Vec<Vec<Step>>, RunFault>
+) -> Result<Vec<SectionSteps>, RunFault>
     requires { AreCountable (S.faults source.old) }
-    ensures steps { IfOk result (λ steps. AreThreadSteps (S.file_bytes source.old) (map (λ asked. asked.items) threads.items) (map (λ more. more.items) steps.items)) }
-    ensures fault { IfErr result (IsWhyNotLoaded (S.file_bytes source.old) (flat_map (λ more. more) (map (λ asked. asked.items) threads.items))) }
+    ensures steps { IfOk result (λ steps. AreThreadSteps (S.file_bytes source.old) (map (λ commands. commands.items) threads.items) steps.items) }
+    ensures fault { IfErr result (IsWhyNotLoaded (S.file_bytes source.old) (flat_map (λ more. more) (map (λ commands. commands.items) threads.items))) }
     ensures source_faults { MetFaults (S.faults source.old) result (S.faults source.new) }
     ensures script_stays { S.script_bytes source.new ≡ S.script_bytes source.old }
     ensures files_stay { (path : List ℕ) → S.file_bytes source.new path ≡ S.file_bytes source.old path }

@@ -8,7 +8,7 @@ ghost use Rattle.grb_run.specs.Sections.{IsStepTold, AreTold};
 
 use crate::calls::call_of;
 use crate::gate::Gate;
-use crate::loads::{Step, filling, making};
+use crate::loads::{SectionSteps, Step, filling, making, step_of};
 use crate::objects::{keep_object, made_sort};
 use crate::reply_line::Answer;
 use grb_call::Object;
@@ -72,21 +72,24 @@ pub(crate) fn answers_by<G: Gate>(
     context: &Context,
     pass: &mut Pass,
     objects: &mut Vec<Object>,
-    steps: Vec<Step>,
+    steps: SectionSteps,
     begun: u32,
     gate: &G,
 ) -> Result<Vec<Answer>, AllocError>
     requires pass { IsPassOf context.now pass.old }
     ensures pass { IsPassOf context.now pass.new }
-    ensures told { IfOk result (λ answers. AreTold context.now (record { objects = objects.old.items; pass = pass.old }) steps.items answers.items
+    ensures told { IfOk result (λ answers. AreTold context.now (record { objects = objects.old.items; pass = pass.old }) steps answers.items
         (record { objects = objects.new.items; pass = pass.new })) }
 {
+    let SectionSteps { commands, loads } = steps;
     let section = pass.number();
-    let mut answers = Vec::with_capacity(alloc, steps.len())?;
+    let mut answers = Vec::with_capacity(alloc, commands.len())?;
+    let mut loads = loads.into_iter();
     let mut number = begun;
-    for step in steps {
+    for numbered in commands {
         number = number.saturating_add(1);
         gate.before(section, number);
+        let step = step_of(numbered.command, &mut loads);
         answers.push(answer_to_step(context, pass, objects, step)?)?;
         gate.after(section, number);
     }

@@ -1,5 +1,5 @@
 //! The thread sections of a script, each by a pass and a thread of its own.
-ghost use Rattle.std.specs.Prelude.{◌≡◌, ◌+◌, ◌*◌, ◌<◌, ◌≤◌, length, map, All, Ok, IfOk, IfErr, OnOk, OnErr};
+ghost use Rattle.std.specs.Prelude.{◌≡◌, ◌+◌, ◌*◌, ◌<◌, ◌≤◌, length, All, Ok, IfOk, IfErr, OnOk, OnErr};
 ghost use Rattle.grb_order.specs.declared.limits.TheConstants.{MOST_PASSES, MOST_ROOM, MOST_SEATS};
 ghost use Rattle.grb_run.specs.declared.fault.RunFault.TheVariants as run;
 ghost use Rattle.grb_context.specs.Known.{IsPassOf};
@@ -8,12 +8,11 @@ ghost use Rattle.grb_run.specs.Threads.{IsJob, AreJobs, IsEnded, AreEnded, AreAs
 
 use crate::fault::RunFault;
 use crate::gate::Gate;
-use crate::loads::Step;
+use crate::loads::SectionSteps;
 use crate::reply_line::Answer;
 use crate::section::answers_by;
 use grb_call::Object;
 use grb_context::{Context, MOST_SEATS, Pass};
-use grb_script::Statement;
 use std::alloc::{AllocError, Global};
 use std::snapshot::Snapshot;
 use std::sync::Wait;
@@ -40,7 +39,7 @@ pub(crate) fn check_sections(room: u32, threads: usize) -> Result<(), RunFault>
 pub(crate) struct Job {
     pass: Pass,
     objects: Vec<Object>,
-    steps: Vec<Step>,
+    steps: SectionSteps,
 }
 
 /// A thread section that has run: its pass, and the answers to its steps.
@@ -58,7 +57,7 @@ pub(crate) struct ThreadPromise {
 }
 
 impl Promise<Result<FinishedSection, AllocError>> for ThreadPromise {
-    ghost kept_by = { λ asked result. IfOk result (IsEnded asked.context.value asked.job.value) };
+    ghost kept_by = { λ promise result. IfOk result (IsEnded promise.context.value promise.job.value) };
 }
 
 /// A thread that runs a job.
@@ -116,12 +115,12 @@ fn job_of(
     main: &mut Pass,
     objects: &[Object],
     mut pass: Pass,
-    steps: Vec<Step>,
+    steps: SectionSteps,
 ) -> Result<Job, RunFault>
     requires main { IsPassOf context.now main.old }
     requires pass { IsPassOf context.now pass }
     ensures main { main.new ≡ main.old }
-    ensures job { IfOk result (IsJob context.now (record { objects = objects.now; pass = main.old }) pass steps.items) }
+    ensures job { IfOk result (IsJob context.now (record { objects = objects.now; pass = main.old }) pass steps) }
     ensures fault { IfErr result IsStop }
 {
     let objects = names_for(alloc, context, main, objects, &mut pass)?;
@@ -140,13 +139,13 @@ fn jobs_of(
     main: &mut Pass,
     objects: &[Object],
     mut passes: Vec<Pass>,
-    threads: Vec<Vec<Step>>,
+    threads: Vec<SectionSteps>,
 ) -> Result<Vec<Job>, RunFault>
     requires main { IsPassOf context.now main.old }
     requires passes { All (IsPassOf context.now) passes.items }
     requires count { length passes.items ≡ length threads.items }
     ensures main { main.new ≡ main.old }
-    ensures jobs { IfOk result (λ jobs. AreJobs context.now (record { objects = objects.now; pass = main.old }) passes.items (map (λ steps. steps.items) threads.items) jobs.items) }
+    ensures jobs { IfOk result (λ jobs. AreJobs context.now (record { objects = objects.now; pass = main.old }) passes.items threads.items jobs.items) }
     ensures fault { IfErr result IsStop }
 {
     let mut jobs = Vec::with_capacity(alloc, threads.len())?;
@@ -171,7 +170,7 @@ fn start<'s, E, G: Gate + Sync>(
     ensures job { IfOk result (λ running. running.promise.job.value ≡ job) }
     ensures fault { IfErr result IsStop }
 {
-    let asked = ThreadPromise {
+    let promise = ThreadPromise {
         context: Snapshot::of(context),
         job: Snapshot::of(&job),
     };
@@ -179,7 +178,7 @@ fn start<'s, E, G: Gate + Sync>(
         requires { IsPassOf context.now job.pass }
         ensures { IfOk result (IsEnded context.entry.now job) }
     { run_job(alloc, context, job, gate) };
-    match scope.spawn_with(asked, run) {
+    match scope.spawn_with(promise, run) {
         Ok(running) => Ok(running),
         Err(_) => Err(RunFault::NoThread),
     }
@@ -296,30 +295,11 @@ fn gather_all(
     Ok(())
 }
 
-/// Whether a statement of the section asks for entries, or checks them.
-fn asks(steps: &[Step]) -> bool {
-    for step in steps {
-        if let Step::Statement(statement) = step {
-            match statement {
-                Statement::Nvals { .. }
-                | Statement::GetMatrix { .. }
-                | Statement::GetVector { .. }
-                | Statement::BuildMatrix { .. }
-                | Statement::BuildVector { .. }
-                | Statement::Total { .. }
-                | Statement::Wait { .. } => return true,
-                _ => {}
-            }
-        }
-    }
-    false
-}
-
 /// Whether several sections ask for entries.
-fn several_ask(threads: &[Vec<Step>]) -> bool {
+fn several_ask(threads: &[SectionSteps]) -> bool {
     let mut one = false;
     for steps in threads {
-        if asks(steps) {
+        if steps.asks_for_entries() {
             if one {
                 return true;
             }
@@ -330,7 +310,7 @@ fn several_ask(threads: &[Vec<Step>]) -> bool {
 }
 
 /// Lets main's pass evaluate what main left, where several sections ask for entries.
-fn prepare_main(context: &Context, main: &mut Pass, threads: &[Vec<Step>])
+fn prepare_main(context: &Context, main: &mut Pass, threads: &[SectionSteps])
     requires { IsPassOf context.now main.old }
     ensures pass { IsPassOf context.now main.new }
     ensures same { main.new ≡ record main.old { made = main.new.made } }
@@ -351,7 +331,7 @@ pub(crate) fn run_threads<R: Threads + Wait + Sync, G: Gate + Sync>(
     main: &mut Pass,
     objects: &[Object],
     passes: Vec<Pass>,
-    threads: Vec<Vec<Step>>,
+    threads: Vec<SectionSteps>,
     answers: &mut Vec<Answer>,
     gate: &G,
 ) -> Result<(), RunFault>
@@ -359,7 +339,7 @@ pub(crate) fn run_threads<R: Threads + Wait + Sync, G: Gate + Sync>(
     requires passes { All (IsPassOf context.now) passes.items }
     requires count { length passes.items ≡ length threads.items }
     ensures main { IsPassOf context.now main.new }
-    ensures run { OnOk result (AreThreadsRun context.now (record { objects = objects.now; pass = main.old }) passes.items (map (λ steps. steps.items) threads.items) answers.old.items main.new answers.new.items) }
+    ensures run { OnOk result (AreThreadsRun context.now (record { objects = objects.now; pass = main.old }) passes.items threads.items answers.old.items main.new answers.new.items) }
     ensures fault { IfErr result IsStop }
     ensures none { length threads.items ≡ 0 → OnErr result ⊥ }
 {

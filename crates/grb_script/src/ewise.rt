@@ -15,20 +15,20 @@ use grb_words::{Ewise, FaultKind, Options, Version, options_in, word};
 /// What an element-wise statement says. All its objects are of one sort, and stand by the numbers of their names.
 #[derive(Clone, Copy, Debug, PartialEq, Eq)]
 pub struct Elementwise {
-    /// The sort of all objects.
-    pub sort: Sort,
     /// The name of the output.
     pub output: usize,
     /// The name of the mask, where one is given.
     pub mask: Option<usize>,
-    /// The accumulator, where one is given.
-    pub accum: Option<BinaryOp>,
-    /// The operator that combines the inputs.
-    pub op: BinaryOp,
     /// The name of the first input.
     pub left: usize,
     /// The name of the second input.
     pub right: usize,
+    /// The sort of all objects.
+    pub sort: Sort,
+    /// The accumulator, where one is given.
+    pub accum: Option<BinaryOp>,
+    /// The operator that combines the inputs.
+    pub op: BinaryOp,
     /// How the first input and the mask are read and the output is written. `tran` is false where the sort is that of vectors.
     pub descriptor: Descriptor,
 }

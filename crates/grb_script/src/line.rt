@@ -12,7 +12,7 @@ use crate::fault::{ReadFault, ScriptFault};
 use crate::scope::{Scope, may_follow};
 use crate::version::{says_nothing, version_by};
 use grb_words::{
-    FaultKind, Section, Unread, Version, has_allowed_bytes, is_section, section_of, words,
+    FaultKind, Section, Unread, Version, has_allowed_bytes, is_section, put_words, section_of,
 };
 use std::alloc::Global;
 
@@ -84,12 +84,13 @@ fn read_words(
     Ok(Some(LineMeaning::Command(command)))
 }
 
-/// What the line with these bytes says, which has this number. `OutOfMemory` where memory for its words, a name, a path or a list is
-/// refused.
-pub(crate) fn read_line(
+/// What the line with these bytes says, which has this number. Its words are put into this list. `OutOfMemory` where memory for its words,
+/// a name, a path or a list is refused.
+pub(crate) fn read_line<'a>(
     alloc: Global,
     number: u64,
-    bytes: &[u8],
+    bytes: &'a [u8],
+    words: &mut Vec<&'a [u8]>,
     scope: &mut Scope,
 ) -> Result<Option<LineMeaning>, ReadFault>
     requires kept { IsKept scope.old }
@@ -101,8 +102,8 @@ pub(crate) fn read_line(
     if !has_allowed_bytes(bytes) {
         return Err(fault(number, FaultKind::BadByte));
     }
-    let words = words(alloc, bytes)?;
-    match read_words(alloc, &words, scope) {
+    put_words(words, bytes)?;
+    match read_words(alloc, words, scope) {
         Ok(meaning) => Ok(meaning),
         Err(unread) => Err(fault_at(number, unread)),
     }

@@ -18,14 +18,14 @@ pub struct Product {
     pub output: usize,
     /// The name of the mask, where one is given. Its object is of the sort of the output.
     pub mask: Option<usize>,
-    /// The accumulator, where one is given.
-    pub accum: Option<BinaryOp>,
-    /// What combines the inputs.
-    pub semiring: Semiring,
     /// The name of the first input: a vector at `vxm`, and a matrix at `mxv` and `mxm`.
     pub left: usize,
     /// The name of the second input: a vector at `mxv`, and a matrix at `vxm` and `mxm`.
     pub right: usize,
+    /// The accumulator, where one is given.
+    pub accum: Option<BinaryOp>,
+    /// What combines the inputs.
+    pub semiring: Semiring,
     /// How the first input and the mask are read and the output is written. `tran` is false at `vxm`.
     pub descriptor: Descriptor,
 }
@@ -37,12 +37,12 @@ pub struct Reduction {
     pub output: usize,
     /// The name of the mask, a vector, where one is given.
     pub mask: Option<usize>,
+    /// The name of the input, a matrix.
+    pub input: usize,
     /// The accumulator, where one is given.
     pub accum: Option<BinaryOp>,
     /// What combines the values of a row.
     pub monoid: Monoid,
-    /// The name of the input, a matrix.
-    pub input: usize,
     /// How the input and the mask are read and the output is written.
     pub descriptor: Descriptor,
 }

@@ -90,14 +90,15 @@ fn take(
     }
 }
 
-/// Reads a line of this number, and takes what it says. `OutOfMemory` where memory for that is refused.
-fn take_line(
+/// Reads a line of this number, and takes what it says. Its words are put into this list. `OutOfMemory` where memory for that is refused.
+fn take_line<'a>(
     alloc: Global,
     script: &mut Script,
     commands: &mut Vec<NumberedCommand>,
+    words: &mut Vec<&'a [u8]>,
     scope: &mut Scope,
     number: u64,
-    line: &[u8],
+    line: &'a [u8],
 ) -> Result<(), ReadFault>
     requires kept { IsKept scope.old }
     ensures faultless { OnOk result (line_fault (seen scope.old) (ended line.now) ≡ None) }
@@ -106,7 +107,7 @@ fn take_line(
     ensures fault { IfErr result (IsWhyLineUnread number (seen scope.old) (ended line.now)) }
 {
     let section = scope.section;
-    let meaning = read_line(alloc, number, line, scope)?;
+    let meaning = read_line(alloc, number, line, words, scope)?;
     Ok(take(alloc, script, section, commands, number, meaning)?)
 }
 
@@ -127,13 +128,14 @@ fn read_lines(
     ensures few { OnOk result (length script.new.threads.items ≤ most_threads versions.Two) }
     ensures fault { IfErr result (IsWhyTextUnread text.now) }
 {
+    let mut words = Vec::new(alloc);
     let mut rest = text;
     let mut number: u64 = 1;
     while !rest.is_empty() {
         let Some((line, after)) = next_line(rest) else {
             return Err(fault(number, FaultKind::UnendedLine));
         };
-        take_line(alloc, script, commands, scope, number, line)?;
+        take_line(alloc, script, commands, &mut words, scope, number, line)?;
         rest = after;
         number += 1;
     }

@@ -20,7 +20,7 @@ pub use fault::{FaultKind, Unread};
 pub use indices::{Indices, indices_and_value_of, indices_of};
 pub use keyword::{Ewise, Keyword, Multiply, Placed, Whole};
 pub use laws::{options_are_read_as_spelled, semirings_are_read_as_spelled};
-pub use line::{has_allowed_bytes, is_load, is_section, is_skipped, words};
+pub use line::{has_allowed_bytes, is_load, is_section, is_skipped, put_words, words};
 pub use load::load_of;
 pub use options::{Options, options_in, product_options};
 pub use section::{Section, section_of};

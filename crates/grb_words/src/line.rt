@@ -1,5 +1,5 @@
 //! The words of a line, and what the first of them says.
-ghost use Rattle.std.specs.Prelude.{◌≡◌, IfOk, map};
+ghost use Rattle.std.specs.Prelude.{◌≡◌, IfOk, OnOk, map};
 ghost use Rattle.grb_words.specs.Line.{words_of, has_allowed_bytes, is_skipped, is_section, is_load};
 
 use smallvec::SmallVec;
@@ -13,6 +13,15 @@ pub fn words(alloc: Global, line: &[u8]) -> Result<SmallVec<&[u8], 8>, AllocErro
     line.split(|b| *b == b' ')
         .filter(|word| !word.is_empty())
         .collect(alloc)
+}
+
+/// Puts the words of a line, which one or more spaces part, into this list, in place of those that it had. Takes memory only where the list
+/// has no room for them. `AllocError` where that is refused; then some of the words may stand in the list.
+pub fn put_words<'a>(words: &mut Vec<&'a [u8]>, line: &'a [u8]) -> Result<(), AllocError>
+    ensures { OnOk result (map (λ word. word.now) words.new.items ≡ words_of line.now) }
+{
+    words.clear();
+    words.extend(line.split(|b| *b == b' ').filter(|word| !word.is_empty()))
 }
 
 /// Whether each byte is one of 0x20 to 0x7E.

@@ -12,9 +12,9 @@ invariant-merging g l = record {
   starts_len : vec_len l.starts ≤ l.i + l.j;
   rows_capacity : vec_capacity l.rows ≡ vec_capacity l.fn.rows;
   starts_capacity : vec_capacity l.starts ≡ vec_capacity l.fn.starts;
-  filling : IsFilling g.T.Scalar.value (g.R.Rule.gives l.rule) (g.met.R.Rule.none l.rule) (g.R.Rule.left l.rule) (g.R.Rule.right l.rule) (decoded l.a.lists.now.entries) (decoded l.b.lists.now.entries) l.a.lists.now.rows l.b.lists.now.rows
+  filling : IsFilling g.T.Scalar.value (g.R.Rule.gives l.rule) (g.met.R.Rule.none l.rule) (decoded l.a.lists.now.entries) (decoded l.b.lists.now.entries) l.a.lists.now.rows l.b.lists.now.rows
       (pointwise cell_cmp (g.R.Rule.gives l.rule) (decoded l.a.lists.now.entries) (decoded l.b.lists.now.entries))
-      l.i l.j l.k l.rows.items l.starts.items l.columns l.values;
+      l.i l.j l.rows.items l.starts.items l.columns.items l.values.items;
 }
 
 abbrev pub decreases-merging : goal.decreases-merging

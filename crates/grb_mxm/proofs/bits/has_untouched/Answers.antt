@@ -1,4 +1,4 @@
-use Rattle.std.proofs.Common.{◌≡◌, ◌+◌, ◌<◌, ◌≤◌, ◌-◌, ℕ, length, get_or, drop, arith, ap, sym, ◌∙◌}
+use Rattle.std.proofs.Common.{◌≡◌, ◌+◌, ◌-◌, get_or, drop, arith, ap, sym, ◌∙◌}
 use Rattle.std.proofs.lemmas.List.{get_or-drop, get_or-take}
 use Rattle.grb_mxm.proofs.bits.has_untouched.Goals as goal
 
@@ -10,4 +10,4 @@ returns-clause-none c t u f l =
     ap (λ k. get_or words k 0) (sym is)
     ∙ sym (get_or-drop at words (u - at) 0)
     ∙ sym (get_or-take (at + 16 - at) (drop at words) (u - at) 0 (omega (arith, f, l)))
-    ∙ c.are_untouched.ensures t (u - at) (omega (arith, f, l, c.if-words-at-lt-LOOKED_AT.false, c.requires))
+    ∙ c.are_untouched.ensures t (u - at) (omega (arith, f, l, c.if-upto-at-lt-LOOKED_AT.false, c.requires.up, c.requires.within))

@@ -1,11 +1,13 @@
 use Rattle.std.proofs.Common.{◌≡◌, ◌<◌, ◌≤◌, ◌+◌, ◌*◌, ◌^◌, ℕ, true, refl, ap, sym, ◌∙◌, arith, length, get_or, set, subst, inl, inr}
 use Rattle.std.proofs.lemmas.Bool.{cases_eq, cases_lt}
-use Rattle.std.proofs.lemmas.List.{get_or-set_same, get_or-set_other, get_or_past, length-set}
+use Rattle.std.proofs.lemmas.List.{get_or-set_same, get_or-set_other}
 use Rattle.grb_core.specs.Monoid.{identity_of}
 use Rattle.grb_mxm.specs.Rows.{name_in}
 use Rattle.grb_kernels.specs.Bits.{has_bit}
 use Rattle.grb_mxm.specs.Bits.{marks_of}
+use Rattle.grb_mxm.specs.Reach.{IsOutside}
 use Rattle.grb_mxm.proofs.MarksOf.{length-marks_of}
+use Rattle.grb_mxm.proofs.Reach.{unreached}
 use Rattle.grb_mxm.proofs.Taken.{taken_begins, taken_entries, taken_zeros}
 use Rattle.grb_mxm.proofs.Tops.{top_in_range, tops_skipped, among_begins, among_more, among_ends}
 use Rattle.grb_mxm.proofs.WordByWord.{bit_in_range}
@@ -14,14 +16,23 @@ use Rattle.grb_mxm.proofs.bits.take_topped.Goals as goal
 pub tops-init : goal.tops-init
 tops-init g c =
     let first = c.next_touched-h.ensures in
+    let tops = c.args.tops.now in
+    let outside : (u : ℕ) → IsOutside c.args.from c.args.upto u → get_or tops u 0 ≡ 0 = λ u out.
+    unreached g.T.Scalar.value c.args.words.now tops c.args.sums.now c.requires.sound.bits c.requires.tops (λ w. (c.type_inv.words w).fits) (first.fit) u
+    (λ p l at. c.requires.outside p l (subst (IsOutside c.args.from c.args.upto) (sym at) out)) in
+    let none : (u : ℕ) → u < c.next_touched-h.result → get_or tops u 0 ≡ 0 = λ u l. elim (cases_lt u c.args.from) [
+      | inl before ↦ outside u (inl before)
+      | inr past ↦ first.none u past l
+    ] in
     record {
       upto = first.within;
       few = omega arith;
       within = omega arith;
-      zeros = λ u l. first.none u (omega arith) l;
+      zeros = none;
+      outside = outside;
       later = λ u h. refl;
       taken = tops_skipped g.T.Scalar.value (identity_of g.M.MonoidOver.monoid) (name_in c.args.names.now) c.args.words.now c.args.sums.now c.args.tops.now c.requires.sound.bits c.requires.sound.clear c.requires.tops.bits
-          0 c.next_touched-h.result 0 _ _ _ _ (omega arith) (λ q f l. first.none q f l)
+          0 c.next_touched-h.result 0 _ _ _ _ (omega arith) (λ q f l. none q l)
           (taken_begins g.T.Scalar.value (identity_of g.M.MonoidOver.monoid) (name_in c.args.names.now) c.args.words.now c.args.sums.now c.args.columns.now c.args.values.now);
     }
 
@@ -82,7 +93,7 @@ tops-preserved g c =
     let later : (u : ℕ) → h + 1 ≤ u → get_or (set tops h 0) u 0 ≡ get_or c.args.tops.now u 0 =
     λ u l. get_or-set_other tops h u 0 0 (λ e. omega (arith, e, l)) ∙ held.later u (omega (arith, l)) in
     record {
-      upto = omega (arith, next.within, length-set tops h 0);
+      upto = next.within;
       few = omega (arith, among.few, among.upto, next.onward);
       within = c.words.invariant.within;
       zeros = λ u l. elim (cases_lt u (h + 1)) [
@@ -93,6 +104,7 @@ tops-preserved g c =
         | inr past ↦ next.none u past l
       ];
       later = λ u l. later u (omega (arith, l, next.onward));
+      outside = held.outside;
       taken = tops_skipped g.T.Scalar.value (identity_of g.M.MonoidOver.monoid) (name_in c.args.names.now) c.args.words.now c.args.sums.now c.args.tops.now c.requires.sound.bits c.requires.sound.clear c.requires.tops.bits
           (h + 1) c.next_touched-h-in-tops.result c.words.k c.words.words c.words.columns c.words.sums c.words.values next.onward (λ q f l. sym (later q f) ∙ next.none q f l)
           (among_ends g.T.Scalar.value (identity_of g.M.MonoidOver.monoid) (name_in c.args.names.now) c.args.words.now c.args.sums.now c.args.tops.now c.requires.sound.bits c.requires.sound.clear c.requires.tops.bits
@@ -104,17 +116,19 @@ returns-clause-taken g c =
     let tv = g.T.Scalar.value in
     let v = identity_of g.M.MonoidOver.monoid in
     let name = name_in c.args.names.now in
-    let held = c.tops.invariant.taken in
-    let all : length c.args.words.now ≤ 64 * c.tops.h = omega (arith, c.requires.tops.long) in
-    let long : length c.args.sums.now ≤ 64 * (64 * c.tops.h) = omega (arith, all, c.requires.sound.words_long) in
+    let end = length c.args.tops.now in
+    let held = tops_skipped tv v name c.args.words.now c.args.sums.now c.args.tops.now c.requires.sound.bits c.requires.sound.clear c.requires.tops.bits
+    c.tops.h end c.tops.k c.tops.words c.tops.columns c.tops.sums c.tops.values (omega (arith, c.tops.invariant.upto, c.requires.within)) (λ q f l. c.tops.invariant.outside q (inr (omega (arith, f, c.tops-test.false)))) c.tops.invariant.taken in
+    let all : length c.args.words.now ≤ 64 * end = omega (arith, c.requires.tops.long) in
+    let long : length c.args.sums.now ≤ 64 * (64 * end) = omega (arith, all, c.requires.sound.words_long) in
     record {
-      entries = taken_entries tv v name c.args.words.now c.args.sums.now (64 * c.tops.h) _ _ _ _ _ held long;
+      entries = taken_entries tv v name c.args.words.now c.args.sums.now (64 * end) _ _ _ _ _ held long;
       most = c.tops.invariant.within;
       ready = record {
         long = omega arith;
         words_long = omega arith;
         words_few = omega arith;
-        none = taken_zeros tv v name c.args.words.now c.args.sums.now (64 * c.tops.h) _ _ _ _ _ held all;
+        none = taken_zeros tv v name c.args.words.now c.args.sums.now (64 * end) _ _ _ _ _ held all;
         clear = λ p l. held.clear p (omega (arith, l, long)) (omega (arith, l));
       };
     }
@@ -124,6 +138,6 @@ returns-clause-none g c = record {
   long = omega (arith, c.requires.tops.long);
   none = λ u. elim (cases_lt u c.tops.h) [
     | inl under ↦ c.tops.invariant.zeros u under
-    | inr past ↦ get_or_past c.tops.tops u 0 (omega (arith, past))
+    | inr past ↦ c.tops.invariant.later u past ∙ c.tops.invariant.outside u (inr (omega (arith, past, c.tops-test.false)))
   ];
 }

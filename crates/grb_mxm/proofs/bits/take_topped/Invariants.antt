@@ -2,6 +2,7 @@ use Rattle.std.proofs.Common.{◌≡◌, ◌≤◌, ◌<◌, ◌+◌, ◌-◌, �
 use Rattle.grb_core.specs.Monoid.{identity_of}
 use Rattle.grb_kernels.specs.Bits.{has_bit}
 use Rattle.grb_mxm.specs.Rows.{name_in}
+use Rattle.grb_mxm.specs.Reach.{IsOutside}
 use Rattle.grb_mxm.proofs.Taken.{IsTaken}
 use Rattle.grb_mxm.proofs.Tops.{IsAmong}
 use Rattle.grb_mxm.proofs.bits.take_topped.Given as goal
@@ -9,16 +10,17 @@ use Rattle.grb_mxm.proofs.bits.take_topped.Given as goal
 -- the words of the words of tops so far are taken, and those bits are away
 abbrev pub invariant-tops : goal.invariant-tops
 invariant-tops g l = record {
-  upto : l.h ≤ length l.fn.tops;
+  upto : l.h ≤ l.fn.upto;
   few : l.k ≤ 64 * (64 * l.h);
   within : l.k ≤ length l.fn.sums;
   zeros : (u : ℕ) → u < l.h → get_or l.tops u 0 ≡ 0;
   later : (u : ℕ) → l.h ≤ u → get_or l.tops u 0 ≡ get_or l.fn.tops u 0;
+  outside : (u : ℕ) → IsOutside l.from l.upto u → get_or l.fn.tops u 0 ≡ 0;
   taken : IsTaken g.T.Scalar.value (identity_of g.M.MonoidOver.monoid) (name_in l.names) l.fn.words l.fn.sums (64 * l.h) l.k l.words l.columns l.sums l.values;
 }
 
 abbrev pub decreases-tops : goal.decreases-tops
-decreases-tops g l = length l.fn.tops - l.h
+decreases-tops g l = l.fn.upto - l.h
 
 -- and of this one those words whose bit is not left
 abbrev pub invariant-words : goal.invariant-words

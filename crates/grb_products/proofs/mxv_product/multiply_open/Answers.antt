@@ -15,11 +15,20 @@ scatter-requires-clause-clear g c j =
     ap (λ (ms : List Bool). marked_at tv ms ds j) (c.as_mut_slice-open_marks.ensures.value ∙ c.in_ok-marks.ensures.items_if_clones_equal (λ y e. e))
     ∙ nothing_marked tv c.args.rows.now.ncols ds j
 
+pub returns-then-u-ncols : goal.returns-then-u-ncols
+returns-then-u-ncols g c =
+    let tv = g.T.Scalar.value in
+    let u = c.args.u.now in
+    c.in_ok-made.ensures
+    ∙ ap (restricted (is_wanted c.args.wanted.now.among c.args.wanted.now.names.now))
+    (mxv_of-products (record { monoid = g.M.MonoidOver.monoid; op = g.O.Operator.op }) (decoded c.args.rows.now.lists.now.entries) (entries_of tv u.indices.now u.values.now)
+    (marked_at tv c.scatter.new.marks c.scatter.new.dense) c.args.rows.now.ordered c.scatter.ensures)
+
 pub returns : goal.returns
 returns g c =
     let tv = g.T.Scalar.value in
     let u = c.args.u.now in
-    c.in_ok-made.ensures
+    c.in_ok-made-2.ensures
     ∙ ap (restricted (is_wanted c.args.wanted.now.among c.args.wanted.now.names.now))
     (mxv_of-products (record { monoid = g.M.MonoidOver.monoid; op = g.O.Operator.op }) (decoded c.args.rows.now.lists.now.entries) (entries_of tv u.indices.now u.values.now)
     (marked_at tv c.scatter.new.marks c.scatter.new.dense) c.args.rows.now.ordered c.scatter.ensures)

@@ -6,7 +6,7 @@ use Rattle.grb_run.specs.ReplyLine.{reply_line}
 use Rattle.grb_script.specs.Script.{sections_of}
 use Rattle.grb_script.specs.ScriptFault.{script_fault}
 use Rattle.grb_run.specs.Loads.{steps_listed, all_of}
-use Rattle.grb_run.proofs.LoadLemmas.{AreScriptSteps-of, IsWhyNotLoaded-of, ends, no_failure}
+use Rattle.grb_run.proofs.LoadLemmas.{AreScriptSteps-of, IsWhyNotLoaded-of, ends}
 use Rattle.grb_run.proofs.ScriptEnds.{stopped, began, crowded, seats_fit}
 use Rattle.grb_run.proofs.Wrote.{wrote}
 use Rattle.grb_run.proofs.driver.run_script.Goals as goal

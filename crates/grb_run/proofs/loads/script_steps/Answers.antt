@@ -1,4 +1,4 @@
-use Rattle.std.proofs.Common.{map, refl, sym, ◌∙◌}
+use Rattle.std.proofs.Common.{map, refl, ◌∙◌}
 use Rattle.std.proofs.lemmas.List.{length-map}
 use Rattle.std.proofs.lemmas.Result.{err_from_is_err_and}
 use Rattle.grb_run.proofs.LoadLemmas.{why_main, why_threads, why_last, AreThreadSteps-of, IsWhyNotLoaded-of, length-AreThreadSteps}
@@ -13,7 +13,7 @@ pub returns-in_err-threads-clause-fault : goal.returns-in_err-threads-clause-fau
 returns-in_err-threads-clause-fault g c =
     let p = err_from_is_err_and c.from_residual-in_err-threads.result c.from_residual-in_err-threads.ensures.1 in
     rw (p.1, p.2)
-    (why_threads _ _ (map (λ asked. asked.items) c.args.script.threads.items) c.args.script.finally.items _ _ c.in_ok-main.ensures.steps (IsWhyNotLoaded-of _ _ _ _ _ c.steps_of.ensures.files_stay refl c.in_err-threads.ensures.fault))
+    (why_threads _ _ (map (λ commands. commands.items) c.args.script.threads.items) c.args.script.finally.items _ _ c.in_ok-main.ensures.steps (IsWhyNotLoaded-of _ _ _ _ _ c.steps_of.ensures.files_stay refl c.in_err-threads.ensures.fault))
 
 pub returns-in_err-finally-clause-fault : goal.returns-in_err-finally-clause-fault
 returns-in_err-finally-clause-fault g c =
@@ -24,5 +24,4 @@ returns-in_err-finally-clause-fault g c =
 
 pub returns-clause-count : goal.returns-clause-count
 returns-clause-count g c =
-    sym (length-map c.in_ok-threads.threads.items (λ more. more.items)) ∙ length-AreThreadSteps _ _ _ c.in_ok-threads.ensures.steps
-    ∙ length-map c.args.script.threads.items (λ asked. asked.items)
+    length-AreThreadSteps _ _ _ c.in_ok-threads.ensures.steps ∙ length-map c.args.script.threads.items (λ commands. commands.items)

@@ -1,9 +1,6 @@
-use Rattle.std.proofs.Common.{◌≡◌, List, [], ◌∷◌, ◌++◌, map, refl, sym, ap, subst, ◌∙◌, append_assoc, rules}
+use Rattle.std.proofs.Common.{◌≡◌, [], ◌∷◌, ◌++◌, map, refl, sym, ap, subst, ◌∙◌, append_assoc, rules}
 use Rattle.std.proofs.lemmas.Result.{err_from_is_err_and}
-use Rattle.std.proofs.lemmas.List.{map-append}
-use Rattle.grb_script.specs.declared.command.NumberedCommand.{NumberedCommand}
-use Rattle.grb_run.specs.declared.loads.Step.{Step}
-use Rattle.grb_run.specs.Loads.{AreSteps, AreThreadSteps}
+use Rattle.grb_run.specs.Loads.{AreThreadSteps}
 use Rattle.grb_run.proofs.LoadLemmas.{AreThreadSteps-push, AreSteps-of, IsWhyNotLoaded-of, why_one}
 use Rattle.grb_run.proofs.loads.thread_steps.Goals as goal
 
@@ -13,8 +10,8 @@ returns-in_err-steps-clause-fault g c =
     let here : now.commands-iterator.rest.items ≡ c.in-Some.commands ∷ c.next.new.self.rest.items = search rules in
     let p = err_from_is_err_and c.from_residual.result c.from_residual.ensures.1 in
     rw (p.1, p.2)
-    (why_one _ now.invariant.before c.in-Some.commands.items (map (λ asked. asked.items) c.next.new.self.rest.items) _ _ _
-    (now.invariant.are ∙ ap (λ l. now.invariant.before ++ map (λ asked. asked.items) l) here) now.invariant.loaded
+    (why_one _ now.invariant.before c.in-Some.commands.items (map (λ commands. commands.items) c.next.new.self.rest.items) _ _ _
+    (now.invariant.are ∙ ap (λ l. now.invariant.before ++ map (λ commands. commands.items) l) here) now.invariant.loaded
     (IsWhyNotLoaded-of _ _ _ _ _ now.invariant.files refl c.in_err-steps.ensures.fault))
 
 pub loop-commands-preserved : goal.loop-commands-preserved
@@ -25,11 +22,10 @@ loop-commands-preserved g c =
     record {
       before = now.invariant.before ++ c.in-Some.commands.items ∷ [];
       are =
-          now.invariant.are ∙ ap (λ l. now.invariant.before ++ map (λ asked. asked.items) l) here
-          ∙ sym (append_assoc now.invariant.before (c.in-Some.commands.items ∷ []) (map (λ asked. asked.items) c.next.new.self.rest.items));
+          now.invariant.are ∙ ap (λ l. now.invariant.before ++ map (λ commands. commands.items) l) here
+          ∙ sym (append_assoc now.invariant.before (c.in-Some.commands.items ∷ []) (map (λ commands. commands.items) c.next.new.self.rest.items));
       loaded =
-          subst (AreThreadSteps (g.S.Source.file_bytes c.args.source.now) (now.invariant.before ++ c.in-Some.commands.items ∷ []))
-          (sym (ap (map (λ more. more.items)) pushed ∙ map-append (λ more. more.items) now.all.items (c.in_ok-steps.steps ∷ [])))
+          subst (AreThreadSteps (g.S.Source.file_bytes c.args.source.now) (now.invariant.before ++ c.in-Some.commands.items ∷ [])) (sym pushed)
           (AreThreadSteps-push _ _ _ _ _ now.invariant.loaded (AreSteps-of _ _ _ _ _ now.invariant.files refl c.in_ok-steps.ensures.steps));
       faults = c.in_ok-steps.ensures.source_faults ∙ now.invariant.faults;
       script = c.steps_of.ensures.script_stays ∙ now.invariant.script;

@@ -6,8 +6,8 @@ use Rattle.grb_run.proofs.loads.thread_steps.Given as goal
 abbrev pub invariant-loop-commands : goal.invariant-loop-commands
 invariant-loop-commands g l = record {
   before : List (List NumberedCommand);
-  are : map (λ asked. asked.items) l.fn.threads.items ≡ before ++ map (λ asked. asked.items) l.commands-iterator.rest.items;
-  loaded : AreThreadSteps (g.S.Source.file_bytes l.initial.source) before (map (λ more. more.items) l.all.items);
+  are : map (λ commands. commands.items) l.fn.threads.items ≡ before ++ map (λ commands. commands.items) l.commands-iterator.rest.items;
+  loaded : AreThreadSteps (g.S.Source.file_bytes l.initial.source) before l.all.items;
   faults : g.S.Source.faults l.source ≡ g.S.Source.faults l.initial.source;
   script : g.S.Source.script_bytes l.source ≡ g.S.Source.script_bytes l.initial.source;
   files : (path : List ℕ) → g.S.Source.file_bytes l.source path ≡ g.S.Source.file_bytes l.initial.source path;

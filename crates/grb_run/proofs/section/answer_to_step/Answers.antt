@@ -1,4 +1,4 @@
-use Rattle.std.proofs.Common.{◌≡◌, Bool, true, false, length, subst, sym, rules}
+use Rattle.std.proofs.Common.{◌≡◌, false, length, subst, sym, rules}
 use Rattle.std.specs.Prelude.{IfOk}
 use Rattle.std.specs.Result.{is_err}
 use Rattle.grb_run.specs.declared.loads.Step.{Step}

@@ -1,5 +1,5 @@
 use Rattle.std.proofs.Common.{◌≡◌, ◌∷◌, subst, rules}
-use Rattle.std.specs.Prelude.{All, IfOk, Result, Ok, Err}
+use Rattle.std.specs.Prelude.{All, IfOk, Result, Ok}
 use Rattle.std.specs.declared.alloc.AllocError.{AllocError}
 use Rattle.std.proofs.lemmas.List.Elements.{All-tail}
 use Rattle.grb_context.specs.Known.{IsPassOf}

@@ -1,8 +1,7 @@
-use Rattle.std.proofs.Common.{◌≡◌, ℕ, ◌+◌, ◌<◌, List, [], ◌∷◌, ◌++◌, length, map, refl, sym, ap, ◌∙◌, subst, append-nil, arith, rules}
+use Rattle.std.proofs.Common.{◌≡◌, ◌<◌, [], ◌∷◌, ◌++◌, length, sym, ap, ◌∙◌, subst, append-nil, arith, rules}
 use Rattle.std.specs.Prelude.{All}
 use Rattle.std.proofs.lemmas.List.Elements.{All-tail}
 use Rattle.grb_context.specs.Known.{Knowing, IsPassOf}
-use Rattle.grb_run.specs.declared.loads.Step.{Step}
 use Rattle.grb_run.specs.Sections.{Stage}
 use Rattle.grb_run.specs.Threads.{IsJob, AreJobs}
 use Rattle.grb_run.proofs.Steps.{none_left}
@@ -23,8 +22,8 @@ loop-steps-preserved c =
           (subst (All (λ (pass : Knowing). IsPassOf c.args.context.now pass)) passes_are now.invariant.passes);
       count = omega (arith, now.invariant.count, ap length here, ap length passes_are);
       jobs =
-          AreJobs-next _ _ _ _ _ _ _ _ _ _ _ _ _ passes_are (ap (map (λ steps. steps.items)) here) pushed
-          (subst (λ p. IsJob c.args.context.now (record { objects = c.args.objects.now; pass = p }) c.remove-pass.result c.in-Some.steps.items c.in_ok-job_of.field-0) now.invariant.main
+          AreJobs-next _ _ _ _ _ _ _ _ _ _ _ _ _ passes_are here pushed
+          (subst (λ p. IsJob c.args.context.now (record { objects = c.args.objects.now; pass = p }) c.remove-pass.result c.in-Some.steps c.in_ok-job_of.field-0) now.invariant.main
           c.in_ok-job_of.ensures.job) now.invariant.jobs;
     }
 
@@ -34,9 +33,7 @@ returns-clause-jobs c =
     let done = none_left now.steps-iterator.rest.items _ now.steps-iterator.rest.ok.0 c.in-None.ensures.steps.0 in
     let none = none_left now.passes.items _ (sym now.invariant.count) (ap length done) in
     let main : Stage = record { objects = c.args.objects.now; pass = c.args.main.now } in
-    let threads : List (List Step) = map (λ steps. steps.items) now.steps-iterator.rest.items in
-    let no_threads : threads ≡ [] = ap (map (λ steps. steps.items)) done in
-    subst (AreJobs c.args.context.now main c.args.passes.items (map (λ steps. steps.items) c.args.threads.items)) (append-nil now.jobs.items)
+    subst (AreJobs c.args.context.now main c.args.passes.items c.args.threads.items) (append-nil now.jobs.items)
     (now.invariant.jobs []
-    (subst (λ ts. AreJobs c.args.context.now main now.passes.items ts []) (sym no_threads)
+    (subst (λ ts. AreJobs c.args.context.now main now.passes.items ts []) (sym done)
     (subst (λ ps. AreJobs c.args.context.now main ps [] []) (sym none) tt)))

@@ -1,4 +1,4 @@
-use Rattle.std.proofs.Common.{◌≡◌, List, ◌++◌, length, map}
+use Rattle.std.proofs.Common.{◌≡◌, List, ◌++◌, length}
 use Rattle.std.specs.Prelude.{All}
 use Rattle.grb_context.specs.Known.{IsPassOf}
 use Rattle.grb_run.specs.declared.threads.Job.{Job}
@@ -10,6 +10,6 @@ invariant-loop-steps l = record {
   main : l.main ≡ l.initial.main;
   passes : All (IsPassOf l.context) l.passes.items;
   count : length l.passes.items ≡ length l.steps-iterator.rest.items;
-  jobs : (more : List Job) → AreJobs l.context (record { objects = l.objects; pass = l.initial.main }) l.passes.items (map (λ steps. steps.items) l.steps-iterator.rest.items) more
-      → AreJobs l.context (record { objects = l.objects; pass = l.initial.main }) l.fn.passes.items (map (λ steps. steps.items) l.fn.threads.items) (l.jobs.items ++ more);
+  jobs : (more : List Job) → AreJobs l.context (record { objects = l.objects; pass = l.initial.main }) l.passes.items l.steps-iterator.rest.items more
+      → AreJobs l.context (record { objects = l.objects; pass = l.initial.main }) l.fn.passes.items l.fn.threads.items (l.jobs.items ++ more);
 }

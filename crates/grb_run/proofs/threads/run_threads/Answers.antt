@@ -1,6 +1,5 @@
 use Prim.{search}
-use Rattle.std.proofs.Common.{◌≡◌, length, map, sym, subst, rules, ◌∙◌}
-use Rattle.std.proofs.lemmas.List.{length-map}
+use Rattle.std.proofs.Common.{◌≡◌, length, subst, rules}
 use Rattle.grb_context.specs.Known.{Knowing}
 use Rattle.std.proofs.lemmas.Result.{on_ok_weaker}
 use Rattle.grb_run.specs.Threads.{AreGathered, AreThreadsRun}
@@ -11,7 +10,7 @@ use Rattle.grb_run.proofs.threads.run_threads.Goals as goal
 pub returns-then-is_empty-clause-run : goal.returns-then-is_empty-clause-run
 returns-then-is_empty-clause-run g c =
     let none : length c.args.threads.items ≡ 0 = search rules in
-    none_run _ _ _ _ _ _ none c.requires.count
+    none_run _ _ _ _ _ none c.requires.count
 
 pub run_jobs-requires-after_bounds : goal.run_jobs-requires-after_bounds
 run_jobs-requires-after_bounds g c κs within = passes_of _ _ _ _ _ c.in_ok-jobs.ensures.jobs
@@ -24,10 +23,10 @@ returns-clause-run g c =
     let some : length c.args.threads.items ≡ 0 → ⊥ = search rules in
     on_ok_weaker c.gather_all.result
     (λ gathered.
-    threads_alike _ c.args.objects.now c.args.main.now c.prepare_main.new.main.made _ _ _ _ _ (λ none. some (sym (length-map c.args.threads.items (λ steps. steps.items)) ∙ none))
+    threads_alike _ c.args.objects.now c.args.main.now c.prepare_main.new.main.made _ _ _ _ _ some
     (subst
     (λ (k : Knowing).
-    AreThreadsRun c.args.context.now (record { objects = c.args.objects.now; pass = k }) c.args.passes.items (map (λ steps. steps.items) c.args.threads.items) c.args.answers.now.items c.gather_all.new.main c.gather_all.new.answers.items)
+    AreThreadsRun c.args.context.now (record { objects = c.args.objects.now; pass = k }) c.args.passes.items c.args.threads.items c.args.answers.now.items c.gather_all.new.main c.gather_all.new.answers.items)
     c.prepare_main.ensures.same
     (threads_run _ _ _ _ _ _ _ _ _ c.in_ok-jobs.ensures.jobs c.in_ok-ended.ensures.ended
     (subst (λ m. AreGathered c.args.context.now m c.args.answers.now.items c.in_ok-ended.ended.items c.gather_all.new.main c.gather_all.new.answers.items) c.in_ok-jobs.ensures.main gathered))))

@@ -12,6 +12,6 @@ returns g c =
     let s = c.args.start in
     let e = c.args.end in
     let order : s ≤ e = let l = c.requires.some in omega (arith, l) in
-    c.dot.ensures
+    c.met_dot.ensures
     ∙ ap (λ (x : List ℕ). fold_of_some g.M.MonoidOver.monoid (products g.O.Operator.op y (entries_of tv x (take (e - s) (drop s c.args.values.now))))) (span_is c.args.columns.now s e order)
     ∙ ap (λ (x : List g.row.T.Denot). fold_of_some g.M.MonoidOver.monoid (products g.O.Operator.op y (entries_of tv (drop s (take e c.args.columns.now)) x))) (span_is c.args.values.now s e order)

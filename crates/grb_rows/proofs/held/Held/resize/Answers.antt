@@ -1,4 +1,4 @@
-use Rattle.std.proofs.Common.{◌∙◌, length, sym, ap}
+use Rattle.std.proofs.Common.{◌∙◌, length, sym, ap, refl}
 use Rattle.grb_core.specs.Entries.{restricted}
 use Rattle.grb_core.specs.Contents.{is_cell_in}
 use Rattle.grb_rows.specs.Cells.{cell_of}
@@ -21,6 +21,9 @@ returns-then-is_within-clause-ok c =
     let same = ap (λ (v : HeldView). v.domain) c.self.view_is in
     let flag = ap (λ (v : HeldView). v.assembled) c.self.view_is in
     let rows = ap (λ (r : RowView). r.entries) c.rows.ensures in
-    let is = sym rows ∙ sym (c.is_within.ensures c.if-is_within.true) ∙ ap (restricted (λ k. is_cell_in c.args.nrows c.args.ncols (cell_of k))) (rows ∙ sym all ∙ ap (λ (v : HeldView). v.entries) c.self.view_is) in
+    let is = sym rows ∙ sym (c.is_within.ensures.0 c.if-is_within.true) ∙ ap (restricted (λ k. is_cell_in c.args.nrows c.args.ncols (cell_of k))) (rows ∙ sym all ∙ ap (λ (v : HeldView). v.entries) c.self.view_is) in
     view-fresh i.base c.new.result c.new.ensures i.assembled
     ∙ (λ t. record { entries = is t; domain = same t; assembled = flag t; reserved = 0; pending = 0 })
+
+pub returns-then-is_within-clause-done : goal.returns-then-is_within-clause-done
+returns-then-is_within-clause-done c = λ _ _. refl

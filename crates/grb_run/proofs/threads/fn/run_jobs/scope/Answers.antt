@@ -1,4 +1,4 @@
-use Rattle.std.proofs.Common.{◌≡◌, sym, ◌∙◌}
+use Rattle.std.proofs.Common.{sym, ◌∙◌}
 use Rattle.grb_run.proofs.ThreadLemmas.{AreEnded-of}
 use Rattle.grb_run.proofs.threads.fn.run_jobs.scope.Goals as goal
 

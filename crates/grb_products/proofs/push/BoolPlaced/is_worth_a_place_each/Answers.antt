@@ -1,0 +1,6 @@
+use Prim.{search}
+use Rattle.std.proofs.Common.{rules}
+use Rattle.grb_products.proofs.push.BoolPlaced.is_worth_a_place_each.Goals as goal
+
+pub returns : goal.returns
+returns c = search rules
