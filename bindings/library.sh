@@ -1,22 +1,70 @@
 #!/usr/bin/env bash
 # Builds the library, crates/grb_c/out/libgrb_c.a.
-#   bindings/library.sh               proves what it stands on, if that was not done by `rt lib` before, and builds it
-#   bindings/library.sh --after-ci    over the libraries that `rt ci` has left in this checkout, unchanged since: only grb_c is proved again.
-#                                     Where one is not there, as where `rt ci` had kept all proofs, it does as without
+#   bindings/library.sh               where it is missing, or a source of it is newer: proves what it stands on, if that was not done by
+#                                     `rt lib` before, and builds it
+#   bindings/library.sh --after-ci    over the libraries that `rt ci` has left in this checkout: only grb_c is proved again. Where one of
+#                                     them is missing, or older than a source of it or than a library below it, it is built by `rt lib`
+# A source is a file of crates.txt, src, specs or proofs, of the crate or of one below it.
 set -eu
+shopt -s nullglob
 cd "$(dirname "${BASH_SOURCE[0]}")/../crates/grb_c"
-if [ "${1:-}" != --after-ci ]; then
-    exec rt lib --jobs 4
+
+# The crates of this repository that a crate uses itself.
+uses() {
+    local name
+    for name in $(sed -nE "s/^$1( [^:]*)?://p" ../../crates.txt); do
+        if [ -d "../$name" ]; then echo "$name"; fi
+    done
+}
+
+# The crates below a crate, each once.
+below() {
+    local name
+    for name in $(uses "$1"); do
+        echo "$name"
+        below "$name"
+    done | sort -u
+}
+
+# Whether a file or a folder is there, and newer than each source of a crate and of those below it.
+is_newer_than_sources() {
+    local made=$1 name folders=()
+    [ -e "$made" ] || return 1
+    for name in "$2" $(below "$2"); do folders+=("../$name"/{src,specs,proofs}/); done
+    [ -z "$(find ../../crates.txt "${folders[@]}" -newer "$made" -print -quit)" ]
+}
+
+# Whether the libraries that `rt ci` has left are of the sources that are here.
+are_left() {
+    local name other
+    for name in $(below grb_c); do
+        is_newer_than_sources "../$name/out/rlib/$name.rlib" "$name" || return 1
+        for other in $(uses "$name"); do
+            [ "../$name/out/rlib/$name.rlib" -nt "../$other/out/rlib/$other.rlib" ] || return 1
+        done
+    done
+}
+
+# Builds the library over what `rt ci` has left.
+build_over_them() {
+    local words name folder kit
+    kit=${KIT:-$(dirname "$(rt doc)")}
+    words=(--extern "std=$kit/rlibs/std.rlib" -L "dependency=$kit/rlibs")
+    for name in $(uses grb_c); do
+        words+=(--extern "$name=../$name/out/rlib/$name.rlib")
+    done
+    for folder in ../*/out/rlib; do
+        words+=(-L "dependency=$folder")
+    done
+    mkdir -p out
+    "$kit/bin/rattle" build --crate-name grb_c src/lib.rt "${words[@]}" --links grb_c= --crate-type staticlib --jobs 4 \
+        --antt-project "$kit/rattle/logic/antt-project.json" --logic-built "$kit/logic_built" --toolchain "$kit/toolchain" -o out/libgrb_c.a
+}
+
+if [ "${1:-}" = --after-ci ]; then
+    if are_left && build_over_them; then exit; fi
+elif is_newer_than_sources out/libgrb_c.a grb_c; then
+    exit
 fi
-KIT=${KIT:-$(dirname "$(rt doc)")}
-words=(--extern "std=$KIT/rlibs/std.rlib" -L "dependency=$KIT/rlibs")
-for name in $(sed -n 's/^grb_c staticlib: *//p' ../../crates.txt); do
-    words+=(--extern "$name=../$name/out/rlib/$name.rlib")
-done
-for folder in ../*/out/rlib; do
-    words+=(-L "dependency=$folder")
-done
-mkdir -p out
-"$KIT/bin/rattle" build --crate-name grb_c src/lib.rt "${words[@]}" --links grb_c= --crate-type staticlib --jobs 4 \
-    --antt-project "$KIT/rattle/logic/antt-project.json" --logic-built "$KIT/logic_built" --toolchain "$KIT/toolchain" -o out/libgrb_c.a ||
-    exec rt lib --jobs 4
+echo 'the library is built by rt lib'
+exec rt lib --jobs 4

@@ -40,13 +40,13 @@ def exports(folder):
             for parameter in filter(None, (word.strip() for word in given.split(","))):
                 word, kind = parameter.split(":", 1)
                 found += parameters(word.strip(), " ".join(kind.split()))
-            yield f"{PLAIN.get(result, 'void')} {name}({', '.join(found)});"
+            yield f"{PLAIN.get(result, 'void')} {name}({', '.join(found) or 'void'});"
 
 
 def prototypes(header):
     """The lines of the header that declare an export."""
     lines = (" ".join(line.split()) for line in pathlib.Path(header).read_text().splitlines())
-    return {line for line in lines if re.match(r"(int32_t|void) trb_\w+\(.*\);$", line)}
+    return {line for line in lines if re.match(r"(u?int32_t|void) trb_\w+\(.*\);$", line)}
 
 
 def main(words):

@@ -1,20 +1,48 @@
 #!/usr/bin/env bash
 # Builds the library, and builds, links and runs each program of the bindings on it.
 #   bindings/run.sh [--after-ci]
-# With --after-ci the library is built over what `rt ci` has left in this checkout, as bindings/library.sh tells.
-# What a program writes is compared with its file in `expected`. What cannot run for want of something is named. The last line is
-# 'N passed, M failed', and the status is 1 where one failed. KIT is the folder of the toolchain, CC, CXX, RUSTC and PYTHON are the
-# programs to use; where they are not given, those of the path.
+# The library is built anew where a source of it is newer. With --after-ci it is built over what `rt ci` has left in this checkout, as
+# bindings/library.sh tells.
+#
+# What a program writes is compared with its file in `expected`. A step that cannot run is skipped, and named with what there is none of.
+# Under --after-ci it fails, unless MAY_SKIP has that word, as in MAY_SKIP='numpy scipy networkx'. The last line is
+# 'N passed, M failed, K skipped', and the status is 1 where one failed or none passed.
+#
+# KIT is the folder of the toolchain, CC, CXX, RUSTC, CARGO and PYTHON are the programs to use. Where they are not given, those of the path
+# are taken, and of several python3 the first that has most of numpy, scipy and networkx.
 set -u
 shopt -s nullglob
 cd "$(dirname "${BASH_SOURCE[0]}")" || exit 2
+after_ci=false
+case "$*" in
+    '') ;;
+    --after-ci) after_ci=true ;;
+    *)
+        echo 'usage: bindings/run.sh [--after-ci]' >&2
+        exit 2
+        ;;
+esac
+
+# Of all python3 on the path the first that has most of these modules.
+python_with() {
+    local python module found most=-1 best=python3
+    for python in $(type -aP python3); do
+        found=0
+        for module in "$@"; do
+            if "$python" -c "import $module" >/dev/null 2>&1; then found=$((found + 1)); fi
+        done
+        if [ "$found" -gt "$most" ]; then most=$found best=$python; fi
+    done
+    echo "$best"
+}
+
 KIT=${KIT:-$(dirname "$(rt doc)")}
-CC=${CC:-cc} CXX=${CXX:-c++} RUSTC=${RUSTC:-rustc} PYTHON=${PYTHON:-python3}
+CC=${CC:-cc} CXX=${CXX:-c++} RUSTC=${RUSTC:-rustc} CARGO=${CARGO:-cargo} PYTHON=${PYTHON:-$(python_with numpy scipy networkx)}
 crate=../crates/grb_c
 heap=$KIT/c/liblibc_c.a
 work=$(mktemp -d)
 trap 'rm -rf "$work"' EXIT
-passed=0 failed=0
+passed=0 failed=0 skipped=0
 
 # Says how a step went, and where it failed what it wrote.
 tell() {
@@ -37,7 +65,16 @@ step() {
     tell "$name" $?
 }
 
-# Runs a program, whose standard output is to be that of its file.
+# Runs a command that another step rests on. It counts as a step only where it fails.
+build() {
+    local name=$1
+    shift
+    "$@" >"$work/said" 2>&1 && return
+    tell "$name" 1
+    return 1
+}
+
+# Runs a program as a step. Its standard output is to be that of its file.
 compare() {
     local name=$1 wanted=$2
     shift 2
@@ -49,97 +86,192 @@ compare() {
     fi
 }
 
-left_out() {
-    echo "left out: $1, since there is no $2"
+# Says that a step cannot run, and what there is none of.
+skip() {
+    local name=$1 lacking=$2
+    if $after_ci && [[ " ${MAY_SKIP-} " != *" $lacking "* ]]; then
+        failed=$((failed + 1))
+        echo "$name: failed, since there is no $lacking, which MAY_SKIP does not allow"
+    else
+        skipped=$((skipped + 1))
+        echo "$name: skipped, since there is no $lacking"
+    fi
 }
 
-has() {
-    command -v "$1" >/dev/null
+# Whether the path lacks one of these commands. The step is skipped then.
+lacks() {
+    local name=$1 word
+    shift
+    for word in "$@"; do
+        if ! command -v "$word" >/dev/null; then
+            skip "$name" "${word##*/}"
+            return 0
+        fi
+    done
+    return 1
 }
 
-if [ $# -gt 0 ] || [ ! -e "$crate/out/libgrb_c.a" ]; then
-    echo "the library is built first"
-    ./library.sh "$@" || exit 1
+# Whether Python lacks one of these modules. The step is skipped then.
+lacks_module() {
+    local name=$1 module
+    shift
+    for module in "$@"; do
+        if ! "$PYTHON" -c "import $module" >/dev/null 2>&1; then
+            skip "$name" "$module"
+            return 0
+        fi
+    done
+    return 1
+}
+
+# The header against the exports of the library.
+check_header() {
+    local name='c/trowelheath.h against the exports'
+    lacks "$name" "$PYTHON" && return
+    step "$name" "$PYTHON" prototypes.py c/trowelheath.h "$crate/src"
+}
+
+# A program of c/.
+run_c() {
+    local name=$1
+    lacks "c/$name" "$CC" && return
+    build "c/$name" "$CC" -std=c11 -O2 -Wall -Wextra -Werror -Ic "c/$name.c" "${link[@]}" -o "$work/c_$name" || return
+    compare "c/$name" "c/expected/$name.txt" "$work/c_$name"
+}
+
+# All allocations that are refused to the library, each in a run of its own.
+run_fail() {
+    local name='c/fail, each allocation refused in turn'
+    lacks "$name" "$CC" && return
+    compare "$name" c/expected/fail.txt env CC="$CC" c/fail.sh "$library" "$heap"
+}
+
+# Three algorithms that were ported from GraphBLAS.h, and the program that they were ported from.
+run_ports() {
+    local name='c/ports' folder
+    lacks "$name" "$CC" && return
+    for folder in /usr/include /usr/include/suitesparse /; do
+        if [ "$folder" = / ]; then skip 'c/ports, next to SuiteSparse' GraphBLAS.h; fi
+        if [ -e "$folder/GraphBLAS.h" ]; then break; fi
+    done
+    step "$name" env CC="$CC" c/ports/test.sh "$library" "$heap"
+}
+
+# The times of small graphs, next to SuiteSparse where it is there. What both make is compared.
+run_bench() {
+    local name='c/bench, small graphs' folder theirs=()
+    lacks "$name" "$CC" && return
+    for folder in /usr/include /usr/include/suitesparse; do
+        if [ -e "$folder/GraphBLAS.h" ]; then theirs=(-DTRB_SUITESPARSE -I"$folder" -lgraphblas); fi
+    done
+    if [ ${#theirs[@]} -eq 0 ]; then skip 'c/bench, next to SuiteSparse' GraphBLAS.h; fi
+    build "$name" "$CC" -std=c11 -O2 -Wall -Wextra -Werror -Ic c/bench.c c/bench_by_hand.c c/bench_suitesparse.c "${link[@]}" "${theirs[@]}" -o "$work/bench" || return
+    compare "$name" c/expected/bench.txt "$work/bench" 8
+}
+
+# A program of cpp/.
+run_cpp() {
+    local name=$1
+    lacks "cpp/$name" "$CXX" && return
+    build "cpp/$name" "$CXX" -std=c++17 -O2 -Wall -Wextra -Werror -Ic -Icpp "cpp/$name.cpp" "${link[@]}" -o "$work/cpp_$name" || return
+    compare "cpp/$name" "cpp/expected/$name.txt" "$work/cpp_$name"
+}
+
+# Wrong programs in C++, which no compiler takes.
+refuse_cpp() {
+    local name='cpp, programs that must not compile'
+    lacks "$name" "$CXX" && return
+    step "$name" env CXX="$CXX" cpp/must_not_compile.sh
+}
+
+# The crate of rust/, which its programs are built over.
+build_rust() {
+    lacks rust "$RUSTC" && return
+    step rust "$RUSTC" --edition 2021 -O --crate-type rlib --crate-name trowelheath rust/src/lib.rs --out-dir "$work"
+}
+
+# A program of rust/.
+run_rust() {
+    local name=$1
+    lacks "rust/$name" "$RUSTC" && return
+    build "rust/$name" "$RUSTC" --edition 2021 -O "rust/examples/$name.rs" --extern "trowelheath=$work/libtrowelheath.rlib" -L native="$(dirname "$library")" -L native="$KIT/c" -o "$work/rust_$name" || return
+    compare "rust/$name" "rust/expected/$name.txt" "$work/rust_$name"
+}
+
+# The tests of rust/.
+test_rust() {
+    local name='rust, its tests by cargo'
+    lacks "$name" "$CARGO" && return
+    step "$name" env TROWELHEATH_LIB="$(dirname "$library")" TROWELHEATH_HEAP="$KIT/c" "$CARGO" test --offline --quiet --manifest-path rust/Cargo.toml --target-dir "$work/cargo"
+}
+
+# The shared library that the package of python/ loads.
+build_shared() {
+    local name='python, the shared library'
+    lacks "$name" "$PYTHON" "$CC" && return
+    step "$name" "$CC" -shared -o "$work/libtrowelheath.so" -Wl,--whole-archive "$library" -Wl,--no-whole-archive "$heap" -lpthread
+}
+
+# Runs a command in which Python finds the package and its library.
+in_python() {
+    env TROWELHEATH_LIBRARY="$work/libtrowelheath.so" PYTHONPATH=python/src PYTHONDONTWRITEBYTECODE=1 "$PYTHON" "$@"
+}
+
+# A program of python/, and the modules that it needs.
+run_python() {
+    local name=$1
+    shift
+    lacks "python/$name" "$PYTHON" "$CC" && return
+    lacks_module "python/$name" "$@" && return
+    compare "python/$name" "python/expected/$name.txt" in_python "python/examples/$name.py"
+}
+
+# A file of tests of python/. A test that is skipped for want of a module counts as a step that is.
+test_python() {
+    local file=$1 name="python/tests/$1" words word
+    lacks "$name" "$PYTHON" "$CC" && return
+    if ! in_python -m unittest discover --verbose -s python/tests -p "$file.py" >"$work/said" 2>&1; then
+        tell "$name" 1
+    elif ! grep -qE '^Ran [1-9]' "$work/said"; then
+        tell "$name, in which no test was found" 1
+    elif grep -q 'skipped=' "$work/said"; then
+        words=$(sed -nE "s/.* \.\.\. skipped '.* no ([^ ]*)'$/\1/p" "$work/said" | sort -u)
+        for word in ${words:-reason}; do skip "$name" "$word"; done
+    else
+        tell "$name" 0
+    fi
+}
+
+# The library as it is installed, and a program of each language over that alone.
+run_installed() {
+    local name='install_test.sh'
+    lacks "$name" "$CC" "$CXX" "$CARGO" "$PYTHON" ld objcopy pkg-config cmake && return
+    step "$name" env LIBRARY="$library" HEAP="$heap" CC="$CC" CXX="$CXX" PYTHON="$PYTHON" ./install_test.sh
+}
+
+if ! ./library.sh "$@"; then
+    echo '0 passed, 1 failed, 0 skipped'
+    exit 1
 fi
 library=$(realpath "$crate/out/libgrb_c.a")
 link=("$library" "$heap" -lpthread)
 
-if has "$PYTHON"; then
-    step 'c/trowelheath.h against the exports' "$PYTHON" prototypes.py c/trowelheath.h "$crate/src"
-else
-    left_out 'c/trowelheath.h against the exports' "$PYTHON"
-fi
+check_header
+step 'the version, wherever it stands' ./versions.sh
+for name in first triangles bfs paths threads succeed refusals sharing beside; do run_c "$name"; done
+run_fail
+run_ports
+run_bench
+for name in triangles bfs paths threads succeed messages algorithms; do run_cpp "$name"; done
+refuse_cpp
+build_rust
+for name in first triangles bfs paths threads succeed; do run_rust "$name"; done
+test_rust
+build_shared
+for name in first triangles bfs paths threads succeed; do run_python "$name"; done
+run_python networkx_scipy networkx numpy scipy
+for file in python/tests/test_*.py; do test_python "$(basename "$file" .py)"; done
+run_installed
 
-if has "$CC"; then
-    for name in first triangles bfs paths threads succeed refusals beside; do
-        if "$CC" -std=c11 -O2 -Wall -Wextra -Werror -Ic "c/$name.c" "${link[@]}" -o "$work/c_$name" 2>"$work/said"; then
-            compare "c/$name" "c/expected/$name.txt" "$work/c_$name"
-        else
-            tell "c/$name" 1
-        fi
-    done
-    compare 'c/fail, each allocation refused in turn' c/expected/fail.txt c/fail.sh "$library" "$heap"
-    suitesparse=()
-    for folder in /usr/include /usr/include/suitesparse; do
-        if [ -e "$folder/GraphBLAS.h" ]; then suitesparse=(-DTRB_SUITESPARSE -I"$folder" -lgraphblas); fi
-    done
-    if [ ${#suitesparse[@]} -eq 0 ]; then left_out 'times beside SuiteSparse' GraphBLAS.h; fi
-    if "$CC" -std=c11 -O2 -Wall -Wextra -Ic c/bench.c c/bench_by_hand.c c/bench_suitesparse.c "${link[@]}" "${suitesparse[@]}" -o "$work/bench" 2>"$work/said"; then
-        compare 'c/bench, small graphs' c/expected/bench.txt "$work/bench" 8
-    else
-        tell 'c/bench' 1
-    fi
-else
-    left_out 'programs in C' "$CC"
-fi
-
-if has "$CXX"; then
-    for name in triangles bfs paths threads succeed; do
-        if "$CXX" -std=c++17 -O2 -Wall -Wextra -Werror -Ic -Icpp "cpp/$name.cpp" "${link[@]}" -o "$work/cpp_$name" 2>"$work/said"; then
-            compare "cpp/$name" "cpp/expected/$name.txt" "$work/cpp_$name"
-        else
-            tell "cpp/$name" 1
-        fi
-    done
-else
-    left_out 'programs in C++' "$CXX"
-fi
-
-if has "$RUSTC"; then
-    if "$RUSTC" --edition 2021 -O --crate-type rlib --crate-name trowelheath rust/src/lib.rs --out-dir "$work" 2>"$work/said"; then
-        tell 'rust' 0
-        for name in first triangles bfs paths threads succeed; do
-            if "$RUSTC" --edition 2021 -O "rust/examples/$name.rs" --extern "trowelheath=$work/libtrowelheath.rlib" -L native="$(dirname "$library")" -L native="$KIT/c" -o "$work/rust_$name" 2>"$work/said"; then
-                compare "rust/$name" "rust/expected/$name.txt" "$work/rust_$name"
-            else
-                tell "rust/$name" 1
-            fi
-        done
-    else
-        tell 'rust' 1
-    fi
-else
-    left_out 'programs in Rust' "$RUSTC"
-fi
-if has cargo; then
-    step 'rust, its tests by cargo' env TROWELHEATH_LIB="$(dirname "$library")" TROWELHEATH_HEAP="$KIT/c" cargo test --offline --quiet --manifest-path rust/Cargo.toml --target-dir "$work/cargo"
-else
-    left_out 'tests in Rust' cargo
-fi
-
-if has "$PYTHON" && has "$CC"; then
-    "$CC" -shared -o "$work/libtrowelheath.so" -Wl,--whole-archive "$library" -Wl,--no-whole-archive "$heap" -lpthread
-    export TROWELHEATH_LIBRARY=$work/libtrowelheath.so PYTHONPATH=python/src PYTHONDONTWRITEBYTECODE=1
-    for name in first triangles bfs paths threads succeed networkx_scipy; do
-        compare "python/$name" "python/expected/$name.txt" "$PYTHON" "python/examples/$name.py"
-    done
-    step 'python, its tests' "$PYTHON" -m unittest discover -s python/tests
-    for module in numpy scipy networkx; do
-        "$PYTHON" -c "import $module" 2>/dev/null || left_out "python with $module" "$module"
-    done
-else
-    left_out 'programs in Python' "$PYTHON or $CC"
-fi
-
-echo "$passed passed, $failed failed"
-[ "$failed" -eq 0 ]
+echo "$passed passed, $failed failed, $skipped skipped"
+[ "$failed" -eq 0 ] && [ "$passed" -gt 0 ]

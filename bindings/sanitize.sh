@@ -2,22 +2,24 @@
 # Runs the programs in C, C++ and Rust under the address, undefined behaviour and thread sanitizers and under valgrind: once a release. The
 # library itself is not instrumented, so the sanitizers see what the programs and their headers do, and each block that the library takes.
 #   bindings/sanitize.sh
-# The last line is 'N passed, M failed'. KIT, CC, CXX and RUSTC as in run.sh, which is to be run before.
+# The library is built anew where a source of it is newer. A program that does not build has failed. The last line is 'N passed, M failed',
+# and the status is 1 where one failed or none passed. KIT, CC, CXX and RUSTC as in run.sh.
 set -u
 cd "$(dirname "${BASH_SOURCE[0]}")" || exit 2
 KIT=${KIT:-$(dirname "$(rt doc)")}
 CC=${CC:-cc} CXX=${CXX:-c++} RUSTC=${RUSTC:-rustc}
+./library.sh || exit 1
 library=$(realpath ../crates/grb_c/out/libgrb_c.a) || exit 1
-link=("$library" "$KIT/c/liblibc_c.a" -lpthread)
+heap=$KIT/c/liblibc_c.a
+link=("$library" "$heap" -lpthread)
 work=$(mktemp -d)
 trap 'rm -rf "$work"' EXIT
 passed=0 failed=0
 
-# Runs a program; standard output is to be that of its file.
-compare() {
-    local name=$1 wanted=$2
-    shift 2
-    if "$@" >"$work/out" 2>"$work/said" && diff "$wanted" "$work/out" >>"$work/said"; then
+# Says how a step went, and where it failed what it wrote.
+tell() {
+    local name=$1 status=$2
+    if [ "$status" -eq 0 ]; then
         passed=$((passed + 1))
         echo "$name: passed"
     else
@@ -27,24 +29,65 @@ compare() {
     fi
 }
 
+# Builds a program that the next step runs. It counts only where it fails.
+build() {
+    local name=$1
+    shift
+    rm -f "$work/program"
+    "$@" -o "$work/program" >"$work/said" 2>&1 && return
+    tell "$name" 1
+    return 1
+}
+
+# Runs a program as a step. Its standard output is to be that of its file.
+compare() {
+    local name=$1 wanted=$2
+    shift 2
+    "$@" >"$work/out" 2>"$work/said" && diff "$wanted" "$work/out" >>"$work/said"
+    tell "$name" $?
+}
+
+# A program of c/ under sanitizers.
+sanitize_c() {
+    local name=$1 kind=$2
+    build "c/$name, $kind" "$CC" -std=c11 -g -O1 -fsanitize="$kind" -fno-sanitize-recover=all -Ic "c/$name.c" "${link[@]}" || return
+    compare "c/$name, $kind" "c/expected/$name.txt" "$work/program"
+}
+
+# A program of cpp/ under sanitizers.
+sanitize_cpp() {
+    local name=$1 kind=$2
+    build "cpp/$name, $kind" "$CXX" -std=c++17 -g -O1 -fsanitize="$kind" -fno-sanitize-recover=all -Ic -Icpp "cpp/$name.cpp" "${link[@]}" || return
+    compare "cpp/$name, $kind" "cpp/expected/$name.txt" "$work/program"
+}
+
+# All allocations that are refused to the library, each in a run of its own, under sanitizers.
+sanitize_fail() {
+    local kind=$1
+    compare "c/fail, $kind" c/expected/fail.txt env CC="$CC" CFLAGS="-g -O1 -fsanitize=$kind -fno-sanitize-recover=all" c/fail.sh "$library" "$heap"
+}
+
+# The program that was built last under valgrind, for which leaks of these kinds are errors.
+under_valgrind() {
+    local name=$1 wanted=$2 kinds=$3
+    compare "$name, valgrind" "$wanted" valgrind -q --leak-check=full --errors-for-leak-kinds="$kinds" --error-exitcode=1 "$work/program"
+}
+
 for kind in address,undefined thread; do
-    for name in first triangles bfs paths threads succeed refusals; do
-        "$CC" -std=c11 -g -O1 -fsanitize="$kind" -fno-sanitize-recover=all -Ic "c/$name.c" "${link[@]}" -o "$work/program" || exit 1
-        compare "c/$name, $kind" "c/expected/$name.txt" "$work/program"
-    done
-    for name in triangles bfs paths threads succeed; do
-        "$CXX" -std=c++17 -g -O1 -fsanitize="$kind" -fno-sanitize-recover=all -Ic -Icpp "cpp/$name.cpp" "${link[@]}" -o "$work/program" || exit 1
-        compare "cpp/$name, $kind" "cpp/expected/$name.txt" "$work/program"
-    done
+    for name in first triangles bfs paths threads succeed refusals sharing beside; do sanitize_c "$name" "$kind"; done
+    sanitize_fail "$kind"
+    for name in triangles bfs paths threads succeed messages algorithms; do sanitize_cpp "$name" "$kind"; done
 done
 
-"$RUSTC" --edition 2021 -O -g --crate-type rlib --crate-name trowelheath rust/src/lib.rs --out-dir "$work" || exit 1
+for name in first triangles bfs paths threads succeed sharing; do
+    build "c/$name, valgrind" "$CC" -std=c11 -g -O1 -Ic "c/$name.c" "${link[@]}" || continue
+    under_valgrind "c/$name" "c/expected/$name.txt" definite,indirect,possible
+done
+"$RUSTC" --edition 2021 -O -g --crate-type rlib --crate-name trowelheath rust/src/lib.rs --out-dir "$work" >"$work/said" 2>&1 || tell rust 1
 for name in first triangles bfs paths threads succeed; do
-    "$CC" -std=c11 -g -O1 -Ic "c/$name.c" "${link[@]}" -o "$work/program" || exit 1
-    compare "c/$name, valgrind" "c/expected/$name.txt" valgrind -q --leak-check=full --errors-for-leak-kinds=definite,indirect,possible --error-exitcode=1 "$work/program"
-    "$RUSTC" --edition 2021 -O -g "rust/examples/$name.rs" --extern "trowelheath=$work/libtrowelheath.rlib" -L native="$(dirname "$library")" -L native="$KIT/c" -o "$work/program" || exit 1
-    compare "rust/$name, valgrind" "rust/expected/$name.txt" valgrind -q --leak-check=full --errors-for-leak-kinds=definite,indirect --error-exitcode=1 "$work/program"
+    build "rust/$name, valgrind" "$RUSTC" --edition 2021 -O -g "rust/examples/$name.rs" --extern "trowelheath=$work/libtrowelheath.rlib" -L native="$(dirname "$library")" -L native="$KIT/c" || continue
+    under_valgrind "rust/$name" "rust/expected/$name.txt" definite,indirect
 done
 
 echo "$passed passed, $failed failed"
-[ "$failed" -eq 0 ]
+[ "$failed" -eq 0 ] && [ "$passed" -gt 0 ]

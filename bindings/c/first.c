@@ -23,6 +23,9 @@ static void show(TrB_Pass *pass, TrB_Matrix a, TrB_Index i, TrB_Index j)
 
 int main(void)
 {
+    /* The library is the one that the header is for. */
+    HOLDS(TrB_version() == TRB_VERSION_NUMBER);
+
     /* Room for 100 changes in the whole life of the store, and one pass. */
     TrB_Pass pass = TRB_PASS_INIT;
     OK(TrB_open(100, &pass, 1));

@@ -97,6 +97,18 @@ static void of_openings(void)
     UNCHANGED(TrB_INVALID_VALUE, "257 passes", TrB_open(1, none, MOST_PASSES + 1));
     UNCHANGED(TrB_INVALID_VALUE, "room times passes above 1,048,576", TrB_open(65536, none, 17));
 
+    /* A pass that is open stays so, and its store too. */
+    static TrB_Pass second[2] = {TRB_PASS_INIT};
+    OK(TrB_open(1, &second[1], 1));
+    UNCHANGED(TrB_INVALID_VALUE, "an opening by a pass that is open", TrB_open(1, second, 2));
+    UNCHANGED(TrB_INVALID_VALUE, "an opening by the passes of this store", TrB_open(ROOM, passes, 2));
+    UNCHANGED(TrB_INVALID_VALUE, "a room of 0 and a pass that is open", TrB_open(0, &second[1], 1));
+    bool full = true;
+    ANSWERS(TrB_is_full(&second[0], &full), TrB_UNINITIALIZED_OBJECT);
+    OK(TrB_is_full(&second[1], &full));
+    HOLDS(!full);
+    TrB_free(&second[1]);
+
     /* None of these was opened. */
     TrB_Index nvals = UNTOUCHED;
     UNCHANGED(TrB_UNINITIALIZED_OBJECT, "a pass that is none", TrB_Matrix_nvals(&none[0], &nvals, a));
@@ -111,6 +123,7 @@ static void of_successors(void)
     UNCHANGED(TrB_INVALID_VALUE, "a successor with a room of 0", TrB_succeed(&passes[0], &needed, 0, next, 1));
     UNCHANGED(TrB_INVALID_VALUE, "a successor with 257 passes",
             TrB_succeed(&passes[0], &needed, 1, next, MOST_PASSES + 1));
+    UNCHANGED(TrB_INVALID_VALUE, "a successor by a pass that is open", TrB_succeed(&passes[0], &needed, ROOM, &passes[1], 1));
     UNCHANGED(TrB_UNINITIALIZED_OBJECT, "a successor of no pass", TrB_succeed(&none, &needed, ROOM, next, 1));
     HOLDS(needed == UNTOUCHED);
     UNCHANGED(TrB_INSUFFICIENT_SPACE, "a successor with room for 9 of 10 changes",
@@ -156,6 +169,12 @@ static void of_numbers(void)
             TrB_mxm(pass, b, TrB_NO_MATRIX, TrB_NO_ACCUM, TrB_SEMIRING(TrB_MINUS, TrB_TIMES), b, b, TrB_DEFAULT));
     UNCHANGED(TrB_INVALID_VALUE, "a total by no monoid", TrB_Matrix_reduce_UINT64(pass, &x, TrB_FIRST, a));
     UNCHANGED(TrB_INVALID_VALUE, "no such mode", TrB_Matrix_wait(pass, a, NO_MODE));
+    UNCHANGED(TrB_INVALID_VALUE, "a product of a vector and a matrix that is to be transposed",
+            TrB_vxm(pass, v, TrB_NO_VECTOR, TrB_NO_ACCUM, TrB_PLUS_TIMES, w, a, TrB_TRAN));
+    UNCHANGED(TrB_INVALID_VALUE, "a sum of vectors of which one is to be transposed",
+            TrB_Vector_eWiseAdd(pass, v, TrB_NO_VECTOR, TrB_NO_ACCUM, TrB_PLUS, v, v, TrB_TRAN));
+    UNCHANGED(TrB_INVALID_VALUE, "a product of vectors of which one is to be transposed",
+            TrB_Vector_eWiseMult(pass, v, v, TrB_NO_ACCUM, TrB_TIMES, v, v, TrB_TRAN | TrB_STRUCTURE));
     UNCHANGED(TrB_INVALID_VALUE, "arrays of two lengths",
             (TrB_Info)trb_matrix_build_uint64(pass, b.id, rows, 3, columns, 2, values, 3, TrB_PLUS));
     HOLDS(made.id == UNTOUCHED && x == UNTOUCHED);
@@ -238,6 +257,17 @@ static void of_space(void)
     }
 }
 
+/* A pass that is none tells nothing. */
+static void of_facts(void)
+{
+    TrB_Pass none = TRB_PASS_INIT;
+    TrB_Facts before, facts;
+    memset(&facts, UNTOUCHED, sizeof facts);
+    before = facts;
+    UNCHANGED(TrB_UNINITIALIZED_OBJECT, "facts of no pass", TrB_facts(&none, &facts));
+    HOLDS(memcmp(&facts, &before, sizeof facts) == 0);
+}
+
 /* A pass keeps the status of its last call on each object. */
 static void of_errors(void)
 {
@@ -290,6 +320,7 @@ int main(void)
     of_domains();
     of_shapes();
     of_space();
+    of_facts();
     of_errors();
     of_room();
 

@@ -1,7 +1,8 @@
 /* trowelheath.h - the Trowelheath store for programs in C11 and C++11.
  *
  * A store holds sparse matrices and vectors, with the operations of GraphBLAS. The threads of one
- * process share it. Link with libgrb_c.a, liblibc_c.a and -lpthread.
+ * process share it. Link as pkg-config tells for trowelheath, where it is installed; else with
+ * libgrb_c.a, liblibc_c.a and -lpthread.
  *
  *     TrB_Pass pass = TRB_PASS_INIT;
  *     TrB_Matrix a;
@@ -32,9 +33,9 @@
  *
  * What threads see
  *
- *   Each call takes effect at one moment between its start and its return. So a call sees what its
- *   own pass did before, and what other passes did by calls that returned before it began. No call
- *   waits for another thread.
+ *   Each call takes effect at one moment, in the one order of all calls, so it sees what its own pass
+ *   did before: that is proved. It also sees what other passes did by calls that returned before it
+ *   began: that is shown by tests. No call waits for another thread.
  *
  * What any call can be refused for
  *
@@ -49,6 +50,20 @@
  *   The comment of a function names what else it is refused for. What the numbers of a call alone
  *   show is refused first. Of other refusals that apply, the first in the list of TrB_Info is
  *   answered.
+ *
+ * What differs from GraphBLAS.h, next to TrB_ for GrB_ and the pass in front
+ *
+ *   names      TrB_Matrix_eWiseAdd is GrB_Matrix_eWiseAdd_BinaryOp, and so for vectors and eWiseMult;
+ *              TrB_Matrix_reduce is GrB_Matrix_reduce_Monoid. TrB_PLUS is GrB_PLUS_UINT64 and its
+ *              monoid, and so each operator; TrB_PLUS_TIMES is GrB_PLUS_TIMES_SEMIRING_UINT64.
+ *              TrB_NO_MATRIX, TrB_NO_VECTOR, TrB_NO_ACCUM and TrB_DEFAULT stand for GrB_NULL.
+ *   arguments  TrB_Matrix_reduce_UINT64 and its like take no accumulator and no descriptor. The dup of
+ *              a build is a monoid. TrB_Matrix_free and TrB_Vector_free take a number by value.
+ *              TrB_Matrix_size tells what GrB_Matrix_nrows and GrB_Matrix_ncols tell.
+ *              TrB_Matrix_error and TrB_Vector_error tell a status, and no text.
+ *   bits       A descriptor is a number of bits, and no object. TrB_TRAN is a bit of it, and turns the
+ *              first input alone.
+ *   not here   All else, as GrB_init, other types, operators of a program's own, other operations.
  *
  * What a service does
  *
@@ -75,6 +90,13 @@
  */
 #ifndef TROWELHEATH_H
 #define TROWELHEATH_H
+
+/* The version of this header, and of the library that it is for. */
+#define TRB_VERSION_MAJOR 1
+#define TRB_VERSION_MINOR 0
+#define TRB_VERSION_PATCH 0
+#define TRB_VERSION "1.0.0"
+#define TRB_VERSION_NUMBER (TRB_VERSION_MAJOR * 10000 + TRB_VERSION_MINOR * 100 + TRB_VERSION_PATCH)
 
 #include <stdbool.h>
 #include <stddef.h>
@@ -142,7 +164,7 @@ enum {
     TrB_REPLACE = 1,   /* entries of the output outside of the mask are removed */
     TrB_COMP = 2,      /* inside the mask are the places that it would leave out */
     TrB_STRUCTURE = 4, /* inside the mask are the places where it stores an entry, false or 0 too */
-    TrB_TRAN = 8       /* own: the first input, a matrix, is read transposed */
+    TrB_TRAN = 8       /* own: the first input is read transposed; refused where that is a vector */
 };
 
 /* An index, a dimension or a number of entries. Dimensions are from 1 to 2^32 - 1. */
@@ -240,6 +262,7 @@ _Static_assert(sizeof(TrB_Pass) == 16 && sizeof(bool) == 1, "the library is for 
  * with TrB_INVALID_VALUE by a build, and the shortest counts for a read of all entries. The typed
  * functions below call them; what they say holds here too. trb_open and trb_succeed take the number of
  * the store that they open, which no other open store of the process may have. */
+uint32_t trb_version(void);
 int32_t trb_open(uint64_t store, uint32_t room, TrB_Pass *passes, size_t npasses);
 int32_t trb_succeed(uint64_t store, uint32_t room, TrB_Pass *pass, uint64_t *needed, TrB_Pass *passes, size_t npasses);
 int32_t trb_is_full(TrB_Pass *pass, bool *out);
@@ -303,13 +326,21 @@ int32_t trb_vector_wait(TrB_Pass *pass, uint32_t v, uint32_t mode);
 
 /* ---- Stores and passes ------------------------------------------------------------------------- */
 
+/* Tells the version of the library that was linked or loaded. Where it is not TRB_VERSION_NUMBER, the
+ * library is not the one that this header is for: then make no other call. */
+static inline uint32_t TrB_version(void)
+{
+    return trb_version();
+}
+
 /* For TrB_open and TrB_succeed: ends the opening of a store with this number, of which this is the status.
- * Where it was refused, every pass is none, and the number is given back. */
+ * Where it was refused, the passes are as before, and the number is given back: after TrB_INVALID_VALUE
+ * nothing was done, and else all were none before. */
 static inline TrB_Info trb_end_opening(void **number, int32_t status, TrB_Pass *passes, size_t npasses)
 {
     static void **latest = NULL; /* leads to the numbers of all stores, each to the one before */
     if (status != TrB_SUCCESS) {
-        for (size_t k = 0; k < npasses; k++) {
+        for (size_t k = 0; status != TrB_INVALID_VALUE && k < npasses; k++) {
             trb_free(&passes[k]);
         }
         free(number);
@@ -326,9 +357,9 @@ static inline TrB_Info trb_end_opening(void **number, int32_t status, TrB_Pass *
  *
  * The store gets a number, by which passes of two stores are told apart: the address of a few bytes
  * from malloc. They are never given back, since nothing tells when the last pass is freed. They stay
- * reachable, so leak checkers do not complain. Where the opening is refused, they are given back, and
- * every pass is none.
- * Refused: TrB_INVALID_VALUE where room or npasses is out of its range. */
+ * reachable, so leak checkers do not complain. Where the opening is refused, they are given back.
+ * Refused: TrB_INVALID_VALUE where room or npasses is out of its range, or one of the passes is open.
+ * All of them are then as before. */
 static inline TrB_Info TrB_open(uint32_t room, TrB_Pass *passes, size_t npasses)
 {
     void **number = (void **)malloc(sizeof *number);
@@ -367,9 +398,10 @@ static inline TrB_Info TrB_is_full(TrB_Pass *pass, bool *full)
  *     TrB_free(&old[0]);                                    // the old store ends with its last pass
  *     TrB_free(&old[1]);
  *
- * Refused: TrB_INVALID_VALUE where room or npasses is out of its range; TrB_INSUFFICIENT_SPACE where the
- * changes that make the objects need more room, and *needed tells how many they are. It is not written
- * else. Where it is refused, each of `passes` is none, and the old store is as before. */
+ * Refused: TrB_INVALID_VALUE where room or npasses is out of its range, or one of `passes` is open;
+ * TrB_INSUFFICIENT_SPACE where the changes that make the objects need more room, and *needed tells how
+ * many they are. It is not written else. Where it is refused, all of `passes` are as before, and so is
+ * the old store. */
 static inline TrB_Info TrB_succeed(TrB_Pass *pass, uint64_t *needed, uint32_t room, TrB_Pass *passes,
                                    size_t npasses)
 {
@@ -803,15 +835,17 @@ static inline TrB_Info TrB_Vector_reduce_BOOL(TrB_Pass *pass, bool *x, TrB_Binar
  *            With TrB_NO_MATRIX or TrB_NO_VECTOR all places are inside, with TrB_COMP none. A mask has
  *            the shape of the output, and either domain.
  *   outside  The entries of C outside of the mask stay. With TrB_REPLACE they are removed.
- *   desc     TrB_DEFAULT, or bits, as TrB_STRUCTURE | TrB_COMP | TrB_REPLACE. With TrB_TRAN
- *            the first input is read transposed, as A' below stands for A.
+ *   desc     TrB_DEFAULT, or bits, as TrB_STRUCTURE | TrB_COMP | TrB_REPLACE. With TrB_TRAN the
+ *            first input, a matrix, is read transposed, as A' below stands for A. Where the first input
+ *            is a vector, nothing is read transposed, and TrB_TRAN is refused.
  *
  * All objects are read before the output is written, so one object may be output, input and mask. The
  * output keeps its domain and its shape.
  *
  * Every operation is a change, and is refused with
  *
- *   TrB_INVALID_VALUE       where an operator, a monoid or a descriptor has no such number;
+ *   TrB_INVALID_VALUE       where an operator, a monoid or a descriptor has no such number, or TrB_TRAN
+ *                           is given with a vector as the first input;
  *   TrB_DOMAIN_MISMATCH     where output, inputs, operators, monoid and accumulator are not all of one
  *                           domain;
  *   TrB_DIMENSION_MISMATCH  where the shapes are not those that its comment tells, or Mask has not the
@@ -842,7 +876,7 @@ static inline TrB_Info TrB_mxv(TrB_Pass *pass, TrB_Vector w, TrB_Vector mask, Tr
 
 /* w<mask> = accum(w, u * A): at index j, `multiply` of u(k) and A(k,j) for each k where both are
  * stored, joined by `add`; nothing where there is no such k. So values go along the edges of a graph
- * whose edge from i to j is A(i,j). TrB_TRAN is not for this operation, but for TrB_mxv. A change.
+ * whose edge from i to j is A(i,j). TrB_TRAN is refused here: TrB_mxv reads A transposed. A change.
  * Shapes: u is of size m, A is m x n, w and mask are of size n.
  * Refused: as every operation. */
 static inline TrB_Info TrB_vxm(TrB_Pass *pass, TrB_Vector w, TrB_Vector mask, TrB_BinaryOp accum,
@@ -948,7 +982,7 @@ static inline const char *TrB_hint(TrB_Info info)
     case TrB_DIMENSION_MISMATCH: return "Give objects whose dimensions fit together.";
     case TrB_OUTPUT_NOT_EMPTY: return "Clear the object, or build a new one.";
     case TrB_INDEX_OUT_OF_BOUNDS: return "Give a list whose indices are below the dimensions.";
-    case TrB_ORDER_FULL: return "Open a store with more room; this one still answers reads.";
+    case TrB_ORDER_FULL: return "Open its successor, which takes further changes; this one still answers reads.";
     case TrB_OUT_OF_MEMORY: return "Nothing has changed: free memory, and make the call again.";
     case TrB_PANIC: return "The call did nothing: make it again.";
     case TrB_INSUFFICIENT_SPACE: return "Give arrays with a place for each entry, or more room; the count is told.";

@@ -2,7 +2,7 @@
 //
 // A store holds sparse matrices and vectors, with the operations of GraphBLAS. The threads of one process
 // share it. The top of trowelheath.h has the words: store, history, room, pass, object, entry, change,
-// read, refusal; and what threads see. Link with libgrb_c.a, liblibc_c.a and -lpthread.
+// read, refusal; and what threads see. Link as that says.
 //
 //     trowelheath::Store store(1000, 1);                      // room for 1,000 changes, one pass
 //     trowelheath::Pass pass = store.take();
@@ -14,6 +14,8 @@
 //
 //   - A Pass is moved and never copied, and ends by itself. A store ends with its last pass.
 //   - Objects and operators have the type of their values, bool or std::uint64_t, so domains are not mixed.
+//   - A number is given as any integer but bool. Others do not compile, as 2.9. A negative one does not compile where
+//     the compiler optimizes and sees it, as -1, and is refused else.
 //   - One thread at a time uses a given pass. A pass goes to another thread by something that orders
 //     memory, as a lock, the start of a thread or its join.
 //   - An object is used with passes of its own store, and of those that succeed it. In another store its
@@ -25,10 +27,12 @@
 #include "trowelheath.h"
 
 #include <array>
+#include <cstdarg>
 #include <cstddef>
 #include <cstdint>
 #include <cstdio>
 #include <exception>
+#include <initializer_list>
 #include <memory>
 #include <optional>
 #include <stdexcept>
@@ -74,10 +78,20 @@ enum class Status : std::int32_t {
 /// may be refused with uninitialized_object, out_of_memory and panic, and any change with order_full.
 class Refusal : public std::exception {
 public:
+    /// What a refusal says of its call, of at most 191 characters.
+    using Text = std::array<char, 192>;
+
     /// The refusal of this status. Takes no memory.
-    explicit Refusal(Status code) noexcept : code_(code)
+    explicit Refusal(Status code) noexcept : Refusal(code, Text{}) {}
+
+    /// The refusal of this status, with what is known of the call. Takes no memory.
+    Refusal(Status code, const Text &said) noexcept : code_(code)
     {
-        std::snprintf(text_.data(), text_.size(), "%s. %s", name(), hint());
+        if (said[0] != '\0') {
+            std::snprintf(text_.data(), text_.size(), "%s. %s.", name(), said.data());
+        } else {
+            std::snprintf(text_.data(), text_.size(), "%s. %s", name(), hint());
+        }
     }
 
     /// The status.
@@ -89,19 +103,52 @@ public:
     /// What to do about it, in one line for a person.
     [[nodiscard]] const char *hint() const noexcept { return TrB_hint(static_cast<TrB_Info>(code_)); }
 
-    /// The name and the hint.
+    /// The name, and what does not fit in the call, as its parameters are named here: "a is 3 x 4, b is 3 x 4: the
+    /// columns of a, 4, are not the rows of b, 3". Shapes are those after the refusal. Where nothing is known of the
+    /// call, the hint.
     [[nodiscard]] const char *what() const noexcept override { return text_.data(); }
 
 private:
     Status code_;
-    std::array<char, 128> text_{};
+    std::array<char, 240> text_{};
 };
+
+namespace detail {
+
+// What the format says, cut where it is too long.
+#if defined(__GNUC__)
+[[gnu::format(printf, 1, 2)]]
+#endif
+inline Refusal::Text
+text(const char *format, ...) noexcept
+{
+    Refusal::Text said{};
+    std::va_list values;
+    va_start(values, format);
+    std::vsnprintf(said.data(), said.size(), format, values);
+    va_end(values);
+    return said;
+}
+
+// A number as the formats take it.
+inline unsigned long long digits(std::uint64_t number) noexcept
+{
+    return number;
+}
+
+} // namespace detail
 
 /// The refusal of a successor whose room is too small, with Status::insufficient_space.
 class RoomTooSmall : public Refusal {
 public:
     /// The refusal where so many changes make the objects. Takes no memory.
-    explicit RoomTooSmall(std::uint64_t needed) noexcept : Refusal(Status::insufficient_space), needed_(needed) {}
+    explicit RoomTooSmall(std::uint64_t needed) noexcept
+        : Refusal(Status::insufficient_space,
+                  detail::text("the objects of the successor take %llu changes: give room for these and more",
+                               detail::digits(needed))),
+          needed_(needed)
+    {
+    }
 
     /// How many changes make the objects, which is the least room of a successor.
     [[nodiscard]] std::uint64_t needed() const noexcept { return needed_; }
@@ -126,18 +173,76 @@ inline constexpr bool is_bool = std::is_same_v<T, bool>;
 template <typename T>
 inline constexpr bool is_domain = is_bool<T> || std::is_same_v<T, std::uint64_t>;
 
-// Throws where the call was refused. What is not refused is Status::success or Status::no_value.
-inline Status check(TrB_Info info)
+// The type of values that is meant by T: an unsigned integer of 64 bits has two names.
+template <typename T>
+using element = std::conditional_t<std::is_integral_v<T> && std::is_unsigned_v<T> && sizeof(T) == 8, std::uint64_t, T>;
+
+// Fails the compilation where the compiler sees that it is called.
+#if defined(__GNUC__)
+[[gnu::error("a value is from 0 to 2^64 - 1, and not negative")]] void negative_value() noexcept;
+#define TROWELHEATH_INLINE [[gnu::always_inline]] inline
+#define TROWELHEATH_IS_SEEN(x) __builtin_constant_p(x)
+#else
+inline void negative_value() noexcept {}
+#define TROWELHEATH_INLINE inline
+#define TROWELHEATH_IS_SEEN(x) false
+#endif
+
+[[noreturn]] inline void refuse_negative(long long x)
 {
-    if (info < 0) {
-        throw Refusal(static_cast<Status>(info));
-    }
-    return static_cast<Status>(info);
+    throw Refusal(Status::invalid_value, text("the value is %lld, and values are from 0 to 2^64 - 1", x));
 }
 
+// The value of a vector or matrix of T that x is. It does not compile where x is of a type that may not fit.
+template <typename T, typename V>
+TROWELHEATH_INLINE T value(V x)
+{
+    if constexpr (is_bool<T>) {
+        static_assert(is_bool<V>, "the values are bool: give true or false");
+        return x;
+    } else {
+        static_assert(!is_bool<V>, "the values are numbers: give 1 for true");
+        static_assert(std::is_integral_v<V> && sizeof(V) <= sizeof(T), "the values are whole numbers from 0 to 2^64 - 1");
+        if constexpr (std::is_signed_v<V>) {
+            if (TROWELHEATH_IS_SEEN(x) && x < 0) {
+                negative_value();
+            }
+            if (x < 0) {
+                refuse_negative(x);
+            }
+        }
+        return static_cast<T>(x);
+    }
+}
+
+// Throws where the library that was linked or loaded is not the one that the header is for.
+inline void check_version()
+{
+    const unsigned long version = TrB_version();
+    if (version != TRB_VERSION_NUMBER) {
+        throw std::runtime_error(text("the library of trowelheath has the version %lu.%lu.%lu, and the header " TRB_VERSION,
+                                      version / 10000, version / 100 % 100, version % 100)
+                                     .data());
+    }
+}
+
+// Throws where the call was refused. What is not refused is Status::success or Status::no_value.
 inline Status check(std::int32_t status)
 {
-    return check(static_cast<TrB_Info>(status));
+    if (status < 0) {
+        throw Refusal(static_cast<Status>(status));
+    }
+    return static_cast<Status>(status);
+}
+
+// The same, with what `tell` answers of the call where it was refused.
+template <typename Tell>
+Status check(std::int32_t status, Tell tell)
+{
+    if (status < 0) {
+        throw Refusal(static_cast<Status>(status), tell(static_cast<Status>(status)));
+    }
+    return static_cast<Status>(status);
 }
 
 } // namespace detail
@@ -211,20 +316,64 @@ inline constexpr Semiring<std::uint64_t> max_min{max, min};          ///< widest
 inline constexpr Semiring<std::uint64_t> max_first{max, first};      ///< greatest first value
 inline constexpr Semiring<std::uint64_t> max_second{max, second};    ///< greatest second value
 
-/// How an operation reads its mask and its first input. Values are joined by `|`.
-enum class Descriptor : std::uint32_t {
-    none = TrB_DEFAULT,         ///< none of these
-    replace = TrB_REPLACE,      ///< entries of the output outside of the mask are removed
-    comp = TrB_COMP,            ///< inside the mask are the places that it would leave out
-    structure = TrB_STRUCTURE,  ///< inside the mask are the places where it stores an entry, false or 0 too
-    tran = TrB_TRAN,            ///< the first input, a matrix, is read transposed; not for vxm
+class MatrixDescriptor;
+
+/// How an operation reads its mask and writes outside of it. Values are joined by `|`.
+class Descriptor {
+public:
+    static const Descriptor none;       ///< none of these
+    static const Descriptor replace;    ///< entries of the output outside of the mask are removed
+    static const Descriptor comp;       ///< inside the mask are the places that it would leave out
+    static const Descriptor structure;  ///< inside are the places where it stores an entry, false or 0 too
+    static const MatrixDescriptor tran; ///< the first input, a matrix, is read transposed
+
+    /// Its bits in trowelheath.h.
+    [[nodiscard]] constexpr std::uint32_t bits() const noexcept { return bits_; }
+
+    /// All that either of both says.
+    [[nodiscard]] friend constexpr Descriptor operator|(Descriptor left, Descriptor right) noexcept
+    {
+        return Descriptor(left.bits_ | right.bits_);
+    }
+
+private:
+    constexpr explicit Descriptor(std::uint32_t bits) noexcept : bits_(bits) {}
+
+    std::uint32_t bits_;
 };
 
-/// All that either of both says.
-[[nodiscard]] constexpr Descriptor operator|(Descriptor left, Descriptor right) noexcept
-{
-    return static_cast<Descriptor>(static_cast<std::uint32_t>(left) | static_cast<std::uint32_t>(right));
-}
+/// A descriptor of an operation whose first input is a matrix, which Descriptor::tran has read transposed. An operation
+/// on vectors does not take it.
+class MatrixDescriptor {
+public:
+    /// The same, not transposed.
+    constexpr MatrixDescriptor(Descriptor desc) noexcept : bits_(desc.bits()) {}
+
+    /// Its bits in trowelheath.h.
+    [[nodiscard]] constexpr std::uint32_t bits() const noexcept { return bits_; }
+
+    /// Whether the first input is read transposed.
+    [[nodiscard]] constexpr bool is_transposed() const noexcept { return (bits_ & TrB_TRAN) != 0; }
+
+    /// All that either of both says.
+    [[nodiscard]] friend constexpr MatrixDescriptor operator|(MatrixDescriptor left, MatrixDescriptor right) noexcept
+    {
+        return MatrixDescriptor(left.bits_ | right.bits_);
+    }
+
+private:
+    friend class Descriptor;
+
+    constexpr explicit MatrixDescriptor(std::uint32_t bits) noexcept : bits_(bits) {}
+
+    std::uint32_t bits_;
+};
+
+inline constexpr Descriptor Descriptor::none{TrB_DEFAULT};
+inline constexpr Descriptor Descriptor::replace{TrB_REPLACE};
+inline constexpr Descriptor Descriptor::comp{TrB_COMP};
+inline constexpr Descriptor Descriptor::structure{TrB_STRUCTURE};
+inline constexpr MatrixDescriptor Descriptor::tran{std::uint32_t{TrB_TRAN}};
 
 /// How much a wait has done.
 enum class WaitMode {
@@ -446,7 +595,7 @@ public:
     void meet(Pass &other)
     {
         if (this != &other) {
-            detail::check(TrB_meet(&raw_, &other.raw_));
+            detail::check(TrB_meet(&raw_, &other.raw_), told_of_meeting);
         }
     }
 
@@ -454,7 +603,7 @@ public:
     void adopt(Pass &other)
     {
         if (this != &other) {
-            detail::check(TrB_adopt(&raw_, &other.raw_));
+            detail::check(TrB_adopt(&raw_, &other.raw_), told_of_meeting);
         }
     }
 
@@ -492,20 +641,22 @@ public:
 
     /// A new matrix of nrows rows and ncols columns with no entries, as TrB_Matrix_new.
     template <typename T>
-    [[nodiscard]] Matrix<T> new_matrix(Index nrows, Index ncols)
+    [[nodiscard]] Matrix<detail::element<T>> new_matrix(Index nrows, Index ncols)
     {
         std::uint32_t id = 0;
-        detail::check(trb_matrix_new(&raw_, &id, domain<T>(), nrows, ncols));
-        return Matrix<T>(id);
+        detail::check(trb_matrix_new(&raw_, &id, domain<T>(), nrows, ncols),
+                      [&](Status code) { return told_of_dimensions(code, nrows, ncols); });
+        return Matrix<detail::element<T>>(id);
     }
 
     /// A new vector of this size with no entries, as TrB_Vector_new.
     template <typename T>
-    [[nodiscard]] Vector<T> new_vector(Index size)
+    [[nodiscard]] Vector<detail::element<T>> new_vector(Index size)
     {
         std::uint32_t id = 0;
-        detail::check(trb_vector_new(&raw_, &id, domain<T>(), size));
-        return Vector<T>(id);
+        detail::check(trb_vector_new(&raw_, &id, domain<T>(), size),
+                      [&](Status code) { return told_of_dimensions(code, size); });
+        return Vector<detail::element<T>>(id);
     }
 
     /// A new matrix with the dimensions and the entries that `a` has now, as TrB_Matrix_dup.
@@ -513,7 +664,7 @@ public:
     [[nodiscard]] Matrix<T> dup(Matrix<T> a)
     {
         std::uint32_t id = 0;
-        detail::check(trb_matrix_dup(&raw_, &id, a.id()));
+        detail::check(trb_matrix_dup(&raw_, &id, a.id()), [&](Status code) { return told(code, {of("a", a)}); });
         return Matrix<T>(id);
     }
 
@@ -522,7 +673,7 @@ public:
     [[nodiscard]] Vector<T> dup(Vector<T> u)
     {
         std::uint32_t id = 0;
-        detail::check(trb_vector_dup(&raw_, &id, u.id()));
+        detail::check(trb_vector_dup(&raw_, &id, u.id()), [&](Status code) { return told(code, {of("u", u)}); });
         return Vector<T>(id);
     }
 
@@ -530,42 +681,46 @@ public:
     template <typename T>
     void free(Matrix<T> a)
     {
-        detail::check(trb_matrix_free(&raw_, a.id()));
+        detail::check(trb_matrix_free(&raw_, a.id()), [&](Status code) { return told(code, {of("a", a)}); });
     }
 
     /// Ends the vector, for all passes, as TrB_Vector_free.
     template <typename T>
     void free(Vector<T> v)
     {
-        detail::check(trb_vector_free(&raw_, v.id()));
+        detail::check(trb_vector_free(&raw_, v.id()), [&](Status code) { return told(code, {of("v", v)}); });
     }
 
     /// Removes all entries of the matrix, as TrB_Matrix_clear.
     template <typename T>
     void clear(Matrix<T> a)
     {
-        detail::check(trb_matrix_clear(&raw_, a.id()));
+        detail::check(trb_matrix_clear(&raw_, a.id()), [&](Status code) { return told(code, {of("a", a)}); });
     }
 
     /// Removes all entries of the vector, as TrB_Vector_clear.
     template <typename T>
     void clear(Vector<T> v)
     {
-        detail::check(trb_vector_clear(&raw_, v.id()));
+        detail::check(trb_vector_clear(&raw_, v.id()), [&](Status code) { return told(code, {of("v", v)}); });
     }
 
     /// Gives the matrix new dimensions; entries outside are gone for good, as TrB_Matrix_resize.
     template <typename T>
     void resize(Matrix<T> a, Index nrows, Index ncols)
     {
-        detail::check(trb_matrix_resize(&raw_, a.id(), nrows, ncols));
+        detail::check(trb_matrix_resize(&raw_, a.id(), nrows, ncols), [&](Status code) {
+            return code == Status::invalid_value ? told_of_dimensions(code, nrows, ncols) : told(code, {of("a", a)});
+        });
     }
 
     /// Gives the vector a new size; entries outside are gone for good, as TrB_Vector_resize.
     template <typename T>
     void resize(Vector<T> v, Index size)
     {
-        detail::check(trb_vector_resize(&raw_, v.id(), size));
+        detail::check(trb_vector_resize(&raw_, v.id(), size), [&](Status code) {
+            return code == Status::invalid_value ? told_of_dimensions(code, size) : told(code, {of("v", v)});
+        });
     }
 
     /// The rows and columns of the matrix, both at one moment, as TrB_Matrix_size.
@@ -573,7 +728,7 @@ public:
     [[nodiscard]] Size size(Matrix<T> a)
     {
         Size size{};
-        detail::check(trb_matrix_size(&raw_, &size.nrows, &size.ncols, a.id()));
+        detail::check(trb_matrix_size(&raw_, &size.nrows, &size.ncols, a.id()), [&](Status code) { return told(code, {of("a", a)}); });
         return size;
     }
 
@@ -582,7 +737,7 @@ public:
     [[nodiscard]] Index size(Vector<T> v)
     {
         Index size = 0;
-        detail::check(trb_vector_size(&raw_, &size, v.id()));
+        detail::check(trb_vector_size(&raw_, &size, v.id()), [&](Status code) { return told(code, {of("v", v)}); });
         return size;
     }
 
@@ -591,7 +746,7 @@ public:
     [[nodiscard]] Index nvals(Matrix<T> a)
     {
         Index nvals = 0;
-        detail::check(trb_matrix_nvals(&raw_, &nvals, a.id()));
+        detail::check(trb_matrix_nvals(&raw_, &nvals, a.id()), [&](Status code) { return told(code, {of("a", a)}); });
         return nvals;
     }
 
@@ -600,7 +755,7 @@ public:
     [[nodiscard]] Index nvals(Vector<T> v)
     {
         Index nvals = 0;
-        detail::check(trb_vector_nvals(&raw_, &nvals, v.id()));
+        detail::check(trb_vector_nvals(&raw_, &nvals, v.id()), [&](Status code) { return told(code, {of("v", v)}); });
         return nvals;
     }
 
@@ -618,7 +773,8 @@ public:
         detail::check(trb_vector_wait(&raw_, v.id(), static_cast<std::uint32_t>(mode)));
     }
 
-    /// The status that the last call of this pass on the matrix left, as TrB_Matrix_error. None before the first.
+    /// The status that the last call of this pass on the matrix left, as TrB_Matrix_error. None before the first. A
+    /// Refusal that tells dimensions has read them by such a call; its code() is the status.
     template <typename T>
     [[nodiscard]] std::optional<Status> last_status(Matrix<T> a)
     {
@@ -627,7 +783,8 @@ public:
         return found(asked, static_cast<Status>(status));
     }
 
-    /// The status that the last call of this pass on the vector left, as TrB_Vector_error. None before the first.
+    /// The status that the last call of this pass on the vector left, as TrB_Vector_error. None before the first. A
+    /// Refusal that tells dimensions has read them by such a call; its code() is the status.
     template <typename T>
     [[nodiscard]] std::optional<Status> last_status(Vector<T> v)
     {
@@ -638,26 +795,20 @@ public:
 
     // ---- Entries ---------------------------------------------------------------------------------------
 
-    /// Stores x at row i and column j, in place of what was stored there, as TrB_Matrix_setElement_UINT64.
-    template <typename T>
-    void set(Matrix<T> c, Index i, Index j, detail::same<T> x)
+    /// Stores x at row i and column j, in place of what was stored there, as TrB_Matrix_setElement_UINT64. Throws
+    /// Refusal with Status::invalid_value where x is negative.
+    template <typename T, typename V>
+    TROWELHEATH_INLINE void set(Matrix<T> c, Index i, Index j, V x)
     {
-        if constexpr (detail::is_bool<T>) {
-            detail::check(trb_matrix_set_bool(&raw_, c.id(), x, i, j));
-        } else {
-            detail::check(trb_matrix_set_uint64(&raw_, c.id(), x, i, j));
-        }
+        set_value(c, i, j, detail::value<T>(x));
     }
 
-    /// Stores x at index i, in place of what was stored there, as TrB_Vector_setElement_UINT64.
-    template <typename T>
-    void set(Vector<T> w, Index i, detail::same<T> x)
+    /// Stores x at index i, in place of what was stored there, as TrB_Vector_setElement_UINT64. Throws Refusal with
+    /// Status::invalid_value where x is negative.
+    template <typename T, typename V>
+    TROWELHEATH_INLINE void set(Vector<T> w, Index i, V x)
     {
-        if constexpr (detail::is_bool<T>) {
-            detail::check(trb_vector_set_bool(&raw_, w.id(), x, i));
-        } else {
-            detail::check(trb_vector_set_uint64(&raw_, w.id(), x, i));
-        }
+        set_value(w, i, detail::value<T>(x));
     }
 
     /// The value stored at row i and column j, if there is one, as TrB_Matrix_extractElement_UINT64.
@@ -665,13 +816,13 @@ public:
     [[nodiscard]] std::optional<T> get(Matrix<T> a, Index i, Index j)
     {
         T x{};
-        Status status;
+        std::int32_t status;
         if constexpr (detail::is_bool<T>) {
-            status = detail::check(trb_matrix_get_bool(&raw_, &x, a.id(), i, j));
+            status = trb_matrix_get_bool(&raw_, &x, a.id(), i, j);
         } else {
-            status = detail::check(trb_matrix_get_uint64(&raw_, &x, a.id(), i, j));
+            status = trb_matrix_get_uint64(&raw_, &x, a.id(), i, j);
         }
-        return found(status, x);
+        return found(detail::check(status, [&](Status code) { return told_of_index(code, of("a", a), i, j); }), x);
     }
 
     /// The value stored at index i, if there is one, as TrB_Vector_extractElement_UINT64.
@@ -679,27 +830,29 @@ public:
     [[nodiscard]] std::optional<T> get(Vector<T> u, Index i)
     {
         T x{};
-        Status status;
+        std::int32_t status;
         if constexpr (detail::is_bool<T>) {
-            status = detail::check(trb_vector_get_bool(&raw_, &x, u.id(), i));
+            status = trb_vector_get_bool(&raw_, &x, u.id(), i);
         } else {
-            status = detail::check(trb_vector_get_uint64(&raw_, &x, u.id(), i));
+            status = trb_vector_get_uint64(&raw_, &x, u.id(), i);
         }
-        return found(status, x);
+        return found(detail::check(status, [&](Status code) { return told_of_index(code, of("u", u), i); }), x);
     }
 
     /// Removes the entry at row i and column j, if there is one, as TrB_Matrix_removeElement.
     template <typename T>
     void remove(Matrix<T> c, Index i, Index j)
     {
-        detail::check(trb_matrix_remove(&raw_, c.id(), i, j));
+        detail::check(trb_matrix_remove(&raw_, c.id(), i, j),
+                      [&](Status code) { return told_of_index(code, of("c", c), i, j); });
     }
 
     /// Removes the entry at index i, if there is one, as TrB_Vector_removeElement.
     template <typename T>
     void remove(Vector<T> w, Index i)
     {
-        detail::check(trb_vector_remove(&raw_, w.id(), i));
+        detail::check(trb_vector_remove(&raw_, w.id(), i),
+                      [&](Status code) { return told_of_index(code, of("w", w), i); });
     }
 
     /// Fills a matrix that stores nothing with these entries, in any order, as TrB_Matrix_build_UINT64. The
@@ -831,15 +984,19 @@ public:
     /// C<mask> = accum(C, A * B), as TrB_mxm.
     template <typename T>
     void mxm(Matrix<T> c, MatrixMask mask, detail::same<Accum<T>> accum, Semiring<T> semiring, Matrix<T> a,
-             Matrix<T> b, Descriptor desc = Descriptor::none)
+             Matrix<T> b, MatrixDescriptor desc = Descriptor::none)
     {
-        detail::check(trb_mxm(&raw_, c.id(), mask.id(), number(accum), number(semiring.add),
-                              number(semiring.multiply), a.id(), b.id(), bits(desc)));
+        detail::check(trb_mxm(&raw_, c.id(), mask.id(), number(accum), number(semiring.add), number(semiring.multiply), a.id(),
+                              b.id(), desc.bits()),
+                      [&](Status code) {
+                          return told(code, {of("c", c), of(mask), of("a", a, desc), of("b", b)},
+                                      {{2, 1, 3, 0}, {0, 0, 2, 0}, {0, 1, 3, 1}, {1, 0, 0, 0}, {1, 1, 0, 1}});
+                      });
     }
 
     /// C = A * B, as TrB_mxm.
     template <typename T>
-    void mxm(Matrix<T> c, Semiring<T> semiring, Matrix<T> a, Matrix<T> b, Descriptor desc = Descriptor::none)
+    void mxm(Matrix<T> c, Semiring<T> semiring, Matrix<T> a, Matrix<T> b, MatrixDescriptor desc = Descriptor::none)
     {
         mxm(c, none, none, semiring, a, b, desc);
     }
@@ -847,15 +1004,19 @@ public:
     /// w<mask> = accum(w, A * u), as TrB_mxv.
     template <typename T>
     void mxv(Vector<T> w, VectorMask mask, detail::same<Accum<T>> accum, Semiring<T> semiring, Matrix<T> a,
-             Vector<T> u, Descriptor desc = Descriptor::none)
+             Vector<T> u, MatrixDescriptor desc = Descriptor::none)
     {
-        detail::check(trb_mxv(&raw_, w.id(), mask.id(), number(accum), number(semiring.add),
-                              number(semiring.multiply), a.id(), u.id(), bits(desc)));
+        detail::check(trb_mxv(&raw_, w.id(), mask.id(), number(accum), number(semiring.add), number(semiring.multiply), a.id(),
+                              u.id(), desc.bits()),
+                      [&](Status code) {
+                          return told(code, {of("w", w), of(mask), of("a", a, desc), of("u", u)},
+                                      {{2, 1, 3, 0}, {0, 0, 2, 0}, {1, 0, 0, 0}});
+                      });
     }
 
     /// w = A * u, as TrB_mxv.
     template <typename T>
-    void mxv(Vector<T> w, Semiring<T> semiring, Matrix<T> a, Vector<T> u, Descriptor desc = Descriptor::none)
+    void mxv(Vector<T> w, Semiring<T> semiring, Matrix<T> a, Vector<T> u, MatrixDescriptor desc = Descriptor::none)
     {
         mxv(w, none, none, semiring, a, u, desc);
     }
@@ -865,8 +1026,12 @@ public:
     void vxm(Vector<T> w, VectorMask mask, detail::same<Accum<T>> accum, Semiring<T> semiring, Vector<T> u,
              Matrix<T> a, Descriptor desc = Descriptor::none)
     {
-        detail::check(trb_vxm(&raw_, w.id(), mask.id(), number(accum), number(semiring.add),
-                              number(semiring.multiply), u.id(), a.id(), bits(desc)));
+        detail::check(trb_vxm(&raw_, w.id(), mask.id(), number(accum), number(semiring.add), number(semiring.multiply), u.id(),
+                              a.id(), desc.bits()),
+                      [&](Status code) {
+                          return told(code, {of("w", w), of(mask), of("u", u), of("a", a)},
+                                      {{2, 0, 3, 0}, {0, 0, 3, 1}, {1, 0, 0, 0}});
+                      });
     }
 
     /// w = u * A, as TrB_vxm.
@@ -879,16 +1044,20 @@ public:
     /// C<mask> = accum(C, A + B): op where both store a value, and the one value elsewhere. As TrB_Matrix_eWiseAdd.
     template <typename T>
     void ewise_add(Matrix<T> c, MatrixMask mask, detail::same<Accum<T>> accum, detail::same<BinaryOp<T>> op,
-                   Matrix<T> a, Matrix<T> b, Descriptor desc = Descriptor::none)
+                   Matrix<T> a, Matrix<T> b, MatrixDescriptor desc = Descriptor::none)
     {
         detail::check(trb_matrix_ewise_add(&raw_, c.id(), mask.id(), number(accum), number(op), a.id(), b.id(),
-                                           bits(desc)));
+                                           desc.bits()),
+                      [&](Status code) {
+                          return told(code, {of("c", c), of(mask), of("a", a, desc), of("b", b)},
+                                      {{2, 0, 3, 0}, {2, 1, 3, 1}, {0, 0, 3, 0}, {0, 1, 3, 1}, {1, 0, 0, 0}, {1, 1, 0, 1}});
+                      });
     }
 
     /// C = A + B: op where both store a value, and the one value elsewhere. As TrB_Matrix_eWiseAdd.
     template <typename T>
     void ewise_add(Matrix<T> c, detail::same<BinaryOp<T>> op, Matrix<T> a, Matrix<T> b,
-                   Descriptor desc = Descriptor::none)
+                   MatrixDescriptor desc = Descriptor::none)
     {
         ewise_add(c, none, none, op, a, b, desc);
     }
@@ -899,7 +1068,11 @@ public:
                    Vector<T> u, Vector<T> v, Descriptor desc = Descriptor::none)
     {
         detail::check(trb_vector_ewise_add(&raw_, w.id(), mask.id(), number(accum), number(op), u.id(), v.id(),
-                                           bits(desc)));
+                                           desc.bits()),
+                      [&](Status code) {
+                          return told(code, {of("w", w), of(mask), of("u", u), of("v", v)},
+                                      {{2, 0, 3, 0}, {0, 0, 3, 0}, {1, 0, 0, 0}});
+                      });
     }
 
     /// w = u + v: op where both store a value, and the one value elsewhere. As TrB_Vector_eWiseAdd.
@@ -913,16 +1086,20 @@ public:
     /// C<mask> = accum(C, A .* B): op where both store a value, and nothing elsewhere. As TrB_Matrix_eWiseMult.
     template <typename T>
     void ewise_mult(Matrix<T> c, MatrixMask mask, detail::same<Accum<T>> accum, detail::same<BinaryOp<T>> op,
-                    Matrix<T> a, Matrix<T> b, Descriptor desc = Descriptor::none)
+                    Matrix<T> a, Matrix<T> b, MatrixDescriptor desc = Descriptor::none)
     {
         detail::check(trb_matrix_ewise_mult(&raw_, c.id(), mask.id(), number(accum), number(op), a.id(), b.id(),
-                                            bits(desc)));
+                                           desc.bits()),
+                      [&](Status code) {
+                          return told(code, {of("c", c), of(mask), of("a", a, desc), of("b", b)},
+                                      {{2, 0, 3, 0}, {2, 1, 3, 1}, {0, 0, 3, 0}, {0, 1, 3, 1}, {1, 0, 0, 0}, {1, 1, 0, 1}});
+                      });
     }
 
     /// C = A .* B: op where both store a value, and nothing elsewhere. As TrB_Matrix_eWiseMult.
     template <typename T>
     void ewise_mult(Matrix<T> c, detail::same<BinaryOp<T>> op, Matrix<T> a, Matrix<T> b,
-                    Descriptor desc = Descriptor::none)
+                    MatrixDescriptor desc = Descriptor::none)
     {
         ewise_mult(c, none, none, op, a, b, desc);
     }
@@ -933,7 +1110,11 @@ public:
                     Vector<T> u, Vector<T> v, Descriptor desc = Descriptor::none)
     {
         detail::check(trb_vector_ewise_mult(&raw_, w.id(), mask.id(), number(accum), number(op), u.id(), v.id(),
-                                            bits(desc)));
+                                           desc.bits()),
+                      [&](Status code) {
+                          return told(code, {of("w", w), of(mask), of("u", u), of("v", v)},
+                                      {{2, 0, 3, 0}, {0, 0, 3, 0}, {1, 0, 0, 0}});
+                      });
     }
 
     /// w = u .* v: op where both store a value, and nothing elsewhere. As TrB_Vector_eWiseMult.
@@ -947,15 +1128,18 @@ public:
     /// w<mask> = accum(w, the rows of A, each joined by the monoid), as TrB_Matrix_reduce.
     template <typename T>
     void reduce_rows(Vector<T> w, VectorMask mask, detail::same<Accum<T>> accum, detail::same<Monoid<T>> monoid,
-                     Matrix<T> a, Descriptor desc = Descriptor::none)
+                     Matrix<T> a, MatrixDescriptor desc = Descriptor::none)
     {
-        detail::check(
-            trb_reduce_rows(&raw_, w.id(), mask.id(), number(accum), number(monoid), a.id(), bits(desc)));
+        detail::check(trb_reduce_rows(&raw_, w.id(), mask.id(), number(accum), number(monoid), a.id(), desc.bits()),
+                      [&](Status code) {
+                          return told(code, {of("w", w), of(mask), of("a", a, desc)},
+                                      {{0, 0, 2, 0}, {1, 0, 0, 0}});
+                      });
     }
 
     /// w = the rows of A, each joined by the monoid, as TrB_Matrix_reduce.
     template <typename T>
-    void reduce_rows(Vector<T> w, detail::same<Monoid<T>> monoid, Matrix<T> a, Descriptor desc = Descriptor::none)
+    void reduce_rows(Vector<T> w, detail::same<Monoid<T>> monoid, Matrix<T> a, MatrixDescriptor desc = Descriptor::none)
     {
         reduce_rows(w, none, none, monoid, a, desc);
     }
@@ -968,7 +1152,7 @@ private:
     template <typename T>
     [[nodiscard]] static constexpr std::uint32_t domain() noexcept
     {
-        static_assert(detail::is_domain<T>, "values are bool or std::uint64_t");
+        static_assert(detail::is_domain<detail::element<T>>, "values are bool or std::uint64_t");
         return detail::is_bool<T> ? TrB_BOOL : TrB_UINT64;
     }
 
@@ -984,39 +1168,77 @@ private:
         return static_cast<std::uint32_t>(accum ? accum->number() : TrB_NO_ACCUM);
     }
 
-    [[nodiscard]] static constexpr std::uint32_t bits(Descriptor desc) noexcept
-    {
-        return static_cast<std::uint32_t>(desc);
-    }
-
     template <typename T>
     [[nodiscard]] static std::optional<T> found(Status status, T value)
     {
         return status == Status::no_value ? std::nullopt : std::optional<T>(value);
     }
 
+    template <typename T>
+    void set_value(Matrix<T> c, Index i, Index j, T x)
+    {
+        std::int32_t status;
+        if constexpr (detail::is_bool<T>) {
+            status = trb_matrix_set_bool(&raw_, c.id(), x, i, j);
+        } else {
+            status = trb_matrix_set_uint64(&raw_, c.id(), x, i, j);
+        }
+        detail::check(status, [&](Status code) { return told_of_index(code, of("c", c), i, j); });
+    }
+
+    template <typename T>
+    void set_value(Vector<T> w, Index i, T x)
+    {
+        std::int32_t status;
+        if constexpr (detail::is_bool<T>) {
+            status = trb_vector_set_bool(&raw_, w.id(), x, i);
+        } else {
+            status = trb_vector_set_uint64(&raw_, w.id(), x, i);
+        }
+        detail::check(status, [&](Status code) { return told_of_index(code, of("w", w), i); });
+    }
+
     template <typename T, typename Indices, typename Values>
     void build_of(Matrix<T> c, const Indices &rows, const Indices &columns, const Values &values, Monoid<T> dup)
     {
+        std::int32_t status;
         if constexpr (detail::is_bool<T>) {
-            detail::check(trb_matrix_build_bool(&raw_, c.id(), rows.data(), rows.size(), columns.data(),
-                                                columns.size(), values.data(), values.size(), number(dup)));
+            status = trb_matrix_build_bool(&raw_, c.id(), rows.data(), rows.size(), columns.data(), columns.size(),
+                                           values.data(), values.size(), number(dup));
         } else {
-            detail::check(trb_matrix_build_uint64(&raw_, c.id(), rows.data(), rows.size(), columns.data(),
-                                                  columns.size(), values.data(), values.size(), number(dup)));
+            status = trb_matrix_build_uint64(&raw_, c.id(), rows.data(), rows.size(), columns.data(), columns.size(),
+                                             values.data(), values.size(), number(dup));
         }
+        detail::check(status, [&](Status code) {
+            if (code == Status::invalid_value) {
+                return detail::text("the list of rows has the length %zu, that of columns %zu, that of values %zu",
+                                    rows.size(), columns.size(), values.size());
+            }
+            return code == Status::index_out_of_bounds
+                       ? told_of_list(of("c", c), rows.data(), columns.data(), rows.size())
+                       : told(code, {of("c", c)});
+        });
     }
 
     template <typename T, typename Indices, typename Values>
     void build_of(Vector<T> w, const Indices &indices, const Values &values, Monoid<T> dup)
     {
+        std::int32_t status;
         if constexpr (detail::is_bool<T>) {
-            detail::check(trb_vector_build_bool(&raw_, w.id(), indices.data(), indices.size(), values.data(),
-                                                values.size(), number(dup)));
+            status = trb_vector_build_bool(&raw_, w.id(), indices.data(), indices.size(), values.data(), values.size(),
+                                           number(dup));
         } else {
-            detail::check(trb_vector_build_uint64(&raw_, w.id(), indices.data(), indices.size(), values.data(),
-                                                  values.size(), number(dup)));
+            status = trb_vector_build_uint64(&raw_, w.id(), indices.data(), indices.size(), values.data(),
+                                             values.size(), number(dup));
         }
+        detail::check(status, [&](Status code) {
+            if (code == Status::invalid_value) {
+                return detail::text("the list of indices has the length %zu, that of values %zu", indices.size(),
+                                    values.size());
+            }
+            return code == Status::index_out_of_bounds ? told_of_list(of("w", w), indices.data(), nullptr, indices.size())
+                                                       : told(code, {of("w", w)});
+        });
     }
 
     // Reads all entries into the arrays, and their number into count. False where the arrays are too short.
@@ -1057,6 +1279,179 @@ private:
         return true;
     }
 
+    // An object of a call, under the name that its method gives it.
+    struct Operand {
+        const char *name;
+        bool is_matrix;
+        std::uint32_t id;
+        bool is_transposed;
+    };
+
+    // Two dimensions of a call that are to be one number: of the operand at each place, its rows or size (0) or its
+    // columns (1).
+    struct Rule {
+        std::size_t left;
+        int left_axis;
+        std::size_t right;
+        int right_axis;
+    };
+
+    template <typename T>
+    [[nodiscard]] static Operand of(const char *name, Matrix<T> a, MatrixDescriptor desc = Descriptor::none) noexcept
+    {
+        return {name, true, a.id(), desc.is_transposed()};
+    }
+
+    template <typename T>
+    [[nodiscard]] static Operand of(const char *name, Vector<T> v) noexcept
+    {
+        return {name, false, v.id(), false};
+    }
+
+    [[nodiscard]] static Operand of(MatrixMask mask) noexcept { return {"the mask", true, mask.id(), false}; }
+
+    [[nodiscard]] static Operand of(VectorMask mask) noexcept { return {"the mask", false, mask.id(), false}; }
+
+    // The dimensions of an operand as its call reads it; the size of a vector in `nrows`.
+    [[nodiscard]] std::int32_t read_size(const Operand &operand, Size &size) noexcept
+    {
+        if (!operand.is_matrix) {
+            return trb_vector_size(&raw_, &size.nrows, operand.id);
+        }
+        const std::int32_t status = trb_matrix_size(&raw_, &size.nrows, &size.ncols, operand.id);
+        if (operand.is_transposed) {
+            std::swap(size.nrows, size.ncols);
+        }
+        return status;
+    }
+
+    // "a is 3 x 4"
+    [[nodiscard]] static Refusal::Text shape(const Operand &operand, const Size &size) noexcept
+    {
+        if (!operand.is_matrix) {
+            return detail::text("%s has the size %llu", operand.name, detail::digits(size.nrows));
+        }
+        return detail::text("%s%s is %llu x %llu", operand.name, operand.is_transposed ? ", transposed," : "",
+                            detail::digits(size.nrows), detail::digits(size.ncols));
+    }
+
+    // What is known of a refused call on these operands, whose dimensions are to meet the rules; or nothing.
+    [[nodiscard]] Refusal::Text told(Status code, std::initializer_list<Operand> operands,
+                                     std::initializer_list<Rule> rules = {}) noexcept
+    {
+        if (!is_open()) {
+            return detail::text("the pass was moved from");
+        }
+        if (code == Status::uninitialized_object) {
+            for (const Operand &operand : operands) {
+                Size size{};
+                if (operand.id != UINT32_MAX && read_size(operand, size) == TrB_UNINITIALIZED_OBJECT) {
+                    return detail::text("%s was freed, or is of another store", operand.name);
+                }
+            }
+        }
+        if (code == Status::output_not_empty && operands.size() == 1) {
+            return detail::text("%s stores entries: clear it, or build a new one", operands.begin()->name);
+        }
+        if (code == Status::dimension_mismatch) {
+            for (const Rule &rule : rules) {
+                const auto said = told_of_rule(operands.begin()[rule.left], operands.begin()[rule.right], rule);
+                if (said[0] != '\0') {
+                    return said;
+                }
+            }
+        }
+        return {};
+    }
+
+    // "a is 3 x 4, b is 3 x 4: the columns of a, 4, are not the rows of b, 3", or nothing where they are.
+    [[nodiscard]] Refusal::Text told_of_rule(const Operand &left, const Operand &right, const Rule &rule) noexcept
+    {
+        Size of_left{}, of_right{};
+        if (left.id == UINT32_MAX || read_size(left, of_left) != TrB_SUCCESS ||
+            read_size(right, of_right) != TrB_SUCCESS) {
+            return {};
+        }
+        const Index first = rule.left_axis == 0 ? of_left.nrows : of_left.ncols;
+        const Index second = rule.right_axis == 0 ? of_right.nrows : of_right.ncols;
+        if (first == second) {
+            return {};
+        }
+        const auto axis = [](const Operand &operand, int at) {
+            return !operand.is_matrix ? "size" : at == 0 ? "rows" : "columns";
+        };
+        return detail::text("%s, %s: the %s of %s, %llu, %s not the %s of %s, %llu", shape(left, of_left).data(),
+                            shape(right, of_right).data(), axis(left, rule.left_axis), left.name,
+                            detail::digits(first), left.is_matrix ? "are" : "is", axis(right, rule.right_axis),
+                            right.name, detail::digits(second));
+    }
+
+    // What is known of a refused call on one entry.
+    [[nodiscard]] Refusal::Text told_of_index(Status code, const Operand &operand, Index i, Index j = 0) noexcept
+    {
+        Size size{};
+        return code == Status::invalid_index && read_size(operand, size) == TrB_SUCCESS
+                   ? told_of_place(operand, size, i, j, "")
+                   : told(code, {operand});
+    }
+
+    // The first entry of a list that is outside of its object, or nothing where there is none. A vector's has no columns.
+    [[nodiscard]] Refusal::Text told_of_list(const Operand &operand, const Index *rows, const Index *columns,
+                                             std::size_t length) noexcept
+    {
+        Size size{};
+        if (read_size(operand, size) != TrB_SUCCESS) {
+            return {};
+        }
+        for (std::size_t k = 0; k < length; k++) {
+            const auto said = told_of_place(operand, size, rows[k], columns == nullptr ? 0 : columns[k],
+                                            detail::text("entry %zu of the list: ", k).data());
+            if (said[0] != '\0') {
+                return said;
+            }
+        }
+        return {};
+    }
+
+    // "(5, 2) is outside of c, which is 4 x 4", after what is to be said before, or nothing where it is not.
+    [[nodiscard]] static Refusal::Text told_of_place(const Operand &operand, const Size &size, Index i, Index j,
+                                                     const char *before) noexcept
+    {
+        if (i < size.nrows && (!operand.is_matrix || j < size.ncols)) {
+            return {};
+        }
+        if (operand.is_matrix) {
+            return detail::text("%s(%llu, %llu) is outside of %s, which is %llu x %llu", before, detail::digits(i),
+                                detail::digits(j), operand.name, detail::digits(size.nrows), detail::digits(size.ncols));
+        }
+        return detail::text("%sthe index %llu is not below the size of %s, %llu", before, detail::digits(i),
+                            operand.name, detail::digits(size.nrows));
+    }
+
+    [[nodiscard]] Refusal::Text told_of_dimensions(Status code, Index nrows, Index ncols) noexcept
+    {
+        return code == Status::invalid_value
+                   ? detail::text("%llu x %llu: dimensions are from 1 to 4,294,967,295", detail::digits(nrows),
+                                  detail::digits(ncols))
+                   : told(code, {});
+    }
+
+    [[nodiscard]] Refusal::Text told_of_dimensions(Status code, Index size) noexcept
+    {
+        return code == Status::invalid_value
+                   ? detail::text("%llu: a size is from 1 to 4,294,967,295", detail::digits(size))
+                   : told(code, {});
+    }
+
+    [[nodiscard]] static Refusal::Text told_of_meeting(Status code) noexcept
+    {
+        switch (code) {
+        case Status::invalid_value: return detail::text("the two passes are of two stores");
+        case Status::uninitialized_object: return detail::text("one of the passes was moved from");
+        default: return {};
+        }
+    }
+
     // Its address is the number of the store. It is given back with the last pass, after the store.
     std::shared_ptr<const char> number_;
     TrB_Pass raw_;
@@ -1068,12 +1463,15 @@ public:
     /// Opens a store with room for `room` changes, from 1 to most_room, and this many passes, from 1 to
     /// most_passes; one times the other is at most 1,048,576. A pass reserves some 200 bytes for each change
     /// that there is room for. Throws Refusal: Status::invalid_value where a number is out of its range,
-    /// Status::out_of_memory where memory is refused.
+    /// Status::out_of_memory where memory is refused; and std::runtime_error where the library is not of this header's
+    /// version.
     Store(std::uint32_t room, std::uint32_t passes)
     {
+        detail::check_version();
         detail::check(open(passes, [room](std::uint64_t number, TrB_Pass *opened, std::size_t count) {
-            return trb_open(number, room, opened, count);
-        }));
+                          return trb_open(number, room, opened, count);
+                      }),
+                      [&](Status code) { return told_of_opening(code, room, passes); });
     }
 
     /// The next pass that was not handed out; the first is that of number 0. Throws std::out_of_range where all
@@ -1099,7 +1497,7 @@ private:
     [[nodiscard]] std::int32_t open(std::uint32_t passes, Opening opening)
     {
         if (passes < 1 || passes > most_passes) {
-            throw Refusal(Status::invalid_value);
+            return TrB_INVALID_VALUE;
         }
         auto number = std::make_shared<const char>('\0');
         std::vector<TrB_Pass> opened(passes);
@@ -1110,6 +1508,15 @@ private:
             passes_.push_back(Pass(raw, number));
         }
         return status;
+    }
+
+    [[nodiscard]] static Refusal::Text told_of_opening(Status code, std::uint32_t room, std::uint32_t passes) noexcept
+    {
+        return code == Status::invalid_value
+                   ? detail::text("room %lu and passes %lu: room is from 1 to 65,536, passes are from 1 to 256, and one "
+                                  "times the other is at most 1,048,576",
+                                  static_cast<unsigned long>(room), static_cast<unsigned long>(passes))
+                   : Refusal::Text{};
     }
 
     std::vector<Pass> passes_;
@@ -1127,10 +1534,15 @@ inline Store Pass::succeed(std::uint32_t room, std::uint32_t passes)
     if (status == TrB_INSUFFICIENT_SPACE) {
         throw RoomTooSmall(needed);
     }
-    detail::check(status);
+    detail::check(status, [&](Status code) {
+        return is_open() ? Store::told_of_opening(code, room, passes) : detail::text("the pass was moved from");
+    });
     return next;
 }
 
 } // namespace trowelheath
+
+#undef TROWELHEATH_INLINE
+#undef TROWELHEATH_IS_SEEN
 
 #endif

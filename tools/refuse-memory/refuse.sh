@@ -22,11 +22,27 @@ run() {
         >"$work/out" 2>"$work/err" 3>"$work/met" || status=$?
 }
 
+# What is written of a refusal: its name, or the text that is printed of it.
+refusal='AllocError|AllocFailed|OutOfMemory|NoThread|GrB_OUT_OF_MEMORY|out of memory|cannot start a thread'
+
+# Whether a test that failed tells of the refusal: the error that it answered is one, or an assertion found one where another value is
+# wanted. The name of a test, the place of an assertion and what it is of are not looked at.
+tells() {
+    case $status in
+        101) grep -qE "^[Ee]rror: ([^\"]*[^A-Za-z_\"])?($refusal)([^A-Za-z_]|\$)" "$work/err" ;;
+        134)
+            grep -qE "^of .*: ([^:]*([^:A-Za-z_]|\\\\n))?($refusal)([^:A-Za-z_][^:]*)?, and not " "$work/err" &&
+                ! grep -qE ", and not .*($refusal)" "$work/err"
+            ;;
+        *) false ;;
+    esac
+}
+
 # What a test did.
 did_tests() {
     if [ "$status" -eq 0 ]; then
         echo passed
-    elif grep -qiE 'OutOfMemory|AllocError|NoThread|memory' "$work/out" "$work/err"; then
+    elif tells; then
         echo told
     else
         echo BROKE
@@ -41,7 +57,7 @@ did_scripts() {
         && [ "$(wc -l <"$work/out")" -eq "$(wc -l <"$work/out.whole")" ]; then
         echo told
     elif [ "$status" -eq 1 ] || [ "$status" -eq 2 ] && [ ! -s "$work/out" ] \
-        && grep -qE 'memory|cannot start a thread' "$work/err"; then
+        && grep -qE '(^|: )(out of memory|cannot start a thread)$' "$work/err"; then
         echo told
     else
         echo BROKE

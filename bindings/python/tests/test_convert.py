@@ -89,8 +89,23 @@ class Lists(unittest.TestCase):
             with self.subTest(values=values), self.assertRaises(TypeError):
                 numbers(values)
 
-    def test_bytes_are_a_list_of_small_numbers(self) -> None:
-        self.assertEqual(words(numbers(bytes(range(8)))), list(range(8)))
+    def test_what_can_be_run_through_and_is_no_list_is_refused(self) -> None:
+        for values in bytes(range(8)), bytearray(8), {1, 2}, frozenset([1]), {1: 2}, "12":
+            for convert in numbers, truths, indices:
+                with self.subTest(values=values), self.assertRaisesRegex(TypeError, "is no list of entries"):
+                    convert(values)
+        self.assertEqual(words(numbers({5: 6, 7: 8}.values())), [6, 8])
+
+    def test_the_item_that_is_refused_is_named(self) -> None:
+        cases = [
+            (numbers, [1, 2.5], TypeError, "item 1 of the list: .* takes whole numbers .*, not 2.5, of type float"),
+            (numbers, [1, 2, -3], OverflowError, "item 2 of the list: -3"),
+            (indices, [0, 2**64], IndexError, "item 1 of the list"),
+            (truths, [True, 1], TypeError, "item 1 of the list: .* takes True and False, not 1"),
+        ]
+        for convert, values, kind, message in cases:
+            with self.subTest(values=values), self.assertRaisesRegex(kind, message):
+                convert(values)
 
     def test_truth_values_are_bytes_of_0_and_1(self) -> None:
         self.assertEqual(bytes_of(truths([True, False, True])), [1, 0, 1])

@@ -25,13 +25,15 @@ class Finding(unittest.TestCase):
             os.environ.pop(_library.ENVIRONMENT_VARIABLE, None)
             self.assertEqual(_library._places()[-2:], ["libtrowelheath.so", "libgrb_c.so"])
 
-    def test_a_file_beside_the_package_comes_first(self) -> None:
+    def test_a_file_in_the_package_comes_first(self) -> None:
         with tempfile.TemporaryDirectory() as folder, mock.patch.dict(os.environ):
-            os.environ.pop(_library.ENVIRONMENT_VARIABLE, None)
-            beside = Path(folder).resolve() / "libtrowelheath.so"
-            beside.write_bytes(b"")
+            inside = Path(folder).resolve() / "libtrowelheath.so"
+            inside.write_bytes(b"")
             with mock.patch.object(_library, "__file__", str(Path(folder) / "_library.py")):
-                self.assertEqual(_library._places()[0], str(beside))
+                os.environ.pop(_library.ENVIRONMENT_VARIABLE, None)
+                self.assertEqual(_library._places()[0], str(inside))
+                os.environ[_library.ENVIRONMENT_VARIABLE] = "some/lib.so"
+                self.assertEqual(_library._places(), [str(inside), os.path.abspath("some/lib.so")])
 
     def test_a_file_that_is_not_there_is_told(self) -> None:
         with self.assertRaises(LibraryNotFound) as caught:
@@ -44,6 +46,14 @@ class Finding(unittest.TestCase):
         with mock.patch.object(_library, "_places", return_value=[None]):
             with self.assertRaisesRegex(LibraryNotFound, "has no function trb_open"):
                 _library.load.__wrapped__()
+
+    def test_a_library_of_another_version_is_told(self) -> None:
+        library = mock.Mock(_name="other.so")
+        library.trb_version.return_value = 20_103
+        with self.assertRaisesRegex(LibraryNotFound, r"other.so has the version 2.1.3, and the package 1\.0\.0"):
+            _library._require_version(library)
+        library.trb_version.return_value = 10_000
+        _library._require_version(library)
 
     def test_the_package_can_be_imported_without_it(self) -> None:
         program = (

@@ -46,6 +46,81 @@ class Collected(unittest.TestCase):
         gc.collect()
         self.assertEqual(ends, [3])
 
+    def test_a_store_ends_without_the_collector_of_cycles(self) -> None:
+        ends = self.count_ends()
+        gc.collect()
+        gc.disable()
+        self.addCleanup(gc.enable)
+        for _ in range(20):
+            store = Store(room=10, passes=2)
+            a = store.main.matrix(2, 2)
+            a[0, 1] = 5
+            c = a @ a
+            self.assertEqual((c.nvals, a.using(store.passes[1])[0, 1]), (0, 5))
+            with self.assertRaises(IndexError):
+                a[9, 9]
+            with store.main.temporary():
+                a.dup()
+            repr(store), repr(a), store.main.store, a.store.passes
+            del store, a, c
+        self.assertEqual(ends, [2] * 20)
+
+    def test_a_successor_ends_so_too(self) -> None:
+        ends = self.count_ends()
+        gc.collect()
+        gc.disable()
+        self.addCleanup(gc.enable)
+        store = Store(room=10)
+        v = store.main.vector(3)
+        store = store.main.succeed(10, 3)
+        self.assertEqual(ends, [])
+        v = v.using(store.main)
+        self.assertEqual(ends, [1])
+        del store
+        self.assertEqual(v.to_dict(), {})
+        del v
+        self.assertEqual(ends, [1, 3])
+
+    def test_stores_that_are_not_closed_take_no_memory(self) -> None:
+        program = (
+            "import gc, resource\n"
+            "from trowelheath import Store\n"
+            "gc.disable()\n"
+            "def most(): return resource.getrusage(resource.RUSAGE_SELF).ru_maxrss\n"
+            "def use():\n"
+            "    v = Store(room=65_536, passes=16).main.vector(3)\n"
+            "    v[0] = 1\n"
+            "for _ in range(3): use()\n"
+            "before = most()\n"
+            "for _ in range(100): use()\n"
+            "print(most() - before)\n"
+        )
+        ran = subprocess.run(
+            [sys.executable, "-c", program],
+            env={**os.environ, "PYTHONPATH": str(SOURCE)},
+            stdout=subprocess.PIPE,
+            check=True,
+            timeout=60,
+        )
+        # One such store takes more than 4 MB.
+        self.assertLess(int(ran.stdout), 40_000)
+
+    def test_the_store_of_a_pass_is_one_as_long_as_it_has_a_name(self) -> None:
+        store = Store(room=10, passes=2)
+        v = store.main.vector(3)
+        self.assertIs(v.store, store)
+        self.assertIs(v.pass_.store, store)
+        p = store.main
+        del store
+        gc.collect()
+        again = v.store
+        self.assertIs(again, p.store)
+        self.assertIs(again.main, p)
+        self.assertEqual((len(again.passes), again.room, again.closed), (2, 10, False))
+        again.close()
+        with self.assertRaises(StoreClosed):
+            v.nvals
+
     def test_a_closed_store_does_not_end_again(self) -> None:
         ends = self.count_ends()
         with Store(room=10):

@@ -252,10 +252,10 @@ class Life(StoreCase):
 
     def test_it_says_what_it_is(self) -> None:
         a = self.p.matrix(3, 4)
-        self.assertEqual(repr(a), "<Matrix 3x4 int, 0 entries>")
-        a[0, 0] = 1
-        self.assertEqual(repr(a), "<Matrix 3x4 int, 1 entry>")
-        self.assertEqual(repr(self.p.matrix(1, 2, bool)), "<Matrix 1x2 bool, 0 entries>")
+        self.assertEqual(repr(a), "<Matrix 3x4 int>")
+        a.resize(5, 4)
+        self.assertEqual(repr(a.using(self.q)), "<Matrix 5x4 int>")
+        self.assertEqual(repr(self.p.matrix(1, 2, bool)), "<Matrix 1x2 bool>")
         a.free()
         self.assertIn("GrB_UNINITIALIZED_OBJECT", repr(a))
 

@@ -37,8 +37,9 @@ class Graphs(StoreCase):
     def test_truth_values_say_where_edges_are(self) -> None:
         graph = networkx.DiGraph()
         graph.add_edge(0, 1, weight=0.5)
-        a = Matrix.from_networkx(self.p, graph, dtype=bool)
-        self.assertEqual((a.dtype, a.to_dict()), (bool, {(0, 1): True}))
+        for dtype in bool, "bool":
+            a = Matrix.from_networkx(self.p, graph, dtype=dtype)
+            self.assertEqual((a.dtype, a.to_dict()), (bool, {(0, 1): True}))
 
     def test_parallel_edges_are_added(self) -> None:
         graph = networkx.MultiDiGraph()

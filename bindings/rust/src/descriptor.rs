@@ -9,7 +9,7 @@ use std::marker::PhantomData;
 const REPLACE: u32 = 1;
 const COMP: u32 = 2;
 const STRUCTURE: u32 = 4;
-const TRAN: u32 = 8;
+pub(crate) const TRAN: u32 = 8;
 
 /// How an operation writes an output of type `O`: its mask, its accumulator, and what the standard's descriptor says of both.
 ///
@@ -98,8 +98,9 @@ impl<O: Object> Descriptor<O> {
         self.with(REPLACE)
     }
 
-    /// Reads the first input transposed where it is a matrix: rows and columns change places (`GrB_TRAN` of `GrB_INP0`). The object itself
-    /// stays as it is. A [`vxm`](crate::Pass::vxm), whose first input is a vector, does not read it.
+    /// Reads the first input, a matrix, transposed: rows and columns change places (`GrB_TRAN` of `GrB_INP0`). The object itself stays as it
+    /// is. Where the first input is a vector, as of [`vxm`](crate::Pass::vxm), the call is refused with
+    /// [`InvalidValue`](crate::Error::InvalidValue).
     #[must_use]
     pub fn tran(self) -> Descriptor<O> {
         self.with(TRAN)

@@ -193,6 +193,9 @@ pub trait Lists<E>: Sized {
     /// Drops all places but the first ones, so many.
     fn truncate(&mut self, places: u64);
 
+    /// The rows or indices, the columns if there are any, and how many values there are.
+    fn lists(&self) -> (&[u64], Option<&[u64]>, usize);
+
     /// The lists of these entries, in their order. `OutOfMemory` where memory is refused.
     fn collect(entries: impl Iterator<Item = E>) -> Result<Self, Error>;
 }
@@ -227,6 +230,10 @@ impl<T: Element> Lists<(u64, u64, T)> for MatrixEntries<T> {
         })
     }
 
+    fn lists(&self) -> (&[u64], Option<&[u64]>, usize) {
+        (&self.rows, Some(&self.columns), self.values.len())
+    }
+
     fn truncate(&mut self, places: u64) {
         keep(&mut self.rows, places);
         keep(&mut self.columns, places);
@@ -253,6 +260,10 @@ impl<T: Element> Lists<(u64, T)> for VectorEntries<T> {
             indices: places(count)?,
             values: places(count)?,
         })
+    }
+
+    fn lists(&self) -> (&[u64], Option<&[u64]>, usize) {
+        (&self.indices, None, self.values.len())
     }
 
     fn truncate(&mut self, places: u64) {

@@ -44,6 +44,11 @@ pub enum Error {
     ForeignObject,
     /// The two passes that should meet are of two stores.
     ForeignPass,
+    /// The library is of another version than this crate. No store is opened.
+    OtherVersion {
+        /// Its version: 10,000 times the first of three parts, 100 times the second, and the third.
+        library: u32,
+    },
     /// The library answered a status that this crate does not know: the two are not of one version.
     Unknown(i32),
 }
@@ -82,7 +87,7 @@ impl Error {
             Error::IndexOutOfBounds => Some(-105),
             Error::OrderFull => Some(-1001),
             Error::Unknown(status) => Some(status),
-            Error::ForeignObject | Error::ForeignPass => None,
+            Error::ForeignObject | Error::ForeignPass | Error::OtherVersion { .. } => None,
         }
     }
 
@@ -102,6 +107,7 @@ impl Error {
             Error::InsufficientSpace | Error::RoomTooSmall { .. } => "GrB_INSUFFICIENT_SPACE",
             Error::ForeignObject => "ForeignObject",
             Error::ForeignPass => "ForeignPass",
+            Error::OtherVersion { .. } => "OtherVersion",
             Error::Unknown(_) => "Unknown",
         }
     }
@@ -118,14 +124,16 @@ impl Error {
             Error::DimensionMismatch => "Give objects whose dimensions fit together.",
             Error::OutputNotEmpty => "Clear the object, or build a new one.",
             Error::IndexOutOfBounds => "Give a list whose indices are below the dimensions.",
-            Error::OrderFull => "Open a store with more room; this one still answers reads.",
+            Error::OrderFull => "Open its successor, which takes further changes; this one still answers reads.",
             Error::OutOfMemory => "Nothing has changed: free memory, and make the call again.",
             Error::Panic => "The call did nothing: make it again.",
             Error::InsufficientSpace => "Give arrays with a place for each entry.",
             Error::RoomTooSmall { .. } => "Give room for the calls that make the objects.",
             Error::ForeignObject => "Give objects of the store that the pass is of.",
             Error::ForeignPass => "Give two passes of one store.",
-            Error::Unknown(_) => "Link the library of this crate's version.",
+            Error::OtherVersion { .. } | Error::Unknown(_) => {
+                "Link the library of this crate's version."
+            }
         }
     }
 }
@@ -135,6 +143,15 @@ impl fmt::Display for Error {
     fn fmt(&self, f: &mut fmt::Formatter<'_>) -> fmt::Result {
         match self {
             Error::Unknown(status) => write!(f, "{} ({status}): {}", self.name(), self.hint()),
+            Error::OtherVersion { library } => {
+                let (major, minor, patch) = (library / 10000, library / 100 % 100, library % 100);
+                write!(
+                    f,
+                    "{}: {} It has {major}.{minor}.{patch}.",
+                    self.name(),
+                    self.hint()
+                )
+            }
             Error::RoomTooSmall { needed } => {
                 write!(f, "{}: {} They are {needed}.", self.name(), self.hint())
             }
@@ -238,5 +255,11 @@ mod tests {
         assert_eq!(Error::ForeignPass.status(), None);
         assert_eq!(Error::of(-2), Error::Unknown(-2));
         assert!(Error::Unknown(-2).to_string().starts_with("Unknown (-2): "));
+        let other = Error::OtherVersion { library: 20103 };
+        assert_eq!(other.status(), None);
+        assert_eq!(
+            other.to_string(),
+            "OtherVersion: Link the library of this crate's version. It has 2.1.3."
+        );
     }
 }

@@ -4,7 +4,7 @@
 //! at once. Its work waits until somebody reads a result that needs it. Each call takes effect at one moment between its start and its
 //! return: the store is linearizable, and no call waits for another thread.
 //!
-//! The store is the static library `libgrb_c.a`, which is proved. This crate calls it, and its types see to what the library asks of its
+//! The store is a static library, which is proved. This crate calls it, and its types see to what the library asks of its
 //! callers. That they do is not proved; the source says why, next to each call. No program that uses the crate needs `unsafe`.
 //!
 //! # First steps
@@ -59,7 +59,8 @@
 //!
 //! # Refusals
 //!
-//! A call that is refused did nothing, and answers why: an [`Error`]. The page of each method lists its refusals.
+//! A call that is refused did nothing, and answers why: an [`Error`]. The page of each method lists its refusals. [`Pass::explain`] tells
+//! what does not fit, with the shapes of the objects.
 //!
 //! # Limits
 //!
@@ -70,20 +71,23 @@
 //!
 //! # To build
 //!
-//! Two static libraries are linked: `libgrb_c.a`, which is the store, and `liblibc_c.a`, by which it has memory. With Cargo, tell the folder
-//! of the first by the environment variable `TROWELHEATH_LIB`, and that of the second by `TROWELHEATH_HEAP`. Without Cargo:
+//! `bindings/install.sh PREFIX` installs the library, which has to be built before, and this crate beside it, in
+//! `PREFIX/share/trowelheath/rust`. There the crate finds the library by itself; elsewhere by the environment variable `TROWELHEATH_PREFIX`,
+//! or by pkg-config. Without Cargo:
 //!
 //! ```text
-//! rustc --edition 2021 -O --crate-type rlib --crate-name trowelheath src/lib.rs
-//! rustc --edition 2021 -O --extern trowelheath=libtrowelheath.rlib \
-//!     -L native="$TROWELHEATH_LIB" -L native="$TROWELHEATH_HEAP" examples/first.rs
+//! rustc --edition 2021 -O --cfg trowelheath_installed --crate-type rlib --crate-name trowelheath src/lib.rs
+//! rustc --edition 2021 -O --extern trowelheath=libtrowelheath.rlib -L native="$PREFIX/lib" examples/first.rs
 //! ```
+//!
+//! Without an installed library, `TROWELHEATH_LIB` names the folder of `libgrb_c.a`, and `TROWELHEATH_HEAP` that of `liblibc_c.a`.
 
 #![deny(missing_docs)]
 #![deny(unsafe_op_in_unsafe_fn)]
 #![warn(clippy::all)]
 #![warn(clippy::undocumented_unsafe_blocks)]
 
+pub mod algorithms;
 mod descriptor;
 mod element;
 mod entries;
@@ -95,6 +99,7 @@ mod object;
 mod operations;
 mod operator;
 mod pass;
+mod refusal;
 mod slices;
 mod store;
 mod sys;
@@ -109,5 +114,6 @@ pub use matrix::Matrix;
 pub use object::{Mask, Object};
 pub use operator::{Monoid, Op, Semiring};
 pub use pass::Pass;
+pub use refusal::Refusal;
 pub use store::Store;
 pub use vector::Vector;

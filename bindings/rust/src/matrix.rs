@@ -5,6 +5,7 @@ use crate::element::Element;
 use crate::entries::MatrixEntries;
 use crate::error::{done, Error};
 use crate::object::{Calls, Mask, Object};
+use crate::pass::Pass;
 use crate::slices::apart_from;
 use crate::store::Store;
 use crate::sys::{self, TrbPass};
@@ -34,6 +35,13 @@ impl<T: Element> Object for Matrix<T> {
 impl<T: Element, M: Element> Mask<Matrix<T>> for Matrix<M> {}
 
 impl<T: Element> Matrix<T> {
+    /// Its dimensions.
+    pub(crate) fn size_of(self, pass: &mut Pass) -> Result<(u64, u64), Error> {
+        let mut size = (0, 0);
+        done(self.size(&mut pass.raw, &mut size))?;
+        Ok(size)
+    }
+
     /// Fills the matrix, which stores nothing.
     pub(crate) fn build_from(
         self,
@@ -67,6 +75,12 @@ impl<T: Element> Matrix<T> {
 // In each call below `pass` is a mutable reference, so this call alone has the pass. So is each place for an answer: it is live, aligned
 // and writable, and shares no memory with the pass or another place.
 impl<T: Element> Calls<T, (u64, u64), MatrixEntries<T>> for Matrix<T> {
+    const IS_MATRIX: bool = true;
+
+    fn place(index: (u64, u64)) -> (u64, u64) {
+        index
+    }
+
     fn of(store: Store, number: u32) -> Matrix<T> {
         Matrix {
             store,

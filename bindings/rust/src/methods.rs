@@ -8,6 +8,7 @@ use crate::matrix::Matrix;
 use crate::object::{Calls, Object};
 use crate::operator::Monoid;
 use crate::pass::Pass;
+use crate::refusal::{build_call, Call, Operand};
 use crate::sys;
 use crate::vector::Vector;
 
@@ -30,7 +31,10 @@ impl Pass {
     pub fn new_matrix<T: Element>(&mut self, nrows: u64, ncols: u64) -> Result<Matrix<T>, Error> {
         let mut number = 0;
         // SAFETY: the pass is borrowed mutably, so this call alone has it, and the place of the answer is a local variable.
-        done(unsafe { sys::trb_matrix_new(&mut self.raw, &mut number, T::DOMAIN, nrows, ncols) })?;
+        let answer = done(unsafe {
+            sys::trb_matrix_new(&mut self.raw, &mut number, T::DOMAIN, nrows, ncols)
+        });
+        self.note(answer, || Call::Dimensions(vec![nrows, ncols]))?;
         Ok(Matrix::of(self.store(), number))
     }
 
@@ -43,7 +47,9 @@ impl Pass {
     pub fn new_vector<T: Element>(&mut self, size: u64) -> Result<Vector<T>, Error> {
         let mut number = 0;
         // SAFETY: the pass is borrowed mutably, so this call alone has it, and the place of the answer is a local variable.
-        done(unsafe { sys::trb_vector_new(&mut self.raw, &mut number, T::DOMAIN, size) })?;
+        let answer =
+            done(unsafe { sys::trb_vector_new(&mut self.raw, &mut number, T::DOMAIN, size) });
+        self.note(answer, || Call::Dimensions(vec![size]))?;
         Ok(Vector::of(self.store(), number))
     }
 
@@ -92,7 +98,15 @@ impl Pass {
     /// - As of each [change](Pass#changes).
     pub fn resize<O: Object>(&mut self, object: O, size: O::Index) -> Result<(), Error> {
         self.check(object)?;
-        done(object.resize(&mut self.raw, size))
+        let answer = done(object.resize(&mut self.raw, size));
+        self.note(answer, || {
+            let (nrows, ncols) = O::place(size);
+            Call::Dimensions(if O::IS_MATRIX {
+                vec![nrows, ncols]
+            } else {
+                vec![nrows]
+            })
+        })
     }
 
     /// The dimensions of a matrix, `(rows, columns)`, or the size of a vector (`GrB_Matrix_nrows`, `GrB_Matrix_ncols`, `GrB_Vector_size`).
@@ -132,7 +146,10 @@ impl Pass {
         value: O::Element,
     ) -> Result<(), Error> {
         self.check(object)?;
-        done(object.set(&mut self.raw, index, value))
+        let answer = done(object.set(&mut self.raw, index, value));
+        self.note(answer, || {
+            Call::Place(Operand::of("the object", object), O::place(index))
+        })
     }
 
     /// The value that is stored in a matrix at `(row, column)`, or in a vector at the index; `None` where nothing is stored there
@@ -151,7 +168,10 @@ impl Pass {
         self.check(object)?;
         let mut value = O::Element::default();
         let status = object.get(&mut self.raw, &mut value, index);
-        found(status, value)
+        let answer = found(status, value);
+        self.note(answer, || {
+            Call::Place(Operand::of("the object", object), O::place(index))
+        })
     }
 
     /// Removes the entry of a matrix at `(row, column)`, or of a vector at the index, if there is one (`GrB_Matrix_removeElement`,
@@ -164,7 +184,10 @@ impl Pass {
     /// - As of each [change](Pass#changes).
     pub fn remove<O: Object>(&mut self, object: O, index: O::Index) -> Result<(), Error> {
         self.check(object)?;
-        done(object.remove(&mut self.raw, index))
+        let answer = done(object.remove(&mut self.raw, index));
+        self.note(answer, || {
+            Call::Place(Operand::of("the object", object), O::place(index))
+        })
     }
 
     /// How many entries are stored (`GrB_Matrix_nvals`, `GrB_Vector_nvals`).
@@ -218,7 +241,15 @@ impl Pass {
         dup: Monoid<T>,
     ) -> Result<(), Error> {
         self.check(matrix)?;
-        matrix.build_from(&mut self.raw, rows, columns, values, dup.number())
+        let answer = matrix.build_from(&mut self.raw, rows, columns, values, dup.number());
+        self.note(answer, || {
+            build_call(
+                Operand::of("the matrix", matrix),
+                rows,
+                Some(columns),
+                values.len(),
+            )
+        })
     }
 
     /// Fills a vector that stores nothing: `values[k]` goes to index `indices[k]`, and values of one index are combined by the monoid `dup`
@@ -241,7 +272,15 @@ impl Pass {
         dup: Monoid<T>,
     ) -> Result<(), Error> {
         self.check(vector)?;
-        vector.build_from(&mut self.raw, indices, values, dup.number())
+        let answer = vector.build_from(&mut self.raw, indices, values, dup.number());
+        self.note(answer, || {
+            build_call(
+                Operand::of("the vector", vector),
+                indices,
+                None,
+                values.len(),
+            )
+        })
     }
 
     /// Fills an object that stores nothing from entries, `(row, column, value)` of a matrix or `(index, value)` of a vector, in any order.
@@ -270,7 +309,11 @@ impl Pass {
     ) -> Result<(), Error> {
         self.check(object)?;
         let lists = O::Entries::collect(entries.into_iter())?;
-        object.build(&mut self.raw, &lists, dup.number())
+        let answer = object.build(&mut self.raw, &lists, dup.number());
+        self.note(answer, || {
+            let (rows, columns, length) = lists.lists();
+            build_call(Operand::of("the object", object), rows, columns, length)
+        })
     }
 
     /// All entries as they stand at one moment of the call: of a matrix row by row, of a vector from the lowest index up

@@ -45,6 +45,8 @@ pub trait Object:
 /// The library's functions for one sort of object, with references in place of pointers. All but `build`, which may need a copy of its lists
 /// first, answer the status.
 pub trait Calls<T, I, E>: Sized {
+    const IS_MATRIX: bool;
+    fn place(index: I) -> (u64, u64);
     fn of(store: Store, number: u32) -> Self;
     fn number(self) -> u32;
     fn dup(self, pass: &mut TrbPass, out: &mut u32) -> i32;

@@ -7,8 +7,22 @@ use crate::matrix::Matrix;
 use crate::object::{Calls, Object};
 use crate::operator::{Monoid, Op, Semiring};
 use crate::pass::Pass;
+use crate::refusal::{Call, Operand, Rule, EWISE, MXM, MXV, REDUCE, VXM};
 use crate::sys;
 use crate::vector::Vector;
+
+/// An operation that writes an output, as it was called: output, mask and inputs in this order.
+fn operation<O: Object>(
+    name: &'static str,
+    output: O,
+    how: Numbers,
+    inputs: &[Operand],
+    rules: &'static [Rule],
+) -> Call {
+    let mut operands = vec![Operand::of(name, output), Operand::mask::<O>(how.mask)];
+    operands.extend_from_slice(inputs);
+    Call::Operation(operands, rules)
+}
 
 /// The operations: each writes its output, the first object, by a [`Descriptor`].
 impl Pass {
@@ -17,6 +31,7 @@ impl Pass {
     /// # Errors
     ///
     /// - [`Error::UninitializedObject`]: an object of the call, the mask too, was freed.
+    /// - [`Error::InvalidValue`]: the objects are vectors, and the first is to be transposed.
     /// - [`Error::DimensionMismatch`]: the inputs, a transposed one as it is turned, and the mask have not the dimensions of `c`.
     /// - As of each [change](Pass#changes).
     pub fn ewise_add<O: Object>(
@@ -31,7 +46,12 @@ impl Pass {
         self.check(a)?;
         self.check(b)?;
         self.check_mask(&descriptor)?;
-        done(c.ewise_add(&mut self.raw, descriptor.numbers(), op.number(), a, b))
+        let how = descriptor.numbers();
+        let answer = done(c.ewise_add(&mut self.raw, how, op.number(), a, b));
+        self.note(answer, || {
+            let inputs = [Operand::first("a", a, how.bits), Operand::of("b", b)];
+            operation("c", c, how, &inputs, EWISE)
+        })
     }
 
     /// `C<M> = accum(C, A .* B)`: `op` of the values of `a` and `b` where both store one, and nothing elsewhere, written into `c`
@@ -40,6 +60,7 @@ impl Pass {
     /// # Errors
     ///
     /// - [`Error::UninitializedObject`]: an object of the call, the mask too, was freed.
+    /// - [`Error::InvalidValue`]: the objects are vectors, and the first is to be transposed.
     /// - [`Error::DimensionMismatch`]: the inputs, a transposed one as it is turned, and the mask have not the dimensions of `c`.
     /// - As of each [change](Pass#changes).
     pub fn ewise_mult<O: Object>(
@@ -54,7 +75,12 @@ impl Pass {
         self.check(a)?;
         self.check(b)?;
         self.check_mask(&descriptor)?;
-        done(c.ewise_mult(&mut self.raw, descriptor.numbers(), op.number(), a, b))
+        let how = descriptor.numbers();
+        let answer = done(c.ewise_mult(&mut self.raw, how, op.number(), a, b));
+        self.note(answer, || {
+            let inputs = [Operand::first("a", a, how.bits), Operand::of("b", b)];
+            operation("c", c, how, &inputs, EWISE)
+        })
     }
 
     /// `C<M> = accum(C, A * B)`: at row `i` and column `j` the products of row `i` of `a` and column `j` of `b`, where both store a value,
@@ -92,7 +118,7 @@ impl Pass {
         self.check_mask(&descriptor)?;
         let Numbers { mask, accum, bits } = descriptor.numbers();
         // SAFETY: the pass is borrowed mutably, so this call alone has it. There is no other pointer.
-        done(unsafe {
+        let answer = done(unsafe {
             sys::trb_mxm(
                 &mut self.raw,
                 c.number(),
@@ -103,6 +129,15 @@ impl Pass {
                 a.number(),
                 b.number(),
                 bits,
+            )
+        });
+        self.note(answer, || {
+            operation(
+                "c",
+                c,
+                Numbers { mask, accum, bits },
+                &[Operand::first("a", a, bits), Operand::of("b", b)],
+                MXM,
             )
         })
     }
@@ -130,7 +165,7 @@ impl Pass {
         self.check_mask(&descriptor)?;
         let Numbers { mask, accum, bits } = descriptor.numbers();
         // SAFETY: the pass is borrowed mutably, so this call alone has it. There is no other pointer.
-        done(unsafe {
+        let answer = done(unsafe {
             sys::trb_mxv(
                 &mut self.raw,
                 w.number(),
@@ -142,6 +177,15 @@ impl Pass {
                 u.number(),
                 bits,
             )
+        });
+        self.note(answer, || {
+            operation(
+                "w",
+                w,
+                Numbers { mask, accum, bits },
+                &[Operand::first("a", a, bits), Operand::of("u", u)],
+                MXV,
+            )
         })
     }
 
@@ -152,6 +196,7 @@ impl Pass {
     /// # Errors
     ///
     /// - [`Error::UninitializedObject`]: an object of the call, the mask too, was freed.
+    /// - [`Error::InvalidValue`]: the first input, a vector, is to be transposed.
     /// - [`Error::DimensionMismatch`]: `a` has not a row for each index of `u` and a column for each of `w`, or the mask has
     ///   not the size of `w`.
     /// - As of each [change](Pass#changes).
@@ -169,7 +214,7 @@ impl Pass {
         self.check_mask(&descriptor)?;
         let Numbers { mask, accum, bits } = descriptor.numbers();
         // SAFETY: the pass is borrowed mutably, so this call alone has it. There is no other pointer.
-        done(unsafe {
+        let answer = done(unsafe {
             sys::trb_vxm(
                 &mut self.raw,
                 w.number(),
@@ -180,6 +225,15 @@ impl Pass {
                 u.number(),
                 a.number(),
                 bits,
+            )
+        });
+        self.note(answer, || {
+            operation(
+                "w",
+                w,
+                Numbers { mask, accum, bits },
+                &[Operand::of("u", u), Operand::of("a", a)],
+                VXM,
             )
         })
     }
@@ -204,7 +258,7 @@ impl Pass {
         self.check_mask(&descriptor)?;
         let Numbers { mask, accum, bits } = descriptor.numbers();
         // SAFETY: the pass is borrowed mutably, so this call alone has it. There is no other pointer.
-        done(unsafe {
+        let answer = done(unsafe {
             sys::trb_reduce_rows(
                 &mut self.raw,
                 w.number(),
@@ -213,6 +267,15 @@ impl Pass {
                 monoid.number(),
                 a.number(),
                 bits,
+            )
+        });
+        self.note(answer, || {
+            operation(
+                "w",
+                w,
+                Numbers { mask, accum, bits },
+                &[Operand::first("a", a, bits)],
+                REDUCE,
             )
         })
     }

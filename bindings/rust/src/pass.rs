@@ -4,6 +4,7 @@ use crate::descriptor::Descriptor;
 use crate::error::{done, Error};
 use crate::facts::Facts;
 use crate::object::Object;
+use crate::refusal::Refused;
 use crate::store::Store;
 use crate::sys::{self, TrbPass};
 use std::fmt;
@@ -56,6 +57,8 @@ pub struct Pass {
     store: Store,
     // The store that this one succeeds.
     before: Option<Store>,
+    // The call that was refused last.
+    pub(crate) refused: Option<Refused>,
     // Its address is the number under which the library knows the store, so it is kept until the pass has ended.
     _byte: Arc<u8>,
 }
@@ -86,6 +89,7 @@ impl Pass {
             raw,
             store,
             before,
+            refused: None,
             _byte: byte,
         }
     }

@@ -46,6 +46,7 @@ impl Store {
     ///
     /// - [`Error::InvalidValue`]: the room is not from 1 to [`Store::MOST_ROOM`], the passes are not from 1 to [`Store::MOST_PASSES`], or one times
     ///   the other is above [`Store::MOST_SEATS`].
+    /// - [`Error::OtherVersion`]: the library that was linked is not of this crate's version.
     /// - [`Error::OutOfMemory`]: memory was refused.
     ///
     /// ```no_run
@@ -73,6 +74,11 @@ impl Store {
     ) -> Result<Vec<Pass>, Error> {
         if !is_within_limits(room, passes) {
             return Err(Error::InvalidValue);
+        }
+        // SAFETY: the function takes nothing and answers a number.
+        let library = unsafe { sys::trb_version() };
+        if library != sys::VERSION {
+            return Err(Error::OtherVersion { library });
         }
         let store = Store {
             number: NEXT.fetch_add(1, Ordering::Relaxed),

@@ -1,4 +1,4 @@
-//! The functions of the library `libgrb_c.a` as C declares them, and the pass that they keep in the caller's memory.
+//! The functions of the library as C declares them, and the pass that they keep in the caller's memory.
 //!
 //! A function with a result answers a status, as [`Error`](crate::Error) lists them: 0 for success, 1 where no value is stored, and a negative
 //! number for a refusal. An array is a pointer and then its length, the number of items.
@@ -44,15 +44,26 @@ impl TrbPass {
 const _: () = assert!(size_of::<TrbPass>() == 16 && align_of::<TrbPass>() == 8);
 const _: () = assert!(size_of::<Facts>() == 28 && align_of::<Facts>() == 4);
 
+/// The version of the library that this crate is for: 10,000 times the first of its parts, 100 times the second, and the third.
+pub const VERSION: u32 = 10000;
+
 /// The number that stands for no mask. No object has it.
 pub const NO_MASK: u32 = u32::MAX;
 
 /// The number that stands for no accumulator. No operator has it.
 pub const NO_ACCUM: u32 = 0;
 
-// Both libraries are linked where a program is made, and are not put into this crate's own file.
-#[link(name = "grb_c", kind = "static", modifiers = "-bundle")]
+// What is linked is linked where a program is made, and is not put into this crate's own file. The installed library has the heap in it.
+#[cfg_attr(
+    trowelheath_installed,
+    link(name = "trowelheath", kind = "static", modifiers = "-bundle")
+)]
+#[cfg_attr(
+    not(trowelheath_installed),
+    link(name = "grb_c", kind = "static", modifiers = "-bundle")
+)]
 extern "C" {
+    pub fn trb_version() -> u32;
     pub fn trb_open(store: u64, room: u32, passes: *mut TrbPass, npasses: usize) -> i32;
     pub fn trb_succeed(
         store: u64,
@@ -275,5 +286,6 @@ extern "C" {
 }
 
 // The heap, of which the library above asks its memory. So it comes after it.
+#[cfg(not(trowelheath_installed))]
 #[link(name = "libc_c", kind = "static", modifiers = "-bundle")]
 extern "C" {}

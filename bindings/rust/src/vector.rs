@@ -5,6 +5,7 @@ use crate::element::Element;
 use crate::entries::VectorEntries;
 use crate::error::{done, Error};
 use crate::object::{Calls, Mask, Object};
+use crate::pass::Pass;
 use crate::slices::apart_from;
 use crate::store::Store;
 use crate::sys::{self, TrbPass};
@@ -34,6 +35,13 @@ impl<T: Element> Object for Vector<T> {
 impl<T: Element, M: Element> Mask<Vector<T>> for Vector<M> {}
 
 impl<T: Element> Vector<T> {
+    /// Its size.
+    pub(crate) fn size_of(self, pass: &mut Pass) -> Result<u64, Error> {
+        let mut size = 0;
+        done(self.size(&mut pass.raw, &mut size))?;
+        Ok(size)
+    }
+
     /// Fills the vector, which stores nothing.
     pub(crate) fn build_from(
         self,
@@ -62,6 +70,12 @@ impl<T: Element> Vector<T> {
 // In each call below `pass` is a mutable reference, so this call alone has the pass. So is each place for an answer: it is live, aligned
 // and writable, and shares no memory with the pass or another place.
 impl<T: Element> Calls<T, u64, VectorEntries<T>> for Vector<T> {
+    const IS_MATRIX: bool = false;
+
+    fn place(index: u64) -> (u64, u64) {
+        (index, 0)
+    }
+
     fn of(store: Store, number: u32) -> Vector<T> {
         Vector {
             store,

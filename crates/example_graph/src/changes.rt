@@ -28,8 +28,8 @@ impl Changes {
         Ok(Changes { matrix })
     }
 
-    /// Makes a worker's change of this number: an entry in that column, with that value. Whether it was answered `Done`; it is refused where
-    /// the store is full.
+    /// Makes a worker's change of this number: an entry in that column, with that value. Whether it was answered `Done`; it is refused
+    /// where the store is full.
     fn make(
         self,
         context: &Context,
@@ -47,8 +47,8 @@ impl Changes {
         }
     }
 
-    /// Makes a worker's changes one after another, from where so many were answered `Done`, until the store is full or all are made; how many
-    /// were answered `Done` by then.
+    /// Makes a worker's changes one after another, from where so many were answered `Done`, until the store is full or all are made; how
+    /// many were answered `Done` by then.
     pub(crate) fn make_on(
         self,
         context: &Context,

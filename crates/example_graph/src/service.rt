@@ -8,7 +8,8 @@
 //!
 //! - `each` of `map_vec`: what each worker handed back is there, and its pass is one of this store, by the `ensures` of `work`;
 //! - `met` of [`Context::meet`], and so of `meet_workers`: what each of these passes knows begins what the owner's pass then knows;
-//! - the law `full_knows_all` of the context: where [`Pass::is_at_end`] holds of the owner's pass, no pass knows more of this store, now or later;
+//! - the law `full_knows_all` of the context: where [`Pass::is_at_end`] holds of the owner's pass, no pass knows more of this store, now or
+//!   later;
 //! - `begun` of [`Context::succeed`], and so `goes_on` of [`Service::go_on`]: the next store is the one that all these calls leave.
 ghost use Rattle.std.specs.Prelude.{◌≡◌, All, IfOk, OnOk, length};
 ghost use Rattle.grb_order.specs.Order.{room_of};

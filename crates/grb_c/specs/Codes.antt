@@ -199,6 +199,10 @@ abbrev pub descriptor_at : ℕ → Option Descriptor
 descriptor_at n =
     if nat_lt n 16 then Some (record { structure = (n / 4) % 2 == 1; comp = (n / 2) % 2 == 1; replace = n % 2 == 1; tran = (n / 8) % 2 == 1 }) else None
 
+-- the same of an operation that reads nothing transposed: its last bit stands for nothing
+abbrev pub upright_descriptor_at : ℕ → Option Descriptor
+upright_descriptor_at n = if nat_lt n 8 then descriptor_at n else None
+
 abbrev pub mode_at : ℕ → Option WaitMode
 mode_at n =
     if n == 0 then Some mode.Complete

@@ -1,5 +1,6 @@
 -- believed: What an export does with the handles that it is given, of which each has a pass or none (own).
-use Rattle.std.specs.Prelude.{◌≡◌, ◌⊎◌, ℕ, ℤ, Bool, List, map, Result, Ok, Err}
+use Rattle.std.specs.Prelude.{◌≡◌, ◌⊎◌, ℕ, ℤ, Bool, not, is_some, List, map, Result, Ok, Err}
+use Rattle.std.specs.List.{list_all}
 use Rattle.grb_core.specs.declared.domain.Domain.TheVariants as domain
 use Rattle.grb_call.specs.declared.call.Call.{Call}
 use Rattle.grb_context.specs.Explains.{Answer}
@@ -8,6 +9,10 @@ use Rattle.grb_c.specs.Codes.{out_of_memory}
 use Rattle.grb_c.specs.Sessions.{Does, Puts}
 use Rattle.grb_c.specs.Succession.{GoesOnFrom}
 use Rattle.grb_c.specs.Tuples.{ReadsAll, ReadsAllOfVector, bool_in, number_in}
+
+-- none of these has a pass
+abbrev pub are_none : List TrbPass → Bool
+are_none hs = list_all (λ h. not (is_some h.raw.session)) hs
 
 -- A call that is decoded is made, and puts out what its answer says: where a number stands for nothing, the code says so, and nothing else
 -- happens

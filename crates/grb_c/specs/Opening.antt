@@ -5,7 +5,7 @@ use Rattle.grb_order.specs.declared.limits.TheConstants.{MOST_PASSES, MOST_ROOM,
 use Rattle.grb_order.specs.Holding.{TableId}
 use Rattle.grb_order.specs.Order.{room_of}
 use Rattle.grb_order.specs.View.{fresh}
-use Rattle.grb_context.specs.Known.{Shared, Knowing}
+use Rattle.grb_context.specs.Known.{Shared, Knowing, none_made}
 use Rattle.grb_context.specs.Statuses.{no_rows}
 use Rattle.grb_c.specs.Sessions.{Opened}
 
@@ -17,7 +17,7 @@ pub record IsWithin (room passes : ℕ) : Type 0 where
 
 -- the pass of this number, of so many, that knows no call
 abbrev pub new_pass : TableId → ℕ → ℕ → Knowing
-new_pass order passes number = record { order = order; view = fresh number passes; shown = []; steps = 0; statuses = no_rows (room_of order); settled = 0; made = 0 }
+new_pass order passes number = record { order = order; view = fresh number passes; shown = []; steps = 0; statuses = no_rows (room_of order); settled = 0; made = none_made }
 
 -- the handle has a pass of the context, of which this holds, under this number of its store
 abbrev pub Holds : Shared → ℕ → (Knowing → Type 0) → Option Opened → Type 0

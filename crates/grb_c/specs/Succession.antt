@@ -1,4 +1,4 @@
--- believed: What a handle's successor is (own): a store of its own that begins as the pass leaves the old one, or the reason why there is none.
+-- believed: What a handle's successor is (own): a store that begins as the pass leaves the old one, or the reason why there is none.
 use Rattle.std.specs.Prelude.{◌≡◌, ◌⊎◌, ℕ, ℤ, List, Option, Some, None}
 use Rattle.grb_call.specs.Store.{Store}
 use Rattle.grb_call.specs.History.{store_of}

@@ -1,5 +1,5 @@
 -- believed: Lists of C arrays: what a build takes, and what a read of all entries leaves (own).
-use Rattle.std.specs.Prelude.{◌≡◌, ℕ, ℤ, nat_le, min, Bool, true, false, ◌&&◌, ◌==◌, if◌then◌else◌, List, [], ◌∷◌, ◌++◌, map, length, drop, Option, Some, None, Result, Ok, Err, is_some, ◌<◌, ◌⊎◌}
+use Rattle.std.specs.Prelude.{◌≡◌, ℕ, ℤ, nat_le, min, Bool, true, false, ◌&&◌, ◌==◌, if◌then◌else◌, List, [], ◌∷◌, ◌++◌, map, length, drop, Option, Some, None, Result, Ok, Err}
 use Rattle.grb_core.specs.declared.domain.Domain.{Domain}
 use Rattle.grb_core.specs.declared.value.Value.{Value}
 use Rattle.grb_core.specs.declared.value.Value.TheVariants as value
@@ -11,12 +11,11 @@ use Rattle.grb_call.specs.declared.ids.VectorId.{VectorId}
 use Rattle.grb_call.specs.declared.call.Call.TheVariants as call
 use Rattle.grb_call.specs.declared.descriptor.WaitMode.TheVariants.{Complete}
 use Rattle.grb_call.specs.History.{store_of}
-use Rattle.grb_call.specs.Store.{matrix_at, vector_at}
 use Rattle.grb_context.specs.Explains.{Answer}
 use Rattle.grb_context.specs.Known.{Knowing, known}
 use Rattle.grb_context.specs.Answered.{Answered}
 use Rattle.grb_context.specs.StoredIn.{IsMatrixOf, IsVectorOf}
-use Rattle.grb_c.specs.Codes.{is_one_domain, monoid_at, with_code, refusal_code, success, invalid_value, domain_mismatch, insufficient_space, out_of_memory, uninitialized_object}
+use Rattle.grb_c.specs.Codes.{is_one_domain, monoid_at, with_code, refusal_code, success, invalid_value, domain_mismatch, insufficient_space, uninitialized_object}
 use Rattle.grb_c.specs.Sessions.{Opened}
 
 -- the cells of three arrays of one length, in turn
@@ -74,16 +73,11 @@ PutsMatrix wanted f m code rows columns values count rows' columns' values' coun
     × (values' ≡ tuples_out wanted m.matrix.domain (min (length rows) (min (length columns) (length values))) (λ e. f e.1) m.matrix.entries values)
     × (count' ≡ count_out wanted m.matrix.domain (length m.matrix.entries) count)
 
--- the matrix does not lie ready, which it does where all that the pass knows is settled
-abbrev pub IsMatrixUnready : Knowing → MatrixId → Type 0
-IsMatrixUnready p a = is_some (matrix_at (store_of (known p)) a) ≡ true → p.settled < length (known p)
-
--- what a read of all entries leaves after this answer to a wait for the matrix: all of the matrix that the store then has; or nothing is
--- written, where the wait was refused, or the matrix does not lie ready
+-- what a read of all entries leaves after this answer to a wait for the matrix: all of the matrix that the store then has; where the wait
+-- was refused, nothing is written
 abbrev pub ReadsMatrix : {X : Type 0} → Domain → (Value → X) → Knowing → MatrixId → Answer → ℤ → List ℕ → List ℕ → List X → ℕ → List ℕ → List ℕ → List X → ℕ → Type 0
 ReadsMatrix wanted f p a (Ok reply) code rows columns values count rows' columns' values' count' =
-    ((m : SparseMatrixView) × IsMatrixOf (store_of (known p)) a m × PutsMatrix wanted f m code rows columns values count rows' columns' values' count')
-    ⊎ (IsMatrixUnready p a × (code ≡ out_of_memory) × (rows' ≡ rows) × (columns' ≡ columns) × (values' ≡ values) × (count' ≡ count))
+    (m : SparseMatrixView) × IsMatrixOf (store_of (known p)) a m × PutsMatrix wanted f m code rows columns values count rows' columns' values' count'
 ReadsMatrix wanted f p a (Err r) code rows columns values count rows' columns' values' count' = (code ≡ refusal_code r) × (rows' ≡ rows) × (columns' ≡ columns) × (values' ≡ values) × (count' ≡ count)
 
 -- A read of all entries of a matrix by a pass: a wait for it, with all that the store promises of that, and what it leaves
@@ -109,13 +103,9 @@ PutsVector wanted f x code indices values count indices' values' count' =
     × (values' ≡ tuples_out wanted x.vector.domain (min (length indices) (length values)) (λ e. f e.1) x.vector.entries values)
     × (count' ≡ count_out wanted x.vector.domain (length x.vector.entries) count)
 
-abbrev pub IsVectorUnready : Knowing → VectorId → Type 0
-IsVectorUnready p v = is_some (vector_at (store_of (known p)) v) ≡ true → p.settled < length (known p)
-
 abbrev pub ReadsVector : {X : Type 0} → Domain → (Value → X) → Knowing → VectorId → Answer → ℤ → List ℕ → List X → ℕ → List ℕ → List X → ℕ → Type 0
 ReadsVector wanted f p v (Ok reply) code indices values count indices' values' count' =
-    ((x : SparseVectorView) × IsVectorOf (store_of (known p)) v x × PutsVector wanted f x code indices values count indices' values' count')
-    ⊎ (IsVectorUnready p v × (code ≡ out_of_memory) × (indices' ≡ indices) × (values' ≡ values) × (count' ≡ count))
+    (x : SparseVectorView) × IsVectorOf (store_of (known p)) v x × PutsVector wanted f x code indices values count indices' values' count'
 ReadsVector wanted f p v (Err r) code indices values count indices' values' count' = (code ≡ refusal_code r) × (indices' ≡ indices) × (values' ≡ values) × (count' ≡ count)
 
 pub record ReadsVectorBy {X : Type 0} (wanted : Domain) (f : Value → X) (old new : Opened) (v : ℕ) (code : ℤ) (indices : List ℕ) (values : List X) (count : ℕ) (indices' : List ℕ) (values' : List X) (count' : ℕ) : Type 0 where

@@ -1,6 +1,6 @@
 //! What the numbers of the C interface stand for.
 ghost use Rattle.std.specs.Prelude.{◌≡◌, ◌==◌, ℕ, None, Some, if◌then◌else◌};
-ghost use Rattle.grb_c.specs.Codes.{accum_at, bool_code, bool_out, descriptor_at, dims_code, dims_out, domain_at, done_code, met_code, mode_at, monoid_at, number_code, number_out, object_code, object_out, op_at, refusal_code, semiring_of};
+ghost use Rattle.grb_c.specs.Codes.{accum_at, bool_code, bool_out, descriptor_at, dims_code, dims_out, domain_at, done_code, met_code, mode_at, monoid_at, number_code, number_out, object_code, object_out, op_at, refusal_code, semiring_of, upright_descriptor_at};
 
 use grb_call::{Descriptor, MatrixId, Reply, VectorId, WaitMode};
 use grb_core::{BinaryOp, Domain, Monoid, Refusal, Semiring, Value};
@@ -252,6 +252,13 @@ pub(crate) fn descriptor_at(n: u32) -> Option<Descriptor>
     } else {
         None
     }
+}
+
+/// The descriptor of the lowest three of these bits, for what reads no first input transposed.
+pub(crate) fn upright_descriptor_at(n: u32) -> Option<Descriptor>
+    ensures { result ≡ upright_descriptor_at n }
+{
+    if n < 8 { descriptor_at(n) } else { None }
 }
 
 /// The mode of a number.

@@ -25,6 +25,13 @@ pub struct TrbPass {
 impl TrbPass {
     ghost use Rattle.grb_c.specs.Handles.{Calls, Makes};
 
+    /// Whether there is a pass.
+    pub(crate) fn is_open(&self) -> bool
+        ensures { result ≡ is_some self.now.raw.session }
+    {
+        self.is_open
+    }
+
     /// Takes the session out, if there is one.
     pub(crate) fn take(&mut self, alloc: Global) -> Option<Box<Session>>
         ensures taken { MatchOption result (self.old.raw.session ≡ None) (λ s. self.old.raw.session ≡ Some s.value) }

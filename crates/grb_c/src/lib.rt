@@ -16,6 +16,7 @@ mod raw;
 mod session;
 mod succession;
 mod tuples;
+mod version;
 
 pub use facts::TrbFacts;
 pub use handle::TrbPass;

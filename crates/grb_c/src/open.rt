@@ -2,11 +2,12 @@
 ghost use Rattle.std.specs.Prelude.{◌≡◌, ◌⊎◌, ◌++◌, ◌∷◌, [], true, false, All, None, Some, IfSome, MatchOption, length, map, slice_get};
 ghost use Rattle.grb_order.specs.Order.{room_of};
 ghost use Rattle.grb_context.specs.Known.{IsPassOf};
-ghost use Rattle.grb_c.specs.Codes.{invalid_value, out_of_memory, panic, success};
+ghost use Rattle.grb_c.specs.Codes.{invalid_value, out_of_memory, success};
+ghost use Rattle.grb_c.specs.Handles.{are_none};
 ghost use Rattle.grb_c.specs.Opening.{AreOpened, HoldFrom, IsWithin};
 ghost use Rattle.grb_c.specs.Sessions.{AreApart, Meets, Prepares};
 
-use crate::codes::{INVALID_VALUE, OUT_OF_MEMORY, PANIC, SUCCESS, UNINITIALIZED_OBJECT, met_code};
+use crate::codes::{INVALID_VALUE, OUT_OF_MEMORY, SUCCESS, UNINITIALIZED_OBJECT, met_code};
 use crate::handle::TrbPass;
 use crate::session::Session;
 use grb_context::{Context, MOST_PASSES, MOST_ROOM, MOST_SEATS, Pass};
@@ -23,6 +24,13 @@ pub(crate) fn is_within(room: u32, passes: usize) -> bool
         && 0 < passes
         && passes <= MOST_PASSES as usize
         && room as usize * passes <= MOST_SEATS as usize
+}
+
+/// Whether none of the handles has a pass.
+pub(crate) fn are_none(passes: &[TrbPass]) -> bool
+    ensures { result ≡ are_none passes.now }
+{
+    passes.iter().all(|pass| !pass.is_open())
 }
 
 /// One pass of the context into a handle.
@@ -47,12 +55,12 @@ fn hand_out(
     SUCCESS
 }
 
-/// Takes the last pass out of these.
+/// Takes the last pass out of these, if there is one.
 fn last_pass(context: &Arc<Context>, passes: &mut Vec<Pass>) -> Option<Pass>
     requires { All (IsPassOf context.now.value) passes.old.items }
     ensures pass { IfSome result (IsPassOf context.now.value) }
     ensures rest { All (IsPassOf context.now.value) passes.new.items }
-    ensures last { IfSome result (λ pass. passes.old.items ≡ passes.new.items ++ pass ∷ []) }
+    ensures last { MatchOption result (passes.old.items ≡ []) (λ pass. passes.old.items ≡ passes.new.items ++ pass ∷ []) }
 {
     passes.pop()
 }
@@ -69,13 +77,13 @@ fn hand_out_all(
     requires count { length opened.items ≡ length passes.old }
     ensures hold { result ≡ success → HoldFrom 0 context.now.value store (λ k p. slice_get opened.items k ≡ Some p) (map (λ h. h.raw.session) passes.new) }
     ensures count { length passes.new ≡ length passes.old }
-    ensures code { (result ≡ success) ⊎ ((result ≡ out_of_memory) ⊎ (result ≡ panic)) }
+    ensures code { (result ≡ success) ⊎ (result ≡ out_of_memory) }
 {
     let mut rest = opened;
     let n = passes.len();
     for at in 0..n {
         let Some(pass) = last_pass(context, &mut rest) else {
-            return PANIC;
+            unreachable!()
         };
         let code = hand_out(alloc, store, context, pass, &mut passes[n - 1 - at]);
         if code != SUCCESS {
@@ -97,7 +105,7 @@ pub(crate) fn hand_out_context(
     requires count { length opened.items ≡ length passes.old }
     ensures hold { result ≡ success → HoldFrom 0 context store (λ k p. slice_get opened.items k ≡ Some p) (map (λ h. h.raw.session) passes.new) }
     ensures count { length passes.new ≡ length passes.old }
-    ensures code { (result ≡ success) ⊎ ((result ≡ out_of_memory) ⊎ (result ≡ panic)) }
+    ensures code { (result ≡ success) ⊎ (result ≡ out_of_memory) }
 {
     let Ok(context) = Arc::new(alloc, context) else {
         return OUT_OF_MEMORY;
@@ -105,14 +113,16 @@ pub(crate) fn hand_out_context(
     hand_out_all(alloc, store, &context, opened, passes)
 }
 
-/// A context with room for so many calls, and a pass of it in each handle. The number is that of this store alone, among those that are
-/// open: a meeting goes by it.
+/// A context with room for so many calls, and a pass of it in each handle, none of which has one before. The number is that of this store
+/// alone, among those that are open: a meeting goes by it.
 #[unsafe(no_mangle)]
 pub extern "C" fn trb_open(alloc: Global, store: u64, room: u32, passes: &mut [TrbPass]) -> i32
     ensures opened { result ≡ success → AreOpened store room (map (λ h. h.raw.session) passes.new) }
-    ensures outside { (IsWithin room (length passes.old) → ⊥) → result ≡ invalid_value }
+    ensures code { IsWithin room (length passes.old) → are_none passes.old ≡ true → (result ≡ success) ⊎ (result ≡ out_of_memory) }
+    ensures outside { (IsWithin room (length passes.old) → ⊥) → (result ≡ invalid_value) × (passes.new ≡ passes.old) }
+    ensures taken { are_none passes.old ≡ false → (result ≡ invalid_value) × (passes.new ≡ passes.old) }
 {
-    if !is_within(room, passes.len()) {
+    if !is_within(room, passes.len()) || !are_none(passes) {
         return INVALID_VALUE;
     }
     let Ok((context, opened)) = Context::open(alloc, room, passes.len() as u32) else {

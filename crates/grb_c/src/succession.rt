@@ -1,10 +1,10 @@
 //! A store that goes on where another is full.
-ghost use Rattle.std.specs.Prelude.{◌≡◌, ◌==◌, MatchOption, length, map};
+ghost use Rattle.std.specs.Prelude.{◌≡◌, ◌==◌, false, true, MatchOption, length, map};
 ghost use Rattle.grb_order.specs.Order.{room_of};
 ghost use Rattle.grb_call.specs.History.{store_of};
 ghost use Rattle.grb_context.specs.Known.{known};
 ghost use Rattle.grb_c.specs.Codes.{invalid_value};
-ghost use Rattle.grb_c.specs.Handles.{Succeeds};
+ghost use Rattle.grb_c.specs.Handles.{Succeeds, are_none};
 ghost use Rattle.grb_c.specs.Opening.{IsWithin};
 ghost use Rattle.grb_c.specs.Sessions.{IsSameButMade, facts_code};
 ghost use Rattle.grb_c.specs.Succession.{GoesOn, needed_out, no_successor_code};
@@ -13,7 +13,7 @@ use crate::codes::{
     INSUFFICIENT_SPACE, INVALID_VALUE, OUT_OF_MEMORY, PANIC, SUCCESS, UNINITIALIZED_OBJECT,
 };
 use crate::handle::TrbPass;
-use crate::open::{hand_out_context, is_within};
+use crate::open::{are_none, hand_out_context, is_within};
 use crate::session::Session;
 use grb_context::NoSuccessor;
 use std::alloc::Global;
@@ -52,9 +52,9 @@ fn go_on(
     }
 }
 
-/// A new context that goes on where the pass ends, and a pass of it in each handle: its history takes `room` calls, and begins with those
-/// that make just the store that all calls leave which the pass knows. The number is that of the new store alone, among those that are
-/// open. Where the room is too small, tells how many calls are needed.
+/// A new context that goes on where the pass ends, and a pass of it in each handle, none of which has one before: its history takes `room`
+/// calls, and begins with those that make just the store that all calls leave which the pass knows. The number is that of the new store
+/// alone, among those that are open. Where the room is too small, tells how many calls are needed.
 #[unsafe(no_mangle)]
 pub extern "C" fn trb_succeed(
     alloc: Global,
@@ -65,10 +65,11 @@ pub extern "C" fn trb_succeed(
     passes: &mut [TrbPass],
 ) -> i32
     ensures same { IsSameButMade pass.old.raw.session pass.new.raw.session }
-    ensures succeeds { IsWithin room (length passes.old) → Succeeds store room pass.old result needed.old needed.new passes.new }
-    ensures outside { (IsWithin room (length passes.old) → ⊥) → (result ≡ invalid_value) × (needed.new ≡ needed.old) }
+    ensures succeeds { IsWithin room (length passes.old) → are_none passes.old ≡ true → Succeeds store room pass.old result needed.old needed.new passes.new }
+    ensures outside { (IsWithin room (length passes.old) → ⊥) → (result ≡ invalid_value) × (needed.new ≡ needed.old) × (passes.new ≡ passes.old) }
+    ensures taken { are_none passes.old ≡ false → (result ≡ invalid_value) × (needed.new ≡ needed.old) × (passes.new ≡ passes.old) }
 {
-    if !is_within(room, passes.len()) {
+    if !is_within(room, passes.len()) || !are_none(passes) {
         return INVALID_VALUE;
     }
     let Some(mut session) = pass.take(alloc) else {

@@ -4,7 +4,7 @@ ghost use Rattle.grb_c.specs.Handles.{ReadsBools, ReadsBoolsOfVector, ReadsNumbe
 ghost use Rattle.grb_c.specs.Tuples.{PutsMatrix, PutsVector, ReadsAll, ReadsAllOfVector, ReadsMatrixBy, ReadsVectorBy, written};
 
 use crate::codes::{
-    DOMAIN_MISMATCH, INSUFFICIENT_SPACE, OUT_OF_MEMORY, SUCCESS, UNINITIALIZED_OBJECT, refusal_code,
+    DOMAIN_MISMATCH, INSUFFICIENT_SPACE, SUCCESS, UNINITIALIZED_OBJECT, refusal_code,
 };
 use crate::handle::TrbPass;
 use crate::item::Item;
@@ -118,7 +118,7 @@ impl Session {
         match waited {
             Ok(_done) => match self.pass.matrix(a) {
                 Some(matrix) => put_matrix(matrix, rows, columns, values, count),
-                None => OUT_OF_MEMORY,
+                None => unreachable!(),
             },
             Err(refusal) => refusal_code(refusal),
         }
@@ -140,7 +140,7 @@ impl Session {
         match waited {
             Ok(_done) => match self.pass.vector(v) {
                 Some(vector) => put_vector(vector, indices, values, count),
-                None => OUT_OF_MEMORY,
+                None => unreachable!(),
             },
             Err(refusal) => refusal_code(refusal),
         }

@@ -7,8 +7,8 @@ use Rattle.grb_context.specs.Known.{Shared, Knowing}
 use Rattle.grb_context.specs.Explains.{Answer}
 use Rattle.grb_context.specs.Answered.{Answered}
 
--- what is handed out after the answer to a wait: its refusal, or the object; where the wait was done, the one holder more may still be
--- refused
+-- what is handed out after the answer to a wait: its refusal, or the object; where the wait was done, the object lies ready, and the one
+-- holder more alone may still be refused
 abbrev pub Hands : {X : Type 0} → Answer → Result X Refusal → Type 0
 Hands (Ok reply) (Ok x) = Unit {0}
 Hands (Ok reply) (Err r) = r ≡ OutOfMemory

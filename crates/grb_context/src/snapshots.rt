@@ -18,8 +18,8 @@ impl Context {
     /// The matrix as it stands at the point of a wait for its completion, which is made: all its entries, with no change left that waits.
     /// It is shared with the pass and not copied, and stays what it is whatever comes; a pass that changes its matrix while a snapshot is
     /// held changes a copy. Its status, its point, its steps and its memory are those of [`Context::wait_matrix`] with `Complete`; it is
-    /// refused as that is, and `OutOfMemory` also where 2^63 - 1 hold the matrix. After the wait nothing is evaluated. Who only reads the
-    /// entries may wait, and borrow them by [`Pass::matrix`] (own).
+    /// refused as that is, and `OutOfMemory` also where 2^63 - 1 hold the matrix. An answered wait leaves the matrix ready, so nothing is
+    /// evaluated after it. Who only reads the entries may wait, and borrow them by [`Pass::matrix`], which then has them (own).
     pub fn snapshot_matrix(
         &self,
         pass: &mut Pass,
@@ -33,7 +33,7 @@ impl Context {
         self.wait_matrix(pass, a, WaitMode::Complete)?;
         match pass.matrix(a) {
             Some(matrix) => Arc::try_clone(matrix).or(Err(Refusal::OutOfMemory)),
-            None => Err(Refusal::OutOfMemory),
+            None => unreachable!(),
         }
     }
 
@@ -52,7 +52,7 @@ impl Context {
         self.wait_vector(pass, v, WaitMode::Complete)?;
         match pass.vector(v) {
             Some(vector) => Arc::try_clone(vector).or(Err(Refusal::OutOfMemory)),
-            None => Err(Refusal::OutOfMemory),
+            None => unreachable!(),
         }
     }
 }

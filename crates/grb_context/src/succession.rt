@@ -17,9 +17,9 @@ use std::alloc::Global;
 impl Context {
     /// A context that goes on where this one ends, and its passes: its history takes `room` calls and begins with calls of its pass 0 that
     /// make just the store that all calls leave which this pass knows. So each number means the same object, freed numbers stay freed, and
-    /// the next object is given the next number. Each new pass knows just these calls, shares what is evaluated of them, has no status, and
-    /// settled no call; the one at index k has the number k. This context and its passes are as before, but for what the pass has
-    /// evaluated.
+    /// the next object is given the next number. Each new pass knows just these calls and how many passes there are, shares what is
+    /// evaluated of the calls, has no status, settled no call, and has counted no step and no call that it made; the one at index k has the
+    /// number k. This context and its passes are as before, but for what the pass has evaluated.
     ///
     /// Where [`Pass::is_at_end`] holds of the pass, nothing is lost by going on. Called earlier it makes a branch: what is entered here
     /// later is not there.

@@ -99,8 +99,8 @@ fn merge_row<T: Stored, U: Stored, R: Rule<T, U>>(
     )
 }
 
-/// Puts what the rule makes of two rows after the columns and values so far, and answers how many entries that is. The lists are made longer
-/// by as many as it may be, and then cut. `AllocError` where memory is refused; then more may stand in them than so far.
+/// Puts what the rule makes of two rows after the columns and values so far, and answers how many entries that is. The lists are made
+/// longer by as many as it may be, and then cut. `AllocError` where memory is refused; then more may stand in them than so far.
 fn append_row<T: Stored, U: Stored, R: Rule<T, U>>(
     rule: &R,
     x: &EntrySlice<T>,

@@ -9,8 +9,9 @@ use Rattle.grb_context.specs.Known.{Shared, Knowing, known, IsKnown}
 use Rattle.grb_context.specs.Laws.{ShareCalls}
 use Rattle.grb_context.specs.Succeeding.{BeginsWith}
 
--- Where a pass knows as many calls as there is room for, and a pass of a further store begins with the store that these leave: whatever any other
--- pass of the full store knows, at any step of its order, also a later one, the further store is what that and some calls after it leave
+-- Where a pass knows as many calls as there is room for, and a pass of a further store begins with the store that these leave: whatever
+-- any other pass of the full store knows, at any step of its order, also a later one, the further store is what that and some calls after
+-- it leave
 abbrev pub NothingIsLost : Type 0
 NothingIsLost =
     (size : Size) (s : Row) → Orderly size s → (i j : ℕ) (context : Shared) (p q : Knowing) → HasSeat s i p.view → HasSeat s j q.view → IsKnown context p → IsKnown context q

@@ -26,8 +26,8 @@ pub record Vacant : Type 0 where
 abbrev pub IsAtEnd : Knowing → Type 0
 IsAtEnd p = length (known p) ≡ room_of p.order
 
--- The pass goes on where one ends that was at its end: it is one of this context, and knows the calls that make a store anew, and no others;
--- and that store is the one which all calls leave that the last one knew
+-- The pass goes on where one ends that was at its end: it is one of this context, and knows the calls that make a store anew, and no
+-- others; and that store is the one which all calls leave that the last one knew
 pub record GoesOn (context : Shared) (p : Knowing) : Type 0 where
   pub last : Knowing
   pub at_end : IsAtEnd last

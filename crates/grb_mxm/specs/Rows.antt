@@ -1,6 +1,7 @@
--- inside: no public contract names it. Rows of the product of two matrices, rows whose columns have other names, and what a mask
--- leaves of a product (own).
-use Rattle.std.specs.Prelude.{◌≡◌, ℕ, zero, suc, ◌+◌, ◌<◌, ◌≤◌, Bool, if◌then◌else◌, Some, None, List, [], ◌∷◌, Option, length, map, take, drop, slice_index}
+-- inside: no public contract names it. Rows of the product of two matrices, rows whose columns have other names, when starts of rows
+-- are listed, how many products a row has, and what a mask leaves of a product (own).
+use Rattle.std.specs.Prelude.{◌≡◌, ℕ, zero, suc, ◌+◌, ◌-◌, ◌*◌, ◌^◌, ◌<◌, ◌≤◌, Bool, if◌then◌else◌, Some, None, List, [], ◌∷◌, Option, length, map, take, drop, slice_index}
+use Rattle.std.specs.List.{sum_by}
 use Rattle.grb_core.specs.declared.value.Value.{Value}
 use Rattle.grb_core.specs.Entries.{VectorEntries, MatrixEntries, cell_cmp, before_entries, map_on, restricted}
 use Rattle.grb_core.specs.Mask.{is_selected}
@@ -33,6 +34,21 @@ pub record AreSpans (entries : VectorEntries) (spans : List ℕ) : Type 0 where
   pub up : (r : ℕ) → r + 1 < length spans → slice_index spans r ≤ slice_index spans (r + 1)
   pub within : (r : ℕ) → r < length spans → slice_index spans r ≤ length entries
   pub beyond : (r : ℕ) → length spans ≤ r + 1 → row_of r (decoded entries) ≡ []
+
+-- one start for each number up to the last of the rows, and one more
+abbrev pub spans_needed : List ℕ → ℕ
+spans_needed rows = slice_index rows (length rows - 1) + 2
+
+-- a list of starts is made: there are rows, its length and all places have 32 bits, and it is no longer than 8 times a number of entries
+pub record AreWorthSpans (rows : List ℕ) (len entries : ℕ) : Type 0 where
+  pub some : 0 < length rows
+  pub places : len < 2 ^ 32
+  pub numbers : spans_needed rows < 2 ^ 32
+  pub few : spans_needed rows ≤ 8 * entries
+
+-- how many products a row of these columns has with the rows of a matrix: one for each entry of each row
+abbrev pub products_count : List ℕ → MatrixEntries → ℕ
+products_count columns b = sum_by (λ k. length (row_of k b)) columns
 
 -- what stands at these places, each at its name
 abbrev pub picked : (ℕ → ℕ) → (ℕ → Option Value) → List ℕ → VectorEntries

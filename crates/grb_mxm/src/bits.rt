@@ -1,5 +1,5 @@
-//! The marks of a row of sums as the bits of words, so that a row is read in order and cleared by what was marked. For a row of few products
-//! a second level, `tops`, has a bit for each word that has one, so that no other word is looked at.
+//! The marks of a row of sums as the bits of words, so that a row is read in order and cleared by what was marked. For a row of few
+//! products a second level, `tops`, has a bit for each word that has one, so that no other word is looked at.
 ghost use Rattle.std.specs.Prelude.{◌≡◌, ◌+◌, ◌<◌, ◌≤◌, ◌≢◌, ◌*◌, ◌/◌, ◌^◌, ◌++◌, ℕ, Bool, List, length, slice_index, slice_set, true, Some, None};
 ghost use Rattle.grb_core.specs.Monoid.{identity_of};
 ghost use Rattle.grb_kernels.specs.Typed.{first_entries};

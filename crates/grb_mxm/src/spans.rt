@@ -3,17 +3,19 @@ ghost use Rattle.std.specs.Prelude.{◌≡◌, ◌≢◌, ◌<◌, ◌≤◌, �
 ghost use Rattle.grb_core.specs.Results.{row_of};
 ghost use Rattle.grb_rows.specs.Cells.{decoded, in_row};
 ghost use Rattle.grb_ewise.specs.Ranks.{Rise};
-ghost use Rattle.grb_mxm.specs.Rows.{AreSpans};
+ghost use Rattle.grb_mxm.specs.Rows.{AreSpans, spans_needed, AreWorthSpans};
 
 use grb_ewise::{is_worth_opening, place_of};
 use grb_rows::FlatRows;
 use std::alloc::{AllocError, Global};
 
 /// The length of a list of starts by number: one start for each number up to the last row, and one more. 0 where that is more than 8 times
-/// `entries`, where there are no rows, and where `len`, at which all entries end, needs more than 32 bits.
+/// `entries`, where there are no rows, and where the length, or `len`, at which all entries end, needs more than 32 bits.
 fn spans_length(rows: &[u32], len: usize, entries: usize) -> usize
     requires rising { Rise rows.now }
     ensures enough { 0 < result → (k : ℕ) → k < length rows.now → slice_index rows.now k + 1 < result }
+    ensures exact { 0 < result → result ≡ spans_needed rows.now }
+    ensures listed { AreWorthSpans rows.now len entries → 0 < result }
     ensures fit { 0 < result → len < 2 ^ 32 }
     ensures few { result ≤ 8 * entries }
 {
@@ -70,13 +72,15 @@ fn fill_spans(lists: &FlatRows, spans: &mut [u32])
 }
 
 /// Where the entries of each row begin, by its number, and one place further where they end; an empty list, where it would be longer than
-/// 8 times `entries`. `AllocError` where memory is refused; then nothing is made.
+/// 8 times `entries`, where there are no rows, and where its length or a place of an entry needs more than 32 bits. `AllocError` where
+/// memory is refused; then nothing is made.
 pub(crate) fn spans_of(
     alloc: Global,
     lists: &FlatRows,
     entries: usize,
 ) -> Result<Vec<u32>, AllocError>
     ensures spans { IfOk result (λ spans. 0 < length spans.items → AreSpans lists.now.entries spans.items) }
+    ensures listed { IfOk result (λ spans. AreWorthSpans lists.now.rows (length lists.now.entries) entries → 0 < length spans.items) }
     ensures few { IfOk result (λ spans. length spans.items ≤ 8 * entries) }
 {
     let size = spans_length(lists.rows(), lists.len(), entries);

@@ -1,5 +1,5 @@
 //! The rows of the product of two matrices, all of whose cells are computed.
-ghost use Rattle.std.specs.Prelude.{◌≡◌, ◌<◌, ◌≤◌, ◌*◌, ◌/◌, ℕ, None, All, length, slice_index, IfOk};
+ghost use Rattle.std.specs.Prelude.{◌≡◌, ◌-◌, ◌<◌, ◌≤◌, ◌*◌, ◌/◌, ◌^◌, ◌↔◌, ℕ, None, true, min, All, length, slice_index, IfOk};
 ghost use Rattle.std.specs.List.{AllByRecursion};
 ghost use Rattle.std.specs.Ordering.{nat_cmp};
 ghost use Rattle.std.specs.FinMap.{find};
@@ -11,7 +11,7 @@ ghost use Rattle.grb_kernels.specs.Typed.{first_entries};
 ghost use Rattle.grb_rows.specs.Cells.{decoded};
 ghost use Rattle.grb_ewise.specs.Ranks.{Rise};
 ghost use Rattle.grb_products.specs.ColumnSums.{with_values};
-ghost use Rattle.grb_mxm.specs.Rows.{AreRows, name_in};
+ghost use Rattle.grb_mxm.specs.Rows.{AreRows, name_in, products_count};
 ghost use Rattle.grb_mxm.specs.Bits.{IsCleared, AreNoTops};
 ghost use Rattle.grb_mxm.specs.Reach.{IsOutside};
 
@@ -37,7 +37,7 @@ const PRODUCTS_FOR_ONE_WORD: usize = 2;
 /// How many products a row of these columns has, if they are fewer than `most`; else `most`. A product makes one entry of the result, or is
 /// added to one.
 fn products_up_to<T: Stored>(columns: &[u32], b: &RankedRows<T>, most: usize) -> usize
-    ensures { result ≤ most }
+    ensures { result ≡ min most (products_count columns.now (decoded b.now.lists.now.entries)) }
 {
     let mut count = 0;
     for i in 0..columns.len() {
@@ -52,7 +52,10 @@ fn products_up_to<T: Stored>(columns: &[u32], b: &RankedRows<T>, most: usize) ->
 
 /// Whether a row of these columns has few products for so many words. Where rows are found by search no products are counted, and each row
 /// is taken for one of few. Either answer is right; it bears on time alone.
-fn has_few_products<T: Stored>(columns: &[u32], b: &RankedRows<T>, words: usize) -> bool {
+fn has_few_products<T: Stored>(columns: &[u32], b: &RankedRows<T>, words: usize) -> bool
+    ensures searched { length b.now.spans.now ≡ 0 → result ≡ true }
+    ensures counted { 0 < length b.now.spans.now → (result ≡ true ↔ products_count columns.now (decoded b.now.lists.now.entries) < min (2 * words) (2 ^ 64 - 1)) }
+{
     if b.spans.len() == 0 {
         return true;
     }

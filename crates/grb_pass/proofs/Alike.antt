@@ -1,21 +1,21 @@
--- What a call explains and counts is a matter of the pass's view and its records: it does not rest on the statuses, nor on what is settled, nor on how many calls
--- were made.
+-- What a call explains and counts is a matter of the pass's view and its records: it does not rest on the statuses, nor on what is settled, nor on what was
+-- made.
 use Rattle.std.proofs.Common.{◌≡◌, ℕ, ◌++◌, inl, inr, sym, subst}
 use Rattle.std.specs.Prelude.{Err}
 use Rattle.grb_core.specs.declared.refusal.Refusal.{Refusal}
 use Rattle.grb_call.specs.declared.call.Call.{Call}
 use Rattle.grb_call.specs.History.{History}
-use Rattle.grb_pass.specs.Known.{Shared, Knowing, known, IsKnown, IsPassOf}
+use Rattle.grb_pass.specs.Known.{Shared, Knowing, Making, known, IsKnown, IsPassOf}
 use Rattle.grb_pass.specs.Explains.{Answer, Ground, ByStore, ByRoom, ByMemory, ByRecords, ExplainsAnswer, IsCaughtUp, IsGrounded, ground_of}
 use Rattle.grb_pass.specs.Counting.{Counts, CountsCall}
 use Rattle.grb_pass.specs.Learning.{IsReady, IsRefused, IsSteady, Learns, LooksAtEnd}
 use Rattle.grb_call.specs.Statuses.{StatusRows}
 
 -- a pass of which nothing else changed
-abbrev pub with_rest : Knowing → StatusRows → ℕ → ℕ → Knowing
+abbrev pub with_rest : Knowing → StatusRows → ℕ → Making → Knowing
 with_rest p statuses settled made = record p { statuses = statuses; settled = settled; made = made }
 
-module _ (room : ℕ) (old mid : Knowing) (statuses : StatusRows) (settled made : ℕ) (c : Call) (r : Answer) where
+module _ (room : ℕ) (old mid : Knowing) (statuses : StatusRows) (settled : ℕ) (made : Making) (c : Call) (r : Answer) where
   grounds_alike : (g : History) (by : Ground) → IsGrounded room old mid c r g by → IsGrounded room old (with_rest mid statuses settled made) c r g by
   grounds_alike g ByStore is = record { answered = is.answered; point = is.point }
   grounds_alike g ByRoom is = is
@@ -33,7 +33,7 @@ module _ (room : ℕ) (old mid : Knowing) (statuses : StatusRows) (settled made 
     known_is = e.known_is;
   }
 
-module _ (mid : Knowing) (statuses : StatusRows) (settled made : ℕ) where
+module _ (mid : Knowing) (statuses : StatusRows) (settled : ℕ) (made : Making) where
   pub caught_up_alike : (by : Ground) → IsCaughtUp by mid → IsCaughtUp by (with_rest mid statuses settled made)
   caught_up_alike ByStore is = is
   caught_up_alike ByRoom is = is
@@ -43,7 +43,7 @@ module _ (mid : Knowing) (statuses : StatusRows) (settled made : ℕ) where
   pub steady_alike : IsSteady mid → IsSteady (with_rest mid statuses settled made)
   steady_alike is = record { records = is.records; few = is.few; sound = is.sound; others = is.others; small = is.small }
 
-pub counts_alike : (room : ℕ) (old mid : Knowing) (statuses : StatusRows) (settled made : ℕ) → CountsCall room old mid → CountsCall room old (with_rest mid statuses settled made)
+pub counts_alike : (room : ℕ) (old mid : Knowing) (statuses : StatusRows) (settled : ℕ) (made : Making) → CountsCall room old mid → CountsCall room old (with_rest mid statuses settled made)
 counts_alike room old mid statuses settled made is = let rise = is.rise in record {
   count = is.count;
   rise = record { lost = rise.lost; rising = rise.rising; looks = rise.looks };
@@ -54,7 +54,7 @@ counts_alike room old mid statuses settled made is = let rise = is.rise in recor
   alone = is.alone;
 }
 
-pub known_alike : (context : Shared) (mid : Knowing) (statuses : StatusRows) (settled made : ℕ) → IsKnown context mid → IsKnown context (with_rest mid statuses settled made)
+pub known_alike : (context : Shared) (mid : Knowing) (statuses : StatusRows) (settled : ℕ) (made : Making) → IsKnown context mid → IsKnown context (with_rest mid statuses settled made)
 known_alike context mid statuses settled made is = record {
   records = is.records;
   shown = is.shown;
@@ -73,7 +73,7 @@ pub record IsAtEnd (context : Shared) (room : ℕ) (old new : Knowing) : Type 0 
   pub learns : Learns old new
   pub steady : IsSteady new
 
-at_end_made : (context : Shared) (room : ℕ) (old mid : Knowing) (made : ℕ) → IsAtEnd context room old mid → IsAtEnd context room old (record mid { made = made })
+at_end_made : (context : Shared) (room : ℕ) (old mid : Knowing) (made : Making) → IsAtEnd context room old mid → IsAtEnd context room old (record mid { made = made })
 at_end_made context room old mid made is = let l = is.learns in record {
   pass = record { order = is.pass.order; records = is.pass.records };
   counts = is.counts;
@@ -82,13 +82,13 @@ at_end_made context room old mid made is = let l = is.learns in record {
   steady = steady_alike mid mid.statuses mid.settled made is.steady;
 }
 
-refused_made : (room : ℕ) (old mid : Knowing) (made : ℕ) (c : Call) (r : Refusal) → IsRefused room old mid c r → IsRefused room old (record mid { made = made }) c r
+refused_made : (room : ℕ) (old mid : Knowing) (made : Making) (c : Call) (r : Refusal) → IsRefused room old mid c r → IsRefused room old (record mid { made = made }) c r
 refused_made room old mid made c r is = record {
   grounds = grounds_alike room old mid mid.statuses mid.settled made c (Err r) (known mid) (ground_of (Err r)) is.grounds;
   caught_up = caught_up_alike mid mid.statuses mid.settled made (ground_of (Err r)) is.caught_up;
 }
 
-ready_made : (room : ℕ) (mid : Knowing) (made : ℕ) (c : Call) → IsReady room mid c → IsReady room (record mid { made = made }) c
+ready_made : (room : ℕ) (mid : Knowing) (made : Making) (c : Call) → IsReady room mid c → IsReady room (record mid { made = made }) c
 ready_made room mid made c is = record { all = is.all; looked = is.looked; room_left = is.room_left; unrefused = is.unrefused }
 
 -- and after the evaluation of a build's object, where no more changed than how many calls were made

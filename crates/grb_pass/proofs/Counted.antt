@@ -10,7 +10,7 @@ use Rattle.grb_order.specs.declared.step.Look.{Look}
 use Rattle.grb_order.specs.declared.step.Look.TheVariants.{Next, Vacant, Full}
 use Rattle.grb_call.specs.declared.call.Call.{Call}
 use Rattle.grb_pass.specs.Counting.{steps_of, look_steps, Counts, CountsTries, CountsCall, LooksLast, LooksOnce, LooksRise, others_end}
-use Rattle.grb_pass.specs.Known.{Knowing, known}
+use Rattle.grb_pass.specs.Known.{Knowing, known, none_made}
 use Rattle.grb_pass.specs.Explains.{Answer, ExplainsAnswer, ground_of}
 use Rattle.grb_pass.specs.Learning.{IsReady, Learns, LooksAtEnd}
 use Rattle.grb_pass.proofs.Learnt.{grows_refl}
@@ -126,7 +126,7 @@ lost_again room old mid lost new word c before tried is after looks ready = λ e
     (looks_ready room lost new c looks ready ∙ ap (λ (x : View). x.looks ++ length new.view.words ∷ []) is)
 
 abbrev pub begun : Knowing → Knowing
-begun p = record p { steps = 0; made = 0 }
+begun p = record p { steps = 0; made = none_made }
 
 learns_begun : (p : Knowing) → Learns p (begun p)
 learns_begun p = record {

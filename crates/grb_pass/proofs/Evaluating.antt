@@ -16,10 +16,10 @@ use Rattle.grb_replay.specs.Reached.{IsReached, IsReachedIn, IsWhole, IsWholeIn,
 use Rattle.grb_replay.proofs.Partial.{partial_more}
 use Rattle.grb_replay.proofs.GoneOver.{evaluated_reached, reached_more, reached_same, whole_all}
 use Rattle.grb_state.specs.Evaluated.{IsEvaluated}
-use Rattle.grb_pass.specs.Known.{Knowing, known, spelled}
+use Rattle.grb_pass.specs.Known.{Knowing, Making, known, spelled}
 use Rattle.grb_pass.specs.Laws.{Begins}
 use Rattle.grb_pass.specs.Learning.{Enters, Learns}
-use Rattle.grb_pass.specs.Evaluated.{EvaluatedView, IsEvaluatedFor, IsInStep, IsSettledStore, IsStoreFor}
+use Rattle.grb_pass.specs.Evaluated.{EvaluatedView, IsEvaluatedFor, IsInStep, IsSettledStore, IsStoreFor, LiesReady}
 use Rattle.grb_pass.proofs.Spelling.{length_spelled, calls_of-append, calls_of-spelled, spelled_push, spelled_more}
 
 pub length-calls_of : (h : History) → length (calls_of h) ≡ length h
@@ -62,11 +62,19 @@ evaluated_more old new e more order settled is at =
 pub evaluated_learns : (old new : Knowing) (e : EvaluatedView) → new.order ≡ old.order → Learns old new → IsEvaluatedFor old e → IsEvaluatedFor new e
 evaluated_learns old new e order l kept = evaluated_more old new e l.learnt order l.settled l.known_is kept
 
+-- what was left ready lies so
+left_ready : (old new : Knowing) (e : EvaluatedView) → new.made ≡ old.made → IfSome old.made.ready (LiesReady e) → IfSome new.made.ready (LiesReady e)
+left_ready old new e made lies = subst (λ (m : Making). IfSome m.ready (LiesReady e)) (sym made) lies
+
 pub in_step_learns : (old new : Knowing) (e : EvaluatedView) → new.order ≡ old.order → Learns old new → new.made ≡ old.made → IsInStep old e → IsInStep new e
-in_step_learns old new e order l made kept = record { evaluated = evaluated_learns old new e order l kept.evaluated; made = made ∙ kept.made }
+in_step_learns old new e order l made kept = record {
+  evaluated = evaluated_learns old new e order l kept.evaluated;
+  made = ap (λ (m : Making). m.count) made ∙ kept.made;
+  ready = left_ready old new e made kept.ready;
+}
 
 -- where as many calls are noted as were made
-pub evaluated_noted : (p : Knowing) (e : EvaluatedView) (made : ℕ) → IsEvaluatedFor p e → IsEvaluatedFor (record p { made = made }) e
+pub evaluated_noted : (p : Knowing) (e : EvaluatedView) (made : Making) → IsEvaluatedFor p e → IsEvaluatedFor (record p { made = made }) e
 evaluated_noted p e made is = record {
   store = record {
     at = is.store.at;
@@ -78,8 +86,9 @@ evaluated_noted p e made is = record {
   within = is.within;
 }
 
-pub in_step_noted : (p q : Knowing) (e : EvaluatedView) → q ≡ record p { made = e.made } → IsEvaluatedFor p e → IsInStep q e
-in_step_noted p q e is evaluated = subst (λ (k : Knowing). IsInStep k e) (sym is) (record { evaluated = evaluated_noted p e e.made evaluated; made = refl })
+pub in_step_noted : (p q : Knowing) (e : EvaluatedView) → q ≡ record p { made = record { count = e.made; ready = None } } → IsEvaluatedFor p e → IsInStep q e
+in_step_noted p q e is evaluated =
+    subst (λ (k : Knowing). IsInStep k e) (sym is) (record { evaluated = evaluated_noted p e (record { count = e.made; ready = None }) evaluated; made = refl; ready = tt })
 
 -- where all known calls are settled, they were all made
 pub all_made : (p : Knowing) (e : EvaluatedView) → IsEvaluatedFor p e → length (known p) ≤ p.settled → IsWhole e.reached × (length (known p) ≤ e.reached.count)
@@ -105,7 +114,11 @@ evaluated_tried room old new token e back order same is all kept =
 
 pub in_step_tried : (room : ℕ) (old new : Knowing) (token : Shown) (e : EvaluatedView) (back : Option Shown) → new.order ≡ old.order → new.settled ≡ old.settled → new.made ≡ old.made → Enters room token old back new
     → length old.shown ≡ length old.view.words → IsInStep old e → IsInStep new e
-in_step_tried room old new token e back order same made is all kept = record { evaluated = evaluated_tried room old new token e back order same is all kept.evaluated; made = made ∙ kept.made }
+in_step_tried room old new token e back order same made is all kept = record {
+  evaluated = evaluated_tried room old new token e back order same is all kept.evaluated;
+  made = ap (λ (m : Making). m.count) made ∙ kept.made;
+  ready = left_ready old new e made kept.ready;
+}
 
 pub known_within : (p : Knowing) (k : ℕ) → length p.shown ≤ length p.view.words → k < length (known p) → k < length p.shown
 known_within p k few lt = let n : length (known p) ≡ length p.shown = length_spelled p.view.words p.shown few in omega (arith, lt, n)

@@ -18,3 +18,4 @@ mod Rising
 mod Settling
 mod Spelling
 mod Succeeding
+mod Waiting

@@ -7,13 +7,13 @@ use Rattle.grb_call.specs.Kinds.{enters, is_build, is_size}
 use Rattle.grb_call.specs.Refused.{refused_by_shapes}
 use Rattle.grb_call.specs.Store.{shapes_of}
 use Rattle.grb_call.specs.History.{History, store_of}
-use Rattle.grb_pass.specs.Known.{Knowing, known}
+use Rattle.grb_pass.specs.Known.{Knowing, Making, known}
 use Rattle.grb_pass.specs.Made.{MakesNone, ReadsNone}
 
 -- one that only reads, and was not refused
 pub read_none : (now new : Knowing) (c : Call) (settled : ℕ) → new ≡ record now { settled = new.settled; made = new.made } → now.settled ≡ settled → refused_by_shapes (shapes_of (store_of (known now))) c ≡ None
-    → (is_size c ≡ true → new.made ≡ now.made) → (length (known now) ≤ now.settled → new.made ≡ now.made) → ReadsNone settled (known new) c → new.made ≡ now.made
-read_none now new c settled same before accepted size all (inl is) = size is
+    → (is_size c ≡ true → new.made ≡ now.made) → (length (known now) ≤ now.settled → new.made.count ≡ now.made.count) → ReadsNone settled (known new) c → new.made.count ≡ now.made.count
+read_none now new c settled same before accepted size all (inl is) = ap (λ (m : Making). m.count) (size is)
 read_none now new c settled same before accepted size all (inr (inl is)) =
     let g : known new ≡ known now = ap known same in
     let some : refused_by_shapes (shapes_of (store_of (known now))) c ≡ Some is.0 = subst (λ (h : History). refused_by_shapes (shapes_of (store_of h)) c ≡ Some is.0) g is.1 in
@@ -23,11 +23,11 @@ read_none now new c settled same before accepted size all (inr (inr is)) =
     all (omega (arith, is, g, before))
 
 -- one that enters and is no build
-pub entered_none : (settled : ℕ) (g : History) (c : Call) {n m : ℕ} → enters c ≡ true → (is_build c ≡ false → n ≡ m) → MakesNone settled g c → n ≡ m
+pub entered_none : (settled : ℕ) (g : History) (c : Call) {X : Type 0} {n m : X} → enters c ≡ true → (is_build c ≡ false → n ≡ m) → MakesNone settled g c → n ≡ m
 entered_none settled g c writes plain (inl is) = plain is.1
 entered_none settled g c writes plain (inr is) = let no : true ≡ false = sym writes ∙ is.0 in cc
 
 -- and one that only reads
-pub read_only_none : (settled : ℕ) (g : History) (c : Call) {n m : ℕ} → enters c ≡ false → (ReadsNone settled g c → n ≡ m) → MakesNone settled g c → n ≡ m
+pub read_only_none : (settled : ℕ) (g : History) (c : Call) {X : Type 0} {n m : X} → enters c ≡ false → (ReadsNone settled g c → n ≡ m) → MakesNone settled g c → n ≡ m
 read_only_none settled g c reads none (inl is) = let no : true ≡ false = sym is.0 ∙ reads in cc
 read_only_none settled g c reads none (inr is) = none is.1

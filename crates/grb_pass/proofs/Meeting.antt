@@ -7,7 +7,7 @@ use Rattle.std.specs.Prelude.{Result}
 use Rattle.grb_core.specs.declared.refusal.Refusal.{Refusal}
 use Rattle.grb_order.specs.View.{is_told}
 use Rattle.grb_order.specs.declared.view.View.{View}
-use Rattle.grb_pass.specs.Known.{Shared, Knowing, known, spelled, AreRecords, IsPassOf}
+use Rattle.grb_pass.specs.Known.{Shared, Knowing, known, none_made, spelled, AreRecords, IsPassOf}
 use Rattle.grb_pass.specs.Laws.{Begins}
 use Rattle.grb_pass.specs.Learning.{IsSteady, Learns}
 use Rattle.grb_pass.specs.Meeting.{SharesCallAt, IsMet, Met}
@@ -40,7 +40,7 @@ module _ (p q : Knowing) (of_p : IsSteady p) (of_q : IsSteady q) (starts : Start
 
 -- the words were told, and then records were shown
 pub met : (context : Shared) (old told new other : Knowing) (r : Result (Unit {0}) Refusal) → length old.shown ≤ length old.view.words → told.shown ≡ old.shown → told.statuses ≡ old.statuses → told.settled ≡ old.settled → told.view ≡ is_told old.view other.view.words
-    → told.steps + length old.view.words ≡ length told.view.words → Learns told new → new.view ≡ told.view → new.steps ≡ told.steps → IsPassOf context new → IsSteady new → new.made ≡ 0 → IsMet new other r → Met context old new other r
+    → told.steps + length old.view.words ≡ length told.view.words → Learns told new → new.view ≡ told.view → new.steps ≡ told.steps → IsPassOf context new → IsSteady new → new.made ≡ none_made → IsMet new other r → Met context old new other r
 met context old told new other r few shown statuses settled is steps next view same of steady made answer =
     let l : Learns old new = learns_then old told new (learns_told old told few shown statuses settled other.view.words is) next in
     let n : length new.view.words ≡ length told.view.words = ap (λ (v : View). length v.words) view in record {

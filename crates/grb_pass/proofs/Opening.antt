@@ -11,7 +11,7 @@ use Rattle.grb_order.specs.Holding.{Holding, TableId}
 use Rattle.grb_order.specs.Order.{AreFresh, room_of}
 use Rattle.grb_records.specs.Token.{IsOf}
 use Rattle.grb_call.specs.Statuses.{no_rows}
-use Rattle.grb_pass.specs.Known.{Shared, Knowing, AreNew, HasNoStatus, IsPassOf}
+use Rattle.grb_pass.specs.Known.{Shared, Knowing, none_made, AreNew, HasNoStatus, IsPassOf}
 use Rattle.grb_call.proofs.StatusRows.{none_at}
 
 get_before : {A : Type 0} (xs : List A) (y : A) (k : ℕ) → k < length xs → slice_get (xs ++ y ∷ []) k ≡ slice_get xs k
@@ -34,7 +34,7 @@ abbrev pub fresh_at : TableId → ℕ → ℕ → Holding
 fresh_at order passes number = record { table_id = order; view = fresh number passes }
 
 abbrev pub new_at : TableId → ℕ → ℕ → Knowing
-new_at order passes number = record { order = order; view = fresh number passes; shown = []; steps = 0; statuses = no_rows (room_of order); settled = 0; made = 0 }
+new_at order passes number = record { order = order; view = fresh number passes; shown = []; steps = 0; statuses = no_rows (room_of order); settled = 0; made = none_made }
 
 same_some : {A : Type 0} (o : Option A) (x y : A) → o ≡ Some x → o ≡ Some y → x ≡ y
 same_some o x y e f = cc

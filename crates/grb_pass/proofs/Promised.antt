@@ -1,6 +1,7 @@
 -- All that a call promises follows from what its parts do.
 use Rattle.std.proofs.Common.{◌≡◌, ℕ, ◌≤◌, false, length, Option, ap, sym, subst, ◌∙◌}
 use Rattle.std.specs.Option.{option_or}
+use Rattle.std.specs.Prelude.{OnOk}
 use Rattle.grb_order.specs.Order.{room_of}
 use Rattle.grb_call.specs.declared.call.Call.{Call}
 use Rattle.grb_call.specs.declared.ids.Object.{Object}
@@ -14,7 +15,7 @@ use Rattle.grb_pass.specs.Learning.{IsSteady}
 use Rattle.grb_pass.specs.Made.{MakesNone}
 use Rattle.grb_pass.specs.Answered.{Promise, Answered, promised}
 use Rattle.grb_pass.specs.Replying.{statuses_with}
-use Rattle.grb_pass.specs.Settled.{settled_after}
+use Rattle.grb_pass.specs.Settled.{LeavesReady, settled_after}
 use Rattle.grb_pass.proofs.Alike.{with_rest, explains_alike, caught_up_alike, counts_alike, known_alike}
 use Rattle.grb_pass.proofs.Answering.{memory_explained}
 use Rattle.grb_pass.proofs.Counted.{begun, explains_begun, counts_begun}
@@ -36,8 +37,8 @@ pass_kept context mid new x r kept of = pass_same context mid new (ap (λ (p : K
 
 -- the parts of a call leave the statuses, and settle calls where they are to; and then its answer is kept
 pub answered : (context : Shared) (old now mid new : Knowing) (x : Option Object) (c : Call) (r : Answer) → now ≡ begun old → old.settled ≤ length (known old) → IsPassOf context mid → ExplainsAnswer (room_of context.order) now mid c r → IsSteady mid → IsCaughtUp (ground_of r) mid → CountsCall (room_of context.order) now mid → (enters c ≡ false → LooksOnce now mid)
-    → mid.statuses ≡ now.statuses → mid.settled ≡ settled_after c r (length (known mid)) now.settled → x ≡ object_of c → (MakesNone old.settled (known mid) c → mid.made ≡ 0) → IsKeptAs mid x r new → Answered context old new c r
-answered context old now mid new x c r is before pass explains steady caught_up steps looks same settled about made kept =
+    → mid.statuses ≡ now.statuses → mid.settled ≡ settled_after c r (length (known mid)) now.settled → x ≡ object_of c → (MakesNone old.settled (known mid) c → mid.made.count ≡ 0) → OnOk r (LeavesReady mid c) → IsKeptAs mid x r new → Answered context old new c r
+answered context old now mid new x c r is before pass explains steady caught_up steps looks same settled about made ready kept =
     let room : ℕ = room_of context.order in
     let last : Knowing = with_rest mid new.statuses mid.settled mid.made in
     let first : ExplainsAnswer room old mid c r = explains_begun room old now mid c r is explains in
@@ -55,5 +56,6 @@ answered context old now mid new x c r is before pass explains steady caught_up 
       read_steps = λ reads. subst (λ (p : Knowing). LooksOnce p mid) is (looks reads);
       statuses = after;
       made = made;
+      ready = ready;
     } in
     promised (subst (λ (p : Knowing). Promise context old p c r) (sym kept.same) promise)

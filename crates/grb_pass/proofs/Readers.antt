@@ -23,7 +23,7 @@ use Rattle.grb_slices.specs.Followed.{targets_of}
 use Rattle.grb_replay.specs.Targets.{WalkedCalls}
 use Rattle.grb_replay.proofs.NextTarget.{targets_push}
 use Rattle.grb_call.specs.Statuses.{StatusRows}
-use Rattle.grb_pass.specs.Known.{Knowing, spelled}
+use Rattle.grb_pass.specs.Known.{Knowing, Making, spelled}
 use Rattle.grb_pass.specs.Learning.{IsNextUnshown, IsSteady}
 use Rattle.grb_pass.specs.Reading.{IsReaderWith}
 use Rattle.grb_pass.proofs.Spelling.{calls_of-append, records_more, records_push, spelled_push, spelled_more, shapes_of-push}
@@ -190,7 +190,7 @@ pub sound_order : (t t' : TableId) (v : View) → t' ≡ t → IsSound t'.words 
 sound_order t t' v e s = subst (λ (y : TableId). IsSound y.words v) e s
 
 -- what a caller learns of it
-module _ (number size : ℕ) (seat : Holding) (shown : List Shown) (capacity : ℕ) (walk : WalkedCalls) (k : IsReaderWith number size seat shown capacity walk) (steps : ℕ) (statuses : StatusRows) (settled made : ℕ) where
+module _ (number size : ℕ) (seat : Holding) (shown : List Shown) (capacity : ℕ) (walk : WalkedCalls) (k : IsReaderWith number size seat shown capacity walk) (steps : ℕ) (statuses : StatusRows) (settled : ℕ) (made : Making) where
   abbrev seen : Knowing
   seen = record { order = seat.table_id; view = seat.view; shown = shown; steps = steps; statuses = statuses; settled = settled; made = made }
 

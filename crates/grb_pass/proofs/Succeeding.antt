@@ -16,9 +16,9 @@ use Rattle.grb_call.specs.Statuses.{no_rows}
 use Rattle.grb_call.proofs.Runs.{after_all-append}
 use Rattle.grb_rebuild.specs.Rebuilt.{rebuilt}
 use Rattle.grb_rebuild.proofs.Rebuilding.{rebuild_leaves_the_store}
-use Rattle.grb_pass.specs.Known.{AreNew, IsPassOf, Shared, Knowing, known}
+use Rattle.grb_pass.specs.Known.{AreNew, IsPassOf, Shared, Knowing, known, none_made}
 use Rattle.grb_pass.specs.Laws.{Begins}
-use Rattle.grb_pass.specs.Succeeding.{AreBegun, BeginsWith, IsOpened, made_by, begun}
+use Rattle.grb_pass.specs.Succeeding.{AreBegun, BeginsWith, IsOpened, IsOpenedWith, made_by, begun}
 use Rattle.grb_pass.proofs.Spelling.{calls_of-append}
 
 -- the store after one more call
@@ -82,36 +82,47 @@ pub each_all : {X : Type 0} (P : X → Type 0) (xs : List X) → ((n : ℕ) (p :
 each_all P [] h = λ k d lt. absurd (omega arith)
 each_all P (x ∷ xs) h = All-cons P x xs (h 0 x refl) (each_all P xs (λ n p e. h (suc n) p e))
 
+-- the pass is one of so many
+abbrev IsOfMany : ℕ → Knowing → Type 0
+IsOfMany passes p = p.view.passes ≡ passes
+
 -- the first pass, and those after it
-pub are_begun : (context : Shared) (s : Store) (passes : ℕ) (first : Knowing) (others all : List Knowing) → IsStore s → all ≡ first ∷ others → length others + 1 ≡ passes → IsOpened context 0 first → known first ≡ begun s
-    → ((n : ℕ) (p : Knowing) → slice_get others n ≡ Some p → IsOpened context (n + 1) p) → ((n : ℕ) (p : Knowing) → slice_get others n ≡ Some p → known p ≡ known first) → AreBegun context s passes all
-are_begun context s passes first others all whole is count opened knows each told = subst (AreBegun context s passes) (sym is) (record { count = omega (arith, count); each = at }) where
+pub are_begun : (context : Shared) (s : Store) (passes : ℕ) (first : Knowing) (others all : List Knowing) → IsStore s → all ≡ first ∷ others → length others + 1 ≡ passes → IsOpened context 0 first → first.view.passes ≡ passes → known first ≡ begun s
+    → ((n : ℕ) (p : Knowing) → slice_get others n ≡ Some p → IsOpenedWith context first (n + 1) p) → ((n : ℕ) (p : Knowing) → slice_get others n ≡ Some p → known p ≡ known first) → AreBegun context s passes all
+are_begun context s passes first others all whole is count opened many knows each told = subst (AreBegun context s passes) (sym is) (record { count = omega (arith, count); passes_are = each_all (IsOfMany passes) (first ∷ others) of; each = at }) where
+  of : (number : ℕ) (p : Knowing) → slice_get (first ∷ others) number ≡ Some p → IsOfMany passes p
+  of zero p e = subst (IsOfMany passes) (same_some first p e) many
+  of (suc n) p e = (each n p e).passes ∙ many
+
   begins : (number : ℕ) (p : Knowing) → IsOpened context number p → known p ≡ begun s → BeginsWith context s number p
   begins number p fresh same = record { opened = fresh; known_is = same; store_is = ap store_of same ∙ store_of-begun s whole }
 
   at : (number : ℕ) (p : Knowing) → slice_get (first ∷ others) number ≡ Some p → BeginsWith context s number p
   at zero p e = subst (BeginsWith context s 0) (same_some first p e) (begins 0 first opened knows)
-  at (suc n) p e = begins (suc n) p (subst (λ (m : ℕ). IsOpened context m p) (omega arith) (each n p e)) (told n p e ∙ knows)
+  at (suc n) p e = begins (suc n) p (subst (λ (m : ℕ). IsOpened context m p) (omega arith) (each n p e).opened) (told n p e ∙ knows)
 
 -- a pass that was opened
-pub new_opened : (context : Shared) (passes : ℕ) (opened : List Knowing) (n : ℕ) (p : Knowing) → AreNew context.order passes opened passes → slice_get opened n ≡ Some p → IsOpened context n p × (known p ≡ [])
+pub new_opened : (context : Shared) (passes : ℕ) (opened : List Knowing) (n : ℕ) (p : Knowing) → AreNew context.order passes opened passes → slice_get opened n ≡ Some p → IsOpened context n p × (known p ≡ []) × (p.view.passes ≡ passes)
 new_opened context passes opened n p new at =
     let lt : n < passes = omega (arith, slice_get_within opened n p at, new.count) in
-    let is : record { order = context.order; view = fresh n passes; shown = []; steps = 0; statuses = no_rows (room_of context.order); settled = 0; made = 0 } ≡ p = same_some _ p (sym (new.each n lt) ∙ at) in (
+    let is : record { order = context.order; view = fresh n passes; shown = []; steps = 0; statuses = no_rows (room_of context.order); settled = 0; made = none_made } ≡ p = same_some _ p (sym (new.each n lt) ∙ at) in (
       record {
         pass = record { order = ap (λ (k : Knowing). k.order) (sym is); records = subst (λ (k : Knowing). All (IsOf context.records) k.shown) is (λ k d none. absurd (omega arith)) };
         number_is = ap (λ (k : Knowing). k.view.number) (sym is);
         statuses = ap (λ (k : Knowing). k.statuses) (sym is);
         settled = ap (λ (k : Knowing). k.settled) (sym is);
+        steps = ap (λ (k : Knowing). k.steps) (sym is);
+        made = ap (λ (k : Knowing). k.made) (sym is);
       },
       ap known (sym is),
+      ap (λ (k : Knowing). k.view.passes) (sym is),
     )
 
 pub all_begun : (context : Shared) (s : Store) (passes : ℕ) (opened : List Knowing) → AreBegun context s passes opened → All (IsPassOf context) opened
 all_begun context s passes opened is = each_all (IsPassOf context) opened (λ n p at. (is.each n p at).opened.pass)
 
 -- the one that is taken from the beginning
-pub new_first : (context : Shared) (passes : ℕ) (opened : List Knowing) (first : Knowing) → AreNew context.order passes opened passes → 0 < length opened → first ≡ slice_index_or opened 0 first → IsOpened context 0 first
+pub new_first : (context : Shared) (passes : ℕ) (opened : List Knowing) (first : Knowing) → AreNew context.order passes opened passes → 0 < length opened → first ≡ slice_index_or opened 0 first → IsOpened context 0 first × (first.view.passes ≡ passes)
 new_first context passes opened first new some is =
     let lt : 0 < passes = omega (arith, new.count) in
-    (new_opened context passes opened 0 first new (new.each 0 lt ∙ ap Some (sym (removed_first opened _ first some (new.each 0 lt)) ∙ sym is))).0
+    let o = new_opened context passes opened 0 first new (new.each 0 lt ∙ ap Some (sym (removed_first opened _ first some (new.each 0 lt)) ∙ sym is)) in (o.0, o.2)

@@ -3,7 +3,7 @@ use Rattle.std.specs.Prelude.{◌≡◌, ℕ, ◌+◌, List, length, Result, Ok,
 use Rattle.grb_core.specs.declared.refusal.Refusal.{Refusal}
 use Rattle.grb_core.specs.declared.refusal.Refusal.TheVariants.{Panic}
 use Rattle.grb_records.specs.Token.{Shown, IsSameRecord}
-use Rattle.grb_pass.specs.Known.{Shared, Knowing, known, calls_by, IsKnown, IsPassOf}
+use Rattle.grb_pass.specs.Known.{Shared, Knowing, known, calls_by, none_made, IsKnown, IsPassOf}
 use Rattle.grb_pass.specs.Explains.{IsUnshown}
 use Rattle.grb_pass.specs.Laws.{Begins}
 use Rattle.grb_pass.specs.Learning.{Learns}
@@ -29,4 +29,4 @@ pub record Met (context : Shared) (old new other : Knowing) (r : Result (Unit {0
   pub own : calls_by old.view.number (known new) ≡ calls_by old.view.number (known old)
   pub steps : new.steps + length old.view.words ≡ length new.view.words
   pub looks : new.view.looks ≡ old.view.looks
-  pub made : new.made ≡ 0
+  pub made : new.made ≡ none_made

@@ -21,7 +21,7 @@ use Rattle.grb_pass.specs.Known.{Knowing, spelled, AreRecords}
 use Rattle.grb_pass.specs.declared.reader.Reader.TheInside.{Inside}
 
 abbrev pub knowing : Inside → Knowing
-knowing r = record { order = r.seat.table_id; view = r.seat.view; shown = r.tokens.items; steps = r.steps; statuses = r.statuses.rows; settled = r.settled; made = r.made }
+knowing r = record { order = r.seat.table_id; view = r.seat.view; shown = r.tokens.items; steps = r.steps; statuses = r.statuses.rows; settled = r.settled; made = record { count = r.made; ready = r.ready } }
 
 -- a reader with these tokens, targets and shapes; the words whose records were not shown yet are of others
 pub record IsReaderWith (number size : ℕ) (seat : Holding) (shown : List Shown) (capacity : ℕ) (walk : WalkedCalls) : Type 0 where

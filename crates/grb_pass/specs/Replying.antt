@@ -15,7 +15,7 @@ use Rattle.grb_call.specs.Statuses.{status_at}
 use Rattle.grb_call.specs.Store.{Store}
 use Rattle.grb_pass.specs.Evaluated.{EvaluatedView, IsEvaluatedFor}
 use Rattle.grb_pass.specs.Known.{Knowing, known}
-use Rattle.grb_pass.specs.Settled.{settled_by}
+use Rattle.grb_pass.specs.Settled.{LeavesReady, settled_by}
 
 -- the statuses after this answer to a call about that object
 abbrev pub statuses_with : Knowing → Option Object → Result Reply Refusal → Statuses
@@ -35,14 +35,15 @@ pub record ReadsObject (s : Store) (o : Object) (c : Call) : Type 0 where
   pub accepted : refused s c ≡ None
 
 -- what a pass leaves that replies to such a call by what it evaluates: where all that it knows is settled it makes no call, and is refused
--- no memory; where memory is refused, no more calls are settled than before
+-- no memory; where memory is refused, no more calls are settled than before. The object that the call waits for is left ready
 pub record IsReplied (old new : Knowing) (c : Call) (r : Result Reply AllocError) : Type 0 where
   pub reply : IfOk r (λ reply. reply ≡ reply_of (store_of (known old)) c)
   pub unsettled : OnErr r (old.settled < length (known old))
   pub same : new ≡ record old { settled = new.settled; made = new.made }
   pub settled : OnOk r (new.settled ≡ settled_by c (length (known old)) old.settled)
   pub err : OnErr r (new.settled ≡ old.settled)
-  pub made : length (known old) ≤ old.settled → new.made ≡ old.made
+  pub made : length (known old) ≤ old.settled → new.made.count ≡ old.made.count
+  pub ready : OnOk r (LeavesReady new c)
 
 -- the same, with what was evaluated before and after, where no reply may be given
 pub record IsGiven (old new : Knowing) (before after : EvaluatedView) (c : Call) (r : Result (Option Reply) AllocError) : Type 0 where

@@ -1,12 +1,16 @@
 -- believed: How many calls a pass has settled (own; `GrB_MATERIALIZE` of GraphBLAS C API 2.0): those that it knew when it last had
--- all objects materialized.
-use Rattle.std.specs.Prelude.{◌≡◌, ◌<◌, ℕ, Bool, true, false, if◌then◌else◌, is_some, length, Result, Ok, Err}
+-- all objects materialized; and which object a wait for it left ready (`GrB_COMPLETE`).
+use Rattle.std.specs.Prelude.{◌≡◌, ◌<◌, ℕ, Bool, true, false, if◌then◌else◌, is_some, length, IfSome, Option, Some, None, Result, Ok, Err}
 use Rattle.grb_core.specs.declared.refusal.Refusal.{Refusal}
 use Rattle.grb_call.specs.declared.call.Call.{Call}
+use Rattle.grb_call.specs.declared.call.Call.TheVariants as call
 use Rattle.grb_call.specs.declared.class.Class.{Class}
 use Rattle.grb_call.specs.declared.class.Class.TheVariants.{Reads}
 use Rattle.grb_call.specs.declared.class.Extent.TheVariants as extent
+use Rattle.grb_call.specs.declared.descriptor.WaitMode.TheVariants.{Complete}
 use Rattle.grb_call.specs.declared.ids.MatrixId.{MatrixId}
+use Rattle.grb_call.specs.declared.ids.Object.{Object}
+use Rattle.grb_call.specs.declared.ids.Object.TheVariants as object
 use Rattle.grb_call.specs.declared.ids.VectorId.{VectorId}
 use Rattle.grb_call.specs.declared.reply.Reply.{Reply}
 use Rattle.grb_call.specs.History.{store_of}
@@ -33,9 +37,30 @@ abbrev pub settled_after : Call → Result Reply Refusal → ℕ → ℕ → ℕ
 settled_after c (Ok reply) known settled = settled_by c known settled
 settled_after c (Err refusal) known settled = settled
 
--- the object need not lie ready: where it is there, not all calls that the pass knows are settled
+-- where the object is there, not all calls that the pass knows are settled
+abbrev pub IsUnsettledMatrix : Knowing → MatrixId → Type 0
+IsUnsettledMatrix p a = is_some (matrix_at (store_of (known p)) a) ≡ true → p.settled < length (known p)
+
+abbrev pub IsUnsettledVector : Knowing → VectorId → Type 0
+IsUnsettledVector p v = is_some (vector_at (store_of (known p)) v) ≡ true → p.settled < length (known p)
+
+-- the pass's last call left the object ready, after all calls that it knows
+abbrev pub IsLeftReady : Knowing → Object → Type 0
+IsLeftReady p o = p.made.ready ≡ Some (o, length (known p))
+
+-- the object that a call waits for, where it waits for one alone
+abbrev pub waited_for : Call → Option Object
+waited_for (call.WaitMatrix a Complete) = Some (object.Matrix a)
+waited_for (call.WaitVector v Complete) = Some (object.Vector v)
+waited_for _ = None
+
+-- the object that the call waits for was left ready
+abbrev pub LeavesReady : Knowing → Call → Type 0
+LeavesReady p c = IfSome (waited_for c) (IsLeftReady p)
+
+-- the object need not lie ready: it was not left so, and where it is there, not all calls that the pass knows are settled
 abbrev pub MayLackMatrix : Knowing → MatrixId → Type 0
-MayLackMatrix p a = is_some (matrix_at (store_of (known p)) a) ≡ true → p.settled < length (known p)
+MayLackMatrix p a = IsUnsettledMatrix p a × (IsLeftReady p (object.Matrix a) → ⊥)
 
 abbrev pub MayLackVector : Knowing → VectorId → Type 0
-MayLackVector p v = is_some (vector_at (store_of (known p)) v) ≡ true → p.settled < length (known p)
+MayLackVector p v = IsUnsettledVector p v × (IsLeftReady p (object.Vector v) → ⊥)

@@ -233,6 +233,7 @@ impl Evaluated {
         ensures settled { OnOk result (reader.new.settled ≡ settled_by call.now (length (known reader.old)) reader.old.settled) }
         ensures err { OnErr result (reader.new ≡ reader.old) }
         ensures ready { OnOk result (IsSettled (is_assembled self.new.reached.state.matrices self.new.reached.state.vectors) call.now) }
+        ensures part { self.new.reached ≡ record self.old.reached { state = self.new.reached.state } }
         ensures memory { OnErr result (reader.old.settled < length (known reader.old)) }
         ensures made { self.new.made ≡ self.old.made }
     {

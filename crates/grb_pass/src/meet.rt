@@ -1,7 +1,7 @@
 //! What one pass tells another: its calls, and what it has evaluated.
 ghost use Rattle.std.specs.Prelude.{◌≡◌, ◌≤◌, length};
 ghost use Rattle.grb_order.specs.Word.{StartsWith};
-ghost use Rattle.grb_pass.specs.Known.{known, IsPassOf};
+ghost use Rattle.grb_pass.specs.Known.{known, none_made, IsPassOf};
 ghost use Rattle.grb_pass.specs.Laws.{Begins};
 ghost use Rattle.grb_pass.specs.Learning.{IsSteady};
 ghost use Rattle.grb_pass.specs.Meeting.{Met};
@@ -34,7 +34,7 @@ impl Shared {
         requires reader { IsPassOf self.now reader.old }
         requires other { IsPassOf self.now other.old }
         requires begun { reader.old.steps ≡ 0 }
-        requires made { reader.old.made ≡ 0 }
+        requires made { reader.old.made ≡ none_made }
         ensures met { Met self.now reader.old reader.new other.old result }
         ensures other { other.new ≡ other.old }
     {

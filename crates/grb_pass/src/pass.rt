@@ -16,20 +16,20 @@ ghost use Rattle.grb_state.specs.StoredIn.{IsMatrixOf, IsVectorOf};
 ghost use Rattle.grb_rebuild.specs.Rebuilding.{IsNoSuccessor, IsRebuild};
 ghost use Rattle.grb_rebuild.specs.Renumbered.{AreRenumbered};
 ghost use Rattle.grb_pass.specs.Evaluated.{IsAssembled};
-ghost use Rattle.grb_pass.specs.Known.{known, new_pass};
+ghost use Rattle.grb_pass.specs.Known.{known, new_pass, none_made};
 ghost use Rattle.grb_pass.specs.Counting.{Counts};
 ghost use Rattle.grb_pass.specs.Laws.{Begins};
 ghost use Rattle.grb_pass.specs.Learning.{Enters, IsSteady};
 ghost use Rattle.grb_pass.specs.Cells.{OwnBelow};
 ghost use Rattle.grb_pass.specs.Reading.{IsBuildChecked, IsChecked, count_call, count_of_output};
 ghost use Rattle.grb_pass.specs.Replying.{IsReplied, ReadsStore, statuses_with};
-ghost use Rattle.grb_pass.specs.Settled.{is_materialize, MayLackMatrix, MayLackVector};
+ghost use Rattle.grb_pass.specs.Settled.{is_materialize, waited_for, LeavesReady, MayLackMatrix, MayLackVector};
 
 use crate::back_off::BackOff;
 use crate::evaluated::Evaluated;
 use crate::reader::Reader;
 use crate::row::RecordRow;
-use grb_call::{Call, Class, Extent, Kind, MatrixId, Object, Reply, VectorId};
+use grb_call::{Call, Class, Extent, Kind, MatrixId, Object, Reply, VectorId, WaitMode};
 use grb_core::{Info, Refusal};
 use grb_order::{Order, Seat};
 use grb_rebuild::{NoSuccessor, Rebuild, Renumbered};
@@ -72,6 +72,23 @@ fn count_call(call: &Call) -> Call
         Some(Object::Matrix(a)) => Call::NvalsMatrix { a },
         Some(Object::Vector(v)) => Call::NvalsVector { v },
         None => unreachable!(),
+    }
+}
+
+/// The object that a call waits for, where it waits for one alone.
+fn waited_for(call: &Call) -> Option<Object>
+    ensures { result ≡ waited_for call.now }
+{
+    match call {
+        Call::WaitMatrix {
+            a,
+            mode: WaitMode::Complete,
+        } => Some(Object::Matrix(*a)),
+        Call::WaitVector {
+            v,
+            mode: WaitMode::Complete,
+        } => Some(Object::Vector(*v)),
+        _ => None,
     }
 }
 
@@ -154,7 +171,7 @@ impl Pass {
     /// for services that watch what reads cost. It is 0 after a call that enters and is no build, one for dimensions, a read that shapes
     /// refuse, and a read where all known calls are settled; no contract says more of the number (own). Takes no memory.
     pub fn made(&self) -> u32
-        ensures { result ≡ self.now.made }
+        ensures { result ≡ self.now.made.count }
     {
         self.reader.made()
     }
@@ -181,10 +198,11 @@ impl Pass {
         self.reader.last_info(object)
     }
 
-    /// The matrix as it is after all calls that the pass knows, where it lies ready, as it does after a wait for it: with no change left
-    /// that waits, and as all share it that hold it. Who clones the `Arc` keeps it as it is, whatever comes, and no entry is copied: a pass
-    /// that changes its matrix while another holds it changes a copy. `None` where there is no such matrix or it does not lie ready; where
-    /// all that the pass knows is settled, each matrix lies ready. Evaluates nothing, learns nothing and takes no memory (own).
+    /// The matrix as it is after all calls that the pass knows, where it lies ready: with no change left that waits, and as all share it
+    /// that hold it. It does so after a wait for it that was answered, up to the next call of the pass. Who clones the `Arc` keeps it as it
+    /// is, whatever comes, and no entry is copied: a pass that changes its matrix while another holds it changes a copy. `None` where there
+    /// is no such matrix or it does not lie ready; where all that the pass knows is settled, each matrix lies ready. Evaluates nothing,
+    /// learns nothing and takes no memory (own).
     pub fn matrix(&self, a: MatrixId) -> Option<&Arc<SparseMatrix>>
         ensures { MatchOption result (MayLackMatrix self.now a) (λ matrix. IsMatrixOf (store_of (known self.now)) a matrix.now.value) }
     {
@@ -208,7 +226,7 @@ impl Pass {
 
     /// Begins to count the steps of a call or a meeting, and the calls that it makes.
     pub(crate) fn begin(&mut self)
-        ensures same { self.new ≡ record self.old { steps = 0; made = 0 } }
+        ensures same { self.new ≡ record self.old { steps = 0; made = none_made } }
         ensures settled { self.old.settled ≤ length (known self.old) }
     {
         self.reader.begin();
@@ -281,6 +299,7 @@ impl Pass {
         requires store { state.store ≡ store_of (known self.old) }
         requires room { room_of self.old.order ≤ state.room + length (known self.old) }
         requires assembled { IsAssembled state }
+        requires none { self.old.made.ready ≡ None }
         ensures { self.new ≡ self.old }
     {
         self.evaluated.begin_with(&self.reader, state);
@@ -305,6 +324,7 @@ impl Pass {
     /// Goes on from what the other has evaluated, whose calls begin those that this pass knows.
     pub(crate) fn take_over(&mut self, other: &Pass)
         requires begins { Begins (known other.now) (known self.old) }
+        requires none { self.old.made.ready ≡ None }
         ensures same { self.new ≡ self.old }
     {
         self.evaluated
@@ -328,14 +348,33 @@ impl Pass {
     /// Goes on from what another pass evaluated and offered, where it is time to ask for that. No memory is missed by that.
     fn go_on(&mut self, records: &Records)
         requires records { All (IsOf records.now) self.old.shown }
-        ensures same { self.new ≡ self.old }
+        ensures same { self.new ≡ record self.old { made = record self.old.made { ready = None } } }
     {
+        self.reader.forget_ready();
         self.evaluated.go_on(records, &mut self.reader);
     }
 
+    /// Whether the object that the call waits for lies ready, after all known calls: then that is noted. None is awaited by a call that
+    /// waits for no single object.
+    fn leaves_ready(&mut self, call: &Call) -> bool
+        requires none { self.old.made.ready ≡ None }
+        ensures same { self.new ≡ record self.old { made = self.new.made } }
+        ensures count { self.new.made.count ≡ self.old.made.count }
+        ensures ready { result ≡ true → LeavesReady self.new call.now }
+    {
+        let Some(object) = waited_for(call) else {
+            return true;
+        };
+        if !self.evaluated.lies_ready(&self.reader, object) {
+            return false;
+        }
+        self.reader.note_ready(Some(object));
+        true
+    }
+
     /// The reply to a call that reads entries or has changes done, after all known ones, which it evaluates. One that waits for all objects
-    /// goes on with an edition of just these calls, if there is one, and settles them. `AllocError` where memory is refused; then no more
-    /// calls are settled than before.
+    /// goes on with an edition of just these calls, if there is one, and settles them; one that waits for one object leaves that ready.
+    /// `AllocError` where memory is refused; then no more calls are settled than before.
     fn reply_of_all(&mut self, records: &Records, call: &Call) -> Result<Reply, AllocError>
         requires call { ReadsStore (store_of (known self.old)) call.now }
         requires records { All (IsOf records.now) self.old.shown }
@@ -346,12 +385,13 @@ impl Pass {
         self.reader.note_made(self.evaluated.made());
         all?;
         self.evaluated.settle(records, &mut self.reader, call)?;
+        self.reader.note_ready(waited_for(call));
         Ok(self.evaluated.reply(call))
     }
 
     /// The reply to a call that reads entries or has changes done, after all known ones, which it evaluates: all of them, or only those
-    /// that the object depends on which it reads. One that waits for all objects settles them. `AllocError` where memory is refused; then
-    /// no more calls are settled than before.
+    /// that the object depends on which it reads. One that waits for all objects settles them; one that waits for one object leaves that
+    /// ready. `AllocError` where memory is refused; then no more calls are settled than before.
     fn reply_of_entries(&mut self, records: &Records, call: &Call) -> Result<Reply, AllocError>
         requires call { ReadsStore (store_of (known self.old)) call.now }
         requires records { All (IsOf records.now) self.old.shown }
@@ -364,7 +404,9 @@ impl Pass {
                 .reply_of_object(records, &mut self.reader, object, call);
             self.reader.note_made(self.evaluated.made());
             if let Some(reply) = reply? {
-                return Ok(reply);
+                if self.leaves_ready(call) {
+                    return Ok(reply);
+                }
             }
         }
         self.reply_of_all(records, call)
@@ -428,9 +470,9 @@ impl Pass {
     }
 
     /// The reply to a call that only reads and is not refused, after all known ones. One for dimensions takes no memory; any other
-    /// evaluates the known calls, and a total or a wait has the changes that wait done; where the known calls are settled none of this is
-    /// left, and no memory is taken. A wait for all objects settles them. `AllocError` where memory is refused; what was made stays made,
-    /// and no more calls are settled.
+    /// evaluates the known calls; a wait has the changes done that wait, and a total those of its object where they are many. Where the
+    /// known calls are settled none of this is left, and no memory is taken. A wait for all objects settles them; one for one object leaves
+    /// that ready. `AllocError` where memory is refused; what was made stays made, and no more calls are settled.
     pub(crate) fn reply(&mut self, records: &Records, call: &Call) -> Result<Reply, AllocError>
         requires reads { enters call.now ≡ false }
         requires accepted { refused (store_of (known self.old)) call.now ≡ None }

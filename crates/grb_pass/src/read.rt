@@ -1,5 +1,5 @@
 //! Calls that only read, answered at the end of the order.
-ghost use Rattle.std.specs.Prelude.{◌≡◌, false, length};
+ghost use Rattle.std.specs.Prelude.{◌≡◌, false, length, OnOk};
 ghost use Rattle.grb_order.specs.Order.{room_of};
 ghost use Rattle.grb_call.specs.Kinds.{enters};
 ghost use Rattle.grb_pass.specs.Known.{IsPassOf, known};
@@ -8,7 +8,7 @@ ghost use Rattle.grb_pass.specs.Answered.{Answered};
 ghost use Rattle.grb_pass.specs.Counting.{CountsCall, LooksOnce};
 ghost use Rattle.grb_pass.specs.Learning.{IsSteady};
 ghost use Rattle.grb_pass.specs.Made.{ReadsNone};
-ghost use Rattle.grb_pass.specs.Settled.{settled_after};
+ghost use Rattle.grb_pass.specs.Settled.{LeavesReady, settled_after};
 
 use crate::pass::Pass;
 use crate::shared::Shared;
@@ -27,7 +27,8 @@ impl Shared {
         ensures settled { pass.new.settled ≡ settled_after call.now result (length (known pass.new)) pass.old.settled }
         ensures counts { CountsCall (room_of self.now.order) pass.old pass.new }
         ensures looks { LooksOnce pass.old pass.new }
-        ensures made { ReadsNone pass.old.settled (known pass.new) call.now → pass.new.made ≡ pass.old.made }
+        ensures made { ReadsNone pass.old.settled (known pass.new) call.now → pass.new.made.count ≡ pass.old.made.count }
+        ensures ready { OnOk result (LeavesReady pass.new call.now) }
         ensures explains { ExplainsAnswer (room_of self.now.order) pass.old pass.new call.now result }
         ensures steady { IsSteady pass.new }
         ensures caught_up { IsCaughtUp (ground_of result) pass.new }

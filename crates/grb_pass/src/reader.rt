@@ -16,6 +16,7 @@
 //! All lists have places for each word of the order from `open` on. So no step takes memory, and none waits: each makes one step on the
 //! order at most, `tell` one for each word that it learns and three of the first word.
 ghost use Rattle.std.specs.Prelude.{◌≡◌, ◌<◌, ◌≤◌, ◌+◌, ◌^◌, true, [], ◌∷◌, ◌++◌, length, All, None, Some, slice_get, slice_index, MatchOption, IfOk};
+ghost use Rattle.std.specs.Option.{option_map};
 ghost use Rattle.grb_order.specs.declared.limits.TheConstants.{MOST_ROOM};
 ghost use Rattle.grb_order.specs.Word.{number_of, index_of, StartsWith};
 ghost use Rattle.grb_order.specs.View.{fresh, is_told, LookedLast};
@@ -29,7 +30,7 @@ ghost use Rattle.grb_call.specs.After.{reply_of};
 ghost use Rattle.grb_call.specs.History.{calls_of, store_of};
 ghost use Rattle.grb_slices.specs.Followed.{targets_of};
 ghost use Rattle.grb_call.specs.Statuses.{status_at};
-ghost use Rattle.grb_pass.specs.Known.{known, new_pass};
+ghost use Rattle.grb_pass.specs.Known.{known, new_pass, none_made};
 ghost use Rattle.grb_pass.specs.Learning.{Enters, IsNextUnshown, IsSteady};
 ghost use Rattle.grb_pass.specs.Counting.{Counts, look_steps};
 ghost use Rattle.grb_pass.specs.Meeting.{SharesCallAt};
@@ -47,7 +48,7 @@ use std::alloc::{AllocError, Global};
 use std::marker::Model;
 
 /// What a pass has read of the order: its words, the records of the first of them, the targets of their calls and the shapes that they
-/// leave, the status that each object has of the calls of the pass, how many calls it settled, and how many it made to answer.
+/// leave, the status that each object has of the calls of the pass, how many calls it settled, and what it made to answer.
 #[derive(Drop)]
 pub(crate) struct Reader {
     number: u32,
@@ -63,6 +64,8 @@ pub(crate) struct Reader {
     settled: u32,
     // How many calls the last call made to answer.
     made: u32,
+    // The object that it left ready, and how many calls were known then.
+    ready: Option<(Object, u32)>,
     // How much work the known calls are.
     amount: Amount,
 }
@@ -115,6 +118,7 @@ impl Reader {
             statuses,
             settled: 0,
             made: 0,
+            ready: None,
             amount: Amount::none(),
         })
     }
@@ -133,22 +137,41 @@ impl Reader {
 
     /// Begins to count the steps of a call or a meeting, and the calls that it makes.
     pub(crate) fn begin(&mut self)
-        ensures { self.new ≡ record self.old { steps = 0; made = 0 } }
+        ensures { self.new ≡ record self.old { steps = 0; made = none_made } }
     {
         self.steps = 0;
         self.made = 0;
+        self.ready = None;
     }
 
-    /// Notes how many calls were made.
+    /// Notes how many calls were made. No object is left ready so far.
     pub(crate) fn note_made(&mut self, made: u32)
-        ensures { self.new ≡ record self.old { made = made } }
+        ensures { self.new ≡ record self.old { made = record { count = made; ready = None } } }
     {
         self.made = made;
+        self.ready = None;
+    }
+
+    /// No object is left ready any more.
+    pub(crate) fn forget_ready(&mut self)
+        ensures { self.new ≡ record self.old { made = record self.old.made { ready = None } } }
+    {
+        self.ready = None;
+    }
+
+    /// Notes that this object was left ready, after all known calls; or none.
+    pub(crate) fn note_ready(&mut self, object: Option<Object>)
+        ensures { self.new ≡ record self.old { made = record self.old.made { ready = option_map (λ o. (o, length (known self.old))) object } } }
+    {
+        self.ready = match object {
+            Some(object) => Some((object, self.known())),
+            None => None,
+        };
     }
 
     /// How many calls the last call made to answer.
     pub(crate) fn made(&self) -> u32
-        ensures { result ≡ self.now.made }
+        ensures { result ≡ self.now.made.count }
     {
         self.made
     }

@@ -13,9 +13,9 @@ ghost use Rattle.grb_rebuild.specs.Rebuilding.{IsNoSuccessor, IsRebuild};
 ghost use Rattle.grb_rebuild.specs.Rebuilt.{AreTaken};
 ghost use Rattle.grb_rebuild.specs.Renumbered.{AreRenumbered};
 ghost use Rattle.grb_pass.specs.Evaluated.{IsAssembled};
-ghost use Rattle.grb_pass.specs.Known.{AreNew, IsPassOf, Knowing, known};
+ghost use Rattle.grb_pass.specs.Known.{AreNew, IsPassOf, Knowing, known, none_made};
 ghost use Rattle.grb_pass.specs.Learning.{IsSteady};
-ghost use Rattle.grb_pass.specs.Succeeding.{made_by, AreBegun, IsOpened};
+ghost use Rattle.grb_pass.specs.Succeeding.{made_by, AreBegun, IsOpenedWith};
 
 use crate::learn::End;
 use crate::pass::Pass;
@@ -42,6 +42,7 @@ impl Shared {
         requires pass { IsPassOf self.now pass.old }
         ensures pass { OnOk result (IsPassOf self.now pass.new) }
         ensures number { OnOk result (pass.new.view.number ≡ pass.old.view.number) }
+        ensures passes { OnOk result (pass.new.view.passes ≡ pass.old.view.passes) }
         ensures statuses { OnOk result (pass.new.statuses ≡ pass.old.statuses) }
         ensures settled { OnOk result (pass.new.settled ≡ pass.old.settled) }
         ensures few { OnOk result (pass.new.steps < 2 ^ 28) }
@@ -71,6 +72,7 @@ impl Shared {
         requires accepted { refused (store_of (known pass.old)) call ≡ None }
         ensures pass { OnOk result (IsPassOf self.now pass.new) }
         ensures number { OnOk result (pass.new.view.number ≡ pass.old.view.number) }
+        ensures passes { OnOk result (pass.new.view.passes ≡ pass.old.view.passes) }
         ensures statuses { OnOk result (pass.new.statuses ≡ pass.old.statuses) }
         ensures settled { OnOk result (pass.new.settled ≡ pass.old.settled) }
         ensures known { OnOk result (known pass.new ≡ known pass.old ++ (pass.old.view.number, call) ∷ []) }
@@ -93,6 +95,7 @@ impl Shared {
         requires taken { AreTaken empty_store calls.items }
         ensures pass { OnOk result (IsPassOf self.now pass.new) }
         ensures number { OnOk result (pass.new.view.number ≡ pass.old.view.number) }
+        ensures passes { OnOk result (pass.new.view.passes ≡ pass.old.view.passes) }
         ensures statuses { OnOk result (pass.new.statuses ≡ pass.old.statuses) }
         ensures settled { OnOk result (pass.new.settled ≡ pass.old.settled) }
         ensures known { OnOk result (known pass.new ≡ made_by pass.old.view.number calls.items) }
@@ -104,6 +107,7 @@ impl Shared {
     }
 
     /// Enters these calls, none of which is refused where it is made, and takes the store that they leave for what the pass has evaluated.
+    /// What that took is not counted.
     fn begin_first(
         &self,
         pass: &mut Pass,
@@ -118,27 +122,33 @@ impl Shared {
         requires assembled { IsAssembled state }
         ensures pass { OnOk result (IsPassOf self.now pass.new) }
         ensures number { OnOk result (pass.new.view.number ≡ pass.old.view.number) }
+        ensures passes { OnOk result (pass.new.view.passes ≡ pass.old.view.passes) }
         ensures statuses { OnOk result (pass.new.statuses ≡ pass.old.statuses) }
         ensures settled { OnOk result (pass.new.settled ≡ pass.old.settled) }
+        ensures counted { OnOk result ((pass.new.steps ≡ 0) × (pass.new.made ≡ none_made)) }
         ensures known { OnOk result (known pass.new ≡ made_by pass.old.view.number calls.items) }
         ensures refused { IfErr result (λ no. (no ≡ NoSuccessor.OutOfMemory) ⊎ (no ≡ NoSuccessor.Panic)) }
     {
         if let Err(refusal) = self.enter_all(pass, calls) {
             return Err(why(refusal));
         }
+        pass.begin();
         pass.begin_with(state);
         Ok(())
     }
 
-    /// Lets the pass adopt the first, which knows no less. `Panic` where a record is not shown, or the pass knows more.
+    /// Lets the pass adopt the first, which knows no less. What that took is not counted. `Panic` where a record is not shown, or the pass
+    /// knows more.
     fn tell(&self, first: &mut Pass, other: &mut Pass) -> Result<(), NoSuccessor>
         requires first { IsPassOf self.now first.old }
         requires other { IsPassOf self.now other.old }
         ensures first { first.new ≡ first.old }
         ensures pass { OnOk result (IsPassOf self.now other.new) }
         ensures number { OnOk result (other.new.view.number ≡ other.old.view.number) }
+        ensures passes { OnOk result (other.new.view.passes ≡ other.old.view.passes) }
         ensures statuses { OnOk result (other.new.statuses ≡ other.old.statuses) }
         ensures settled { OnOk result (other.new.settled ≡ other.old.settled) }
+        ensures counted { OnOk result ((other.new.steps ≡ 0) × (other.new.made ≡ none_made)) }
         ensures known { OnOk result (known other.new ≡ known first.old) }
         ensures refused { IfErr result (λ no. no ≡ NoSuccessor.Panic) }
     {
@@ -148,15 +158,16 @@ impl Shared {
         if other.known() != first.known() {
             return Err(NoSuccessor::Panic);
         }
+        other.begin();
         Ok(())
     }
 
     /// Lets each of these passes, which are those after the first, adopt it.
     fn tell_all(&self, first: &mut Pass, others: &mut Vec<Pass>) -> Result<(), NoSuccessor>
         requires first { IsPassOf self.now first.old }
-        requires opened { (n : ℕ) (p : Knowing) → slice_get others.old.items n ≡ Some p → IsOpened self.now (n + 1) p }
+        requires opened { (n : ℕ) (p : Knowing) → slice_get others.old.items n ≡ Some p → IsOpenedWith self.now first.old (n + 1) p }
         ensures first { first.new ≡ first.old }
-        ensures opened { OnOk result ((n : ℕ) (p : Knowing) → slice_get others.new.items n ≡ Some p → IsOpened self.now (n + 1) p) }
+        ensures opened { OnOk result ((n : ℕ) (p : Knowing) → slice_get others.new.items n ≡ Some p → IsOpenedWith self.now first.old (n + 1) p) }
         ensures count { OnOk result (length others.new.items ≡ length others.old.items) }
         ensures known { OnOk result ((n : ℕ) (p : Knowing) → slice_get others.new.items n ≡ Some p → known p ≡ known first.old) }
         ensures refused { IfErr result (λ no. no ≡ NoSuccessor.Panic) }
@@ -213,9 +224,10 @@ impl Shared {
 
     /// A new store whose history takes `room` calls and which so many passes share: it begins with calls of its first pass that make just
     /// the store that all calls leave which this pass knows. Objects have their numbers, those that were freed stay freed, and the next one
-    /// is given the next number. All new passes know these calls and share what is evaluated of them. The pass evaluates the calls that it
-    /// knows; nothing else of it or of this store changes. Each entry is copied once. `RoomTooSmall` tells how many calls are needed,
-    /// before any entry was copied; `OutOfMemory` where memory is refused, `Panic` where a record of the new store is not taken.
+    /// is given the next number. All new passes know these calls and share what is evaluated of them; none has counted a step, or a call
+    /// that it made. The pass evaluates the calls that it knows; nothing else of it or of this store changes. Each entry is copied once.
+    /// `RoomTooSmall` tells how many calls are needed, before any entry was copied; `OutOfMemory` where memory is refused, `Panic` where a
+    /// record of the new store is not taken.
     pub fn succeed(
         &self,
         alloc: Global,

@@ -1,5 +1,5 @@
 //! The product of a vector and a matrix by the rows that the vector picks: each is read once and added by column.
-ghost use Rattle.std.specs.Prelude.{◌≡◌, ◌-◌, ◌*◌, ◌<◌, ◌≤◌, ◌^◌, ℕ, true, [], length, map, min, slice_index, All, IfOk, IfSome, IsTrue};
+ghost use Rattle.std.specs.Prelude.{◌≡◌, ◌-◌, ◌*◌, ◌<◌, ◌≤◌, ◌^◌, ℕ, true, false, [], length, map, min, slice_index, All, IfOk, IfSome, IsTrue};
 ghost use Rattle.std.specs.FinMap.{is_sorted};
 ghost use Rattle.std.specs.Option.{option_map};
 ghost use Rattle.std.specs.Ordering.{nat_cmp};
@@ -106,7 +106,8 @@ pub(crate) trait Placed {
     /// Takes no memory.
     fn is_worth_a_place_each(ncols: u64, count: usize) -> bool
         requires few { ncols < 2 ^ 32 }
-        ensures short { result ≡ true → ncols ≤ places * count };
+        ensures short { result ≡ true → ncols ≤ places * count }
+        ensures long { result ≡ false → places * count < ncols };
 }
 
 impl Placed for bool {

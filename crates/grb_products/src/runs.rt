@@ -1,5 +1,5 @@
 //! Products with their columns, put in the order of the columns, and the fold of each run of one column.
-ghost use Rattle.std.specs.Prelude.{◌≡◌, ◌≢◌, ◌+◌, ◌-◌, ◌<◌, ◌≤◌, ◌++◌, true, false, length, slice_index, All, IsTrue, IfOk};
+ghost use Rattle.std.specs.Prelude.{◌≡◌, ◌≢◌, ◌+◌, ◌-◌, ◌<◌, ◌≤◌, ◌↔◌, ◌++◌, true, false, length, slice_index, All, IsTrue, IfOk};
 ghost use Rattle.std.specs.Ordering.{is_gt, nat_cmp};
 ghost use Rattle.std.specs.List.Sorted.{IsPermutation, IsSortedByKey};
 ghost use Rattle.std.specs.FinMap.{find, put, is_sorted};
@@ -38,7 +38,7 @@ pub(crate) fn push_row<T: Stored + Drop, R: Term<T>>(
 
 /// Whether the columns rise, or stay as they are, from each product to the next.
 fn is_in_order<T: Stored>(products: &[(u32, T)]) -> bool
-    ensures { result ≡ true → IsSortedByKey (λ p. p.0) nat_cmp products.now }
+    ensures { result ≡ true ↔ IsSortedByKey (λ p. p.0) nat_cmp products.now }
 {
     'products: for at in 1..products.len() {
         if products[at].0.cmp(&products[at - 1].0).is_lt() {

@@ -1,5 +1,5 @@
 -- believed: What a contract sees of objects that were read, each in a partial store of its own (own).
-use Rattle.std.specs.Prelude.{◌≡◌, ℕ, ◌+◌, ◌≤◌, true, List, drop, length, take, All, Option, Result}
+use Rattle.std.specs.Prelude.{◌≡◌, ℕ, ◌+◌, ◌≤◌, true, List, drop, is_some, length, slice_get, take, All, Option, Result, Some}
 use Rattle.grb_core.specs.declared.refusal.Refusal.{Refusal}
 use Rattle.grb_call.specs.declared.call.Call.{Call}
 use Rattle.grb_call.specs.declared.ids.MatrixId.{MatrixId}
@@ -7,13 +7,13 @@ use Rattle.grb_call.specs.declared.ids.VectorId.{VectorId}
 use Rattle.grb_call.specs.declared.ids.Object.{Object}
 use Rattle.grb_call.specs.declared.ids.Object.TheVariants as object
 use Rattle.grb_call.specs.declared.reply.Reply.{Reply}
-use Rattle.grb_call.specs.Store.{Store, empty_store, shapes_of}
+use Rattle.grb_call.specs.Store.{Store, empty_store, matrix_at, shapes_of, vector_at}
 use Rattle.grb_call.specs.After.{answer, reply_of}
 use Rattle.grb_call.specs.History.{after_all}
 use Rattle.grb_sparse.specs.Matrix.{SparseMatrixView}
 use Rattle.grb_sparse.specs.Vector.{SparseVectorView}
 use Rattle.grb_state.specs.StoredIn.{IsMatrixOf, IsVectorOf}
-use Rattle.grb_state.specs.State.{RoomyStore}
+use Rattle.grb_state.specs.State.{RoomyStore, is_assembled_in}
 use Rattle.grb_slices.specs.Content.{content_at}
 use Rattle.grb_slices.specs.Followed.{Follows, HoldsSlice, targets_of}
 use Rattle.grb_slices.specs.Slice.{Wants, entries, sliced}
@@ -88,6 +88,24 @@ pub record HoldsVector (k : ReadObjectView) (known : ℕ) (v : VectorId) (x : Sp
   pub all : k.upto ≡ known
   pub holds : is_wanted k.store.objects (object.Vector v) ≡ true
   pub vector : IsVectorOf k.store.state.store v x
+
+-- the object is there, and no change waits in it
+abbrev pub IsReadyIn : RoomyStore → Object → Type 0
+IsReadyIn s (object.Matrix a) = (is_some (matrix_at s.store a) ≡ true) × (is_assembled_in s (object.Matrix a) ≡ true)
+IsReadyIn s (object.Vector v) = (is_some (vector_at s.store v) ≡ true) × (is_assembled_in s (object.Vector v) ≡ true)
+
+-- its partial store is of just so many calls, and holds the object, in which no change waits
+pub record IsReadyAt (k : ReadObjectView) (known : ℕ) (o : Object) : Type 0 where
+  pub all : k.upto ≡ known
+  pub holds : is_wanted k.store.objects o ≡ true
+  pub ready : IsReadyIn k.store.state o
+
+-- one of the partial stores does
+pub record LiesIn (k : PartialStoresView) (known : ℕ) (o : Object) : Type 0 where
+  pub at : ℕ
+  pub read : ReadObjectView
+  pub found : slice_get k.stores at ≡ Some read
+  pub ready : IsReadyAt read known o
 
 -- this holds of all calls, so many, of which the objects that were read are held
 abbrev pub OfAllCalls : PartialStoresView → ℕ → (List Call → Type 0) → Type 0

@@ -161,14 +161,16 @@ impl PartialStore {
 
     /// The matrix as all share it that hold it, as far as it is held here, as [`State::held_matrix`] says. Takes no memory.
     pub(crate) fn held_matrix(&self, a: MatrixId) -> Option<&Arc<SparseMatrix>>
-        ensures { option_map (λ matrix. matrix.now.value.matrix) result ≡ matrix_at self.now.state.store a }
+        ensures stored { option_map (λ matrix. matrix.now.value.matrix) result ≡ matrix_at self.now.state.store a }
+        ensures assembled { option_map_or (λ matrix. matrix.now.value.assembled) result true ≡ is_assembled_in self.now.state (Object.Matrix a) }
     {
         self.state.held_matrix(a)
     }
 
     /// The vector as all share it that hold it, as far as it is held here, as [`State::held_vector`] says. Takes no memory.
     pub(crate) fn held_vector(&self, v: VectorId) -> Option<&Arc<SparseVector>>
-        ensures { option_map (λ vector. vector.now.value.vector) result ≡ vector_at self.now.state.store v }
+        ensures stored { option_map (λ vector. vector.now.value.vector) result ≡ vector_at self.now.state.store v }
+        ensures assembled { option_map_or (λ vector. vector.now.value.assembled) result true ≡ is_assembled_in self.now.state (Object.Vector v) }
     {
         self.state.held_vector(v)
     }
@@ -180,8 +182,9 @@ impl PartialStore {
         &self.objects
     }
 
-    /// The answer to a call that only reads the object, as a store answers where the object holds the same. A total and a wait have the
-    /// changes done that wait in it. `AllocError` where memory is refused to that; the entries are as before in any case.
+    /// The answer to a call that only reads the object, as a store answers where the object holds the same. A wait has the changes done
+    /// that wait in it, and a total where they are many. `AllocError` where memory is refused to a wait; the entries are as before in any
+    /// case.
     pub fn answer(
         &mut self,
         object: Object,
@@ -199,8 +202,8 @@ impl PartialStore {
     }
 }
 
-/// The answer of the state to a call that only reads the object. A total and a wait have the changes done that wait in it. `AllocError`
-/// where memory is refused to these; the entries are as before in any case.
+/// The answer of the state to a call that only reads the object. A wait has the changes done that wait in it, and a total where they are
+/// many. `AllocError` where memory is refused to a wait; the entries are as before in any case.
 pub(crate) fn answer_of(
     state: &mut State,
     call: &Call,

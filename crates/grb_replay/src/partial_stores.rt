@@ -1,5 +1,5 @@
 //! Partial stores of objects that were read, eight at most.
-ghost use Rattle.std.specs.Prelude.{◌≡◌, ◌≤◌, ◌<◌, ℕ, [], false, true, List, None, Some, length, vec_capacity, vec_len, All, IfOk, IfSome};
+ghost use Rattle.std.specs.Prelude.{◌≡◌, ◌≤◌, ◌<◌, ℕ, [], false, true, List, None, Some, length, vec_capacity, vec_len, All, IfOk, IfSome, MatchOption};
 ghost use Rattle.grb_call.specs.declared.call.Call.{Call};
 ghost use Rattle.grb_call.specs.Kinds.{enters, is_size};
 ghost use Rattle.grb_call.specs.Status.{object_of};
@@ -10,7 +10,7 @@ ghost use Rattle.grb_state.specs.Evaluated.{IsEvaluated};
 ghost use Rattle.grb_slices.specs.Followed.{targets_of};
 ghost use Rattle.grb_slices.specs.Wanted.{is_wanted};
 ghost use Rattle.grb_state.specs.StoredIn.{IsMatrixOf, IsVectorOf};
-ghost use Rattle.grb_replay.specs.Partial.{ArePartial, HoldsMatrix, HoldsVector, IsPartialAt, IsPartialNow, OfAllCalls, reply_after};
+ghost use Rattle.grb_replay.specs.Partial.{ArePartial, HoldsMatrix, HoldsVector, IsPartialAt, IsPartialNow, IsReadyAt, LiesIn, OfAllCalls, reply_after};
 
 use crate::effort::{Amount, Effort};
 use crate::partial_store::PartialStore;
@@ -69,6 +69,7 @@ impl ReadObject {
     fn is_at(&self, known: usize, object: Object) -> bool
         ensures upto { result ≡ true → self.now.upto ≡ known }
         ensures holds { result ≡ true → is_wanted self.now.store.objects object ≡ true }
+        ensures not { result ≡ false → self.now.upto ≡ known → is_wanted self.now.store.objects object ≡ true → ⊥ }
     {
         self.upto == known && self.store.objects().contains(object)
     }
@@ -77,6 +78,7 @@ impl ReadObject {
     fn store_at(&self, known: usize, object: Object) -> Option<&PartialStore>
         ensures upto { IfSome result (λ store. self.now.upto ≡ known) }
         ensures holds { IfSome result (λ store. is_wanted self.now.store.objects object ≡ true) }
+        ensures not { result ≡ None → self.now.upto ≡ known → is_wanted self.now.store.objects object ≡ true → ⊥ }
         ensures store { IfSome result (λ store. store.now ≡ self.now.store) }
     {
         if self.is_at(known, object) {
@@ -88,7 +90,8 @@ impl ReadObject {
 
     /// The matrix as all share it that hold it, where it is here after just so many calls and no change waits in it.
     fn held_matrix(&self, known: usize, a: MatrixId) -> Option<&Arc<SparseMatrix>>
-        ensures { IfSome result (λ matrix. HoldsMatrix self.now known a matrix.now.value) }
+        ensures held { IfSome result (λ matrix. HoldsMatrix self.now known a matrix.now.value) }
+        ensures ready { MatchOption result (IsReadyAt self.now known (Object.Matrix a) → ⊥) (λ matrix. IsReadyAt self.now known (Object.Matrix a)) }
     {
         let matrix = self.store_at(known, Object::Matrix(a))?.held_matrix(a)?;
         matrix.is_assembled().then_some(matrix)
@@ -96,7 +99,8 @@ impl ReadObject {
 
     /// The vector as all share it that hold it, where it is here after just so many calls and no change waits in it.
     fn held_vector(&self, known: usize, v: VectorId) -> Option<&Arc<SparseVector>>
-        ensures { IfSome result (λ vector. HoldsVector self.now known v vector.now.value) }
+        ensures held { IfSome result (λ vector. HoldsVector self.now known v vector.now.value) }
+        ensures ready { MatchOption result (IsReadyAt self.now known (Object.Vector v) → ⊥) (λ vector. IsReadyAt self.now known (Object.Vector v)) }
     {
         let vector = self.store_at(known, Object::Vector(v))?.held_vector(v)?;
         vector.is_assembled().then_some(vector)
@@ -157,22 +161,32 @@ impl PartialStores {
         self.stores.len()
     }
 
-    /// The matrix as all share it that hold it, as it is after all calls, of which there are so many: where it was read there and no change
-    /// waits in it. Takes no memory.
+    /// The matrix as all share it that hold it, as it is after all calls, of which there are so many: where a partial store holds it there
+    /// and no change waits in it. Takes no memory.
     pub fn held_matrix(&self, known: usize, a: MatrixId) -> Option<&Arc<SparseMatrix>>
-        ensures { OfAllCalls self.now known (λ cs. IfSome result (λ matrix. IsMatrixOf (after_all empty_store cs) a matrix.now.value)) }
+        ensures stored { OfAllCalls self.now known (λ cs. IfSome result (λ matrix. IsMatrixOf (after_all empty_store cs) a matrix.now.value)) }
+        ensures ready { MatchOption result (LiesIn self.now known (Object.Matrix a) → ⊥) (λ matrix. LiesIn self.now known (Object.Matrix a)) }
     {
-        let at = self.place_of(Object::Matrix(a))?;
-        self.stores[at].held_matrix(known, a)
+        'stores: for at in 0..self.stores.len() {
+            if let Some(matrix) = self.stores[at].held_matrix(known, a) {
+                return Some(matrix);
+            }
+        }
+        None
     }
 
-    /// The vector as all share it that hold it, as it is after all calls, of which there are so many: where it was read there and no change
-    /// waits in it. Takes no memory.
+    /// The vector as all share it that hold it, as it is after all calls, of which there are so many: where a partial store holds it there
+    /// and no change waits in it. Takes no memory.
     pub fn held_vector(&self, known: usize, v: VectorId) -> Option<&Arc<SparseVector>>
-        ensures { OfAllCalls self.now known (λ cs. IfSome result (λ vector. IsVectorOf (after_all empty_store cs) v vector.now.value)) }
+        ensures stored { OfAllCalls self.now known (λ cs. IfSome result (λ vector. IsVectorOf (after_all empty_store cs) v vector.now.value)) }
+        ensures ready { MatchOption result (LiesIn self.now known (Object.Vector v) → ⊥) (λ vector. LiesIn self.now known (Object.Vector v)) }
     {
-        let at = self.place_of(Object::Vector(v))?;
-        self.stores[at].held_vector(known, v)
+        'stores: for at in 0..self.stores.len() {
+            if let Some(vector) = self.stores[at].held_vector(known, v) {
+                return Some(vector);
+            }
+        }
+        None
     }
 
     /// How much may be spent yet on single objects, while calls that take so much are not evaluated in the store: half of that, since all

@@ -310,8 +310,9 @@ impl Reached {
         self.state.materialize()
     }
 
-    /// The answer to a call that only reads the object, as a store answers where the object holds the same. A total and a wait have the
-    /// changes done that wait in it. `AllocError` where memory is refused to that; the entries are as before in any case.
+    /// The answer to a call that only reads the object, as a store answers where the object holds the same. A wait has the changes done
+    /// that wait in it, and a total where they are many. `AllocError` where memory is refused to a wait; the entries are as before in any
+    /// case.
     pub fn answer(
         &mut self,
         object: Object,

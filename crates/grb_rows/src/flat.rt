@@ -70,7 +70,7 @@ impl FlatRows {
         }
     }
 
-    /// No entries, and memory for `room`.
+    /// No entries, and memory for `room`. `AllocError` where it is refused; then nothing is made.
     pub fn with_capacity(alloc: Global, domain: Domain, room: usize) -> Result<FlatRows, AllocError>
         ensures entries { IfOk result (λ row. row.entries ≡ []) }
         ensures domain { IfOk result (λ row. row.domain ≡ domain) }
@@ -210,7 +210,7 @@ impl FlatRows {
         self.values.shrink();
     }
 
-    /// The same entries in lists of their own, each copied whole.
+    /// The same entries in lists of their own, each copied whole. `AllocError` where memory is refused; then nothing is made.
     pub(crate) fn try_clone(&self) -> Result<FlatRows, AllocError>
         ensures entries { IfOk result (λ copy. copy.entries ≡ self.now.entries) }
         ensures domain { IfOk result (λ copy. copy.domain ≡ self.now.domain) }

@@ -155,13 +155,6 @@ impl Held {
         }
     }
 
-    /// Whether so many cells were changed that merging them pays: at least 1,024, and at least a sixteenth of the entries that were
-    /// assembled.
-    pub fn has_many_changes(&self) -> bool {
-        let changes = self.pending.len();
-        changes >= 1_024 && changes.saturating_mul(16) >= self.base.rows().len()
-    }
-
     /// Makes places for `n` calls of `set` or `remove` from now on, in place of those made before. `AllocError` where memory is refused,
     /// and then nothing changes.
     pub fn reserve_pending(&mut self, n: u64) -> Result<(), AllocError>
@@ -248,8 +241,8 @@ impl Held {
         self.settle(Base::own(none), true);
     }
 
-    /// What is stored within `nrows` rows and `ncols` columns, as rows of their own: the changes merged with the entries, and each entry that
-    /// is kept copied once.
+    /// What is stored within `nrows` rows and `ncols` columns, as rows of their own: the changes merged with the entries, and each entry
+    /// that is kept copied once.
     fn merged_within(&self, nrows: u64, ncols: u64) -> Result<FlatRows, AllocError>
         ensures entries { IfOk result (λ new. new.entries ≡ entries_within nrows ncols self.now.entries) }
         ensures domain { IfOk result (λ new. new.domain ≡ self.now.domain) }

@@ -63,7 +63,8 @@ impl FlatRows {
         }
     }
 
-    /// The row 0 alone, of the column and the truth value of each entry. Takes memory for one row.
+    /// The row 0 alone, of the column and the truth value of each entry. Takes memory for one row; `AllocError` where it is refused, and
+    /// then nothing is made.
     pub fn row_from_bools(
         alloc: Global,
         columns: Vec<u32>,
@@ -82,7 +83,8 @@ impl FlatRows {
         Ok(FlatRows::from_bools(rows, starts, columns, bools))
     }
 
-    /// The same with a number for each entry. Takes memory for one row.
+    /// The row 0 alone, of the column and the number of each entry. Takes memory for one row; `AllocError` where it is refused, and then
+    /// nothing is made.
     pub fn row_from_numbers(
         alloc: Global,
         columns: Vec<u32>,

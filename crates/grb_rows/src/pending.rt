@@ -124,7 +124,7 @@ impl Pending {
         }
     }
 
-    /// Makes places for `n` changes from now on, in place of those made before.
+    /// Makes places for `n` changes from now on, in place of those made before. `AllocError` where memory is refused; then nothing changes.
     pub fn reserve(&mut self, n: u64) -> Result<(), AllocError>
         ensures last { (q : ℕ) → last_at q self.new.changes ≡ last_at q self.old.changes }
         ensures none { self.old.changes ≡ [] → self.new.changes ≡ [] }
@@ -199,7 +199,7 @@ impl Pending {
         })
     }
 
-    /// The last change of each index, in rising order of the indices.
+    /// The last change of each index, in rising order of the indices. `AllocError` where memory is refused; then nothing is made.
     pub(crate) fn in_order(&self, alloc: Global) -> Result<Vec<(u64, Option<Value>)>, AllocError>
         ensures sorted { IfOk result (λ last. IsTrue (is_sorted nat_cmp last.items)) }
         ensures found { IfOk result (λ last. (q : ℕ) → find nat_cmp q last.items ≡ last_at q self.now.changes) }

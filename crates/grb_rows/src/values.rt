@@ -29,7 +29,7 @@ fn number_of(value: Value) -> u64
     }
 }
 
-/// A list of its own with the same elements, copied whole.
+/// A list of its own with the same elements, copied whole. `AllocError` where memory is refused; then nothing is made.
 pub(crate) fn copied<T: Copy>(alloc: Global, list: &[T]) -> Result<Vec<T>, AllocError>
     ensures { IfOk result (λ copy. copy.items ≡ list.now) }
 {
@@ -67,7 +67,7 @@ impl Values {
         }
     }
 
-    /// No values, and memory for `room`.
+    /// No values, and memory for `room`. `AllocError` where it is refused; then nothing is made.
     pub(crate) fn with_capacity(
         alloc: Global,
         domain: Domain,
@@ -210,7 +210,7 @@ impl Values {
         }
     }
 
-    /// The same values in a list of their own, copied whole.
+    /// The same values in a list of their own, copied whole. `AllocError` where memory is refused; then nothing is made.
     pub(crate) fn try_clone(&self, alloc: Global) -> Result<Values, AllocError>
         ensures list { IfOk result (λ copy. values_list copy ≡ values_list self.now) }
         ensures domain { IfOk result (λ copy. values_domain copy ≡ values_domain self.now) }

@@ -5,10 +5,10 @@ use Rattle.grb_order.specs.Holding.{TableId}
 use Rattle.grb_order.specs.Order.{room_of}
 use Rattle.grb_order.specs.View.{fresh}
 use Rattle.grb_context.specs.Statuses.{no_rows}
-use Rattle.grb_context.specs.Known.{Knowing, AreNew}
+use Rattle.grb_context.specs.Known.{Knowing, none_made, AreNew}
 
 abbrev pub new_pass : TableId → ℕ → Knowing
-new_pass order passes = record { order = order; view = fresh 0 passes; shown = []; steps = 0; statuses = no_rows (room_of order); settled = 0; made = 0 }
+new_pass order passes = record { order = order; view = fresh 0 passes; shown = []; steps = 0; statuses = no_rows (room_of order); settled = 0; made = none_made }
 
 same_some : (o : Option Knowing) (p q : Knowing) → o ≡ Some p → o ≡ Some q → p ≡ q
 same_some o p q e f = cc

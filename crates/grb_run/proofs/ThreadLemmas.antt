@@ -9,7 +9,7 @@ use Rattle.std.specs.declared.thread.PromisedHandle.{PromisedHandle}
 use Rattle.std.specs.declared.thread.Promise as Promise
 use Rattle.grb_call.specs.declared.ids.Object.{Object}
 use Rattle.grb_context.specs.Explains.{Answer}
-use Rattle.grb_context.specs.Known.{Shared, Knowing, IsPassOf}
+use Rattle.grb_context.specs.Known.{Shared, Knowing, Making, IsPassOf}
 use Rattle.grb_context.specs.Meeting.{Met}
 use Rattle.grb_run.specs.declared.fault.RunFault.{RunFault}
 use Rattle.grb_run.specs.declared.fault.RunFault.TheVariants as run
@@ -116,11 +116,11 @@ module _ (context : Shared) where
       )
   gathered main passes threads jobs results p before after all are_jobs ended are = absurd are_jobs
 
-  -- how many calls a pass had made before plays no part in a meeting
-  met_other : (new met p : Knowing) (made : ℕ) → Met context new met (record p { made = made }) (Ok tt) → Met context new met p (Ok tt)
+  -- what a pass had made before plays no part in a meeting
+  met_other : (new met p : Knowing) (made : Making) → Met context new met (record p { made = made }) (Ok tt) → Met context new met p (Ok tt)
   met_other new met p made m = record { pass = m.pass; met = m.met; learns = m.learns; knows = m.knows; own = m.own; steps = m.steps; looks = m.looks; made = m.made }
 
-  met_first : (p met other : Knowing) (made : ℕ) → Met context (record p { made = made }) met other (Ok tt) → Met context p met other (Ok tt)
+  met_first : (p met other : Knowing) (made : Making) → Met context (record p { made = made }) met other (Ok tt) → Met context p met other (Ok tt)
   met_first p met other made m = let l = m.learns in record {
     pass = m.pass;
     met = m.met;
@@ -132,7 +132,7 @@ module _ (context : Shared) where
     made = m.made;
   }
 
-  told_alike : (objects : List Object) (p : Knowing) (made : ℕ) (passes : List Knowing) (threads : List (List Step)) (answers : List (List Answer)) (ended : List Knowing)
+  told_alike : (objects : List Object) (p : Knowing) (made : Making) (passes : List Knowing) (threads : List (List Step)) (answers : List (List Answer)) (ended : List Knowing)
       → AreThreadsTold context (record { objects = objects; pass = record p { made = made } }) passes threads answers ended → AreThreadsTold context (record { objects = objects; pass = p }) passes threads answers ended
   told_alike objects p made [] [] [] [] are = tt
   told_alike objects p made (new ∷ passes) (steps ∷ threads) (answers ∷ more) (ended ∷ all) are =
@@ -140,14 +140,14 @@ module _ (context : Shared) where
       (record { met = is.met; meets = met_other new is.met p made is.meets; objects = is.objects; told = is.told }, told_alike objects p made passes threads more all are.1)
   told_alike objects p made passes threads answers ended are = absurd are
 
-  meets_alike : (objects : List Object) (p : Knowing) (made : ℕ) (passes : List Knowing) (threads : List (List Step)) (answers : List (List Answer)) (ended : List Knowing) (after : Knowing) → (length threads ≡ 0 → ⊥)
+  meets_alike : (objects : List Object) (p : Knowing) (made : Making) (passes : List Knowing) (threads : List (List Step)) (answers : List (List Answer)) (ended : List Knowing) (after : Knowing) → (length threads ≡ 0 → ⊥)
       → AreThreadsTold context (record { objects = objects; pass = record p { made = made } }) passes threads answers ended → MeetsAll context (record p { made = made }) ended after → MeetsAll context p ended after
   meets_alike objects p made [] [] [] [] after some are meets = absurd (some refl)
   meets_alike objects p made (new ∷ passes) (steps ∷ threads) (answers ∷ more) (ended ∷ all) after some are meets = (meets.0, met_first p meets.0 ended made meets.1, meets.2)
   meets_alike objects p made passes threads answers ended after some are meets = absurd are
 
   -- nor in what thread sections come to, where there are some
-  pub threads_alike : (objects : List Object) (p : Knowing) (made : ℕ) (passes : List Knowing) (threads : List (List Step)) (before : List Answer) (after : Knowing) (all : List Answer) → (length threads ≡ 0 → ⊥)
+  pub threads_alike : (objects : List Object) (p : Knowing) (made : Making) (passes : List Knowing) (threads : List (List Step)) (before : List Answer) (after : Knowing) (all : List Answer) → (length threads ≡ 0 → ⊥)
       → AreThreadsRun context (record { objects = objects; pass = record p { made = made } }) passes threads before after all → AreThreadsRun context (record { objects = objects; pass = p }) passes threads before after all
   threads_alike objects p made passes threads before after all some run = record {
     answers = run.answers;

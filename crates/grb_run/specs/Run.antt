@@ -42,8 +42,8 @@ pub record WroteAll (room : ℕ) (told : Option (List ℕ)) (files : Files) (bef
   pub fits : seats_of room text ≤ MOST_SEATS
   pub lines : Wrote room files text before after
 
--- a script was given that has no fault, its sections are not too many for the room, the file of each of its loads spells a matrix, and a beginning of the lines of its answers was
--- written
+-- a script was given that has no fault, its sections are not too many for the room, the file of each of its loads spells a matrix, and a
+-- beginning of the lines of its answers was written
 pub record WroteBeginning (room : ℕ) (told : Option (List ℕ)) (files : Files) (before after : Option (List ℕ)) : Type 0 where
   pub text : List ℕ
   pub given : IsGiven told MAX_SCRIPT text
@@ -69,7 +69,8 @@ pub record IsCrowded (room : ℕ) (told : Option (List ℕ)) : Type 0 where
   pub faultless : script_fault text ≡ None
   pub crowded : MOST_SEATS < seats_of room text
 
--- a script was given that has no fault, its sections are not too many for the room, and the first of its loads that ends with a fault does so with this one
+-- a script was given that has no fault, its sections are not too many for the room, and the first of its loads that ends with a fault does
+-- so with this one
 pub record StopsAtLoad (room : ℕ) (told : Option (List ℕ)) (files : Files) (fault : RunFault) : Type 0 where
   pub text : List ℕ
   pub given : IsGiven told MAX_SCRIPT text
@@ -77,7 +78,8 @@ pub record StopsAtLoad (room : ℕ) (told : Option (List ℕ)) (files : Files) (
   pub fits : seats_of room text ≤ MOST_SEATS
   pub stops : StopsWith files (all_of (sections_of text)) fault
 
--- a script was given that has no fault, its sections are not too many for the room, the file of each of its loads spells a matrix, and it has thread sections
+-- a script was given that has no fault, its sections are not too many for the room, the file of each of its loads spells a matrix, and it
+-- has thread sections
 pub record IsThreaded (room : ℕ) (told : Option (List ℕ)) (files : Files) : Type 0 where
   pub text : List ℕ
   pub given : IsGiven told MAX_SCRIPT text

@@ -116,8 +116,8 @@ impl Hoard {
         false
     }
 
-    /// Holds back what was given back since, and then leaves `bytes` of one spare over, in one piece, or all `SPARE` of it. Whether there was
-    /// a spare.
+    /// Holds back what was given back since, and then leaves `bytes` of one spare over, in one piece, or all `SPARE` of it. Whether there
+    /// was a spare.
     pub fn leave(&mut self, bytes: usize) -> bool {
         self.take_down_from(SPARE, PLACES);
         match self.spares.pop() {

@@ -261,14 +261,6 @@ impl SparseMatrix {
         self.held.layers()
     }
 
-    /// Whether so many cells were changed that merging them pays: at least 1,024, and at least a sixteenth of the entries that were
-    /// assembled last. Takes no memory.
-    ///
-    /// Source: own.
-    pub fn has_many_changes(&self) -> bool {
-        self.held.has_many_changes()
-    }
-
     /// Lets copies share the entries that were assembled last, from now on; fewer than 64 are as cheap to copy, and stay as they are. It
     /// takes little memory, and none again; where that is refused, copies have entries of their own.
     ///

@@ -1,5 +1,5 @@
 //! Tuples of a row, a column and a value, in the order of the numbers of their cells.
-ghost use Rattle.std.specs.Prelude.{◌≡◌, ◌<◌, ◌^◌, true, All, IfOk};
+ghost use Rattle.std.specs.Prelude.{◌≡◌, ◌<◌, ◌↔◌, ◌^◌, true, All, IfOk};
 ghost use Rattle.std.specs.Ordering.{nat_cmp};
 ghost use Rattle.std.specs.List.Sorted.{IsSortedByKey};
 ghost use Rattle.grb_core.specs.Value.{value_domain, IsValueOf};
@@ -29,7 +29,7 @@ fn numbered(alloc: Global, tuples: &[(u64, u64, Value)]) -> Result<Vec<(u64, Val
 fn is_in_order(tuples: &[(u64, u64, Value)]) -> bool
     requires rows { All (λ e. e.0 < 2 ^ 32) tuples.now }
     requires columns { All (λ e. e.1 < 2 ^ 32) tuples.now }
-    ensures { result ≡ true → IsSortedByKey (λ e. e.0) nat_cmp (coded_entries (cells_of tuples.now)) }
+    ensures { result ≡ true ↔ IsSortedByKey (λ e. e.0) nat_cmp (coded_entries (cells_of tuples.now)) }
 {
     for at in 1..tuples.len() {
         let before = code(tuples[at - 1].0, tuples[at - 1].1);

@@ -1,5 +1,5 @@
 //! Tuples of a place and a value, put in rising order of their places, the values of one place combined.
-ghost use Rattle.std.specs.Prelude.{◌≡◌, ◌≢◌, ◌+◌, ◌-◌, ◌<◌, ◌≤◌, ℕ, true, false, length, All, IsTrue, IfOk, slice_index_or};
+ghost use Rattle.std.specs.Prelude.{◌≡◌, ◌≢◌, ◌+◌, ◌-◌, ◌<◌, ◌≤◌, ◌↔◌, ℕ, true, false, length, All, IsTrue, IfOk, slice_index_or};
 ghost use Rattle.std.specs.Ordering.{is_gt, nat_cmp};
 ghost use Rattle.std.specs.List.Sorted.{IsSortedByKey};
 ghost use Rattle.std.specs.FinMap.{find, put, is_sorted};
@@ -77,7 +77,7 @@ fn combine(alloc: Global, tuples: &[(u64, Value)], dup: Monoid) -> Result<FlatRo
 
 /// Whether the places rise, or stay as they are, from each tuple to the next.
 fn is_in_order(tuples: &[(u64, Value)]) -> bool
-    ensures { result ≡ true → IsSortedByKey (λ e. e.0) nat_cmp tuples.now }
+    ensures { result ≡ true ↔ IsSortedByKey (λ e. e.0) nat_cmp tuples.now }
 {
     for at in 1..tuples.len() {
         if tuples[at].0 < tuples[at - 1].0 {

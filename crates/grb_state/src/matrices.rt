@@ -5,7 +5,7 @@ ghost use Rattle.grb_call.specs.Store.{empty_store};
 ghost use Rattle.grb_state.specs.Fits.{FitsMatrix, ends_matrix};
 ghost use Rattle.grb_state.specs.State.{stored_matrix};
 
-use crate::stored_object::{MANY, StoredObject};
+use crate::stored_object::{StoredObject, are_many};
 use grb_call::{Call, MatrixId};
 use grb_sparse::SparseMatrix;
 use std::alloc::{AllocError, Global};
@@ -74,7 +74,7 @@ impl StoredObject for SparseMatrix {
     }
 
     fn has_many_changes(&self) -> bool {
-        self.has_many_changes() || MANY <= self.layers().places.len()
+        are_many(&self.layers())
     }
 
     fn assemble(&mut self) -> Result<(), AllocError> {

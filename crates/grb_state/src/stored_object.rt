@@ -3,11 +3,20 @@ ghost use Rattle.std.specs.Prelude.{◌≡◌, ℕ, Bool, false, true, OnOk, OnE
 ghost use Rattle.grb_call.specs.declared.call.Call.{Call};
 
 use grb_call::Call;
+use grb_sparse::Layers;
 use std::alloc::{AllocError, Global};
 
 /// How many entries that are changed or taken away are many, however large the object is: a total looks through their places for each 8,192
 /// entries.
-pub(crate) const MANY: usize = 16_384;
+const MANY: usize = 16_384;
+
+/// Whether so many changes wait that merging them pays: at least 1,024 changed cells, and at least a sixteenth of the entries that were
+/// assembled last; or `MANY` of these are changed or taken away. Takes no memory. Either answer is right; it bears on time alone.
+pub(crate) fn are_many(layers: &Layers<'_>) -> bool {
+    let changes = layers.changes.len();
+    let merging_pays = changes >= 1_024 && changes.saturating_mul(16) >= layers.base.len();
+    merging_pays || MANY <= layers.places.len()
+}
 
 /// An object of a sort that a state holds in places.
 pub(crate) trait StoredObject: Drop {

@@ -5,7 +5,7 @@ ghost use Rattle.grb_call.specs.Store.{empty_store};
 ghost use Rattle.grb_state.specs.Fits.{FitsVector, ends_vector};
 ghost use Rattle.grb_state.specs.State.{stored_vector};
 
-use crate::stored_object::{MANY, StoredObject};
+use crate::stored_object::{StoredObject, are_many};
 use grb_call::{Call, VectorId};
 use grb_sparse::SparseVector;
 use std::alloc::{AllocError, Global};
@@ -73,7 +73,7 @@ impl StoredObject for SparseVector {
     }
 
     fn has_many_changes(&self) -> bool {
-        self.has_many_changes() || MANY <= self.layers().places.len()
+        are_many(&self.layers())
     }
 
     fn assemble(&mut self) -> Result<(), AllocError> {

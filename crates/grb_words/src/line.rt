@@ -5,8 +5,8 @@ ghost use Rattle.grb_words.specs.Line.{words_of, has_allowed_bytes, is_skipped, 
 use smallvec::SmallVec;
 use std::alloc::{AllocError, Global};
 
-/// The words of a line, which one or more spaces part. Up to 8 of them take no memory. `AllocError` where memory is refused; then nothing is
-/// made.
+/// The words of a line, which one or more spaces part. Up to 8 of them take no memory. `AllocError` where memory is refused; then nothing
+/// is made.
 pub fn words(alloc: Global, line: &[u8]) -> Result<SmallVec<&[u8], 8>, AllocError>
     ensures { IfOk result (λ words. map (λ word. word.now) words.items ≡ words_of line.now) }
 {

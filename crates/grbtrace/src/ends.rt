@@ -51,7 +51,8 @@ fn told_of_lines<R: Files + AllocGlobal>(
     told_of_refusals(rt.alloc(), &text, output, &heads)
 }
 
-/// Tells on standard error what is known of the statements that were refused, if some were. Where memory is refused for it, nothing is told.
+/// Tells on standard error what is known of the statements that were refused, if some were. Where memory is refused for it, nothing is
+/// told.
 pub(crate) fn tell_refusals<R: Files + Eprint + AllocGlobal>(rt: &R, script: &str, output: &[u8]) {
     if !is_any_refused(output) {
         return;

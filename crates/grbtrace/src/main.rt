@@ -2,8 +2,8 @@
 //! took, as `section 0 statement 2: 14 us`.
 //!
 //! It shows what a `Gate` is for: `run_script` calls it before and after each statement, and leaves the rest of the run to itself. It also
-//! tells on standard error what `grbrun` does not: of a fault the line as it stands, its form and its names, of a refused statement the hint
-//! and the objects, and of a file its path and the cause.
+//! tells on standard error what `grbrun` does not: of a fault the line as it stands, its form and its names, of a refused statement the
+//! hint and the objects, and of a file its path and the cause.
 #![tactic(auto)]
 
 ghost use Rattle.std.specs.Prelude.{◌<◌, ◌≤◌};

@@ -123,6 +123,11 @@ impl<'a> Case<'a> {
         })
     }
 
+    /// How many lawful outputs it has.
+    pub(crate) fn count_outputs(&self) -> u64 {
+        self.outputs.len() as u64
+    }
+
     /// What a run of all scripts prints, one after another.
     fn printed<R>(&self, rt: &R) -> Result<String, AllocError>
     where

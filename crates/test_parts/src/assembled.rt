@@ -1,5 +1,5 @@
-//! What a replay, an edition and a value lend, passed on as it is to what asks for objects in which no change waits: totals, an operation and
-//! a text.
+//! What a replay, an edition and a value lend, passed on as it is to what asks for objects in which no change waits: totals, an operation
+//! and a text.
 //!
 //! Contracts say that none waits there. What comes out of each is written here by hand, and no contract says that memory suffices.
 ghost use Rattle.std.specs.Prelude.{◌≡◌, true};

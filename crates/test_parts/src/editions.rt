@@ -1,8 +1,8 @@
 //! Editions: which of them serve which calls, and which are kept.
 //!
-//! The contracts of `newest` and `advance` say that what is found is the store of the first of the calls. That an edition is found where one
-//! serves, the longest that does, which offers and which of the stores that are left are kept, whether one would be, and that one which is not
-//! is no refusal, no contract says.
+//! The contracts of `newest` and `advance` say that what is found is the store of the first of the calls. That an edition is found where
+//! one serves, the longest that does, which offers and which of the stores that are left are kept, whether one would be, and that one which
+//! is not is no refusal, no contract says.
 ghost use Rattle.std.specs.Prelude.{◌≡◌, ◌≤◌, length, map, IfOk};
 ghost use Rattle.grb_call.specs.Store.{empty_store};
 ghost use Rattle.grb_call.specs.History.{after_all};
@@ -116,8 +116,8 @@ fn found(editions: &Editions, calls: &[&Call]) -> Option<(usize, Option<u64>)> {
     Some((length, stored(state)))
 }
 
-/// Of how many calls a state is that goes on from an edition, and what the vector stores in it; none where it stays the empty one. The calls
-/// are 512 at most.
+/// Of how many calls a state is that goes on from an edition, and what the vector stores in it; none where it stays the empty one. The
+/// calls are 512 at most.
 fn advanced(
     alloc: Global,
     editions: &Editions,
@@ -260,8 +260,9 @@ fn an_edition_serves_the_calls_that_begin_with_its_own(rt: HostRuntime) -> Resul
     Ok(())
 }
 
-/// Editions of 64, 100, 128, 200 and 256 calls were offered in turn. Those of 64, 128 and 256 double, so cells have them; the others are among
-/// the latest. Here is how many calls are asked for, and how many the edition has that is found in a cell, and in any place; 0 is none.
+/// Editions of 64, 100, 128, 200 and 256 calls were offered in turn. Those of 64, 128 and 256 double, so cells have them; the others are
+/// among the latest. Here is how many calls are asked for, and how many the edition has that is found in a cell, and in any place; 0 is
+/// none.
 static DOUBLED: [(u64, usize, usize); 10] = [
     (63, 0, 0),
     (64, 64, 64),
@@ -484,8 +485,8 @@ fn the_latest_are_four(rt: HostRuntime) -> Result<(), AllocError> {
     Ok(())
 }
 
-/// What was offered, and what was left; how many calls are evaluated and known; and whether one of the latest, and any edition, has more than
-/// the ones and no more than the others.
+/// What was offered, and what was left; how many calls are evaluated and known; and whether one of the latest, and any edition, has more
+/// than the ones and no more than the others.
 static BEYOND: [(&[History], &[History], usize, usize, bool, bool); 12] = [
     (&[], &[], 0, 5, false, false),
     (&[TWO], &[], 0, 1, false, false),

@@ -394,8 +394,8 @@ fn same_replayed_vector(
     }
 }
 
-/// Compares each object that the calls make, and of each sort the next, which they do not make: as it is held by itself, and as it is in the
-/// replay of all calls, with what a store answers in which changes wait.
+/// Compares each object that the calls make, and of each sort the next, which they do not make: as it is held by itself, and as it is in
+/// the replay of all calls, with what a store answers in which changes wait.
 fn same_as_whole(rt: &impl Abort, alloc: Global, calls: &[&Call]) -> Result<(), AllocError> {
     let whole = replayed(rt, alloc, calls)?;
     let mut store = applied(rt, alloc, calls)?;

@@ -1,7 +1,7 @@
 //! Objects that are read again and again while calls come: what is kept of them, and which calls a read has lent.
 //!
-//! The contract of `PartialStores::reply` fixes the reply where there is one. When there is one, what is kept then, and that a read looks at no call
-//! but those that the object depends on, no contract says.
+//! The contract of `PartialStores::reply` fixes the reply where there is one. When there is one, what is kept then, and that a read looks
+//! at no call but those that the object depends on, no contract says.
 ghost use Rattle.std.specs.Prelude.{◌≡◌, ◌≤◌, length, map, take, IfOk};
 ghost use Rattle.grb_call.specs.Store.{empty_store};
 ghost use Rattle.grb_replay.specs.Partial.{ArePartial};
@@ -39,8 +39,8 @@ static STEPS: [Step; 17] = [
     Step::Add(0, 0, 1),
 ];
 
-/// A name, after how many of the steps the first vector is read, and at which index. Then what a partial store answers, none where none does; which
-/// calls are lent for that, each as the bit of its place; and how many objects are kept then.
+/// A name, after how many of the steps the first vector is read, and at which index. Then what a partial store answers, none where none
+/// does; which calls are lent for that, each as the bit of its place; and how many objects are kept then.
 type Row = (&'static str, usize, u64, Option<Reply>, u64, usize);
 
 const SEVEN: Option<Reply> = Some(Reply::Value(Value::Uint64(7)));
@@ -127,7 +127,8 @@ fn amount_of(calls: &[&Call]) -> Amount {
     amount
 }
 
-/// What a partial store answers to a get that is not refused, where none of the calls is evaluated in the store, and which calls are lent for that.
+/// What a partial store answers to a get that is not refused, where none of the calls is evaluated in the store, and which calls are lent
+/// for that.
 fn read(
     rt: &impl Abort,
     alloc: Global,

@@ -1,7 +1,8 @@
 //! Matrix Market texts: what is read of each, and the first fault of those that have one.
 //!
-//! The contract of `read` says what a text spells and which fault is its first, by a grammar of our own. Whether that is the format, vectors
-//! from outside tell. No contract says the printed words, nor that memory suffices for the lines that a text has, whatever count it states.
+//! The contract of `read` says what a text spells and which fault is its first, by a grammar of our own. Whether that is the format,
+//! vectors from outside tell. No contract says the printed words, nor that memory suffices for the lines that a text has, whatever count it
+//! states.
 use crate::same::same;
 use grb_core::{Domain, Value};
 use grb_market::{Loaded, read};

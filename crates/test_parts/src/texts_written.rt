@@ -1,7 +1,7 @@
 //! What is written of a matrix, into sinks that take few bytes at a time, or fail once they are full.
 //!
-//! The contract of `write` says what a sink has taken, by what the sink says of itself. A sink of one's own shows that it holds of bytes that
-//! are there, each prefix of them, and that `write` answers Ok where memory suffices.
+//! The contract of `write` says what a sink has taken, by what the sink says of itself. A sink of one's own shows that it holds of bytes
+//! that are there, each prefix of them, and that `write` answers Ok where memory suffices.
 ghost use Rattle.std.specs.Prelude.{◌≡◌, true, Some};
 
 use crate::same::same;

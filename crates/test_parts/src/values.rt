@@ -1,7 +1,7 @@
 //! What one vector holds after a list of calls, and of how many of them it is made.
 //!
-//! A contract counts the calls that a value is made of by a definition of which calls an object depends on. The rows say by hand which these
-//! are. That a read costs no other call is said nowhere.
+//! A contract counts the calls that a value is made of by a definition of which calls an object depends on. The rows say by hand which
+//! these are. That a read costs no other call is said nowhere.
 ghost use Rattle.std.specs.Prelude.{◌≡◌, true};
 
 use crate::calls::{PLAIN, lent};
@@ -73,7 +73,8 @@ pub(crate) fn calls_of(alloc: Global, steps: &[Step]) -> Result<Vec<Call>, Alloc
     steps.iter().map(|step| call_of(*step)).collect(alloc)
 }
 
-/// Steps, and then some more; a vector, what it is found to hold after them, none where it is not there, and of how many calls that is made.
+/// Steps, and then some more; a vector, what it is found to hold after them, none where it is not there, and of how many calls that is
+/// made.
 struct Row {
     name: &'static str,
     steps: &'static [Step],

@@ -12,7 +12,7 @@
 
 A `Store` has a `Pass` for each thread. A pass makes each `Matrix` and `Vector`, and `using` gives it by another
 pass. Values are whole numbers from 0 to 2**64 - 1, or truth values. Indices begin at 0. A call that is refused
-does nothing and raises a `Refusal`.
+does nothing and raises a `Refusal`. What no variable has any more, a store or an object, ends by itself.
 """
 
 from __future__ import annotations
@@ -34,11 +34,11 @@ from .errors import (
     StoreClosed,
     UninitializedObject,
 )
-from .objects import Matrix, Object, Vector
+from .objects import Matrix, Object, Transposed, Vector
 from .operators import MONOIDS, OPERATORS
-from .store import MOST_PASSES, MOST_ROOM, MOST_SEATS, Facts, Pass, Store
+from .store import MOST_PASSES, MOST_ROOM, MOST_SEATS, Facts, Pass, Store, Temporary
 
-__version__ = "0.1.0"
+__version__ = "1.0.0"
 
 __all__ = [
     "MONOIDS",
@@ -65,6 +65,8 @@ __all__ = [
     "RoomTooSmall",
     "Store",
     "StoreClosed",
+    "Temporary",
+    "Transposed",
     "UninitializedObject",
     "Vector",
 ]

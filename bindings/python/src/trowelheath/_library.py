@@ -38,7 +38,8 @@ class FactsRecord(ctypes.Structure):
     ]
 
 
-_PASS = ctypes.POINTER(PassHandle)
+# The address of a handle: a number is passed faster than a pointer with a type.
+_PASS = ctypes.c_void_p
 _FACTS = ctypes.POINTER(FactsRecord)
 _BOOL = ctypes.c_bool
 _U32 = ctypes.c_uint32
@@ -115,17 +116,18 @@ _PARAMETERS: Dict[str, Tuple[Any, ...]] = {
     # Waits.
     "trb_matrix_wait": (_PASS, _U32, _U32),
     "trb_vector_wait": (_PASS, _U32, _U32),
+    # The version of the library, as a number.
+    "trb_version": (),
 }
 
 
 def _places() -> List[str]:
-    """Where the library may be, the first place first. A name without a folder is looked for by the system's loader."""
-    named = os.environ.get(ENVIRONMENT_VARIABLE)
-    if named:
-        return [os.path.abspath(named)]
+    """Where the library may be, the first place first: in the package, as a wheel has it; where the environment says;
+    and where the system's loader looks for a name without a folder."""
     package = Path(__file__).resolve().parent
-    beside = [str(package / name) for name in FILE_NAMES]
-    return [path for path in beside if os.path.exists(path)] + list(FILE_NAMES)
+    inside = [str(package / name) for name in FILE_NAMES if (package / name).exists()]
+    named = os.environ.get(ENVIRONMENT_VARIABLE)
+    return inside + ([os.path.abspath(named)] if named else list(FILE_NAMES))
 
 
 def _open_first(places: List[str]) -> ctypes.CDLL:
@@ -153,7 +155,7 @@ def load() -> ctypes.CDLL:
     """The library, with its functions declared. It is loaded by the first call, and not again.
 
     Raises:
-        LibraryNotFound: no file was found or loaded, or one lacks a function.
+        LibraryNotFound: no file was found or loaded, or one lacks a function or is of another version.
     """
     library = _open_first(_places())
     for name, parameters in _PARAMETERS.items():
@@ -163,4 +165,16 @@ def load() -> ctypes.CDLL:
             raise LibraryNotFound(f"{library._name} has no function {name}: it is no library of this version") from None
         function.argtypes = parameters
         function.restype = None if name == "trb_free" else ctypes.c_int32
+    _require_version(library)
     return library
+
+
+def _require_version(library: ctypes.CDLL) -> None:
+    """Raises `LibraryNotFound` where the library is not of the version of this package."""
+    from . import __version__
+
+    library.trb_version.restype = _U32
+    number = library.trb_version()
+    found = f"{number // 10000}.{number // 100 % 100}.{number % 100}"
+    if found != __version__:
+        raise LibraryNotFound(f"{library._name} has the version {found}, and the package {__version__}")

@@ -26,10 +26,19 @@ def number(x: SupportsIndex) -> int:
         TypeError: it is no whole number, as 1.0 is none.
         OverflowError: it is not from 0 to 2**64 - 1.
     """
-    value = operator.index(x)
+    try:
+        value = operator.index(x)
+    except TypeError:
+        raise TypeError(f"an object of numbers takes whole numbers from 0 to 2**64 - 1, not {_seen(x)}") from None
     if not 0 <= value <= MOST_NUMBER:
         raise OverflowError(f"{value} is not from 0 to 2**64 - 1")
     return value
+
+
+def _seen(x: object) -> str:
+    """A value of the program as a message has it: its type, and what it is where that is short."""
+    text = repr(x)
+    return f"{text}, of type {type(x).__name__}" if len(text) <= 60 else f"one of type {type(x).__name__}"
 
 
 def truth(x: object) -> bool:
@@ -47,14 +56,21 @@ def value_of(domain: Domain, x: Any) -> Value:
     return truth(x) if domain is BOOL else number(x)
 
 
-def index(x: SupportsIndex) -> int:
+def index(x: Any) -> int:
     """An index, from 0. That it is below the dimension is for the store to say.
 
     Raises:
         TypeError: it is no whole number, as a slice is none.
         IndexError: it is not from 0 to 2**64 - 1. A negative index does not count from the end.
     """
-    value = operator.index(x)
+    try:
+        value = operator.index(x)
+    except TypeError:
+        if isinstance(x, slice):
+            raise TypeError(
+                f"a slice, as {x!r}, is no index: one entry is read by A[i, j] or v[i], and all of them by to_lists()"
+            ) from None
+        raise TypeError(f"an index is a whole number from 0, not {_seen(x)}") from None
     if not 0 <= value <= MOST_NUMBER:
         raise IndexError(f"the index {value} is not from 0 to 2**64 - 1")
     return value
@@ -67,7 +83,10 @@ def dimension(x: SupportsIndex) -> int:
         TypeError: it is no whole number.
         ValueError: it is not from 0 to 2**64 - 1.
     """
-    value = operator.index(x)
+    try:
+        value = operator.index(x)
+    except TypeError:
+        raise TypeError(f"a dimension is a whole number from 1 to 4,294,967,295, not {_seen(x)}") from None
     if not 0 <= value <= MOST_NUMBER:
         raise ValueError(f"the dimension {value} is not from 1 to 4,294,967,295")
     return value
@@ -114,9 +133,56 @@ def _numpy_if_imported() -> Any:
     return sys.modules.get("numpy")
 
 
-def _is_numpy_array(values: object) -> bool:
+def is_numpy_array(values: object) -> bool:
+    """Whether this is an array of numpy."""
     numpy = _numpy_if_imported()
     return numpy is not None and isinstance(values, numpy.ndarray)
+
+
+# What can be run through and is no list of values: the bytes of a text, or values in no order.
+_NO_LISTS = (bytes, bytearray, str, set, frozenset, dict)
+
+
+def _require_list(values: object) -> None:
+    """Raises `TypeError` where this is none of what lists of entries are taken from, though it can be run through."""
+    if isinstance(values, _NO_LISTS):
+        raise TypeError(f"a {type(values).__name__} is no list of entries: give a list, or an array of numpy")
+    if hasattr(values, "_how_to_make"):
+        raise TypeError(f"a {type(values).__name__} is no list of entries: to_lists() has its places and its values")
+    masked = sys.modules.get("numpy.ma")
+    if masked is not None and isinstance(values, masked.MaskedArray):
+        raise TypeError(
+            "a masked array is refused, since it is not said what to store where it is masked: give the places and the "
+            "values that are not masked, as array.compressed() has them"
+        )
+
+
+def listed(values: Any) -> Any:
+    """The values as what can be run through more than once: a list where they are neither that nor an array."""
+    if is_numpy_array(values) or not isinstance(values, Iterable):
+        return values
+    _require_list(values)
+    return values if isinstance(values, (list, tuple, range, array)) else list(values)
+
+
+def dimension_for(places: Any, name: str) -> int:
+    """One more than the largest of these indices. `ValueError` where there is none."""
+    if not isinstance(places, Iterable):
+        raise TypeError(f"a list of entries can be run through, and {_seen(places)}, cannot")
+    _require_list(places)
+    if len(places) == 0:  # type: ignore[arg-type]
+        raise ValueError(f"there is no entry, so give {name}")
+    return index(places.max() if is_numpy_array(places) else max(places)) + 1
+
+
+def dtype_for(values: Any) -> type:
+    """`bool` where these values, or this one, are truth values, and else `int`."""
+    if is_numpy_array(values) and values.dtype.kind != "O":
+        return bool if values.dtype.kind == "b" else int
+    items = values if isinstance(values, Iterable) else [values]
+    numpy = _numpy_if_imported()
+    kinds = bool if numpy is None else (bool, numpy.bool_)
+    return bool if len(items) > 0 and all(isinstance(x, kinds) for x in items) else int  # type: ignore[arg-type]
 
 
 def _flat(values: Any, dtype: str) -> Any:
@@ -136,8 +202,14 @@ def numbers(values: Iterable[SupportsIndex]) -> Buffer:
         OverflowError: one is not from 0 to 2**64 - 1.
         ValueError: an array has not one dimension.
     """
-    if not _is_numpy_array(values):
-        return _of_array(array(UINT64.typecode, list(values)))
+    _require_list(values)
+    if not is_numpy_array(values):
+        whole = list(values)
+        try:
+            return _of_array(array(UINT64.typecode, whole))
+        except (TypeError, OverflowError):
+            _require_each(number, whole)
+            raise
     items: Any = values
     if items.dtype.kind == "O":
         return numbers(items.tolist())
@@ -148,6 +220,15 @@ def numbers(values: Iterable[SupportsIndex]) -> Buffer:
     return _of_numpy(_flat(items, UINT64.suffix))
 
 
+def _require_each(check: Callable[[Any], Value], values: List[Any]) -> None:
+    """Raises for the first of these values that the check does not take, and says which item it is."""
+    for at, x in enumerate(values):
+        try:
+            check(x)
+        except (TypeError, OverflowError) as fault:
+            raise type(fault)(f"item {at} of the list: {fault}") from None
+
+
 def truths(values: Iterable[object]) -> Buffer:
     """The truth values of a list, or of a numpy array of bool. A contiguous array is not copied.
 
@@ -155,8 +236,14 @@ def truths(values: Iterable[object]) -> Buffer:
         TypeError: one is no truth value, or the array is not of truth values.
         ValueError: an array has not one dimension.
     """
-    if not _is_numpy_array(values):
-        return _of_array(array(BOOL.typecode, [truth(x) for x in values]))
+    _require_list(values)
+    if not is_numpy_array(values):
+        whole = list(values)
+        try:
+            return _of_array(array(BOOL.typecode, [truth(x) for x in whole]))
+        except TypeError:
+            _require_each(truth, whole)
+            raise
     items: Any = values
     if items.dtype.kind != "b":
         raise TypeError(f"an array of {items.dtype} has no truth values: convert it first, as by astype(bool)")
@@ -209,6 +296,8 @@ def lists_of_scipy(matrix: Any) -> Lists:
     Raises:
         TypeError: its values are neither truth values nor whole numbers.
     """
+    if not hasattr(matrix, "tocoo"):
+        raise TypeError(f"a matrix of scipy.sparse is wanted, not a {type(matrix).__name__}")
     entries = matrix.tocoo()
     if entries.dtype.kind not in "bui":
         raise TypeError(f"a matrix of {entries.dtype} has no whole numbers: convert it first, as by astype('uint64')")
@@ -217,11 +306,12 @@ def lists_of_scipy(matrix: Any) -> Lists:
 
 
 def scipy_of_arrays(shape: Tuple[int, int], rows: Any, columns: Any, values: Any) -> Any:
-    """A `scipy.sparse.csr_array` of these entries."""
+    """A `scipy.sparse.csr_array` of these entries, or a `coo_array` where it has far more rows than entries."""
     from scipy import sparse
 
     places = rows.astype("int64"), columns.astype("int64")
-    return sparse.coo_array((values, places), shape=shape).tocsr()
+    entries = sparse.coo_array((values, places), shape=shape)
+    return entries if shape[0] > 2**24 and shape[0] > len(values) else entries.tocsr()
 
 
 def lists_of_networkx(graph: Any, nodes: Optional[Iterable[Any]], weight: Optional[str], dtype: type) -> Lists:

@@ -1,7 +1,8 @@
 """What a call is refused for, as exceptions.
 
-A refused call did nothing: it stands nowhere in the history, and no value has changed. Where several of
-the first seven apply to a call, the first of them is raised:
+A refused call did nothing: it stands nowhere in the history, and no value has changed. What the numbers of a call
+alone show is refused first: lists of two lengths, and a semiring whose monoid and operator are of two domains. Of
+other refusals that apply, the first of this list is raised:
 
 - `UninitializedObject`: an object of the call, the mask among them, was freed.
 - `InvalidValue`, a `ValueError`: a dimension is not from 1 to 4,294,967,295; or a room or a number of passes is
@@ -67,22 +68,29 @@ class Refusal(Exception):
         code: the status, of `Info`.
         name: the name of the status, as `GrB_INVALID_INDEX`.
         hint: what to do about it, in one sentence.
+        detail: what the call was refused for, with the objects, shapes, domains and indices of the call; or None
+            where there is no more to say. Other passes may have changed a shape since then.
     """
 
     code: Info
     name: str
     hint: str
+    detail: Optional[str] = None
 
-    def __init__(self, hint: Optional[str] = None) -> None:
-        """A refusal with the hint of its class, or with this one."""
+    def __init__(self, hint: Optional[str] = None, detail: Optional[str] = None) -> None:
+        """A refusal with the hint of its class, or with this one, and with what else there is to say."""
         if hint is None:
             super().__init__()
         else:
             super().__init__(hint)
             self.hint = hint
+        if detail is not None:
+            self.detail = detail
 
     def __str__(self) -> str:
-        return f"{self.name}. {self.hint}"
+        if self.detail is None:
+            return f"{self.name}. {self.hint}"
+        return f"{self.name}: {self.detail}. {self.hint}"
 
 
 class UninitializedObject(Refusal):
@@ -150,7 +158,7 @@ class OrderFull(Refusal):
 
     code = Info.ORDER_FULL
     name = "OrderFull"
-    hint = "Open a store with more room; this one still answers reads."
+    hint = "Open its successor, which takes further changes; this one still answers reads."
 
 
 class OutOfMemory(Refusal, MemoryError):
@@ -189,9 +197,10 @@ class RoomTooSmall(Refusal, ValueError):
     hint = "Give room for the calls that make the objects."
     needed: int
 
-    def __init__(self, needed: int) -> None:
-        """The refusal where so many calls make the objects."""
-        super().__init__(f"Give room for the {needed:,} calls that make the objects.")
+    def __init__(self, needed: int, room: Optional[int] = None) -> None:
+        """The refusal where so many calls make the objects, and room for fewer was asked for."""
+        detail = None if room is None else f"a room of {room:,} was asked for"
+        super().__init__(f"Give room for the {needed:,} calls that make the objects.", detail)
         self.args = (needed,)
         self.needed = needed
 
@@ -222,9 +231,9 @@ _KINDS: Dict[int, Type[Refusal]] = {
 }
 
 
-def refusal_of(code: int, invalid: Optional[str] = None) -> Exception:
-    """The exception for a status below 0. `invalid` is the hint of an `InvalidValue`."""
+def refusal_of(code: int, invalid: Optional[str] = None, detail: Optional[str] = None) -> Exception:
+    """The exception for a status below 0. `invalid` is the hint of an `InvalidValue`, and `detail` says more."""
     kind = _KINDS.get(code)
     if kind is None:
         return RuntimeError(f"the library answered the status {code}, which this package does not know")
-    return kind(invalid if kind is InvalidValue else None)
+    return kind(invalid if kind is InvalidValue else None, detail)

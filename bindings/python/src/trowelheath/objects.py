@@ -21,10 +21,25 @@ their inputs and write them into an output. These arguments say how:
 - `structure` reads the mask by its structure: inside are the places where it stores any value, also False or 0.
 - `complement` exchanges inside and outside. Without a mask all places are inside, and so none is then.
 - `replace` removes the output's old entries outside. Without it they stay.
-- `transpose` reads the first input, a matrix, with its rows as columns.
+- `transpose` reads the first input, a matrix, with its rows as columns: `A.T.mxm(B)` is `A.mxm(B, transpose=True)`.
 
 **Room.** Each call that changes the store takes one of the calls that the store has room for. To make a new output
 is a further call, and so is to free it where the operation is refused.
+
+**Let go.** An object that no variable of Python has any more is freed before the next change that a pass of its store
+makes, which takes a call of the room; without room it stays. All names of an object count, by whatever pass, and only
+the last one frees it. `keep` leaves an object out: do so where its `number` alone is used, as by a program in C, since
+a number is no name. An object that came from the store before, by `using` or unnamed, is freed by `free` alone.
+`Pass.temporary` frees what was made in a block.
+
+**Equal.** `A == B` is True where both are names of one object, by whatever pass. Of two objects of one sort it raises
+`TypeError`, since it would not tell whether they store the same: `isequal` does. So objects may be keys of a dict and
+members of a set, which compare names of one object alone; `A in [B, C]` raises.
+
+**numpy.** An object is no array: numpy's functions and operators raise `TypeError` of one, and so does what scipy makes
+of one. `to_numpy` and `to_scipy` give arrays.
+
+**Ctrl-C.** It ends the wait for a read that may take long, in the main thread, as `Pass` tells.
 
 **Refusals.** Every method may raise `UninitializedObject`, where an object of the call was freed, `StoreClosed`,
 `OutOfMemory` and `Panic`. Every method that changes the store may raise `OrderFull`. `ValueError` is raised for an
@@ -46,6 +61,7 @@ from typing import (
     Iterator,
     List,
     NamedTuple,
+    NoReturn,
     Optional,
     SupportsIndex,
     Tuple,
@@ -54,25 +70,29 @@ from typing import (
     Union,
 )
 
-from . import convert
+from . import _tell, convert
+from ._life import Life
 from .convert import Buffer, Value
-from .errors import Info, InsufficientSpace, Refusal, StoreClosed
+from .errors import Info, InsufficientSpace, Refusal, StoreClosed, UninitializedObject
 from .operators import (
     NO_ACCUM,
     NO_MASK,
+    TRANSPOSE,
     UINT64,
     Domain,
     descriptor,
+    domain_of,
     monoid_number,
     operator_number,
     semiring_numbers,
+    semiring_parts,
     wait_mode_number,
 )
 
 if TYPE_CHECKING:
-    from .store import Pass, Store
+    from .store import Pass, Store, _Core, _Quick
 
-__all__ = ["Matrix", "Object", "Vector"]
+__all__ = ["Matrix", "Object", "Transposed", "Vector"]
 
 AnyObject = TypeVar("AnyObject", bound="Object")
 
@@ -101,12 +121,33 @@ class Object:
 
     _sort: ClassVar[str]
     _ndim: ClassVar[int]
+    _how_to_make: ClassVar[str]
 
-    def __init__(self, pass_: Pass, number: int, domain: Domain) -> None:
-        """The object of this number. For the package's own use: `Pass.matrix` and `Pass.vector` make objects."""
-        self._pass = pass_
-        self._number = number
-        self._domain = domain
+    # numpy leaves operators with an object to the object, and its functions raise TypeError.
+    __array_ufunc__ = None
+
+    _pass: Pass
+    _number: int
+    _domain: Domain
+    _life: Life
+    _quick: _Quick
+    _seen: int
+
+    def __init__(self, *arguments: Any, **options: Any) -> None:
+        """Raises `TypeError`: a pass makes objects."""
+        raise TypeError(f"a {type(self).__name__} is made by a pass p of a store: {self._how_to_make}")
+
+    @classmethod
+    def _named(cls: Type[AnyObject], pass_: Pass, number: int, domain: Domain, life: Life) -> AnyObject:
+        """A name of the object of this number, by this pass. All names of one object have one life."""
+        name = cls.__new__(cls)
+        name._pass = pass_
+        name._number = number
+        name._domain = domain
+        name._life = life
+        name._quick = pass_._quick[cls._sort, domain]
+        name._seen = 0
+        return name
 
     # What it is.
 
@@ -138,9 +179,17 @@ class Object:
     @property
     def nvals(self) -> int:
         """How many entries it stores."""
+        quick = self._quick
         out = ctypes.c_uint64()
-        self._call("nvals", ctypes.byref(out), self._number)
-        return out.value
+        if self._seen == self._life.work:
+            with quick.lock:
+                status = quick.nvals(quick.handle, out, self._number)
+        else:
+            status = self._read_first(quick.nvals, out, self._number)
+        if status:
+            self._pass._refuse(status, None, self._tell)
+        self._life.entries = count = out.value
+        return count
 
     @property
     def last_info(self) -> Optional[Info]:
@@ -162,18 +211,106 @@ class Object:
         Raises:
             ValueError: the pass is of another store.
         """
-        if not pass_.store._has_objects_of(self.store):
+        there: Optional[_Core] = getattr(pass_, "_core", None)
+        if there is None:
+            raise TypeError(f"an object is used by a pass, not by a {type(pass_).__name__}")
+        core = self._pass._core
+        if there is core:
+            life = self._life
+        elif there.before == core.number:
+            # It is not freed there where it is let go: other names may come from here.
+            life = there.lives.setdefault((self._sort, self._number), Life(None))
+        else:
             raise ValueError("the pass is of another store")
-        return type(self)(pass_, self._number, self._domain)
+        return self._named(pass_, self._number, self._domain, life)
+
+    def keep(self: AnyObject) -> AnyObject:
+        """Has the object not freed where it is let go, nor at the end of a `Pass.temporary`. Returns it.
+
+        Then `free` alone ends it before its store ends.
+        """
+        self._pass._core.let_go.leave(self._sort, self._number)
+        return self
 
     def __repr__(self) -> str:
+        """What it is: its dimensions as far as they are known here, and its dtype. It makes no call."""
         sort = type(self).__name__
-        try:
-            shape, nvals = self.shape, self.nvals
-        except (Refusal, StoreClosed) as fault:
-            return f"<{sort} {self._number}: {fault}>"
-        entries = "1 entry" if nvals == 1 else f"{nvals} entries"
-        return f"<{sort} {'x'.join(map(str, shape))} {self.dtype.__name__}, {entries}>"
+        if self._pass._closed is not None:
+            return f"<{sort} {self._number}: {self._pass._closed}>"
+        if self._life.freed:
+            return f"<{sort} {self._number}: {UninitializedObject()}>"
+        shape = self._life.shape
+        return f"<{sort} {self._number if shape is None else 'x'.join(map(str, shape))} {self.dtype.__name__}>"
+
+    def isequal(self, other: Object) -> bool:
+        """Whether another object is of the same sort, domain and dimensions and stores the same entries.
+
+        It may be by another pass, and of another store. Each of the two is read at a moment of its own.
+
+        Raises:
+            TypeError: the other one is neither a `Matrix` nor a `Vector`.
+        """
+        if not isinstance(other, Object):
+            sort = type(self).__name__
+            raise TypeError(f"a {sort} is compared with a Matrix or a Vector, not a {type(other).__name__}")
+        if self._sort != other._sort or self._domain is not other._domain or self.shape != other.shape:
+            return False
+        if self._is_name_of(other):
+            return True
+        return self.nvals == other.nvals and self._entries(convert.new_array) == other._entries(convert.new_array)
+
+    def _is_name_of(self, other: Object) -> bool:
+        """Whether both are names of one object."""
+        return (
+            self._sort == other._sort
+            and self._number == other._number
+            and self._pass._core is other._pass._core
+        )
+
+    def __eq__(self, other: object) -> bool:
+        """Whether both are names of one object, by whatever pass. `isequal` tells whether two store the same.
+
+        Raises:
+            TypeError: the other one is another object of the same sort, or an array of numpy.
+        """
+        if isinstance(other, Object):
+            if self._is_name_of(other):
+                return True
+            if self._sort == other._sort:
+                sort = type(self).__name__
+                raise TypeError(
+                    f"A == B does not tell whether two objects of {sort} store the same: A.isequal(B) does, "
+                    "and A is B whether they are one name"
+                )
+        elif convert.is_numpy_array(other):
+            raise TypeError(self._no_array())
+        return NotImplemented
+
+    def __hash__(self) -> int:
+        """A number that no other object of this process has."""
+        return ((self._pass._core.place << 32 | self._number) << 1) + self._ndim - 1
+
+    def __array__(self, *arguments: Any, **options: Any) -> NoReturn:
+        """Raises `TypeError`: what numpy would see are places."""
+        raise TypeError(self._no_array())
+
+    def _no_array(self) -> str:
+        """What is said where something is made of the object as of an array."""
+        return f"a {type(self).__name__} is no array of numpy: to_numpy() has its entries in arrays"
+
+    def _no_sign(self, other: object) -> Any:
+        """What a sign answers for what it does not take. `TypeError` where that is an array of numpy."""
+        if convert.is_numpy_array(other):
+            raise TypeError(self._no_array())
+        return NotImplemented
+
+    __radd__ = __rmul__ = __rmatmul__ = _no_sign
+
+    def __reduce__(self) -> NoReturn:
+        raise TypeError(
+            f"a {type(self).__name__} is not pickled or copied by Python: to_lists() has its entries, "
+            "dup() copies it in its store, and copy_to(pass_) into another one"
+        )
 
     # Its entries.
 
@@ -203,7 +340,7 @@ class Object:
 
     def clear(self) -> None:
         """Removes all entries. The dimensions stay."""
-        self._call("clear", self._number)
+        self._change("clear", self._number)
 
     def reduce(self, monoid: str) -> Value:
         """All values joined by a monoid, as "plus" or "lor"; its identity where nothing is stored.
@@ -212,7 +349,13 @@ class Object:
             DomainMismatch: the monoid is of the other domain.
         """
         out = self._domain.ctype()
-        self._call(f"reduce_{self._domain.suffix}", ctypes.byref(out), monoid_number(monoid), self._number)
+        self._evaluate(
+            f"reduce_{self._domain.suffix}",
+            out,
+            monoid_number(monoid),
+            self._number,
+            tell=lambda code: _tell.of_total(code, self, monoid),
+        )
         value: Value = out.value
         return value
 
@@ -221,8 +364,10 @@ class Object:
     def dup(self: AnyObject) -> AnyObject:
         """A new object of the same domain, dimensions and entries, by the same pass."""
         out = ctypes.c_uint32()
-        self._call("dup", ctypes.byref(out), self._number)
-        return type(self)(self._pass, out.value, self._domain)
+        self._change("dup", ctypes.byref(out), self._number)
+        made = self._pass._made(type(self), out.value, self._domain, self._life.shape)
+        made._life.entries, made._life.work = self._life.entries, self._life.work
+        return made
 
     def copy_to(self: AnyObject, pass_: Pass) -> AnyObject:
         """A new object of the same domain, dimensions and entries by another pass, of this store or of another one.
@@ -240,9 +385,11 @@ class Object:
     def free(self) -> None:
         """Ends the object, for all passes. Its number is not used again.
 
-        An object that is not freed lives as long as its store, also where no variable of Python has it.
+        An object that no variable has any more is freed by itself, as `trowelheath.objects` tells.
         """
-        self._call("free", self._number)
+        self._change("free", self._number)
+        self._life.freed = True
+        self._pass._core.let_go.leave(self._sort, self._number)
 
     def wait(self, mode: str = "complete") -> None:
         """Has pending work done now. It changes no value, takes no room, and waits for no other thread.
@@ -250,33 +397,83 @@ class Object:
         Args:
             mode: "complete" finishes the work on this object, "materialize" that on all objects of the store.
         """
-        self._call("wait", self._number, wait_mode_number(mode))
+        number = wait_mode_number(mode)
+        if mode == "materialize":
+            self._pass._evaluate_all(f"trb_{self._sort}_wait", self._number, number, tell=self._tell)
+        else:
+            self._evaluate("wait", self._number, number)
 
     # How calls are made.
 
-    def _call(self, name: str, *arguments: Any, invalid: Optional[str] = None) -> int:
-        return self._pass._call(f"trb_{self._sort}_{name}", *arguments, invalid=invalid)
+    def _call(self, name: str, *arguments: Any) -> int:
+        return self._pass._call(f"trb_{self._sort}_{name}", *arguments, tell=self._tell)
 
-    def _get(self, *place: int) -> Optional[Value]:
-        out = self._domain.ctype()
-        status = self._call(f"get_{self._domain.suffix}", ctypes.byref(out), self._number, *place)
-        return None if status == Info.NO_VALUE else out.value
+    def _change(
+        self,
+        name: str,
+        *arguments: Any,
+        invalid: Optional[str] = None,
+        tell: Optional[Callable[[int], Optional[str]]] = None,
+    ) -> int:
+        return self._pass._change(
+            f"trb_{self._sort}_{name}", *arguments, invalid=invalid, tell=self._tell if tell is None else tell
+        )
 
-    def _set(self, value: Any, *place: int) -> None:
-        self._call(f"set_{self._domain.suffix}", self._number, convert.value_of(self._domain, value), *place)
+    def _evaluate(
+        self,
+        name: str,
+        *arguments: Any,
+        hold: Any = None,
+        tell: Optional[Callable[[int], Optional[str]]] = None,
+    ) -> int:
+        function = getattr(self._pass._library, f"trb_{self._sort}_{name}")
+        status = self._read_first(function, *arguments, hold=hold)
+        if status < 0:
+            self._pass._refuse(status, None, self._tell if tell is None else tell)
+        return status
+
+    def _tell(self, code: int) -> Optional[str]:
+        """What a refusal says where there is nothing but this object."""
+        return _tell.of_one(code, self)
+
+    def _refuse(self, status: int, *place: int) -> NoReturn:
+        """Raises the exception for the status of a call on one entry."""
+        self._pass._refuse(status, None, lambda code: _tell.of_place(code, self, place))
+
+    # The methods for one entry take as few steps as they can: most of their time is Python's.
+
+    def _read_first(self, function: Any, *arguments: Any, hold: Any = None) -> int:
+        """The status of a read by this name, which may be the first one after calls that take long to evaluate."""
+        life, number = self._life, self._pass._number
+        work = life.work
+        status = self._pass._read(function, arguments, life.unseen(number), hold)
+        if work > 0:
+            life.evaluated(number, work)
+        self._seen = work
+        return status
 
     def _remove(self, *place: int) -> None:
-        self._call("remove", self._number, *place)
+        """Removes the entry at this place."""
+        quick = self._quick
+        if quick.gone:
+            self._pass._free_gone()
+        with quick.lock:
+            status = quick.remove(quick.handle, self._number, *place)
+        if status:
+            self._refuse(status, *place)
 
     def _build(self, places: List[Buffer], values: Buffer, dup: Optional[str]) -> None:
         lists = convert.apart([*places, values])
-        self._call(
+        monoid = self._domain.monoid if dup is None else dup
+        self._change(
             f"build_{self._domain.suffix}",
             self._number,
             *(part for buffer in lists for part in (buffer.address, buffer.length)),
-            monoid_number(self._domain.monoid if dup is None else dup),
+            monoid_number(monoid),
             invalid="Give lists of one length.",
+            tell=lambda code: _tell.of_lists(code, self, [b.owner[: b.length] for b in places], values.length, monoid),
         )
+        self._pass._core.took(self._life, values.length)
 
     def _entries(self, new: Callable[[Domain, int], Buffer]) -> List[Any]:
         """All entries in arrays that `new` makes: an array of indices for each dimension, and one of the values."""
@@ -285,11 +482,12 @@ class Object:
             buffers = [new(UINT64, length) for _ in range(self._ndim)] + [new(self._domain, length)]
             count = ctypes.c_uint64()
             try:
-                self._call(
+                self._evaluate(
                     f"tuples_{self._domain.suffix}",
                     *(part for buffer in buffers for part in (buffer.address, buffer.length)),
-                    ctypes.byref(count),
+                    count,
                     self._number,
+                    hold=buffers,
                 )
             except InsufficientSpace:
                 # Others added entries since they were counted. Some more may come until the next try.
@@ -305,15 +503,20 @@ class Object:
     def _number_of(self, other: Object, sort: Type[Object], what: str) -> int:
         """The number of another object of a call, which is of this sort and of this store."""
         if not isinstance(other, sort):
+            if isinstance(other, Transposed):
+                raise TypeError(f"{what} is not read transposed, a first input is: A.T.dup() makes a Matrix of A.T")
             raise TypeError(f"{what} must be a {sort.__name__}, not a {type(other).__name__}")
-        if other.store is not self.store:
+        if other._pass._core is not self._pass._core:
             raise ValueError(f"{what} is of another store")
         return other._number
 
     def _write(
         self,
+        kind: str,
         name: str,
-        inputs: Tuple[int, ...],
+        numbers: Tuple[int, ...],
+        operators: Tuple[Tuple[str, str], ...],
+        second: Optional[Object],
         how: _Writing,
         sort: Type[AnyObject],
         out: Optional[AnyObject],
@@ -322,14 +525,28 @@ class Object:
         """Makes an operation that writes into `out`, or where there is none into a `new` object of this sort."""
         mask = NO_MASK if how.mask is None else self._number_of(how.mask, sort, "the mask")
         accum = NO_ACCUM if how.accum is None else operator_number(how.accum)
-        if out is not None:
-            output = self._number_of(out, sort, "the output")
-            self._pass._call(name, output, mask, accum, *inputs, how.descriptor)
-            return out
-        made = new()
-        with _freed_on_failure(made):
-            self._pass._call(name, made._number, mask, accum, *inputs, how.descriptor)
-        return made
+        inputs = (self._number,) if second is None else (self._number, second._number)
+        if out is None:
+            written, is_new = new(), True
+        else:
+            self._number_of(out, sort, "the output")
+            written, is_new = out, False
+
+        def tell(code: int) -> Optional[str]:
+            named = operators if how.accum is None else (*operators, ("accumulator", how.accum))
+            transpose = how.descriptor & TRANSPOSE != 0
+            operation = _tell.Operation(kind, self, transpose, second, named, written, how.mask, is_new)
+            return _tell.of_operation(code, operation)
+
+        try:
+            self._pass._change(name, written._number, mask, accum, *numbers, *inputs, how.descriptor, tell=tell)
+        except BaseException:
+            if is_new:
+                with suppress(Refusal, StoreClosed):
+                    written.free()
+            raise
+        self._pass._core.made(kind, self, second, how.mask, written)
+        return written
 
 
 class Matrix(Object):
@@ -340,6 +557,7 @@ class Matrix(Object):
 
     _sort = "matrix"
     _ndim = 2
+    _how_to_make = "p.matrix(nrows, ncols, dtype), or Matrix.from_lists(p, nrows, ncols, rows, columns, values)"
 
     @staticmethod
     def from_lists(
@@ -349,7 +567,7 @@ class Matrix(Object):
         rows: Iterable[int],
         columns: Iterable[int],
         values: Union[Iterable[Value], Value],
-        dtype: type = int,
+        dtype: Any = int,
         dup: Optional[str] = None,
     ) -> Matrix:
         """A new matrix with these entries: a `Pass.matrix` and a `build`, two calls of the room.
@@ -361,6 +579,39 @@ class Matrix(Object):
         with _freed_on_failure(made):
             made.build(rows, columns, values, dup)
         return made
+
+    @staticmethod
+    def from_coo(
+        pass_: Pass,
+        rows: Iterable[int],
+        columns: Iterable[int],
+        values: Union[Iterable[Value], Value],
+        dtype: Any = None,
+        *,
+        nrows: Optional[int] = None,
+        ncols: Optional[int] = None,
+        dup: Optional[str] = None,
+    ) -> Matrix:
+        """A new matrix with these entries, as `from_lists`, whose dimensions and dtype may be left out.
+
+        Args:
+            dtype: by default `bool` where all values are truth values, and else `int`.
+            nrows, ncols: by default one more than the largest row and the largest column.
+
+        Raises:
+            ValueError: there is no entry, and a dimension is left out.
+        """
+        rows, columns, values = convert.listed(rows), convert.listed(columns), convert.listed(values)
+        return Matrix.from_lists(
+            pass_,
+            convert.dimension_for(rows, "nrows") if nrows is None else nrows,
+            convert.dimension_for(columns, "ncols") if ncols is None else ncols,
+            rows,
+            columns,
+            values,
+            convert.dtype_for(values) if dtype is None else dtype,
+            dup,
+        )
 
     @staticmethod
     def from_scipy(pass_: Pass, matrix: Any) -> Matrix:
@@ -382,7 +633,7 @@ class Matrix(Object):
         graph: Any,
         nodes: Optional[Iterable[Any]] = None,
         weight: Optional[str] = "weight",
-        dtype: type = int,
+        dtype: Any = int,
     ) -> Matrix:
         """A new matrix with an entry at (i, j) for each edge from node i to node j of a networkx graph.
 
@@ -402,7 +653,7 @@ class Matrix(Object):
             ValueError: a node stands twice in `nodes`.
             InvalidValue: there is no node.
         """
-        return Matrix.from_lists(pass_, *convert.lists_of_networkx(graph, nodes, weight, dtype))
+        return Matrix.from_lists(pass_, *convert.lists_of_networkx(graph, nodes, weight, domain_of(dtype).dtype))
 
     # What it is.
 
@@ -410,8 +661,9 @@ class Matrix(Object):
     def shape(self) -> Tuple[int, int]:
         """Its numbers of rows and of columns now."""
         nrows, ncols = ctypes.c_uint64(), ctypes.c_uint64()
-        self._call("size", ctypes.byref(nrows), ctypes.byref(ncols), self._number)
-        return nrows.value, ncols.value
+        self._call("size", nrows, ncols, self._number)
+        self._life.shape = shape = nrows.value, ncols.value
+        return shape
 
     @property
     def nrows(self) -> int:
@@ -423,13 +675,23 @@ class Matrix(Object):
         """Its number of columns now."""
         return self.shape[1]
 
+    def _no_array(self) -> str:
+        return f"{super()._no_array()}, and to_scipy() makes a matrix of scipy.sparse"
+
+    @property
+    def T(self) -> Transposed:  # noqa: N802
+        """The matrix as a first input that is read with its rows as columns: `A.T @ u`, `A.T.mxm(B)`."""
+        return Transposed(self)
+
     def resize(self, nrows: int, ncols: int) -> None:
         """Gives new dimensions. Entries outside of them are gone for good.
 
         Raises:
             InvalidValue: a dimension is not from 1 to 4,294,967,295.
         """
-        self._call("resize", self._number, convert.dimension(nrows), convert.dimension(ncols))
+        shape = convert.dimension(nrows), convert.dimension(ncols)
+        self._change("resize", self._number, *shape, tell=lambda code: _tell.of_dimensions(code, self, shape))
+        self._life.shape = shape
 
     # Its entries.
 
@@ -440,11 +702,27 @@ class Matrix(Object):
             KeyError: nothing is stored there.
             InvalidIndex: there is no such row or column.
         """
-        i, j = _row_and_column(place)
-        value = self._get(i, j)
-        if value is None:
+        try:
+            i, j = place
+            both = i | j  # type: ignore[operator]
+        except (TypeError, ValueError):
+            both = None
+        # An int whose bits beyond the 64th are 0: so are those of each of the two, and neither is below 0.
+        if type(both) is not int or both >> 64 or type(place) is not tuple:
+            i, j = _row_and_column(place)
+        quick = self._quick
+        out = quick.new()
+        if self._seen == self._life.work:
+            with quick.lock:
+                status = quick.get(quick.handle, out, self._number, i, j)
+        else:
+            status = self._read_first(quick.get, out, self._number, i, j)
+        if status == 0:
+            value: Value = out.value
+            return value
+        if status == 1:
             raise KeyError((i, j))
-        return value
+        self._refuse(status, i, j)  # type: ignore[arg-type]
 
     def get(self, i: SupportsIndex, j: SupportsIndex, default: Any = None) -> Any:
         """The value at row i and column j, or `default` where nothing is stored.
@@ -452,16 +730,29 @@ class Matrix(Object):
         Raises:
             InvalidIndex: there is no such row or column.
         """
-        value = self._get(convert.index(i), convert.index(j))
-        return default if value is None else value
+        if type(i) is not int or type(j) is not int or (i | j) >> 64:
+            i, j = convert.index(i), convert.index(j)
+        quick = self._quick
+        out = quick.new()
+        if self._seen == self._life.work:
+            with quick.lock:
+                status = quick.get(quick.handle, out, self._number, i, j)
+        else:
+            status = self._read_first(quick.get, out, self._number, i, j)
+        if status == 0:
+            return out.value
+        if status == 1:
+            return default
+        self._refuse(status, i, j)
 
-    def __contains__(self, place: Tuple[SupportsIndex, SupportsIndex]) -> bool:
-        """Whether a value is stored at row i and column j, as in `(i, j) in A`.
-
-        Raises:
-            InvalidIndex: there is no such row or column.
-        """
-        return self._get(*_row_and_column(place)) is not None
+    def __contains__(self, place: object) -> bool:
+        """Whether a value is stored at row i and column j, as in `(i, j) in A`. Of what is no place it is False."""
+        try:
+            return self.get(*_row_and_column(place)) is not None
+        except UninitializedObject:
+            raise
+        except (TypeError, IndexError):
+            return False
 
     def __setitem__(self, place: Tuple[SupportsIndex, SupportsIndex], value: Value) -> None:
         """Stores a value at row i and column j, in place of what was stored there.
@@ -471,7 +762,23 @@ class Matrix(Object):
             TypeError: the value is not of the matrix's domain.
             OverflowError: a number is not from 0 to 2**64 - 1.
         """
-        self._set(value, *_row_and_column(place))
+        quick = self._quick
+        try:
+            i, j = place
+            every = i | j | value if quick.takes_numbers or type(value) is bool else None  # type: ignore[operator]
+        except (TypeError, ValueError):
+            every = None
+        # As in `__getitem__`.
+        if type(every) is not int or every >> 64 or type(place) is not tuple:
+            i, j = _row_and_column(place)
+            value = convert.value_of(self._domain, value)
+        if quick.gone:
+            self._pass._free_gone()
+        with quick.lock:
+            status = quick.set(quick.handle, self._number, value, i, j)
+        self._life.entries += 1
+        if status:
+            self._refuse(status, i, j)  # type: ignore[arg-type]
 
     def __delitem__(self, place: Tuple[SupportsIndex, SupportsIndex]) -> None:
         """Removes the entry at row i and column j. Where there is none it does nothing.
@@ -530,8 +837,13 @@ class Matrix(Object):
         rows, columns, values = self._entries(convert.new_numpy_array)
         return rows, columns, values
 
+    to_coo = to_numpy
+
     def to_scipy(self) -> Any:
         """The matrix as a `scipy.sparse.csr_array` of dtype uint64 or bool. Nobody may resize it meanwhile.
+
+        Where it has more than 2**24 rows and fewer entries than rows it is a `coo_array`, which takes memory for the
+        entries alone.
 
         Raises:
             ImportError: there is no scipy.
@@ -587,12 +899,16 @@ class Matrix(Object):
             DimensionMismatch: this matrix has not as many columns as the other has rows, or the output not the
                 rows of this one and the columns of the other, or the mask not the dimensions of the output.
         """
-        numbers = semiring_numbers(self._domain.semiring if semiring is None else semiring)
-        right = self._number_of(other, Matrix, "the second input")
+        named = self._domain.semiring if semiring is None else semiring
+        numbers = semiring_numbers(named)
+        self._number_of(other, Matrix, "the second input")
         bits = descriptor(replace=replace, complement=complement, structure=structure, transpose=transpose)
         return self._write(
+            "mxm",
             "trb_mxm",
-            (*numbers, self._number, right),
+            numbers,
+            _of_semiring(named),
+            other,
             _Writing(mask, accum, bits),
             Matrix,
             out,
@@ -628,12 +944,16 @@ class Matrix(Object):
             DimensionMismatch: the matrix has not a column for each index of the vector, or not a row for each
                 index of the output, or the mask is not of the size of the output.
         """
-        numbers = semiring_numbers(self._domain.semiring if semiring is None else semiring)
-        right = self._number_of(vector, Vector, "the second input")
+        named = self._domain.semiring if semiring is None else semiring
+        numbers = semiring_numbers(named)
+        self._number_of(vector, Vector, "the second input")
         bits = descriptor(replace=replace, complement=complement, structure=structure, transpose=transpose)
         return self._write(
+            "mxv",
             "trb_mxv",
-            (*numbers, self._number, right),
+            numbers,
+            _of_semiring(named),
+            vector,
             _Writing(mask, accum, bits),
             Vector,
             out,
@@ -642,11 +962,27 @@ class Matrix(Object):
 
     def __matmul__(self, other: Any) -> Any:
         """`A @ B` is `A.mxm(B)`, and `A @ u` is `A.mxv(u)`: "plus.times" of numbers, "lor.land" of truth values."""
-        if isinstance(other, Matrix):
-            return self.mxm(other)
+        if isinstance(other, (Matrix, Transposed)):
+            return self.mxm(other)  # type: ignore[arg-type]
         if isinstance(other, Vector):
             return self.mxv(other)
-        return NotImplemented
+        return self._no_sign(other)
+
+    def __add__(self, other: Any) -> Any:
+        """`A + B` is `A.ewise_add(B, "plus")`, of numbers."""
+        if isinstance(other, Transposed):
+            return other + self
+        if not isinstance(other, Matrix):
+            return self._no_sign(other)
+        return self.ewise_add(other, _operator_of_sign(self, "+"))
+
+    def __mul__(self, other: Any) -> Any:
+        """`A * B` is `A.ewise_mult(B, "times")`, of numbers: entry by entry. `A @ B` is the product of matrices."""
+        if isinstance(other, Transposed):
+            return other * self
+        if not isinstance(other, Matrix):
+            return self._no_sign(other)
+        return self.ewise_mult(other, _operator_of_sign(self, "*"))
 
     def ewise_add(
         self,
@@ -743,8 +1079,11 @@ class Matrix(Object):
         """
         bits = descriptor(replace=replace, complement=complement, structure=structure, transpose=transpose)
         return self._write(
+            "reduce_rows",
             "trb_reduce_rows",
-            (monoid_number(monoid), self._number),
+            (monoid_number(monoid),),
+            (("monoid", monoid),),
+            None,
             _Writing(mask, accum, bits),
             Vector,
             out,
@@ -752,10 +1091,13 @@ class Matrix(Object):
         )
 
     def _ewise(self, name: str, other: Matrix, operator: str, how: _Writing, out: Optional[Matrix]) -> Matrix:
-        right = self._number_of(other, Matrix, "the second input")
+        self._number_of(other, Matrix, "the second input")
         return self._write(
+            name[len(f"trb_{self._sort}_") :],
             name,
-            (operator_number(operator), self._number, right),
+            (operator_number(operator),),
+            (("operator", operator),),
+            other,
             how,
             Matrix,
             out,
@@ -775,6 +1117,7 @@ class Vector(Object):
 
     _sort = "vector"
     _ndim = 1
+    _how_to_make = "p.vector(size, dtype), or Vector.from_lists(p, size, indices, values)"
 
     @staticmethod
     def from_lists(
@@ -782,7 +1125,7 @@ class Vector(Object):
         size: int,
         indices: Iterable[int],
         values: Union[Iterable[Value], Value],
-        dtype: type = int,
+        dtype: Any = int,
         dup: Optional[str] = None,
     ) -> Vector:
         """A new vector with these entries: a `Pass.vector` and a `build`, two calls of the room.
@@ -795,13 +1138,43 @@ class Vector(Object):
             made.build(indices, values, dup)
         return made
 
+    @staticmethod
+    def from_coo(
+        pass_: Pass,
+        indices: Iterable[int],
+        values: Union[Iterable[Value], Value],
+        dtype: Any = None,
+        *,
+        size: Optional[int] = None,
+        dup: Optional[str] = None,
+    ) -> Vector:
+        """A new vector with these entries, as `from_lists`, whose size and dtype may be left out.
+
+        Args:
+            dtype: by default `bool` where all values are truth values, and else `int`.
+            size: by default one more than the largest index.
+
+        Raises:
+            ValueError: there is no entry, and the size is left out.
+        """
+        indices, values = convert.listed(indices), convert.listed(values)
+        return Vector.from_lists(
+            pass_,
+            convert.dimension_for(indices, "size") if size is None else size,
+            indices,
+            values,
+            convert.dtype_for(values) if dtype is None else dtype,
+            dup,
+        )
+
     # What it is.
 
     @property
     def size(self) -> int:
         """Its size now: the number of its indices."""
         out = ctypes.c_uint64()
-        self._call("size", ctypes.byref(out), self._number)
+        self._call("size", out, self._number)
+        self._life.shape = (out.value,)
         return out.value
 
     @property
@@ -815,7 +1188,9 @@ class Vector(Object):
         Raises:
             InvalidValue: the size is not from 1 to 4,294,967,295.
         """
-        self._call("resize", self._number, convert.dimension(size))
+        shape = (convert.dimension(size),)
+        self._change("resize", self._number, *shape, tell=lambda code: _tell.of_dimensions(code, self, shape))
+        self._life.shape = shape
 
     # Its entries.
 
@@ -826,11 +1201,21 @@ class Vector(Object):
             KeyError: nothing is stored there.
             InvalidIndex: the index is not below the size.
         """
-        place = convert.index(i)
-        value = self._get(place)
-        if value is None:
-            raise KeyError(place)
-        return value
+        if type(i) is not int or i >> 64:
+            i = convert.index(i)
+        quick = self._quick
+        out = quick.new()
+        if self._seen == self._life.work:
+            with quick.lock:
+                status = quick.get(quick.handle, out, self._number, i)
+        else:
+            status = self._read_first(quick.get, out, self._number, i)
+        if status == 0:
+            value: Value = out.value
+            return value
+        if status == 1:
+            raise KeyError(i)
+        self._refuse(status, i)
 
     def get(self, i: SupportsIndex, default: Any = None) -> Any:
         """The value at index i, or `default` where nothing is stored.
@@ -838,16 +1223,29 @@ class Vector(Object):
         Raises:
             InvalidIndex: the index is not below the size.
         """
-        value = self._get(convert.index(i))
-        return default if value is None else value
+        if type(i) is not int or i >> 64:
+            i = convert.index(i)
+        quick = self._quick
+        out = quick.new()
+        if self._seen == self._life.work:
+            with quick.lock:
+                status = quick.get(quick.handle, out, self._number, i)
+        else:
+            status = self._read_first(quick.get, out, self._number, i)
+        if status == 0:
+            return out.value
+        if status == 1:
+            return default
+        self._refuse(status, i)
 
-    def __contains__(self, i: SupportsIndex) -> bool:
-        """Whether a value is stored at index i.
-
-        Raises:
-            InvalidIndex: the index is not below the size.
-        """
-        return self._get(convert.index(i)) is not None
+    def __contains__(self, i: object) -> bool:
+        """Whether a value is stored at index i. Of what is no index it is False."""
+        try:
+            return self.get(convert.index(i)) is not None
+        except UninitializedObject:
+            raise
+        except (TypeError, IndexError):
+            return False
 
     def __setitem__(self, i: SupportsIndex, value: Value) -> None:
         """Stores a value at index i, in place of what was stored there.
@@ -857,7 +1255,22 @@ class Vector(Object):
             TypeError: the value is not of the vector's domain.
             OverflowError: a number is not from 0 to 2**64 - 1.
         """
-        self._set(value, convert.index(i))
+        quick = self._quick
+        try:
+            both = i | value if quick.takes_numbers or type(value) is bool else None  # type: ignore[operator]
+        except TypeError:
+            both = None
+        # As in `Matrix.__getitem__`.
+        if type(both) is not int or both >> 64:
+            i = convert.index(i)
+            value = convert.value_of(self._domain, value)
+        if quick.gone:
+            self._pass._free_gone()
+        with quick.lock:
+            status = quick.set(quick.handle, self._number, value, i)
+        self._life.entries += 1
+        if status:
+            self._refuse(status, i)  # type: ignore[arg-type]
 
     def __delitem__(self, i: SupportsIndex) -> None:
         """Removes the entry at index i. Where there is none it does nothing.
@@ -914,6 +1327,8 @@ class Vector(Object):
         indices, values = self._entries(convert.new_numpy_array)
         return indices, values
 
+    to_coo = to_numpy
+
     # Operations.
 
     def vxm(
@@ -945,12 +1360,16 @@ class Vector(Object):
             DimensionMismatch: the matrix has not a row for each index of this vector, or not a column for each
                 index of the output, or the mask is not of the size of the output.
         """
-        numbers = semiring_numbers(self._domain.semiring if semiring is None else semiring)
-        right = self._number_of(matrix, Matrix, "the second input")
+        named = self._domain.semiring if semiring is None else semiring
+        numbers = semiring_numbers(named)
+        self._number_of(matrix, Matrix, "the second input")
         bits = descriptor(replace=replace, complement=complement, structure=structure)
         return self._write(
+            "vxm",
             "trb_vxm",
-            (*numbers, self._number, right),
+            numbers,
+            _of_semiring(named),
+            matrix,
             _Writing(mask, accum, bits),
             Vector,
             out,
@@ -958,8 +1377,22 @@ class Vector(Object):
         )
 
     def __matmul__(self, other: Any) -> Any:
-        """`u @ A` is `u.vxm(A)`: "plus.times" of numbers, "lor.land" of truth values."""
-        return self.vxm(other) if isinstance(other, Matrix) else NotImplemented
+        """`u @ A` is `u.vxm(A)`: "plus.times" of numbers, "lor.land" of truth values. `u @ A.T` is `A @ u`."""
+        if isinstance(other, Transposed):
+            return other.T.mxv(self)
+        return self.vxm(other) if isinstance(other, Matrix) else self._no_sign(other)
+
+    def __add__(self, other: Any) -> Any:
+        """`u + v` is `u.ewise_add(v, "plus")`, of numbers."""
+        if not isinstance(other, Vector):
+            return self._no_sign(other)
+        return self.ewise_add(other, _operator_of_sign(self, "+"))
+
+    def __mul__(self, other: Any) -> Any:
+        """`u * v` is `u.ewise_mult(v, "times")`, of numbers: entry by entry."""
+        if not isinstance(other, Vector):
+            return self._no_sign(other)
+        return self.ewise_mult(other, _operator_of_sign(self, "*"))
 
     def ewise_add(
         self,
@@ -1018,10 +1451,13 @@ class Vector(Object):
         return self._ewise("trb_vector_ewise_mult", other, operator, how, out)
 
     def _ewise(self, name: str, other: Vector, operator: str, how: _Writing, out: Optional[Vector]) -> Vector:
-        right = self._number_of(other, Vector, "the second input")
+        self._number_of(other, Vector, "the second input")
         return self._write(
+            name[len(f"trb_{self._sort}_") :],
             name,
-            (operator_number(operator), self._number, right),
+            (operator_number(operator),),
+            (("operator", operator),),
+            other,
             how,
             Vector,
             out,
@@ -1029,8 +1465,123 @@ class Vector(Object):
         )
 
 
+class Transposed:
+    """A matrix that is read with its rows as columns, as `A.T`: the first input of an operation.
+
+    It is no matrix of the store, takes no room, and reads what the matrix stores when it is used.
+    """
+
+    __array_ufunc__ = None
+
+    def __init__(self, matrix: Matrix) -> None:
+        """The matrix read so. `Matrix.T` makes it."""
+        self._matrix = matrix
+
+    @property
+    def T(self) -> Matrix:  # noqa: N802
+        """The matrix itself."""
+        return self._matrix
+
+    @property
+    def shape(self) -> Tuple[int, int]:
+        """Its numbers of rows and of columns now: those of the columns and of the rows of the matrix."""
+        nrows, ncols = self._matrix.shape
+        return ncols, nrows
+
+    @property
+    def nrows(self) -> int:
+        """Its number of rows now."""
+        return self._matrix.ncols
+
+    @property
+    def ncols(self) -> int:
+        """Its number of columns now."""
+        return self._matrix.nrows
+
+    @property
+    def dtype(self) -> type:
+        """The type of its values, as of the matrix."""
+        return self._matrix.dtype
+
+    def __repr__(self) -> str:
+        return f"<transposed of {self._matrix!r}>"
+
+    def dup(self) -> Matrix:
+        """A new matrix of these rows and columns. It takes two calls of the room."""
+        matrix = self._matrix
+        made = matrix.pass_.matrix(*self.shape, matrix.dtype)
+        with _freed_on_failure(made):
+            # The union with nothing.
+            first = "first" if matrix.dtype is int else "first_bool"
+            return matrix.ewise_add(made, first, transpose=True, out=made)
+
+    def mxm(self, other: Matrix, semiring: Optional[str] = None, **how: Any) -> Matrix:
+        """As `Matrix.mxm` with `transpose`."""
+        return self._matrix.mxm(other, semiring, transpose=True, **how)
+
+    def mxv(self, vector: Vector, semiring: Optional[str] = None, **how: Any) -> Vector:
+        """As `Matrix.mxv` with `transpose`."""
+        return self._matrix.mxv(vector, semiring, transpose=True, **how)
+
+    def ewise_add(self, other: Matrix, operator: str, **how: Any) -> Matrix:
+        """As `Matrix.ewise_add` with `transpose`."""
+        return self._matrix.ewise_add(other, operator, transpose=True, **how)
+
+    def ewise_mult(self, other: Matrix, operator: str, **how: Any) -> Matrix:
+        """As `Matrix.ewise_mult` with `transpose`."""
+        return self._matrix.ewise_mult(other, operator, transpose=True, **how)
+
+    def reduce_rows(self, monoid: str, **how: Any) -> Vector:
+        """As `Matrix.reduce_rows` with `transpose`: the columns of the matrix, joined."""
+        return self._matrix.reduce_rows(monoid, transpose=True, **how)
+
+    def __matmul__(self, other: Any) -> Any:
+        """`A.T @ B` is `A.T.mxm(B)`, and `A.T @ u` is `A.T.mxv(u)`."""
+        if isinstance(other, (Matrix, Transposed)):
+            return self.mxm(other)  # type: ignore[arg-type]
+        if isinstance(other, Vector):
+            return self.mxv(other)
+        return self._matrix._no_sign(other)
+
+    def __rmatmul__(self, other: Any) -> Any:
+        """Nothing: `u @ A.T` is of vectors of the store, and a second input is not read transposed."""
+        return self._matrix._no_sign(other)
+
+    def __add__(self, other: Any) -> Any:
+        """`A.T + B` is `A.T.ewise_add(B, "plus")`, of numbers."""
+        if not isinstance(other, (Matrix, Transposed)):
+            return self._matrix._no_sign(other)
+        return self.ewise_add(other, _operator_of_sign(self._matrix, "+"))  # type: ignore[arg-type]
+
+    def __mul__(self, other: Any) -> Any:
+        """`A.T * B` is `A.T.ewise_mult(B, "times")`, of numbers."""
+        if not isinstance(other, (Matrix, Transposed)):
+            return self._matrix._no_sign(other)
+        return self.ewise_mult(other, _operator_of_sign(self._matrix, "*"))  # type: ignore[arg-type]
+
+    def __array__(self, *arguments: Any, **options: Any) -> NoReturn:
+        """Raises `TypeError`, as of a matrix."""
+        raise TypeError(self._matrix._no_array())
+
+
+def _operator_of_sign(item: Object, sign: str) -> str:
+    """The operator that a sign stands for. `TypeError` where the object has truth values."""
+    if item.dtype is bool:
+        method, operator = ("ewise_add", "lor") if sign == "+" else ("ewise_mult", "land")
+        raise TypeError(f'{sign} is of numbers: name the operation of truth values, as in A.{method}(B, "{operator}")')
+    return "plus" if sign == "+" else "times"
+
+
+def _of_semiring(name: str) -> Tuple[Tuple[str, str], ...]:
+    """The monoid and the operator of a semiring, for what a refusal says of them."""
+    monoid, operator = semiring_parts(name)
+    return ("monoid", monoid), ("operator", operator)
+
+
 def _row_and_column(place: Any) -> Tuple[int, int]:
     """The two indices of a place of a matrix. `TypeError` where it is not a pair."""
     if not isinstance(place, tuple) or len(place) != 2:
+        if isinstance(place, slice):
+            convert.index(place)
         raise TypeError(f"a place of a matrix is a row and a column, as in A[i, j], not {place!r}")
     return convert.index(place[0]), convert.index(place[1])

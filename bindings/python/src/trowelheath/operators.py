@@ -16,13 +16,17 @@
 | `first` | int | the first | none |
 | `second` | int | the second | none |
 
-A semiring is a monoid and an operator of one domain with a dot between them: `"min.plus"` adds along a path
-and takes the least over all paths.
+A semiring is a monoid and an operator of one domain with a dot or an underscore between them: `"min.plus"`, or
+`"min_plus"`, adds along a path and takes the least over all paths.
+
+A domain is named by a type of Python, `int` or `bool`, or as numpy does it: `"uint64"`, `numpy.uint64`, `"bool"`,
+`numpy.bool_`, or a `numpy.dtype` of these.
 """
 
 from __future__ import annotations
 
 import ctypes
+import sys
 from types import MappingProxyType
 from typing import Any, Mapping, NamedTuple, Tuple
 
@@ -83,15 +87,27 @@ NO_ACCUM = 0
 _REPLACE = 1
 _COMPLEMENT = 2
 _STRUCTURE = 4
-_TRANSPOSE = 8
+TRANSPOSE = 8
 
 
-def domain_of(dtype: type) -> Domain:
-    """The domain of a Python type. `TypeError` where it is neither `bool` nor `int`."""
+def domain_of(dtype: Any) -> Domain:
+    """The domain of a type of Python or numpy. `TypeError` where it is neither that of `bool` nor that of numbers."""
     for domain in (BOOL, UINT64):
-        if dtype is domain.dtype:
+        if dtype is domain.dtype or (isinstance(dtype, str) and dtype == domain.suffix):
             return domain
-    raise TypeError(f"the dtype must be bool or int, not {dtype!r}")
+    numpy = sys.modules.get("numpy")
+    if numpy is not None and (
+        isinstance(dtype, numpy.dtype) or (isinstance(dtype, type) and issubclass(dtype, numpy.generic))
+    ):
+        for domain in (BOOL, UINT64):
+            if numpy.dtype(dtype) == numpy.dtype(domain.suffix):
+                return domain
+    raise TypeError(f'the dtype must be bool or int, or "bool" or "uint64" as numpy has them, not {dtype!r}')
+
+
+def domain_of_operator(name: str) -> str:
+    """The domain of an operator, by its name: "bool" or "uint64"."""
+    return BOOL.suffix if OPERATORS[name] <= OPERATORS["second_bool"] else UINT64.suffix
 
 
 def _number_of(name: str, numbers: Mapping[str, int], what: str) -> int:
@@ -117,14 +133,24 @@ def wait_mode_number(name: str) -> int:
 
 
 def semiring_numbers(name: str) -> Tuple[int, int]:
-    """The numbers of a semiring's monoid and operator. `ValueError` where it is not written `"MONOID.OPERATOR"`.
+    """The numbers of a semiring's monoid and operator.
 
-    That both are of one domain is for the store to say.
+    `ValueError` where it is written neither `"MONOID.OPERATOR"` nor `"MONOID_OPERATOR"`. That both are of one domain
+    is for the store to say.
     """
-    monoid, dot, operator = name.partition(".") if isinstance(name, str) else (name, "", "")
-    if not dot:
-        raise ValueError(f'{name!r} is no semiring: write a monoid, a dot and an operator, as in "plus.times"')
+    monoid, operator = semiring_parts(name)
     return monoid_number(monoid), operator_number(operator)
+
+
+def semiring_parts(name: str) -> Tuple[str, str]:
+    """The names of a semiring's monoid and operator. `ValueError` as of `semiring_numbers`."""
+    mark = "." if isinstance(name, str) and "." in name else "_"
+    monoid, found, operator = name.partition(mark) if isinstance(name, str) else (name, "", "")
+    if not found:
+        raise ValueError(
+            f'{name!r} is no semiring: write a monoid, a dot and an operator, as in "plus.times" or "plus_times"'
+        )
+    return monoid, operator
 
 
 def descriptor(*, replace: bool, complement: bool, structure: bool, transpose: bool = False) -> int:
@@ -133,5 +159,5 @@ def descriptor(*, replace: bool, complement: bool, structure: bool, transpose: b
         (_REPLACE if replace else 0)
         | (_COMPLEMENT if complement else 0)
         | (_STRUCTURE if structure else 0)
-        | (_TRANSPOSE if transpose else 0)
+        | (TRANSPOSE if transpose else 0)
     )

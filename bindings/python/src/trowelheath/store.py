@@ -3,19 +3,24 @@
 from __future__ import annotations
 
 import ctypes
+import itertools
+import math
 import operator
 import os
 import threading
 import weakref
-from typing import Any, Callable, List, NamedTuple, Optional, SupportsIndex, Tuple
+from contextlib import suppress
+from typing import Any, Callable, Dict, List, NamedTuple, NoReturn, Optional, SupportsIndex, Tuple, Type
 
-from . import convert
+from . import _tell, convert
+from ._helper import Task, can_wait, forget_helpers, wait_for
 from ._library import FactsRecord, PassHandle, load
-from .errors import InsufficientSpace, InvalidValue, RoomTooSmall, StoreClosed, refusal_of
-from .objects import Matrix, Vector
-from .operators import domain_of
+from ._life import LetGo, Life
+from .errors import Info, InsufficientSpace, InvalidValue, Refusal, RoomTooSmall, StoreClosed, refusal_of
+from .objects import AnyObject, Matrix, Object, Vector
+from .operators import BOOL, UINT64, Domain, domain_of
 
-__all__ = ["MOST_PASSES", "MOST_ROOM", "MOST_SEATS", "Facts", "Pass", "Store"]
+__all__ = ["MOST_PASSES", "MOST_ROOM", "MOST_SEATS", "Facts", "Pass", "Store", "Temporary"]
 
 MOST_ROOM = 65_536
 """The largest room of a store, in calls."""
@@ -37,6 +42,154 @@ _Opening = Callable[[int, "ctypes.Array[PassHandle]"], int]
 # A store has the address of one of these as its number. They are kept as long as the process runs, so no two
 # stores have the same number.
 _numbers: List[ctypes.c_uint64] = []
+_places = itertools.count()
+
+# A read that has to visit so many entries may take long, some 0.3 seconds. More than the second is not counted.
+_LONG = 50_000_000
+_MOST_WORK = 1_000_000_000
+
+# Dimensions that are not known.
+_LARGE = 2**32, 2**32
+
+
+class _Core:
+    """A store as the library has it, and what its passes share.
+
+    A `Store` and its passes refer to it, and it refers to them weakly: so there is no cycle, and it ends as soon as
+    none of them is there.
+    """
+
+    def __init__(
+        self,
+        library: ctypes.CDLL,
+        handles: ctypes.Array[PassHandle],
+        room: int,
+        number: int,
+        before: Optional[_Core],
+    ) -> None:
+        self.library = library
+        self.handles = handles
+        self.room = room
+        self.number = number
+        # Of two stores of this process it is never the same.
+        self.place = next(_places)
+        # The number of the store that it succeeds, and the shapes that objects had there. That store itself may end.
+        self.before = None if before is None else before.number
+        self.lives: Dict[Tuple[str, int], Life] = {}
+        # Why no calls are made any more, where none are.
+        self.closed: Optional[str] = None
+        self.let_go = LetGo()
+        # How many entries all calls may visit.
+        self.work = 0
+        self._store: Optional[weakref.ref[Store]] = None
+        self._passes: List[Optional[weakref.ref[Pass]]] = [None] * len(handles)
+        self._lock = threading.RLock()
+        # It runs when nothing can make a call by a pass any more. At the end of the process it need not.
+        self.finalizer = weakref.finalize(self, _end_all, library, handles)
+        self.finalizer.atexit = False
+        _cores.add(self)
+
+    def took(self, life: Life, length: int) -> None:
+        """The object of this life was given a list of so many entries."""
+        life.entries = length
+        # To sort a list takes as long as to visit it some times.
+        life.work += 20 * length
+        self.work += 20 * length
+
+    def made(self, kind: str, first: Object, second: Optional[Object], mask: Optional[Object], out: Object) -> None:
+        """An operation was made."""
+        entries = first._life.entries
+        others = 0 if second is None else second._life.entries
+        if kind == "mxm":
+            inner, columns = (_LARGE if second is None else second._life.shape or _LARGE)
+            # A row of the second matrix for each entry of the first one, and rows are not alike: long ones come often.
+            work = min(16 * entries * others // inner, entries * columns)
+            found = work
+        else:
+            work = entries + others
+            found = min(entries, others) if kind == "ewise_mult" else work
+        target = out._life
+        work += target.entries
+        target.entries = min(target.entries + found, math.prod(target.shape or _LARGE))
+        # And what the pass has not evaluated of the inputs.
+        number = first._pass._number
+        for item in first, second, mask:
+            if item is not None and item._life is not target and item._life.work:
+                work += target.feed(item._life, number)
+        work = min(work, _MOST_WORK)
+        target.work += work
+        self.work += work
+
+    def inherit(self, before: _Core) -> None:
+        """What is known of the objects of the store before."""
+        self.work = before.work
+        for key, life in before.let_go.lives() + list(before.lives.items()):
+            there = self.lives[key] = Life(life.shape, life.entries, life.work)
+            there.freed = life.freed
+
+    def pass_at(self, number: int) -> Pass:
+        """The pass of this number."""
+        with self._lock:
+            there = self._passes[number]
+            pass_ = None if there is None else there()
+            if pass_ is None:
+                pass_ = Pass(self, number)
+                self._passes[number] = weakref.ref(pass_)
+            return pass_
+
+    def store(self, made: Optional[Store] = None) -> Store:
+        """The store, which is `made` where that is given."""
+        with self._lock:
+            store = made if made is not None else None if self._store is None else self._store()
+            if store is None:
+                store = Store.__new__(Store)
+                store._have(self)
+            self._store = weakref.ref(store)
+            return store
+
+    def close(self) -> None:
+        """Ends all passes, once the calls that other threads make by them have returned."""
+        if self.closed is None:
+            self.closed = "the store is closed"
+        for number in range(len(self.handles)):
+            self.pass_at(number)._end()
+        self.finalizer.detach()
+
+    def leave_to_parent(self) -> None:
+        """In the child of a fork: the store is the parent's, and is not ended here."""
+        self._lock = threading.RLock()
+        self.closed = "the store belongs to the process that this one was forked from"
+        self.finalizer.detach()
+        for number in range(len(self.handles)):
+            # The child has memory of its own. Without a pass in it the library refuses a call.
+            self.handles[number].is_open = False
+            self.pass_at(number)._leave_to_parent()
+
+
+# The stores of this process, for what is to be done after a fork.
+_cores: weakref.WeakSet[_Core] = weakref.WeakSet()
+
+
+def _refused(*arguments: Any) -> int:
+    """The status of a call by a pass that is none."""
+    return Info.UNINITIALIZED_OBJECT
+
+
+class _Quick:
+    """What the calls that are made most need at hand, by one pass, of matrices or of vectors of one domain."""
+
+    __slots__ = ("get", "gone", "handle", "lock", "new", "nvals", "remove", "set", "takes_numbers")
+
+    def __init__(self, pass_: Pass, domain: Domain) -> None:
+        self.gone = pass_._core.let_go.gone
+        self.handle = pass_._handle
+        self.lock = pass_._lock
+        self.new = domain.ctype
+        self.takes_numbers = domain is UINT64
+        self.nvals: Any = None
+        self.get: Any = None
+        self.set: Any = None
+        self.remove: Any = None
 
 
 class Facts(NamedTuple):
@@ -65,25 +218,54 @@ class Pass:
     A pass sees what it did itself, and what other passes have done before the call. One thread at a time uses
     it: a second one waits until the first one's call returns. So give each thread a pass of its own. A pass may
     go from one thread to another between calls.
+
+    **Interrupts.** In the main thread a read that may have much to evaluate is made by a helper thread. A Ctrl-C, or
+    another handler of a signal that raises, then ends the wait for it at once. The read itself cannot be ended: the
+    helper goes on with it, and who uses the pass meanwhile waits, and can be interrupted too. `Store.close` does not
+    wait for it. How much it is, is reckoned from the entries and dimensions of the objects.
     """
 
-    def __init__(self, store: Store, number: int, library: ctypes.CDLL, handle: PassHandle) -> None:
+    def __init__(self, core: _Core, number: int) -> None:
         """The pass of this number. For the package's own use: `Store` makes passes."""
-        self._store = store
+        if not isinstance(core, _Core):
+            raise TypeError("a store makes its passes: Store(room, passes).passes has them")
+        self._core = core
         self._number = number
-        self._library = library
-        self._handle = ctypes.byref(handle)
+        # The address of its handle, which the core holds.
+        self._handle = ctypes.addressof(core.handles) + number * ctypes.sizeof(PassHandle)
         # A signal handler or a finalizer may make a call by the pass in the thread that has the lock. It runs
         # before or after the library's call, never during one, so that thread may take the lock again.
         self._lock = threading.RLock()
         # Why it makes no calls, where it makes none, and whether the library has it no more.
-        self._closed: Optional[str] = None
+        self._closed = core.closed
         self._ended = False
+        # What a helper makes or made by it, and the work of the store when all was evaluated last.
+        self._task: Optional[Task] = None
+        self._seen = 0
+        self._blocks: List[Temporary] = []
+        self._quick = {
+            (sort, domain): _Quick(self, domain) for sort in ("matrix", "vector") for domain in (BOOL, UINT64)
+        }
+        self._library = core.library
+
+    @property
+    def _library(self) -> Any:
+        """The library. The functions that are called most are looked up once."""
+        return self._loaded
+
+    @_library.setter
+    def _library(self, library: Any) -> None:
+        self._loaded = library
+        for (sort, domain), quick in self._quick.items():
+            quick.get = getattr(library, f"trb_{sort}_get_{domain.suffix}")
+            quick.set = getattr(library, f"trb_{sort}_set_{domain.suffix}")
+            quick.remove = getattr(library, f"trb_{sort}_remove")
+            quick.nvals = getattr(library, f"trb_{sort}_nvals")
 
     @property
     def store(self) -> Store:
         """The store that it belongs to."""
-        return self._store
+        return self._core.store()
 
     @property
     def number(self) -> int:
@@ -91,43 +273,79 @@ class Pass:
         return self._number
 
     def __repr__(self) -> str:
-        return f"<Pass {self._number} of {self._store!r}>"
+        return f"<Pass {self._number} of {self.store!r}>"
 
-    def matrix(self, nrows: SupportsIndex, ncols: SupportsIndex, dtype: type = int) -> Matrix:
+    def __reduce__(self) -> NoReturn:
+        raise TypeError("a Pass is used where it was made; to_lists() of an object has what can be pickled and copied")
+
+    def matrix(self, nrows: SupportsIndex, ncols: SupportsIndex, dtype: Any = int) -> Matrix:
         """A new matrix with no entries.
 
         Args:
             nrows: its number of rows, from 1 to 4,294,967,295.
             ncols: its number of columns, from 1 to 4,294,967,295.
-            dtype: `int` for numbers from 0 to 2**64 - 1, `bool` for truth values.
+            dtype: `int` or "uint64" for numbers from 0 to 2**64 - 1, `bool` or "bool" for truth values.
 
         Raises:
             InvalidValue: a dimension is out of its range.
-            TypeError: the dtype is neither `int` nor `bool`.
+            TypeError: the dtype is another one.
             OrderFull, OutOfMemory, Panic, StoreClosed.
         """
-        domain = domain_of(dtype)
-        out = ctypes.c_uint32()
-        dims = convert.dimension(nrows), convert.dimension(ncols)
-        self._call("trb_matrix_new", ctypes.byref(out), domain.code, *dims)
-        return Matrix(self, out.value, domain)
+        return self._new(Matrix, (convert.dimension(nrows), convert.dimension(ncols)), domain_of(dtype))
 
-    def vector(self, size: SupportsIndex, dtype: type = int) -> Vector:
+    def vector(self, size: SupportsIndex, dtype: Any = int) -> Vector:
         """A new vector with no entries.
 
         Args:
             size: its size, from 1 to 4,294,967,295.
-            dtype: `int` for numbers from 0 to 2**64 - 1, `bool` for truth values.
+            dtype: `int` or "uint64" for numbers from 0 to 2**64 - 1, `bool` or "bool" for truth values.
 
         Raises:
             InvalidValue: the size is out of its range.
-            TypeError: the dtype is neither `int` nor `bool`.
+            TypeError: the dtype is another one.
             OrderFull, OutOfMemory, Panic, StoreClosed.
         """
-        domain = domain_of(dtype)
+        return self._new(Vector, (convert.dimension(size),), domain_of(dtype))
+
+    def _new(self, sort: Type[AnyObject], shape: Tuple[int, ...], domain: Domain) -> AnyObject:
+        """A new object of this sort, shape and domain."""
         out = ctypes.c_uint32()
-        self._call("trb_vector_new", ctypes.byref(out), domain.code, convert.dimension(size))
-        return Vector(self, out.value, domain)
+        self._change(
+            f"trb_{sort._sort}_new",
+            out,
+            domain.code,
+            *shape,
+            tell=lambda code: _tell.of_new(code, self._core.room, shape),
+        )
+        return self._made(sort, out.value, domain, shape)
+
+    def _made(
+        self, sort: Type[AnyObject], number: int, domain: Domain, shape: Optional[Tuple[int, ...]]
+    ) -> AnyObject:
+        """The first name of an object that was made just now."""
+        life = Life(shape)
+        made = sort._named(self, number, domain, life)
+        self._core.let_go.watch(sort._sort, number, life)
+        if self._blocks:
+            thread = threading.get_ident()
+            for block in reversed(self._blocks):
+                if block._thread == thread:
+                    block._made.append(weakref.ref(made._life))
+                    block._numbers.append((sort._sort, number))
+                    break
+        return made
+
+    def temporary(self) -> Temporary:
+        """A block at whose end the objects are freed that this pass made in it, in this thread.
+
+            with p.temporary() as block:
+                squares = A @ A
+                result = block.keep(squares.reduce_rows("plus"))
+            # squares is freed, and result goes on
+
+        `Temporary.keep` and `Object.keep` leave an object out. A block may stand in another one.
+        """
+        return Temporary(self)
 
     def meet(self, other: Pass) -> None:
         """Learns all that another pass of the store knows.
@@ -166,7 +384,7 @@ class Pass:
             StoreClosed: the store is closed.
         """
         out = ctypes.c_uint32()
-        self._call("trb_prepare", ctypes.byref(out))
+        self._evaluate_all("trb_prepare", out)
         return out.value
 
     def facts(self) -> Facts:
@@ -215,6 +433,7 @@ class Pass:
             StoreClosed: the store is closed.
         """
         calls, count = _within_ranges(room, passes)
+        self._free_gone()
         needed = ctypes.c_uint64()
 
         def opening(number: int, handles: ctypes.Array[PassHandle]) -> int:
@@ -226,22 +445,106 @@ class Pass:
             return status
 
         try:
-            return Store._opened(calls, count, opening, self._store)
+            return Store._opened(calls, count, opening, self._core)
         except InsufficientSpace:
-            raise RoomTooSmall(needed.value) from None
+            raise RoomTooSmall(needed.value, calls) from None
 
-    def _call(self, name: str, *arguments: Any, invalid: Optional[str] = None) -> int:
+    # How calls are made.
+
+    def _call(
+        self,
+        name: str,
+        *arguments: Any,
+        invalid: Optional[str] = None,
+        tell: Optional[Callable[[int], Optional[str]]] = None,
+    ) -> int:
         """Makes a call of the library by this pass, and returns its status. Other threads run meanwhile.
 
-        `invalid` is the hint of an `InvalidValue`.
+        `invalid` is the hint of an `InvalidValue`, and `tell` says what a status was answered for.
         """
+        self._require_open()
         function = getattr(self._library, name)
+        with self._lock:
+            if self._closed is not None:
+                raise StoreClosed(self._closed)
+            status: int = function(self._handle, *arguments)
+        if status < 0:
+            self._refuse(status, invalid, tell)
+        return status
+
+    def _change(
+        self,
+        name: str,
+        *arguments: Any,
+        invalid: Optional[str] = None,
+        tell: Optional[Callable[[int], Optional[str]]] = None,
+    ) -> int:
+        """As `_call`, of a call that changes the store: before it the objects that were let go are freed."""
+        if self._core.let_go.gone:
+            self._free_gone()
+        self._require_open()
+        function = getattr(self._library, name)
+        with self._lock:
+            if self._closed is not None:
+                raise StoreClosed(self._closed)
+            status: int = function(self._handle, *arguments)
+        if status < 0:
+            self._refuse(status, invalid, tell)
+        return status
+
+    def _evaluate_all(
+        self, name: str, *arguments: Any, tell: Optional[Callable[[int], Optional[str]]] = None
+    ) -> None:
+        """Makes a call that evaluates what the pass knows."""
+        work = self._core.work
+        status = self._read(getattr(self._library, name), arguments, work - self._seen)
+        self._seen = work
+        if status < 0:
+            self._refuse(status, None, tell)
+
+    def _read(self, function: Any, arguments: Tuple[Any, ...], work: int, hold: Any = None) -> int:
+        """Makes a read, and returns its status: by a helper, where it may be long and this is the main thread.
+
+        It may have to visit as many entries as `work`. `hold` has the memory that it writes.
+        """
+        self._require_open()
+        if work < _LONG or not can_wait(self._lock):
+            return self._read_now(function, arguments)
+        task = Task(lambda: self._read_now(function, arguments), self._end_if_closed, hold)
+        self._task = task
+        status = wait_for(task)
+        self._task = None
+        return status
+
+    def _read_now(self, function: Any, arguments: Tuple[Any, ...]) -> int:
+        """Makes a read in this thread."""
         with self._lock:
             self._require_open()
             status: int = function(self._handle, *arguments)
-        if status < 0:
-            raise refusal_of(status, invalid)
         return status
+
+    def _refuse(
+        self, status: int, invalid: Optional[str] = None, tell: Optional[Callable[[int], Optional[str]]] = None
+    ) -> NoReturn:
+        """Raises the exception for a status below 0."""
+        # A pass that is ended is refused by the library too.
+        self._require_open()
+        raise refusal_of(status, invalid, None if tell is None else tell(status))
+
+    def _free_gone(self) -> None:
+        """Frees the objects that were let go, as far as there is room for it."""
+        let_go = self._core.let_go
+        while True:
+            gone = let_go.next_gone()
+            if gone is None:
+                return
+            with self._lock:
+                if self._closed is not None:
+                    return
+                status = getattr(self._library, f"trb_{gone[0]}_free")(self._handle, gone[1])
+            if status < 0 and status != Info.UNINITIALIZED_OBJECT:
+                let_go.put_back(*gone)
+                return
 
     def _meet(self, name: str, other: Pass) -> None:
         """Makes a call of the library that gives two passes."""
@@ -251,7 +554,7 @@ class Pass:
             self._require_open()
             return
         # The locks of two passes are taken in one order by all threads, so none waits for another in a ring.
-        first, second = sorted((self, other), key=lambda pass_: (id(pass_._store), pass_._number))
+        first, second = sorted((self, other), key=lambda pass_: (pass_._core.place, pass_._number))
         with first._lock, second._lock:
             other._require_open()
             self._call(name, other._handle, invalid="Give two passes of one store.")
@@ -266,16 +569,87 @@ class Pass:
         # First no further call begins: so this thread gets the lock soon, however many wait for it.
         if self._closed is None:
             self._closed = "the store is closed"
+        self._refuse_quickly()
+        task = self._task
+        if task is not None and task.left and not task.over:
+            # A helper makes a call that nobody waits for. It ends the pass when that has returned, or does so here
+            # where it has not begun.
+            if not self._lock.acquire(blocking=False):
+                return
+            try:
+                self._end_now()
+            finally:
+                self._lock.release()
+            return
         with self._lock:
-            if not self._ended:
-                self._ended = True
-                self._library.trb_free(self._handle)
+            self._end_now()
+
+    def _end_now(self) -> None:
+        """Ends the pass, whose lock this thread has."""
+        if not self._ended:
+            self._ended = True
+            self._library.trb_free(self._handle)
+
+    def _refuse_quickly(self) -> None:
+        """Has calls on one entry refused, also while another thread makes a call by the pass."""
+        for quick in self._quick.values():
+            # The lock comes last: who has the new one has no function of the library any more.
+            quick.get = quick.set = quick.remove = quick.nvals = _refused
+            quick.lock = threading.RLock()
+
+    def _end_if_closed(self) -> None:
+        """Ends the pass where its store was closed while a helper made a call by it."""
+        if self._closed is not None:
+            self._end()
 
     def _leave_to_parent(self) -> None:
         """In the child of a fork: no call is made by the pass any more. The thread that had its lock is not here."""
         self._lock = threading.RLock()
-        self._closed = "the store belongs to the process that this one was forked from"
+        self._closed = self._core.closed
+        self._refuse_quickly()
+        self._task = None
         self._ended = True
+
+
+class Temporary:
+    """A block at whose end objects are freed, as `Pass.temporary` tells."""
+
+    def __init__(self, pass_: Pass) -> None:
+        """A block of this pass. `Pass.temporary` makes it."""
+        self._pass = pass_
+        self._thread = 0
+        self._made: List[weakref.ref[Life]] = []
+        self._numbers: List[Tuple[str, int]] = []
+        self._kept: List[Life] = []
+
+    def __enter__(self) -> Temporary:
+        self._thread = threading.get_ident()
+        self._pass._blocks.append(self)
+        return self
+
+    def keep(self, item: AnyObject) -> AnyObject:
+        """Leaves the object out: it is not freed at the end of the block. Returns it."""
+        if not isinstance(item, Object):
+            raise TypeError(f"a block keeps a Matrix or a Vector, not a {type(item).__name__}")
+        self._kept.append(item._life)
+        return item
+
+    def __exit__(self, *exception: object) -> None:
+        self._pass._blocks.remove(self)
+        let_go = self._pass._core.let_go
+        for made, (sort, number) in zip(self._made, self._numbers):
+            life = made()
+            if life is None or life in self._kept or not let_go.is_watched(sort, number):
+                continue
+            with suppress(Refusal, StoreClosed):
+                self._pass._call(f"trb_{sort}_free", number)
+                life.freed = True
+                let_go.leave(sort, number)
+        with suppress(Refusal, StoreClosed):
+            self._pass._free_gone()
+        self._made.clear()
+        self._numbers.clear()
+        self._kept.clear()
 
 
 class Store:
@@ -290,8 +664,8 @@ class Store:
             A[0, 1] = 5
             A.using(q)[0, 1]  # 5
 
-    A store that is not closed ends when nothing refers to it, its passes and its objects any more. It belongs to
-    the process that opened it: in a process that was forked from that one, each call raises `StoreClosed`.
+    A store that is not closed ends as soon as nothing refers to it, its passes and its objects any more. It belongs
+    to the process that opened it: in a process that was forked from that one, each call raises `StoreClosed`.
     """
 
     def __init__(self, room: SupportsIndex = 4096, passes: SupportsIndex = 1) -> None:
@@ -311,36 +685,37 @@ class Store:
         self._open(calls, count, lambda number, handles: load().trb_open(number, calls, handles, count), None)
 
     @classmethod
-    def _opened(cls, room: int, count: int, opening: _Opening, before: Store) -> Store:
+    def _opened(cls, room: int, count: int, opening: _Opening, before: _Core) -> Store:
         """A store that `opening` opens, as the successor of another one."""
         store = cls.__new__(cls)
         store._open(room, count, opening, before)
         return store
 
-    def _open(self, room: int, count: int, opening: _Opening, before: Optional[Store]) -> None:
+    def _open(self, room: int, count: int, opening: _Opening, before: Optional[_Core]) -> None:
         """Has the store opened, under a number that no other store has. `before` is the one that it succeeds."""
         library = load()
         number = ctypes.c_uint64()
         _numbers.append(number)
         handles = (PassHandle * count)()
-        self._number = ctypes.addressof(number)
-        # Its number alone is kept: the store itself may end.
-        self._before = None if before is None else before._number
+        address = ctypes.addressof(number)
         try:
-            status = opening(self._number, handles)
+            status = opening(address, handles)
         except BaseException:
             _end_all(library, handles)
             raise
         if status != 0:
             _end_all(library, handles)
             raise refusal_of(status, _RANGES)
-        self._room = room
-        self._passes = tuple(Pass(self, place, library, handles[place]) for place in range(count))
-        self._closed = False
-        # It runs when nothing can make a call by a pass any more. At the end of the process it need not.
-        self._finalizer = weakref.finalize(self, _end_all, library, handles)
-        self._finalizer.atexit = False
-        _stores.add(self)
+        core = _Core(library, handles, room, address, before)
+        if before is not None:
+            core.inherit(before)
+        core.store(self)
+        self._have(core)
+
+    def _have(self, core: _Core) -> None:
+        """This is the store of this core."""
+        self._core = core
+        self._passes = tuple(core.pass_at(number) for number in range(len(core.handles)))
 
     @property
     def passes(self) -> Tuple[Pass, ...]:
@@ -355,22 +730,20 @@ class Store:
     @property
     def room(self) -> int:
         """How many calls that change it the store takes in its whole life. `Pass.facts` tells how many are left."""
-        return self._room
+        return self._core.room
 
     @property
     def closed(self) -> bool:
         """Whether it was closed."""
-        return self._closed
+        return self._core.closed is not None
 
     def close(self) -> None:
         """Ends all passes, once the calls that other threads make by them have returned, and gives memory back.
 
-        Calls by its passes and objects then raise `StoreClosed`. To close a store again does nothing.
+        Calls by its passes and objects then raise `StoreClosed`. To close a store again does nothing. It does not wait
+        for a read that a Ctrl-C has left: that pass ends when the read has returned.
         """
-        self._closed = True
-        for pass_ in self._passes:
-            pass_._end()
-        self._finalizer.detach()
+        self._core.close()
 
     def __enter__(self) -> Store:
         return self
@@ -380,30 +753,20 @@ class Store:
 
     def __repr__(self) -> str:
         passes = "1 pass" if len(self._passes) == 1 else f"{len(self._passes)} passes"
-        return f"<Store of room {self._room}, {passes}{', closed' if self._closed else ''}>"
+        return f"<Store of room {self.room}, {passes}{', closed' if self.closed else ''}>"
 
-    def _has_objects_of(self, other: Store) -> bool:
-        """Whether the numbers of the other store's objects mean the same here: it is this one, or the one before."""
-        return other is self or other._number == self._before
-
-    def _leave_to_parent(self) -> None:
-        """In the child of a fork: the store is the parent's, and is not ended here."""
-        self._closed = True
-        self._finalizer.detach()
-        for pass_ in self._passes:
-            pass_._leave_to_parent()
+    def __reduce__(self) -> NoReturn:
+        raise TypeError(
+            "a Store is used where it was opened; to_lists() of an object has what can be pickled and copied"
+        )
 
 
 def _within_ranges(room: SupportsIndex, passes: SupportsIndex) -> Tuple[int, int]:
     """The room and the number of passes of a store. `InvalidValue` where it may not have so much."""
     calls, count = operator.index(room), operator.index(passes)
     if not (1 <= calls <= MOST_ROOM and 1 <= count <= MOST_PASSES and calls * count <= MOST_SEATS):
-        raise InvalidValue(_RANGES)
+        raise InvalidValue(_RANGES, f"a room of {calls:,} and {count:,} passes were asked for")
     return calls, count
-
-
-# The stores of this process, for what is to be done after a fork.
-_stores: weakref.WeakSet[Store] = weakref.WeakSet()
 
 
 def _end_all(library: ctypes.CDLL, handles: ctypes.Array[PassHandle]) -> None:
@@ -414,8 +777,9 @@ def _end_all(library: ctypes.CDLL, handles: ctypes.Array[PassHandle]) -> None:
 
 def _leave_stores_to_parent() -> None:
     """In the child of a fork: no call may be made there by the passes of the parent."""
-    for store in list(_stores):
-        store._leave_to_parent()
+    forget_helpers()
+    for core in list(_cores):
+        core.leave_to_parent()
 
 
 if hasattr(os, "register_at_fork"):

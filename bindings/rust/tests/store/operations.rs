@@ -1,7 +1,7 @@
 //! Each operation by small examples, worked out by hand.
 
 use crate::{matrix, open, stored, vector};
-use trowelheath::{Descriptor, Monoid, Op, Semiring};
+use trowelheath::{Descriptor, Error, Monoid, Op, Semiring};
 
 #[test]
 fn ewise_add_is_over_the_union() {
@@ -171,14 +171,17 @@ fn vxm_folds_columns() {
 }
 
 #[test]
-fn vxm_does_not_read_tran() {
+fn a_vector_is_not_transposed() {
     let mut pass = open();
     let a = matrix(&mut pass, (2, 3), &[(0, 0, 2u64), (0, 1, 3), (1, 1, 5)]);
     let u = vector(&mut pass, 2, &[(0, 10u64), (1, 1)]);
-    let w = pass.new_vector(3).unwrap();
-    pass.vxm(w, Semiring::PLUS_TIMES, u, a, Descriptor::new().tran())
-        .unwrap();
-    assert_eq!(stored(&mut pass, w), [(0, 20), (1, 35)]);
+    let w = vector(&mut pass, 3, &[(2, 7u64)]);
+    let tran = Descriptor::new().tran();
+    let refused = Err(Error::InvalidValue);
+    assert_eq!(pass.vxm(w, Semiring::PLUS_TIMES, u, a, tran), refused);
+    assert_eq!(pass.ewise_add(w, Op::PLUS, w, w, tran), refused);
+    assert_eq!(pass.ewise_mult(w, Op::PLUS, w, w, tran), refused);
+    assert_eq!(stored(&mut pass, w), [(2, 7)]);
 }
 
 #[test]

@@ -416,3 +416,148 @@ fn a_refusal_has_a_name_a_hint_and_a_status() {
     let boxed: Box<dyn std::error::Error> = refusal.into();
     assert_eq!(boxed.to_string(), text);
 }
+
+/// The text of a refusal of this pass, by a call that is refused.
+fn text<T: std::fmt::Debug>(
+    pass: &mut Pass,
+    error: Error,
+    call: impl FnOnce(&mut Pass) -> Result<T, Error>,
+) -> String {
+    assert_eq!(call(pass).unwrap_err(), error);
+    let refusal = pass.explain(error);
+    assert_eq!(
+        (refusal.error(), Error::from(refusal.clone())),
+        (error, error)
+    );
+    assert_eq!(refusal, error);
+    refusal.to_string()
+}
+
+#[test]
+fn shapes_that_do_not_fit_are_told() {
+    let mut pass = open();
+    let a = pass.new_matrix::<u64>(3, 4).unwrap();
+    let c = pass.new_matrix::<u64>(3, 3).unwrap();
+    let u = pass.new_vector::<u64>(3).unwrap();
+    let v = pass.new_vector::<u64>(4).unwrap();
+    let mask = pass.new_matrix::<bool>(2, 2).unwrap();
+    let tran = Descriptor::new().tran();
+    let mut told = |call: &dyn Fn(&mut Pass) -> Result<(), Error>| {
+        let said = text(&mut pass, Error::DimensionMismatch, |pass| call(pass));
+        said.strip_prefix("GrB_DIMENSION_MISMATCH: ")
+            .unwrap()
+            .to_string()
+    };
+    let product = Semiring::PLUS_TIMES;
+    assert_eq!(
+        told(&|pass| pass.mxm(c, product, a, a, Descriptor::new())),
+        "a is 3 x 4, b is 3 x 4: the columns of a, 4, are not the rows of b, 3"
+    );
+    assert_eq!(
+        told(&|pass| pass.mxm(c, product, a, a, tran)),
+        "c is 3 x 3, a, transposed, is 4 x 3: the rows of c, 3, are not the rows of a, 4"
+    );
+    assert_eq!(
+        told(&|pass| pass.mxm(c, product, c, c, Descriptor::new().mask(mask))),
+        "the mask is 2 x 2, c is 3 x 3: the rows of the mask, 2, are not the rows of c, 3"
+    );
+    assert_eq!(
+        told(&|pass| pass.mxv(u, product, a, u, Descriptor::new())),
+        "a is 3 x 4, u has the size 3: the columns of a, 4, are not the size of u, 3"
+    );
+    assert_eq!(
+        told(&|pass| pass.vxm(u, product, u, a, Descriptor::new())),
+        "w has the size 3, a is 3 x 4: the size of w, 3, is not the columns of a, 4"
+    );
+    assert_eq!(
+        told(&|pass| pass.ewise_add(c, Op::PLUS, a, a, tran)),
+        "a, transposed, is 4 x 3, b is 3 x 4: the rows of a, 4, are not the rows of b, 3"
+    );
+    assert_eq!(
+        told(&|pass| pass.ewise_mult(u, Op::PLUS, u, v, Descriptor::new())),
+        "a has the size 3, b has the size 4: the size of a, 3, is not the size of b, 4"
+    );
+    assert_eq!(
+        told(&|pass| pass.reduce_rows(v, Monoid::PLUS, a, Descriptor::new())),
+        "w has the size 4, a is 3 x 4: the size of w, 4, is not the rows of a, 3"
+    );
+}
+
+#[test]
+fn places_and_lists_that_do_not_fit_are_told() {
+    let mut pass = open();
+    let a = pass.new_matrix::<u64>(3, 4).unwrap();
+    let v = pass.new_vector::<bool>(5).unwrap();
+    let pass = &mut pass;
+    assert_eq!(
+        text(pass, Error::InvalidIndex, |pass| pass.set(a, (4, 2), 1)),
+        "GrB_INVALID_INDEX: (4, 2) is outside of the object, which is 3 x 4"
+    );
+    assert_eq!(
+        text(pass, Error::InvalidIndex, |pass| pass.get(v, 5)),
+        "GrB_INVALID_INDEX: the index 5 is not below the size of the object, 5"
+    );
+    assert_eq!(
+        text(pass, Error::InvalidIndex, |pass| pass.remove(v, 7)),
+        "GrB_INVALID_INDEX: the index 7 is not below the size of the object, 5"
+    );
+    let far = [(0, 0, 1), (1, 9, 2), (2, 4, 3)];
+    assert_eq!(
+        text(pass, Error::IndexOutOfBounds, |pass| pass.build(a, far, Monoid::PLUS)),
+        "GrB_INDEX_OUT_OF_BOUNDS: entry 1 of the list: (1, 9) is outside of the object, which is 3 x 4"
+    );
+    assert_eq!(
+        text(pass, Error::IndexOutOfBounds, |pass| {
+            pass.build_vector(v, &[0, 6, 5], &[true; 3], Monoid::LOR)
+        }),
+        "GrB_INDEX_OUT_OF_BOUNDS: entry 1 of the list: the index 6 is not below the size of the vector, 5"
+    );
+    assert_eq!(
+        text(pass, Error::InvalidValue, |pass| {
+            pass.build_matrix(a, &[0, 1], &[0], &[7, 8, 9], Monoid::PLUS)
+        }),
+        "GrB_INVALID_VALUE: the lists have the lengths 2, 1 and 3"
+    );
+    pass.set(v, 0, false).unwrap();
+    assert_eq!(
+        text(pass, Error::OutputNotEmpty, |pass| pass.build(
+            v,
+            [(1, true)],
+            Monoid::LOR
+        )),
+        "GrB_OUTPUT_NOT_EMPTY: the object stores entries: clear it, or build a new one"
+    );
+    assert_eq!(
+        text(pass, Error::InvalidValue, |pass| pass
+            .new_matrix::<bool>(0, 5)),
+        "GrB_INVALID_VALUE: 0 x 5: dimensions are from 1 to 4,294,967,295"
+    );
+    assert_eq!(
+        text(pass, Error::InvalidValue, |pass| pass.resize(v, 0)),
+        "GrB_INVALID_VALUE: 0: dimensions are from 1 to 4,294,967,295"
+    );
+}
+
+#[test]
+fn a_freed_object_is_named() {
+    let mut pass = open();
+    let v = pass.new_vector::<u64>(2).unwrap();
+    let mask = pass.new_vector::<bool>(2).unwrap();
+    pass.free(mask).unwrap();
+    let said = text(&mut pass, Error::UninitializedObject, |pass| {
+        pass.ewise_add(v, Op::PLUS, v, v, Descriptor::new().mask(mask))
+    });
+    assert_eq!(said, "GrB_UNINITIALIZED_OBJECT: the mask was freed");
+}
+
+#[test]
+fn an_error_of_another_call_is_told_by_its_hint() {
+    let mut pass = open();
+    let v = pass.new_vector::<u64>(2).unwrap();
+    assert_eq!(pass.set(v, 2, 7), Err(Error::InvalidIndex));
+    let refusal = pass.explain(Error::OrderFull);
+    assert_eq!(
+        (refusal.said(), refusal.to_string()),
+        (None, Error::OrderFull.to_string())
+    );
+}

@@ -74,6 +74,7 @@ impl Evaluated {
         ensures all { result ≡ true → length (known reader.now) ≤ self.now.reached.count }
         ensures held { result ≡ true → is_wanted self.now.reached.lacking object ≡ false }
         ensures left { result ≡ false → IsWhole self.now.reached → length (known reader.now) ≤ self.now.reached.count → ⊥ }
+        ensures lacks { result ≡ false → is_wanted self.now.reached.lacking object ≡ false → length (known reader.now) ≤ self.now.reached.count → ⊥ }
     {
         self.reached.count() >= reader.known() as usize && !self.reached.lacks(object)
     }

@@ -1,5 +1,5 @@
-//! What a pass leaves to others and takes of them where memory is refused. A wait that is done has left its store; a read makes the calls of one
-//! object, or those that no edition has, and needs no memory for others. No contract says what is left, or which calls a read makes.
+//! What a pass leaves to others and takes of them where memory is refused. A wait that is done has left its store; a read makes the calls
+//! of one object, or those that no edition has, and needs no memory for others. No contract says what is left, or which calls a read makes.
 ghost use Rattle.grb_context.specs.Known.{IsPassOf};
 
 use crate::tests::calls::calls_in;
@@ -88,8 +88,8 @@ fn a_wait_after_one_of_as_many_calls_takes_no_memory(rt: HostRuntime) -> Result<
     Ok(())
 }
 
-/// A script of a vector with one entry, a matrix, and a vector with so many entries that a spare does not hold them; the first is added to it
-/// 400 times.
+/// A script of a vector with one entry, a matrix, and a vector with so many entries that a spare does not hold them; the first is added to
+/// it 400 times.
 fn large_script(alloc: Global) -> Result<String, AllocError> {
     let mut text = String::new(alloc);
     text.push_str(

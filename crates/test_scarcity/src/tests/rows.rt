@@ -55,7 +55,8 @@ fn expect_each<R: Abort>(
     }
 }
 
-/// The calls after `finally` are answered so while all memory is refused, and then so with ample memory. How many calls are settled in the end.
+/// The calls after `finally` are answered so while all memory is refused, and then so with ample memory. How many calls are settled in the
+/// end.
 fn expect_starved<R: Abort + Files + AllocGlobal>(
     rt: &R,
     room: u32,

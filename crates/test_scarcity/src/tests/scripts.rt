@@ -1,4 +1,5 @@
-//! A script with ever more memory. Where memory is refused outside of its calls the run ends, and nothing is written; in a call its line tells.
+//! A script with ever more memory. Where memory is refused outside of its calls the run ends, and nothing is written; in a call its line
+//! tells.
 ghost use Rattle.std.specs.Prelude.{None};
 
 use crate::tests::memory::{STEP, TRIALS, hold_all, leave, leave_ample};
@@ -109,8 +110,8 @@ fn is_or_tells(line: &[u8], wanted: &[u8]) -> bool {
     line == wanted || line == REFUSED
 }
 
-/// Whether these are the five lines of the script, of which some tell that memory was refused. What such a call had made is not there for those
-/// after it, but for a matrix whose file alone was not taken over.
+/// Whether these are the five lines of the script, of which some tell that memory was refused. What such a call had made is not there for
+/// those after it, but for a matrix whose file alone was not taken over.
 fn are_told(lines: &[&[u8]]) -> bool {
     let [load, made, set, get, count, end] = lines else {
         return false;

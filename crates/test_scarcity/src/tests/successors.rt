@@ -1,5 +1,5 @@
-//! A successor with ever more memory, from none on, each time of a store of its own, until it is not refused. No contract says that memory is
-//! refused, or what the old pass and the new ones answer then.
+//! A successor with ever more memory, from none on, each time of a store of its own, until it is not refused. No contract says that memory
+//! is refused, or what the old pass and the new ones answer then.
 ghost use Rattle.std.specs.Prelude.{◌<◌, ◌≤◌, IfOk};
 ghost use Rattle.grb_order.specs.declared.limits.TheConstants.{MOST_PASSES, MOST_ROOM, MOST_SEATS};
 ghost use Rattle.grb_context.specs.Known.{IsPassOf};

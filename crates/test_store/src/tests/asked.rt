@@ -34,8 +34,8 @@ pub(super) type IntoMatrix = (MatrixId, Option<MatrixId>, Option<BinaryOp>, Desc
 
 pub(super) type IntoVector = (VectorId, Option<VectorId>, Option<BinaryOp>, Descriptor);
 
-/// A list by a rule: so many tuples, of which each is `step` places after the one before, round about; the places are numbered row by row. The
-/// numbers count from 1. A vector has one column.
+/// A list by a rule: so many tuples, of which each is `step` places after the one before, round about; the places are numbered row by row.
+/// The numbers count from 1. A vector has one column.
 #[derive(Clone, Copy, Debug)]
 pub(super) struct Rule {
     pub(super) count: u64,

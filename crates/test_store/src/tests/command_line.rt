@@ -1,5 +1,5 @@
-//! What the words of a command line ask for. What they are is tested word by word, and what is told of them, which no contract says; a script
-//! has no command line.
+//! What the words of a command line ask for. What they are is tested word by word, and what is told of them, which no contract says; a
+//! script has no command line.
 use crate::tests::same::same;
 use grb_run::{Options, options, status_of_words};
 use std::alloc::{AllocError, Global};

@@ -1,6 +1,6 @@
-//! Four threads on one store, whose reads are dear: one changes what all read, and each reads it, so that stores are made, left and taken at one
-//! moment. Of a read a contract says that some order explains it to its pass. Here it is the answer of a plain store after as many calls of the
-//! one history as the pass then knows. That some reads took what another thread had made is counted.
+//! Four threads on one store, whose reads are dear: one changes what all read, and each reads it, so that stores are made, left and taken
+//! at one moment. Of a read a contract says that some order explains it to its pass. Here it is the answer of a plain store after as many
+//! calls of the one history as the pass then knows. That some reads took what another thread had made is counted.
 ghost use Rattle.std.specs.Prelude.{All};
 ghost use Rattle.grb_context.specs.Known.{IsPassOf};
 

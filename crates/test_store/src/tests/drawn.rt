@@ -1,7 +1,7 @@
-//! Drawn histories: four passes of a store ask in turn, and a plain store of test code is asked the same. In some histories objects are small,
-//! and passes adopt others; in others they are so large that what one pass evaluates is left to the others, and that some of it was taken is
-//! counted. At the end the passes read all that each object holds. No contract says which of its ways to a value a read takes, and no script
-//! has passes in turn; here each way is compared with the plain one.
+//! Drawn histories: four passes of a store ask in turn, and a plain store of test code is asked the same. In some histories objects are
+//! small, and passes adopt others; in others they are so large that what one pass evaluates is left to the others, and that some of it was
+//! taken is counted. At the end the passes read all that each object holds. No contract says which of its ways to a value a read takes, and
+//! no script has passes in turn; here each way is compared with the plain one.
 ghost use Rattle.grb_context.specs.Known.{IsPassOf};
 
 use crate::tests::asked::{Answer, Asked, ask, sum_of};
@@ -106,8 +106,8 @@ impl Counts {
     }
 }
 
-/// Of the calls that read all objects, the one at this place: for each number they ask for entries of the matrix and of the vector, for their
-/// counts and sizes, and for the sums of all entries.
+/// Of the calls that read all objects, the one at this place: for each number they ask for entries of the matrix and of the vector, for
+/// their counts and sizes, and for the sums of all entries.
 fn read_at(at: u32, draw: &Draw) -> Asked {
     let (a, v) = (MatrixId(at / READS), VectorId(at / READS));
     let place = u64::from(at % READS);
@@ -349,19 +349,19 @@ fn expect_all(
 
 #[test]
 fn drawn_histories_are_answered_as_by_a_plain_store(rt: HostRuntime) -> Result<(), AllocError> {
-    expect_all(&rt, rt.alloc(), 2_000, SMALL, 60, 0)
+    expect_all(&rt, rt.alloc(), 2_000, SMALL, 60, 100)
 }
 
 #[test]
 fn drawn_histories_of_long_vectors_are_answered_as_by_a_plain_store(
     rt: HostRuntime,
 ) -> Result<(), AllocError> {
-    expect_all(&rt, rt.alloc(), 30, LONG, 40, 1)
+    expect_all(&rt, rt.alloc(), 30, LONG, 40, 4)
 }
 
 #[test]
 fn drawn_histories_of_wide_matrices_are_answered_as_by_a_plain_store(
     rt: HostRuntime,
 ) -> Result<(), AllocError> {
-    expect_all(&rt, rt.alloc(), 20, WIDE, 40, 0)
+    expect_all(&rt, rt.alloc(), 20, WIDE, 40, 3)
 }

@@ -1,5 +1,5 @@
-//! How a run ends where its sink or its source fails. Contracts say that a beginning was written, or nothing; which beginning, which fault, and
-//! that the rest was not asked for, no contract says. The files and the output of a script are real ones, which do not fail.
+//! How a run ends where its sink or its source fails. Contracts say that a beginning was written, or nothing; which beginning, which fault,
+//! and that the rest was not asked for, no contract says. The files and the output of a script are real ones, which do not fail.
 ghost use Rattle.std.specs.Prelude.{◌<◌, ◌≤◌};
 ghost use Rattle.grb_order.specs.declared.limits.TheConstants.{MOST_ROOM};
 

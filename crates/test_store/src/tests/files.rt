@@ -1,4 +1,5 @@
-//! Files at their last byte, and readers that fail. What a file holds is known to no contract, and a script loads small files that are there.
+//! Files at their last byte, and readers that fail. What a file holds is known to no contract, and a script loads small files that are
+//! there.
 ghost use Rattle.grb_run.specs.Source.{AreCountable};
 ghost use Rattle.grb_run.specs.Files.{counts_of};
 

@@ -1,6 +1,6 @@
 //! Reads in histories that are long for other objects, or dear. Which calls a read makes, and what another pass left for it, no contract
-//! says: each of its three ways to a value is taken here, and the calls that it makes are counted. They are those that the object depends on
-//! and that were not made yet, and none of those that an edition has. No script has a pass that meets another.
+//! says: each of its three ways to a value is taken here, and the calls that it makes are counted. They are those that the object depends
+//! on and that were not made yet, and none of those that an edition has. No script has a pass that meets another.
 use crate::tests::asked::Asked::{
     ClearVector, EwiseAddVector, GetVector, NewVector, NvalsVector, SetVector, WaitVector,
 };
@@ -128,8 +128,8 @@ fn a_read_goes_on_from_what_another_pass_settled(rt: HostRuntime) -> Result<(), 
     run(&rt, 512, &SHARED)
 }
 
-/// One pass settles two calls, and each other pass begins with what it left. A wait where all is settled makes nothing. A later wait finds the
-/// cell for so few calls full, and leaves nothing more: a first read after it makes the one call that came between.
+/// One pass settles two calls, and each other pass begins with what it left. A wait where all is settled makes nothing. A later wait finds
+/// the cell for so few calls full, and leaves nothing more: a first read after it makes the one call that came between.
 static FEW: [Row; 25] = [
     (P, Asks(NewVector(Domain::Uint64, 2), MADE)),
     (P, Asks(SetVector(FIRST, 0, FIVE), DONE)),
@@ -202,8 +202,8 @@ fn a_wait_for_one_object_makes_its_calls(rt: HostRuntime) -> Result<(), AllocErr
     run(&rt, 64, &COMPLETED)
 }
 
-/// One pass evaluates all that it knows. Another adopts it and makes nothing for that, and a third meets it and makes all. What the one that
-/// adopted then changes is seen by all, and changes nothing that the other had evaluated.
+/// One pass evaluates all that it knows. Another adopts it and makes nothing for that, and a third meets it and makes all. What the one
+/// that adopted then changes is seen by all, and changes nothing that the other had evaluated.
 static ADOPTED: [Row; 18] = [
     (P, Asks(NewVector(Domain::Uint64, 2), MADE)),
     (P, Repeats(40, SetVector(FIRST, 0, ONE), DONE)),
@@ -272,22 +272,25 @@ fn dear_work_is_left_to_the_other_passes(rt: HostRuntime) -> Result<(), AllocErr
     run(&rt, 64, &DEAR)
 }
 
-/// A pass prepares what is dear, and then answers without a call to make; so does one that adopts it. What is not dear is not prepared.
-static PREPARED: [Row; 15] = [
+/// A pass prepares what is dear, and then answers without a call to make; so does one that adopts it. What is not dear is not prepared. So
+/// `prepare` answers that none of the first three calls is evaluated, and then all six are, those of a pass that adopted them too.
+static PREPARED: [Row; 17] = [
     (P, Asks(NewVector(Domain::Uint64, MANY), MADE)),
     (P, Asks(NewVector(Domain::Uint64, MANY), MADE_SECOND)),
     (P, Asks(SetVector(FIRST, 7, ONE), DONE)),
-    (P, Prepares),
+    (P, Prepares(0)),
     (P, Asks(GetVector(FIRST, 7), IS_1)),
     (P, Made(3)),
     (P, Asks(ClearVector(FIRST), DONE)),
     (P, Fills(FIRST, MANY)),
     (P, Asks(ADDED, DONE)),
-    (P, Prepares),
+    (P, Prepares(6)),
     (P, Asks(GetVector(SECOND, 7), IS_1)),
     (P, Made(0)),
     (Q, Adopts(P)),
     (Q, Asks(GetVector(SECOND, 7), IS_1)),
+    (Q, Made(0)),
+    (Q, Prepares(6)),
     (Q, Made(0)),
 ];
 

@@ -1,5 +1,5 @@
-//! A plain store, which answers each call at once from its tables, with refusals of its own. No code of the product is here but the names of
-//! calls and answers, so what it answers is what the product is to answer.
+//! A plain store, which answers each call at once from its tables, with refusals of its own. No code of the product is here but the names
+//! of calls and answers, so what it answers is what the product is to answer.
 use crate::tests::asked::{Answer, Asked, sum_of, value_of};
 use crate::tests::plain::{
     Operands, Operation, Table, Way, domain_of_monoid, domain_of_op, summed,

@@ -1,5 +1,5 @@
-//! Two calls at one moment. A contract says that some order explains the answers to one pass; that the answers to both are of one order, and
-//! that both orders are lawful, is seen here. Scripts print no read that comes before both sections have ended.
+//! Two calls at one moment. A contract says that some order explains the answers to one pass; that the answers to both are of one order,
+//! and that both orders are lawful, is seen here. Scripts print no read that comes before both sections have ended.
 ghost use Rattle.grb_context.specs.Known.{IsPassOf};
 
 use crate::tests::asked::{Answer, Asked, BAD_INDEX, DONE, FIRST, GONE, SECOND, ask};

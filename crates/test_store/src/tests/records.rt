@@ -1,5 +1,5 @@
-//! Records that two threads put. A contract lets a record not be taken, or not be shown; that each is, with threads at work, is seen here. No
-//! script names a record.
+//! Records that two threads put. A contract lets a record not be taken, or not be shown; that each is, with threads at work, is seen here.
+//! No script names a record.
 use crate::tests::same::same;
 use grb_call::{Call, VectorId};
 use grb_core::{Refusal, Value};

@@ -29,8 +29,8 @@ pub(super) enum Step {
     Meets(u32),
     /// It adopts the pass of this number, which is answered `Ok`.
     Adopts(u32),
-    /// It prepares what it knows.
-    Prepares,
+    /// It prepares what it knows, of which so many calls are evaluated then.
+    Prepares(u32),
     /// It builds the vector from a one at each index below this, which is answered `Done`.
     Fills(VectorId, u64),
     /// It knows so many calls, and has learnt as many words.
@@ -122,9 +122,7 @@ fn expect_step<A: Abort>(
         Step::Made(calls) => same(rt, pass.made(), calls, row),
         Step::Settled(calls) => same(rt, pass.settled(), calls, row),
         Step::Status(object, status) => same(rt, pass.last_info(object), status, row),
-        Step::Prepares => {
-            let _ = context.prepare(pass);
-        }
+        Step::Prepares(calls) => same(rt, context.prepare(pass), calls, row),
         Step::Fills(v, count) => {
             let answer = fill(alloc, context, pass, v, count);
             same(rt, answer, Ok(Ok(Reply::Done)), row);

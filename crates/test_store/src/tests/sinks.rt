@@ -1,5 +1,5 @@
-//! A sink that takes little at a time, and fails in time. Contracts say of a failed sink that it took a beginning; which one, and that a run
-//! goes on through short pieces, the endings say.
+//! A sink that takes little at a time, and fails in time. Contracts say of a failed sink that it took a beginning; which one, and that a
+//! run goes on through short pieces, the endings say.
 ghost use Rattle.std.specs.Prelude.{◌≡◌, Some};
 
 use grb_market::{Sink, SinkFault};

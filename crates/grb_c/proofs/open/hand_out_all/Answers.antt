@@ -1,5 +1,5 @@
 use Rattle.std.proofs.Common.{◌≡◌, ◌∙◌, ◌-◌, ◌++◌, ◌∷◌, [], suc, ℕ, List, Option, Some, None, length, refl, subst, sym, ap, arith, length-append, length-set}
-use Rattle.std.specs.Prelude.{IfSome, slice_get}
+use Rattle.std.specs.Prelude.{MatchOption, slice_get}
 use Rattle.grb_context.specs.Known.{Knowing}
 use Rattle.grb_c.specs.Codes.{success}
 use Rattle.grb_c.specs.Opening.{Holds}
@@ -13,7 +13,7 @@ loop-at-preserved c =
     let before : List Knowing = c.loop-at.rest.items in let after : List Knowing = c.last_pass.new.passes.items in let pass : Knowing = c.in-Some.pass in
     let code : c.hand_out-code.result ≡ success = grind (arith, c.if-code-ne-SUCCESS.false) in
     let above : n - at ≡ suc m = omega (arith, c.loop-at-test.true) in
-    let split : before ≡ after ++ pass ∷ [] = subst (λ (o : Option Knowing). IfSome o (λ p. before ≡ after ++ p ∷ [])) c.in-Some.is c.last_pass.ensures.last in
+    let split : before ≡ after ++ pass ∷ [] = subst (λ (o : Option Knowing). MatchOption o (before ≡ []) (λ p. before ≡ after ++ p ∷ [])) c.in-Some.is c.last_pass.ensures.last in
     let left : length after ≡ m = omega (arith, above, held.left, ap length split, length-append after (pass ∷ [])) in
     let got : slice_get opened m ≡ Some pass =
     sym (held.first m (omega (arith, above))) ∙ ap (λ (l : List Knowing). slice_get l m) split ∙ ap (slice_get (after ++ pass ∷ [])) (sym left) ∙ get_last after pass in

@@ -4,7 +4,7 @@ use Rattle.grb_order.specs.View.{fresh}
 use Rattle.grb_order.specs.Holding.{Holding, TableId}
 use Rattle.grb_order.specs.Order.{room_of}
 use Rattle.grb_call.specs.Statuses.{no_rows}
-use Rattle.grb_pass.specs.Known.{Knowing, AreNew}
+use Rattle.grb_pass.specs.Known.{Knowing, none_made, AreNew}
 use Rattle.grb_pass.proofs.Opening.{next_seat, fresh_at, new_at, new_more, all_opened, none_left}
 use Rattle.grb_pass.proofs.shared.passes_of.Goals as goal
 
@@ -35,7 +35,7 @@ loop-seat-preserved c =
     let now : (length opened < passes) × (c.in-Some.seat ≡ fresh_at order passes (length opened)) × (drop (suc (length opened)) c.args.seats.items ≡ c.next.new.self.rest.items)
     = next_seat order passes c.args.seats.items (length opened) c.in-Some.seat c.next.new.self.rest.items c.requires.seats (sym c.loop-seat.invariant.rest ∙ c.in-Some.ensures.steps.0) in
     let pass : Knowing = c.in_ok-open.field-0 in
-    let is : pass ≡ new_at order passes (length opened) = c.in_ok-open.ensures ∙ ap (λ (h : Holding). record { order = h.table_id; view = h.view; shown = []; steps = 0; statuses = no_rows (room_of h.table_id); settled = 0; made = 0 }) now.1 in
+    let is : pass ≡ new_at order passes (length opened) = c.in_ok-open.ensures ∙ ap (λ (h : Holding). record { order = h.table_id; view = h.view; shown = []; steps = 0; statuses = no_rows (room_of h.table_id); settled = 0; made = none_made }) now.1 in
     let n : length c.push_reserved.new.self.items ≡ length opened + 1 = ap length c.push_reserved.ensures.items ∙ length_push opened pass in
     let more : AreNew order passes (opened ++ pass ∷ []) (length opened + 1) = new_more order passes opened pass c.loop-seat.invariant.opened is in
     record {

@@ -1,14 +1,15 @@
 use lib.Signed.{mag}
-use Rattle.std.proofs.Common.{◌≡◌, ◌∙◌, ◌<◌, ℕ, ℤ, List, inl, inr, ap, sym, subst, arith, to_z, of_z, w32, to_z-of_z}
+use Rattle.std.proofs.Common.{◌≡◌, ◌∙◌, ◌<◌, ℕ, ℤ, List, ap, sym, subst, arith, to_z, of_z, w32, to_z-of_z}
 use Rattle.grb_sparse.specs.Matrix.{SparseMatrixView}
 use Rattle.grb_call.specs.declared.call.Call.TheVariants as call
 use Rattle.grb_call.specs.declared.descriptor.WaitMode.TheVariants.{Complete}
 use Rattle.grb_context.specs.Answered.{Answered}
 use Rattle.grb_context.specs.Explains.{Answer}
 use Rattle.grb_context.specs.Known.{Knowing, Shared}
+use Rattle.grb_context.proofs.Waited.{left_matrix}
 use Rattle.grb_c.specs.Sessions.{Opened}
 use Rattle.grb_c.specs.Tuples.{PutsMatrix, ReadsMatrix}
-use Rattle.grb_c.proofs.session.Session.read_matrix.Goals.{in-Ok+in-Some, in-Ok+in-None, in-Err}
+use Rattle.grb_c.proofs.session.Session.read_matrix.Goals.{in-Ok+in-Some, in-Err}
 use Rattle.grb_c.proofs.session.Session.read_matrix.Goals as goal
 
 -- a status is what its bits say
@@ -23,12 +24,11 @@ returns g c =
     (λ i. ((c.deref.ensures ∙ ap (λ (o : Opened). o.context) c.self.view_is) i, (c.self.view_is i).pass)) c.wait_matrix-waited.ensures.answered in
     let reads : Answer → Type 0 = λ r. ReadsMatrix g.T.Item.domain g.T.Item.item new c.args.a r (to_z w32 c.match-waited.result-bits) c.args.rows.now c.args.columns.now c.args.values.now c.args.count.now c.match-waited.rows c.match-waited.columns c.match-waited.values c.match-waited.count in
     let by : reads c.wait_matrix-waited.result = elim c.match-waited.branch [
-      | in-Ok+in-Some w ↦ subst reads (sym w.in-Ok.is) (inl (
+      | in-Ok+in-Some w ↦ subst reads (sym w.in-Ok.is) (
         w.in-Some.matrix.now.value,
         w.in-Some.ensures,
         subst (λ (y : SparseMatrixView × ℤ × List ℕ × List ℕ × List g.row.T.Denot × ℕ). PutsMatrix g.T.Item.domain g.T.Item.item y.0 y.1 c.args.rows.now c.args.columns.now c.args.values.now c.args.count.now y.2 y.3 y.4 y.5) (λ i. (w.deref-in-Some.ensures i, (put_code w.put_matrix.result w.put_matrix.type_inv ∙ sym w.result-is) i, sym w.rows-is i, sym w.columns-is i, sym w.values-is i, sym w.count-is i)) w.put_matrix.ensures,
-      ))
-      | in-Ok+in-None w ↦ subst reads (sym w.in-Ok.is) (inr (w.in-None.ensures, w.result-is, w.rows-is, w.columns-is, w.values-is, w.count-is))
+      )
       | in-Err w ↦ subst reads (sym w.in-Err.is) (w.result-is ∙ sym (put_code w.refusal_code.result w.refusal_code.type_inv) ∙ w.refusal_code.ensures, w.rows-is, w.columns-is, w.values-is, w.count-is)
     ] in
     record {
@@ -38,3 +38,11 @@ returns g c =
       answered = made;
       reads = by;
     }
+
+pub unreachable-requires : goal.unreachable-requires
+unreachable-requires g c =
+    let old : Opened = c.args.self.now in let new : Knowing = c.wait_matrix-waited.new.pass in
+    let made : Answered old.context old.pass new (call.WaitMatrix c.args.a Complete) c.wait_matrix-waited.result =
+    subst (λ (y : Shared × Knowing). Answered y.0 y.1 new (call.WaitMatrix c.args.a Complete) c.wait_matrix-waited.result)
+    (λ i. ((c.deref.ensures ∙ ap (λ (o : Opened). o.context) c.self.view_is) i, (c.self.view_is i).pass)) c.wait_matrix-waited.ensures.answered in
+    c.in-None.ensures.1 (left_matrix old.context old.pass new c.args.a c.wait_matrix-waited.result c.in-Ok._done c.in-Ok.is made)

@@ -20,6 +20,7 @@ calls-preserved c =
     record {
       pass = c.in_ok-enter_alone.ensures.pass;
       number = c.in_ok-enter_alone.ensures.number ∙ c.calls.invariant.number;
+      passes = c.in_ok-enter_alone.ensures.passes ∙ c.calls.invariant.passes;
       statuses = c.in_ok-enter_alone.ensures.statuses ∙ c.calls.invariant.statuses;
       settled = c.in_ok-enter_alone.ensures.settled ∙ c.calls.invariant.settled;
       taken = subst (λ (s : Store). AreTaken s rest) (sym (ap store_of known_is ∙ store_of-push old n call)) taken.2;

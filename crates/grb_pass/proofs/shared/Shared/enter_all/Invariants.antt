@@ -9,6 +9,7 @@ abbrev pub invariant-calls : goal.invariant-calls
 invariant-calls l = record {
   pass : IsPassOf l.self l.pass;
   number : l.pass.view.number ≡ l.fn.pass.view.number;
+  passes : l.pass.view.passes ≡ l.fn.pass.view.passes;
   statuses : l.pass.statuses ≡ l.fn.pass.statuses;
   settled : l.pass.settled ≡ l.fn.pass.settled;
   taken : AreTaken (store_of (known l.pass)) l.call-iterator.rest.items;

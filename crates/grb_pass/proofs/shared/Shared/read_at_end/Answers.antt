@@ -1,21 +1,21 @@
 use Rattle.std.proofs.Common.{◌≡◌, length, subst, sym, ap, ◌∙◌}
-use Rattle.std.specs.Prelude.{Err}
+use Rattle.std.specs.Prelude.{Err, OnOk}
 use Rattle.std.proofs.lemmas.Result.{err_from_is_err_and}
 use Rattle.grb_order.specs.Order.{room_of}
 use Rattle.grb_call.specs.History.{store_of}
 use Rattle.grb_call.proofs.Checked.{by_shapes-ok}
-use Rattle.grb_pass.specs.Known.{Knowing, known}
+use Rattle.grb_pass.specs.Known.{Knowing, Making, known}
 use Rattle.grb_pass.specs.Counting.{CountsCall, LooksOnce}
 use Rattle.grb_pass.specs.Explains.{Answer, ExplainsAnswer, IsCaughtUp, ground_of}
 use Rattle.grb_pass.specs.Learning.{IsRefused, IsSteady}
-use Rattle.grb_pass.specs.Settled.{settled_after}
+use Rattle.grb_pass.specs.Settled.{LeavesReady, settled_after}
 use Rattle.grb_pass.proofs.Alike.{counts_alike, steady_alike}
 use Rattle.grb_pass.proofs.Answering.{refused_by_check, explains_refused, explains_evaluated, known_evaluated}
 use Rattle.grb_pass.proofs.Counted.{counts_looked, looks_once}
 use Rattle.grb_pass.proofs.Cells.{state_learns}
 use Rattle.grb_pass.proofs.Learnt.{pass_same}
 use Rattle.grb_pass.proofs.Making.{read_none}
-use Rattle.grb_pass.proofs.Settling.{settled_read}
+use Rattle.grb_pass.proofs.Settling.{ready_or, settled_read}
 use Rattle.grb_pass.proofs.shared.Shared.read_at_end.Goals as goal
 
 refused_check : (c : goal.After-from_residual-in_err-check) → IsRefused (room_of c.args.self.now.order) c.pass.inside.reader c.learn.new.reader c.args.call.now c.in_err-check.field-0.0
@@ -107,10 +107,14 @@ invariant_of-pass-2 c =
     state_learns c.pass.inside.reader c.learn.new.reader c.pass.inside.evaluated c.pass.inside.row.next order c.learn.ensures.learns c.learn.ensures.made c.pass.invariant
 
 pub returns-clause-made : goal.returns-clause-made
-returns-clause-made c none = read_none c.learn.new.reader c.reply.new.self c.args.call.now c.args.pass.now.settled c.reply.ensures.replied.same (c.learn.ensures.learns.settled ∙ ap (λ (p : Knowing). p.settled) c.pass.view_is) (by_shapes-ok (store_of (known c.learn.new.reader)) c.args.call.now c.in_ok-check.field-0 (sym c.check.ensures ∙ c.in_ok-check.was)) c.reply.ensures.size c.reply.ensures.replied.made none ∙ (c.learn.ensures.made ∙ ap (λ (p : Knowing). p.made) c.pass.view_is)
+returns-clause-made c none = read_none c.learn.new.reader c.reply.new.self c.args.call.now c.args.pass.now.settled c.reply.ensures.replied.same (c.learn.ensures.learns.settled ∙ ap (λ (p : Knowing). p.settled) c.pass.view_is) (by_shapes-ok (store_of (known c.learn.new.reader)) c.args.call.now c.in_ok-check.field-0 (sym c.check.ensures ∙ c.in_ok-check.was)) c.reply.ensures.size c.reply.ensures.replied.made none ∙ ap (λ (m : Making). m.count) (c.learn.ensures.made ∙ ap (λ (p : Knowing). p.made) c.pass.view_is)
 
 pub returns-in_err-learn-clause-made : goal.returns-in_err-learn-clause-made
-returns-in_err-learn-clause-made c none = c.learn.ensures.made ∙ ap (λ (p : Knowing). p.made) c.pass.view_is
+returns-in_err-learn-clause-made c none = ap (λ (m : Making). m.count) (c.learn.ensures.made ∙ ap (λ (p : Knowing). p.made) c.pass.view_is)
 
 pub returns-in_err-check-clause-made : goal.returns-in_err-check-clause-made
-returns-in_err-check-clause-made c none = c.learn.ensures.made ∙ ap (λ (p : Knowing). p.made) c.pass.view_is
+returns-in_err-check-clause-made c none = ap (λ (m : Making). m.count) (c.learn.ensures.made ∙ ap (λ (p : Knowing). p.made) c.pass.view_is)
+
+pub returns-clause-ready : goal.returns-clause-ready
+returns-clause-ready c =
+    subst (λ (r : Answer). OnOk r (LeavesReady c.reply.new.self c.args.call.now)) (sym c.or.ensures) (ready_or _ c.reply.result c.reply.ensures.replied.ready)

@@ -2,5 +2,5 @@ use Prim.{search}
 use Rattle.std.proofs.Common.{rules}
 use Rattle.grb_products.proofs.push.BoolPlaced.is_worth_a_place_each.Goals as goal
 
-pub returns : goal.returns
-returns c = search rules
+pub returns-clause-short : goal.returns-clause-short
+returns-clause-short c = search rules

@@ -1,0 +1,132 @@
+/* What passes share: one prepares what is dear and tells how much is evaluated, and another adopts what
+ * it has evaluated and makes none of it anew.
+ *
+ *     cc -std=c11 -O2 -o sharing sharing.c libgrb_c.a liblibc_c.a -lpthread
+ */
+#include "check.h"
+#include "trowelheath.h"
+
+#include <inttypes.h>
+#include <stdio.h>
+
+enum { ROOM = 64, PASSES = 3, SETS = 40, MANY = 40000 };
+
+/* The pass knows so many calls, and its last call evaluated so many. */
+static void has_made(TrB_Pass *pass, uint32_t known, uint32_t made)
+{
+    TrB_Facts facts;
+    OK(TrB_facts(pass, &facts));
+    HOLDS(facts.known == known && facts.made == made);
+}
+
+/* The pass reads this number. */
+static void reads(TrB_Pass *pass, TrB_Vector v, TrB_Index i, uint64_t wanted)
+{
+    uint64_t x;
+    OK(TrB_Vector_extractElement_UINT64(pass, &x, v, i));
+    HOLDS(x == wanted);
+}
+
+/* So many of the calls that the pass knows are evaluated, when it has prepared what is dear. */
+static void prepares(TrB_Pass *pass, uint32_t wanted)
+{
+    uint32_t evaluated;
+    OK(TrB_prepare(pass, &evaluated));
+    HOLDS(evaluated == wanted);
+    printf("prepared: %" PRIu32 " calls\n", evaluated);
+}
+
+static void end(TrB_Pass *passes)
+{
+    for (size_t k = 0; k < PASSES; k++) {
+        TrB_free(&passes[k]);
+    }
+}
+
+/* A pass that adopts another makes nothing that the other has made; one that meets it makes all. */
+static void adopt(void)
+{
+    TrB_Pass passes[PASSES] = {TRB_PASS_INIT};
+    TrB_Vector v;
+    OK(TrB_open(ROOM, passes, PASSES));
+    OK(TrB_Vector_new(&passes[0], &v, TrB_UINT64, 2));
+    for (size_t k = 0; k < SETS; k++) {
+        OK(TrB_Vector_setElement_UINT64(&passes[0], v, 1, 0));
+    }
+    reads(&passes[0], v, 0, 1);
+    has_made(&passes[0], SETS + 1, SETS + 1);
+
+    OK(TrB_adopt(&passes[1], &passes[0]));
+    has_made(&passes[1], SETS + 1, 0);
+    reads(&passes[1], v, 0, 1);
+    has_made(&passes[1], SETS + 1, 0);
+    printf("after an adoption: nothing to make\n");
+
+    OK(TrB_meet(&passes[2], &passes[0]));
+    has_made(&passes[2], SETS + 1, 0);
+    reads(&passes[2], v, 0, 1);
+    has_made(&passes[2], SETS + 1, SETS + 1);
+    printf("after a meeting: %d calls to make\n", SETS + 1);
+
+    /* What is changed later is made by each. */
+    OK(TrB_Vector_setElement_UINT64(&passes[1], v, 5, 0));
+    reads(&passes[1], v, 0, 5);
+    has_made(&passes[1], SETS + 2, 1);
+    reads(&passes[0], v, 0, 5);
+    has_made(&passes[0], SETS + 2, 1);
+    end(passes);
+}
+
+/* Dear calls are prepared, and with them all before; cheap ones are left to reads. */
+static void prepare(void)
+{
+    static TrB_Index places[MANY];
+    static uint64_t ones[MANY];
+    for (size_t k = 0; k < MANY; k++) {
+        places[k] = k;
+        ones[k] = 1;
+    }
+
+    TrB_Pass passes[PASSES] = {TRB_PASS_INIT};
+    TrB_Vector u, w;
+    OK(TrB_open(ROOM, passes, PASSES));
+    prepares(&passes[0], 0);
+
+    /* Three calls, none of them dear. */
+    OK(TrB_Vector_new(&passes[0], &u, TrB_UINT64, MANY));
+    OK(TrB_Vector_new(&passes[0], &w, TrB_UINT64, MANY));
+    OK(TrB_Vector_setElement_UINT64(&passes[0], w, 2, 7));
+    prepares(&passes[0], 0);
+
+    /* Two more, of which each is dear. */
+    OK(TrB_Vector_build_UINT64(&passes[0], u, places, ones, MANY, TrB_PLUS));
+    OK(TrB_Vector_eWiseAdd(&passes[0], w, TrB_NO_VECTOR, TrB_NO_ACCUM, TrB_PLUS, u, w, TrB_DEFAULT));
+    prepares(&passes[0], 5);
+    reads(&passes[0], w, 7, 3);
+    has_made(&passes[0], 5, 0);
+
+    /* Who adopts has them too. */
+    OK(TrB_adopt(&passes[1], &passes[0]));
+    prepares(&passes[1], 5);
+    has_made(&passes[1], 5, 0);
+    reads(&passes[1], w, 7, 3);
+    has_made(&passes[1], 5, 0);
+
+    /* Two cheap ones more are not prepared, until a wait has made them. */
+    OK(TrB_Vector_setElement_UINT64(&passes[0], w, 9, 7));
+    OK(TrB_Vector_removeElement(&passes[0], w, 8));
+    prepares(&passes[0], 5);
+    has_made(&passes[0], 7, 0);
+    OK(TrB_Vector_wait(&passes[0], w, TrB_MATERIALIZE));
+    has_made(&passes[0], 7, 2);
+    prepares(&passes[0], 7);
+    reads(&passes[0], w, 7, 9);
+    end(passes);
+}
+
+int main(void)
+{
+    adopt();
+    prepare();
+    return 0;
+}

@@ -1,0 +1,11 @@
+//! Which library this is.
+ghost use Rattle.std.specs.Prelude.{◌≡◌};
+
+/// Tells the version as one number: 10,000 times the first of its three parts, 100 times the second, and the third, added up. A program
+/// that was made for another one refuses the library by it.
+#[unsafe(no_mangle)]
+pub extern "C" fn trb_version() -> u32
+    ensures { result ≡ 10000 }
+{
+    10_000
+}
