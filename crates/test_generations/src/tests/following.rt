@@ -55,104 +55,143 @@ fn set_often<R: Abort>(rt: &R, member: &mut Member, times: u64) {
     }
 }
 
-#[test]
-fn a_member_that_was_idle_reads_the_latest_generation(rt: HostRuntime) -> Result<(), AllocError> {
-    let (mut busy, mut idle) = two(&rt, rt.alloc(), 8)?;
+/// One member fills many generations, and then the other one reads.
+fn expect_idle_to_follow<R: Abort>(rt: &R, busy: &mut Member, idle: &mut Member) {
     same(
-        &rt,
-        new_vector(&mut busy),
+        rt,
+        new_vector(busy),
         Ok(Reply::MadeVector(FIRST)),
         "a vector",
     );
     // It knows a part of the first generation, and not that it is full.
-    same(&rt, get(&mut idle, FIRST), Ok(Reply::NoValue), "no entry");
-    set_often(&rt, &mut busy, 700);
-    same(&rt, busy.generation() > 100, true, "the generations");
+    same(rt, get(idle, FIRST), Ok(Reply::NoValue), "no entry");
+    set_often(rt, busy, 700);
+    same(rt, busy.generation() > 100, true, "the generations");
     same(
-        &rt,
+        rt,
         (idle.generation(), idle.move_on()),
         (0, false),
         "a member that knows no end",
     );
     same(
-        &rt,
-        get(&mut idle, FIRST),
+        rt,
+        get(idle, FIRST),
         Ok(Reply::Value(Value::Uint64(699))),
         "the entry",
     );
-    same(&rt, idle.generation(), busy.generation(), "the generation");
-    same(&rt, idle.number(), 1, "the number");
+    same(rt, idle.generation(), busy.generation(), "the generation");
+    same(rt, idle.number(), 1, "the number");
+}
+
+#[test]
+fn a_member_that_was_idle_reads_the_latest_generation(rt: HostRuntime) -> Result<(), AllocError> {
+    let (mut busy, mut idle) = two(&rt, rt.alloc(), 8)?;
+    expect_idle_to_follow(&rt, &mut busy, &mut idle);
     Ok(())
+}
+
+/// One member makes a vector in a later generation, and the other one changes that.
+fn expect_change_of_later<R: Abort>(rt: &R, busy: &mut Member, idle: &mut Member) {
+    same(
+        rt,
+        new_vector(busy),
+        Ok(Reply::MadeVector(FIRST)),
+        "a vector",
+    );
+    set_often(rt, busy, 100);
+    same(
+        rt,
+        new_vector(busy),
+        Ok(Reply::MadeVector(SECOND)),
+        "another",
+    );
+    same(
+        rt,
+        set(idle, SECOND, 5),
+        DONE,
+        "a change by the member that was idle",
+    );
+    same(
+        rt,
+        get(busy, SECOND),
+        Ok(Reply::Value(Value::Uint64(5))),
+        "the entry",
+    );
 }
 
 #[test]
 fn a_change_of_what_a_later_generation_made_is_done(rt: HostRuntime) -> Result<(), AllocError> {
     let (mut busy, mut idle) = two(&rt, rt.alloc(), 8)?;
-    same(
-        &rt,
-        new_vector(&mut busy),
-        Ok(Reply::MadeVector(FIRST)),
-        "a vector",
-    );
-    set_often(&rt, &mut busy, 100);
-    same(
-        &rt,
-        new_vector(&mut busy),
-        Ok(Reply::MadeVector(SECOND)),
-        "another",
-    );
-    same(
-        &rt,
-        set(&mut idle, SECOND, 5),
-        DONE,
-        "a change by the member that was idle",
-    );
-    same(
-        &rt,
-        get(&mut busy, SECOND),
-        Ok(Reply::Value(Value::Uint64(5))),
-        "the entry",
-    );
+    expect_change_of_later(&rt, &mut busy, &mut idle);
     Ok(())
 }
 
-#[test]
-fn a_member_stays_while_its_generation_takes_calls(rt: HostRuntime) -> Result<(), AllocError> {
-    let (mut busy, _idle) = two(&rt, rt.alloc(), 4)?;
+/// A member tries to move on, and to go on, before its generation is full and then.
+fn expect_to_stay<R: Abort>(rt: &R, busy: &mut Member) {
     same(
-        &rt,
-        new_vector(&mut busy),
+        rt,
+        new_vector(busy),
         Ok(Reply::MadeVector(FIRST)),
         "a vector",
     );
-    set_often(&rt, &mut busy, 2);
+    set_often(rt, busy, 2);
     same(
-        &rt,
+        rt,
         (busy.move_on(), busy.go_on()),
         (false, Ok(false)),
         "one call is left",
     );
-    set_often(&rt, &mut busy, 1);
+    set_often(rt, busy, 1);
     // The generation is full, and no other stands.
     same(
-        &rt,
-        (busy.move_on(), get(&mut busy, FIRST)),
+        rt,
+        (busy.move_on(), get(busy, FIRST)),
         (false, Ok(Reply::Value(Value::Uint64(0)))),
         "full",
     );
     same(
-        &rt,
+        rt,
         (busy.generation(), busy.go_on()),
         (0, Ok(true)),
         "the next one",
     );
     same(
-        &rt,
+        rt,
         (busy.generation(), busy.pass().known()),
         (1, 2),
         "the next one",
     );
+}
+
+#[test]
+fn a_member_stays_while_its_generation_takes_calls(rt: HostRuntime) -> Result<(), AllocError> {
+    let (mut busy, _idle) = two(&rt, rt.alloc(), 4)?;
+    expect_to_stay(&rt, &mut busy);
     Ok(())
+}
+
+/// Two members fill a generation with vectors, which leave no room for a call in a next one.
+fn expect_full_for_good<R: Abort>(rt: &R, one: &mut Member, other: &mut Member) {
+    for n in 0..4u32 {
+        let made = new_vector(one);
+        same(rt, made, Ok(Reply::MadeVector(VectorId(n))), n);
+    }
+    let none = Err(NoSuccessor::RoomTooSmall { needed: 4 });
+    same(rt, one.go_on(), none, "no generation");
+    same(rt, new_vector(one), Err(Refusal::OrderFull), "a change");
+    same(
+        rt,
+        set(other, FIRST, 1),
+        Err(Refusal::OrderFull),
+        "a change by the other",
+    );
+    same(rt, get(other, FIRST), Ok(Reply::NoValue), "a read");
+    same(
+        rt,
+        (one.generation(), other.generation()),
+        (0, 0),
+        "the generations",
+    );
 }
 
 #[test]
@@ -160,30 +199,6 @@ fn a_room_that_takes_no_more_than_the_store_needs_is_full_for_good(
     rt: HostRuntime,
 ) -> Result<(), AllocError> {
     let (mut one, mut other) = two(&rt, rt.alloc(), 4)?;
-    for n in 0..4u32 {
-        let made = new_vector(&mut one);
-        same(&rt, made, Ok(Reply::MadeVector(VectorId(n))), n);
-    }
-    let none = Err(NoSuccessor::RoomTooSmall { needed: 4 });
-    same(&rt, one.go_on(), none, "no generation");
-    same(
-        &rt,
-        new_vector(&mut one),
-        Err(Refusal::OrderFull),
-        "a change",
-    );
-    same(
-        &rt,
-        set(&mut other, FIRST, 1),
-        Err(Refusal::OrderFull),
-        "a change by the other",
-    );
-    same(&rt, get(&mut other, FIRST), Ok(Reply::NoValue), "a read");
-    same(
-        &rt,
-        (one.generation(), other.generation()),
-        (0, 0),
-        "the generations",
-    );
+    expect_full_for_good(&rt, &mut one, &mut other);
     Ok(())
 }

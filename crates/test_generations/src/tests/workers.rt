@@ -107,10 +107,10 @@ fn go_round<R: Abort>(
 }
 
 /// What a thread does: it makes a vector with a one at its number, and goes round. The number of the vector.
-fn work<R: Abort>(rt: &R, mut member: Member) -> Result<u32, AllocError> {
+fn work<R: Abort>(rt: &R, member: &mut Member) -> Result<u32, AllocError> {
     let number = u64::from(member.number());
     let made = answer_to(
-        &mut member,
+        member,
         &Call::NewVector {
             domain: Domain::Uint64,
             size: u64::from(THREADS),
@@ -124,9 +124,9 @@ fn work<R: Abort>(rt: &R, mut member: Member) -> Result<u32, AllocError> {
         i: number,
         value: Value::Uint64(1),
     };
-    expect(rt, &mut member, one, Ok(Reply::Done))?;
+    expect(rt, member, one, Ok(Reply::Done))?;
     for round in 0..ROUNDS {
-        go_round(rt, &mut member, ones, round)?;
+        go_round(rt, member, ones, round)?;
     }
     Ok(ones.0)
 }
@@ -190,23 +190,38 @@ fn expect_numbers<R: Abort>(
     expect(rt, member, call, Ok(Reply::MadeVector(next)))
 }
 
-/// Threads work, each with a member of its own, while the last member, which makes the vectors, is idle; then that one looks.
-fn run<R: Abort + Threads + Sync>(rt: &R, mut members: Vec<Member>) -> Result<u64, AllocError> {
-    let Some(mut idle) = members.pop() else {
-        panic!(rt; "no member is left")
-    };
-    make_ready(rt, &mut idle)?;
-    let made = map_vec(rt, members, &|member| work(rt, member).unwrap_or(0))?;
-    let latest = idle.generations().latest();
+/// The last store has what all threads changed, and the numbers of what they made. The member was idle, and moves to its generation.
+fn expect_latest<R: Abort>(
+    rt: &R,
+    idle: &mut Member,
+    made: Vec<u32>,
+    latest: u64,
+) -> Result<(), AllocError> {
     same(rt, idle.generation(), 0, "the idle member's generation");
-    expect_all(rt, &mut idle)?;
+    expect_all(rt, idle)?;
     same(
         rt,
         idle.generation(),
         latest,
         "the generation to which it moved",
     );
-    expect_numbers(rt, &mut idle, made)?;
+    expect_numbers(rt, idle, made)
+}
+
+/// Threads work, each with a member of its own, after the last member has made the vectors; that one is idle then, and looks at the end.
+fn run<R: Abort + Threads + Sync>(
+    rt: &R,
+    idle: &mut Member,
+    members: Vec<Member>,
+) -> Result<u64, AllocError> {
+    make_ready(rt, idle)?;
+    let made = map_vec(
+        rt,
+        members,
+        &|mut member: Member| work(rt, &mut member).unwrap_or(0),
+    )?;
+    let latest = idle.generations().latest();
+    expect_latest(rt, idle, made, latest)?;
     Ok(latest)
 }
 
@@ -214,8 +229,11 @@ fn run<R: Abort + Threads + Sync>(rt: &R, mut members: Vec<Member>) -> Result<u6
 fn what_eight_threads_changed_over_many_generations_is_there_once(
     rt: HostRuntime,
 ) -> Result<(), AllocError> {
-    let (_generations, members) = Generations::open(rt.alloc(), ROOM, THREADS + 1)?;
-    let latest = run(&rt, members)?;
+    let (_generations, mut members) = Generations::open(rt.alloc(), ROOM, THREADS + 1)?;
+    let Some(mut idle) = members.pop() else {
+        panic!(&rt; "no member is there")
+    };
+    let latest = run(&rt, &mut idle, members)?;
     assert!(&rt; latest >= 100, "only {latest} generations");
     Ok(())
 }
