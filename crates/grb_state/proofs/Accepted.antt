@@ -44,7 +44,7 @@ domains_given d f [] h = tt
 domains_given d f (x ∷ xs) h = (sym h.0, domains_given d f xs h.1)
 
 module _ (s : Store) (a : MatrixId) (m : Matrix) (at : matrix_at s a ≡ Some m) where
-  fits_matrix_at : (c : Call) → output_of c ≡ Some (object.Matrix a) → class_of c ≡ Edits → refused s c ≡ None → FitsMatrix c m
+  pub fits_matrix_at : (c : Call) → output_of c ≡ Some (object.Matrix a) → class_of c ≡ Edits → refused s c ≡ None → FitsMatrix c m
   fits_matrix_at (call.SetMatrix b i j value) is edits accepted =
       let same : b ≡ a = cc in let c : Call = call.SetMatrix a i j value in
       let p : HasPassed s c = has_passed s c (subst (λ (x : MatrixId). refused s (call.SetMatrix x i j value) ≡ None) same accepted) in
@@ -73,7 +73,7 @@ pub fits_matrix : (s : Store) (a : MatrixId) (c : Call) → output_of c ≡ Some
 fits_matrix s a c is edits accepted = if_some (FitsMatrix c) (matrix_at s a) (λ m at. fits_matrix_at s a m at c is edits accepted)
 
 module _ (s : Store) (v : VectorId) (x : Vector) (at : vector_at s v ≡ Some x) where
-  fits_vector_at : (c : Call) → output_of c ≡ Some (object.Vector v) → class_of c ≡ Edits → refused s c ≡ None → FitsVector c x
+  pub fits_vector_at : (c : Call) → output_of c ≡ Some (object.Vector v) → class_of c ≡ Edits → refused s c ≡ None → FitsVector c x
   fits_vector_at (call.SetVector w i value) is edits accepted =
       let same : w ≡ v = cc in let c : Call = call.SetVector v i value in
       let p : HasPassed s c = has_passed s c (subst (λ (y : VectorId). refused s (call.SetVector y i value) ≡ None) same accepted) in

@@ -3,6 +3,7 @@ mod Applied
 mod Assembled
 mod ByNumber
 mod Dispatched
+mod Edited
 mod Folded
 mod Lent
 mod LentProducts

@@ -5,5 +5,6 @@ pub mod Objects
 pub mod Operation
 pub mod Places
 pub mod Settled
+pub mod SharedContent
 pub mod StoredIn
 pub mod State

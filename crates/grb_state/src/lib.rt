@@ -6,6 +6,7 @@
 //! none. Nothing here knows of passes, of an order, or of which calls there are: the caller brings them, one after another.
 #![tactic(auto)]
 
+mod bench;
 mod copies;
 mod fold;
 mod live;
@@ -15,9 +16,13 @@ mod operations;
 mod outputs;
 mod places;
 mod shared;
+mod shared_content;
 mod state;
 mod stored_object;
 mod vectors;
 
+pub use bench::Bench;
 pub use fold::replay;
+pub use shared::SharedObject;
+pub use shared_content::SharedContent;
 pub use state::State;

@@ -12,7 +12,7 @@ use std::sync::Arc;
 
 /// Changes the object as the call says, or a copy of it where another store holds it. `AllocError` where memory is refused; then its
 /// entries are as before.
-fn change_shared<T: StoredObject>(
+pub(crate) fn change_shared<T: StoredObject>(
     alloc: Global,
     shared: &mut SharedObject<T>,
     call: &Call,
@@ -120,7 +120,7 @@ pub(crate) fn held_of<T: StoredObject>(places: &Places<T>, id: T::Id) -> Option<
 
 /// Assembles the object, or a copy of it where another store holds it; one that is assembled stays as it is. `AllocError` where memory is
 /// refused; its entries are as before in any case.
-fn assemble_shared<T: StoredObject>(
+pub(crate) fn assemble_shared<T: StoredObject>(
     alloc: Global,
     shared: &mut SharedObject<T>,
 ) -> Result<(), AllocError>

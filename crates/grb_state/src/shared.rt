@@ -7,7 +7,7 @@ use std::sync::Arc;
 
 /// An object that several stores may hold. One that changes it does so in place where no other holds it, and else changes a copy.
 #[derive(Drop)]
-pub(crate) struct SharedObject<T> {
+pub struct SharedObject<T> {
     pub(crate) object: Arc<T>,
 }
 

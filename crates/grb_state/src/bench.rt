@@ -1,0 +1,130 @@
+//! A bench, on which one operation is made of single objects.
+ghost use Rattle.std.specs.Prelude.{◌≡◌, ◌≢◌, ◌<◌, ℕ, None, Some, length, OnOk, OnErr};
+ghost use Rattle.std.specs.Option.{option_map};
+ghost use Rattle.grb_call.specs.declared.ids.Object.{Object};
+ghost use Rattle.grb_call.specs.Kinds.{class_of};
+ghost use Rattle.grb_call.specs.Shapes.{object_at};
+ghost use Rattle.grb_call.specs.Store.{Store, empty_store};
+ghost use Rattle.grb_call.specs.After.{changed, refused};
+ghost use Rattle.grb_state.specs.Places.{contents_at};
+ghost use Rattle.grb_state.specs.SharedContent.{AreElse, IsAt, IsThere};
+
+use crate::objects::Objects;
+use crate::operations::operate;
+use crate::shared::{Places, SharedObject};
+use crate::shared_content::SharedContent;
+use crate::stored_object::StoredObject;
+use grb_call::{Call, Class, Object};
+use std::alloc::{AllocError, Global};
+use std::marker::Model;
+
+/// Places for the objects of one operation, by their numbers: a store without shapes, which holds what an operation reads as long as it is
+/// made, and nothing between two of them. Places are kept.
+#[derive(Drop)]
+pub struct Bench {
+    objects: Objects,
+}
+
+impl Model for Bench {
+    ghost use Rattle.grb_call.specs.Store.{Store};
+    ghost use Rattle.grb_state.specs.Objects.{store_of};
+
+    ghost Value = { Store };
+
+    ghost view = { λ b. store_of b.objects };
+}
+
+/// Makes places up to this number, with nothing there. `AllocError` where memory is refused.
+fn make_places<T: StoredObject>(places: &mut Places<T>, number: u32) -> Result<(), AllocError>
+    ensures same { (n : ℕ) → object_at (contents_at T.contents places.new.items) n ≡ object_at (contents_at T.contents places.old.items) n }
+    ensures place { OnOk result (number < length places.new.items) }
+{
+    'places: while places.len() <= number as usize {
+        places.push(None)?;
+    }
+    Ok(())
+}
+
+/// Puts the object at its number. `AllocError` where memory for its place is refused.
+fn hold<T: StoredObject>(
+    places: &mut Places<T>,
+    id: T::Id,
+    object: SharedObject<T>,
+) -> Result<(), AllocError>
+    ensures held { OnOk result (object_at (contents_at T.contents places.new.items) (T.number id) ≡ Some (T.contents object)) }
+    ensures others { OnOk result ((n : ℕ) → T.number id ≢ n → object_at (contents_at T.contents places.new.items) n ≡ object_at (contents_at T.contents places.old.items) n) }
+{
+    make_places(places, T::number(id))?;
+    if let Some(place) = places.get_mut(T::number(id) as usize) {
+        *place = Some(object);
+    }
+    Ok(())
+}
+
+/// Takes the object with this number, if it is there: nothing is there then.
+fn take<T: StoredObject>(places: &mut Places<T>, id: T::Id) -> Option<SharedObject<T>>
+    ensures { option_map T.contents result ≡ object_at (contents_at T.contents places.old.items) (T.number id) }
+{
+    match places.get_mut(T::number(id) as usize) {
+        Some(place) => place.take(),
+        None => None,
+    }
+}
+
+impl Bench {
+    /// A bench with nothing on it. Takes no memory.
+    pub fn new(alloc: Global) -> Bench
+        ensures { result ≡ empty_store }
+    {
+        Bench {
+            objects: Objects {
+                matrices: Vec::new(alloc),
+                vectors: Vec::new(alloc),
+            },
+        }
+    }
+
+    /// Puts what an object holds at its number. `AllocError` where memory for its place is refused.
+    pub fn hold(&mut self, object: Object, content: SharedContent) -> Result<(), AllocError>
+        ensures held { OnOk result ((s : Store) → IsAt s object content → IsAt self.new object content) }
+        ensures others { OnOk result (AreElse self.old self.new object) }
+    {
+        match object {
+            Object::Matrix(a) => match content {
+                SharedContent::Matrix(matrix) => hold(&mut self.objects.matrices, a, matrix),
+                SharedContent::Vector(_) => Ok(()),
+            },
+            Object::Vector(v) => match content {
+                SharedContent::Matrix(_) => Ok(()),
+                SharedContent::Vector(vector) => hold(&mut self.objects.vectors, v, vector),
+            },
+        }
+    }
+
+    /// Makes the operation, which the objects on the bench do not refuse: its output is made of what stands there, and put last.
+    /// `AllocError` where memory is refused; then the objects hold what they held.
+    pub fn operate(&mut self, call: &Call) -> Result<(), AllocError>
+        requires operates { class_of call.now ≡ Class.Operates }
+        requires accepted { refused self.old call.now ≡ None }
+        ensures ok { OnOk result (self.new ≡ changed self.old call.now) }
+        ensures err { OnErr result (self.new ≡ self.old) }
+    {
+        operate(&mut self.objects, call)
+    }
+
+    /// Takes what the object holds off the bench, if it is there. Takes no memory.
+    pub fn take(&mut self, object: Object) -> Option<SharedContent>
+        ensures { IsThere self.old object result }
+    {
+        match object {
+            Object::Matrix(a) => match take(&mut self.objects.matrices, a) {
+                Some(matrix) => Some(SharedContent::Matrix(matrix)),
+                None => None,
+            },
+            Object::Vector(v) => match take(&mut self.objects.vectors, v) {
+                Some(vector) => Some(SharedContent::Vector(vector)),
+                None => None,
+            },
+        }
+    }
+}

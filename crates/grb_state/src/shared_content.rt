@@ -1,0 +1,149 @@
+//! What one object holds, by itself: with no number, and in no store.
+ghost use Rattle.std.specs.Prelude.{◌≡◌, ◌||◌, ◌==◌, ◌&&◌, not, nat_lt, false, true, is_some, Some, OnOk, OnErr, IfOk};
+ghost use Rattle.std.specs.List.{list_all};
+ghost use Rattle.std.specs.Option.{option_map};
+ghost use Rattle.grb_core.specs.Entries.{nvals_of};
+ghost use Rattle.grb_call.specs.declared.ids.Object.{Object};
+ghost use Rattle.grb_call.specs.After.{changed, refused_build};
+ghost use Rattle.grb_call.specs.Kinds.{class_of};
+ghost use Rattle.grb_call.specs.Output.{output_of};
+ghost use Rattle.grb_call.specs.Store.{Store};
+ghost use Rattle.grb_state.specs.SharedContent.{HoldSame, IsAt, MayEdit, is_assembled_content, is_free, matrix_in, vector_in};
+
+use crate::places::{assemble_shared, change_shared};
+use crate::shared::SharedObject;
+use grb_call::{Call, Class};
+use grb_core::Value;
+use grb_sparse::{SparseMatrix, SparseVector};
+use std::alloc::{AllocError, Global};
+
+/// A matrix or a vector with its entries, for all that share it: one that changes it does so where it lies if no other holds it, and else
+/// changes a copy.
+#[derive(Drop)]
+pub enum SharedContent {
+    /// A matrix.
+    Matrix(SharedObject<SparseMatrix>),
+    /// A vector.
+    Vector(SharedObject<SparseVector>),
+}
+
+/// Whether all these places are within the dimensions.
+fn are_cells(tuples: &[(u64, u64, Value)], nrows: u64, ncols: u64) -> bool
+    ensures { result ≡ list_all (λ e. nat_lt e.0 nrows && nat_lt e.1 ncols) tuples.now }
+{
+    tuples
+        .iter()
+        .all(|tuple| tuple.0 < nrows && tuple.1 < ncols)
+}
+
+/// Whether all these places are below the size.
+fn are_indices(tuples: &[(u64, Value)], size: u64) -> bool
+    ensures { result ≡ list_all (λ e. nat_lt e.0 size) tuples.now }
+{
+    tuples.iter().all(|tuple| tuple.0 < size)
+}
+
+/// Whether the matrix cannot be built of these tuples: it stores an entry, or one of them is outside.
+fn refuses_cells(matrix: &SparseMatrix, tuples: &[(u64, u64, Value)]) -> bool
+    ensures { result ≡ not (nvals_of matrix.now.matrix.entries == 0) || not (list_all (λ e. nat_lt e.0 matrix.now.matrix.nrows && nat_lt e.1 matrix.now.matrix.ncols) tuples.now) }
+{
+    let (nrows, ncols) = matrix.dims();
+    matrix.nvals() != 0 || !are_cells(tuples, nrows, ncols)
+}
+
+/// Whether the vector cannot be built of these tuples: it stores an entry, or one of them is outside.
+fn refuses_indices(vector: &SparseVector, tuples: &[(u64, Value)]) -> bool
+    ensures { result ≡ not (nvals_of vector.now.vector.entries == 0) || not (list_all (λ e. nat_lt e.0 vector.now.vector.size) tuples.now) }
+{
+    vector.nvals() != 0 || !are_indices(tuples, vector.dims())
+}
+
+impl SharedContent {
+    /// A matrix that nothing else holds. `AllocError` where memory is refused.
+    pub fn of_matrix(alloc: Global, matrix: SparseMatrix) -> Result<SharedContent, AllocError>
+        ensures { IfOk result (λ shared. shared ≡ SharedContent.Matrix matrix) }
+    {
+        Ok(SharedContent::Matrix(SharedObject::new(alloc, matrix)?))
+    }
+
+    /// A vector that nothing else holds. `AllocError` where memory is refused.
+    pub fn of_vector(alloc: Global, vector: SparseVector) -> Result<SharedContent, AllocError>
+        ensures { IfOk result (λ shared. shared ≡ SharedContent.Vector vector) }
+    {
+        Ok(SharedContent::Vector(SharedObject::new(alloc, vector)?))
+    }
+
+    /// The same object for one more holder; nothing of it is copied, and no memory is taken. `AllocError` where 2^63 - 1 hold it.
+    pub fn share(&self) -> Result<SharedContent, AllocError>
+        ensures { IfOk result (λ shared. shared ≡ self.now) }
+    {
+        match self {
+            SharedContent::Matrix(matrix) => Ok(SharedContent::Matrix(matrix.share()?)),
+            SharedContent::Vector(vector) => Ok(SharedContent::Vector(vector.share()?)),
+        }
+    }
+
+    /// The matrix, where it is one. Takes no memory.
+    pub fn matrix(&self) -> Option<&SparseMatrix>
+        ensures { option_map (λ m. m.now) result ≡ matrix_in self.now }
+    {
+        match self {
+            SharedContent::Matrix(matrix) => Some(matrix.lent()),
+            SharedContent::Vector(_) => None,
+        }
+    }
+
+    /// The vector, where it is one. Takes no memory.
+    pub fn vector(&self) -> Option<&SparseVector>
+        ensures { option_map (λ x. x.now) result ≡ vector_in self.now }
+    {
+        match self {
+            SharedContent::Matrix(_) => None,
+            SharedContent::Vector(vector) => Some(vector.lent()),
+        }
+    }
+
+    /// Does the changes that wait in the object, or in a copy where others hold it. `AllocError` where memory is refused; its entries are
+    /// as before in any case.
+    pub fn assemble(&mut self, alloc: Global) -> Result<(), AllocError>
+        ensures same { HoldSame self.old self.new }
+        ensures assembled { OnOk result (is_assembled_content self.new ≡ true) }
+    {
+        match self {
+            SharedContent::Matrix(matrix) => assemble_shared(alloc, matrix),
+            SharedContent::Vector(vector) => assemble_shared(alloc, vector),
+        }
+    }
+
+    /// Whether what is stored refuses the call: a build that finds an entry, or names a place outside. Takes no memory.
+    pub fn refuses(&self, call: &Call) -> bool
+        ensures { (s : Store) (o : Object) → output_of call.now ≡ Some o → IsAt s o self.now → result ≡ is_some (refused_build s call.now) }
+    {
+        match call {
+            Call::BuildMatrix { tuples, .. } => match self {
+                SharedContent::Matrix(matrix) => refuses_cells(matrix.lent(), tuples.as_slice()),
+                SharedContent::Vector(_) => false,
+            },
+            Call::BuildVector { tuples, .. } => match self {
+                SharedContent::Matrix(_) => false,
+                SharedContent::Vector(vector) => refuses_indices(vector.lent(), tuples.as_slice()),
+            },
+            _ => false,
+        }
+    }
+
+    /// Changes the object as the call says, which does not end it, or a copy where others hold it. `AllocError` where memory is refused;
+    /// then its entries are as before.
+    pub fn edit(&mut self, alloc: Global, call: &Call) -> Result<(), AllocError>
+        requires edits { class_of call.now ≡ Class.Edits }
+        requires goes_on { is_free call.now ≡ false }
+        requires accepted { MayEdit call.now self.old }
+        ensures ok { OnOk result ((s : Store) (o : Object) → output_of call.now ≡ Some o → IsAt s o self.old → IsAt (changed s call.now) o self.new) }
+        ensures err { OnErr result (HoldSame self.old self.new) }
+    {
+        match self {
+            SharedContent::Matrix(matrix) => change_shared(alloc, matrix, call),
+            SharedContent::Vector(vector) => change_shared(alloc, vector, call),
+        }
+    }
+}
