@@ -28,6 +28,8 @@ mod partial_stores;
 #[cfg(test)]
 mod plain;
 #[cfg(test)]
+mod results;
+#[cfg(test)]
 mod same;
 #[cfg(test)]
 mod texts_changed;

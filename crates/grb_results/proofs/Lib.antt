@@ -1,0 +1,7 @@
+mod Few
+mod Frame
+mod Grown
+mod Links
+mod Lists
+mod Making
+mod Overwritten

@@ -1,0 +1,17 @@
+use Rattle.std.proofs.Common.{◌≡◌, true, subst}
+use Rattle.grb_core.specs.Contents.{is_dimension}
+use Rattle.grb_call.specs.declared.call.Call.{Call}
+use Rattle.grb_call.specs.Refused.{has_valid_values}
+use Rattle.grb_results.proofs.Making.{both_true}
+use Rattle.grb_results.proofs.made.new_object.Goals as goal
+
+pub new-matrix-requires-clause-rows : goal.new-matrix-requires-clause-rows
+new-matrix-requires-clause-rows c =
+    (both_true (is_dimension c.in-NewMatrix.nrows) (is_dimension c.in-NewMatrix.ncols) (subst (λ (x : Call). has_valid_values x ≡ true) c.in-NewMatrix.is c.requires)).0
+
+pub new-matrix-requires-clause-columns : goal.new-matrix-requires-clause-columns
+new-matrix-requires-clause-columns c =
+    (both_true (is_dimension c.in-NewMatrix.nrows) (is_dimension c.in-NewMatrix.ncols) (subst (λ (x : Call). has_valid_values x ≡ true) c.in-NewMatrix.is c.requires)).1
+
+pub new-vector-requires : goal.new-vector-requires
+new-vector-requires c = record { dimension = subst (λ (x : Call). has_valid_values x ≡ true) c.in-NewVector.is c.requires }

@@ -1,0 +1,15 @@
+use Rattle.std.proofs.Common.{length, List, map, sym, ap, ◌∙◌, Some}
+use lib.ListN.{length-map}
+use Rattle.grb_call.specs.declared.call.Call.{Call}
+use Rattle.grb_state.specs.declared.shared_content.SharedContent.{SharedContent}
+use Rattle.grb_results.specs.declared.learnt.Learnt.{Learnt}
+use Rattle.grb_results.specs.Value.{content_of}
+use Rattle.grb_results.proofs.Making.{some_at}
+use Rattle.grb_results.proofs.table.Table.result_of.Goals as goal
+
+pub returns-in_ok-share-in-Some-clause-result : goal.returns-in_ok-share-in-Some-clause-result
+returns-in_ok-share-in-Some-clause-result c =
+    let cs : List Call = map (λ a. a.now) c.args.calls.now in
+    ap (λ (x : SharedContent). Some (content_of x)) c.in_ok-share-in-Some.ensures
+    ∙ some_at _ c.last.result c.in-Some.value c.in-Some.is
+    (c.last.ensures cs c.in_ok-make.ensures.table (ap (λ (l : Learnt). length l.nodes.items) c.in_ok-make.ensures.learnt ∙ (c.requires.all ∙ sym (length-map c.args.calls.now (λ a. a.now)))))

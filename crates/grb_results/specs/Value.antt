@@ -1,0 +1,24 @@
+-- believed: What a shared object holds (own).
+use Rattle.std.specs.Prelude.{◌≡◌, Bool, true, false}
+use Rattle.grb_call.specs.declared.call.Call.{Call}
+use Rattle.grb_call.specs.declared.call.Call.TheVariants as call
+use Rattle.grb_call.specs.declared.class.Class.TheVariants.{Edits}
+use Rattle.grb_call.specs.Kinds.{class_of}
+use Rattle.grb_slices.specs.Content.{Content, MatrixContent, VectorContent}
+use Rattle.grb_state.specs.declared.shared_content.SharedContent.{SharedContent}
+use Rattle.grb_state.specs.declared.shared_content.SharedContent.TheVariants as shared
+use Rattle.grb_state.specs.SharedContent.{is_free}
+
+abbrev pub content_of : SharedContent → Content
+content_of (shared.Matrix m) = MatrixContent m.matrix
+content_of (shared.Vector x) = VectorContent x.vector
+
+-- the call changes one object and does not end it
+abbrev pub IsEdit : Call → Type 0
+IsEdit c = (class_of c ≡ Edits) × (is_free c ≡ false)
+
+-- the call makes an object that is equal to another
+abbrev pub is_dup : Call → Bool
+is_dup (call.DupMatrix a) = true
+is_dup (call.DupVector v) = true
+is_dup _ = false

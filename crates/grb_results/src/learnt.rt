@@ -1,0 +1,95 @@
+//! The calls of a list, learnt one after another.
+ghost use Rattle.std.specs.Prelude.{true, ◌≡◌, ◌+◌, ◌<◌, ◌^◌, Some, List, length, slice_get, IfOk, IfSome, OnOk, OnErr};
+ghost use Rattle.grb_call.specs.declared.call.Call.{Call};
+ghost use Rattle.grb_call.specs.Shapes.{is_live};
+ghost use Rattle.grb_results.specs.Results.{IsLearnt, Follows};
+
+use crate::lasts::Lasts;
+use crate::node::Node;
+use grb_call::{Call, Object, Shapes};
+use grb_slices::target_at;
+use std::alloc::{AllocError, Global};
+
+/// The first calls of a list: a node for each, the shapes after them, and which of them last changed each object.
+#[derive(Drop)]
+pub struct Learnt {
+    pub(crate) alloc: Global,
+    pub(crate) shapes: Shapes,
+    pub(crate) nodes: Vec<Node>,
+    pub(crate) lasts: Lasts,
+}
+
+impl Learnt {
+    /// No call was learnt, with room for so many. `AllocError` where memory is refused.
+    pub fn open(alloc: Global, room: u32) -> Result<Learnt, AllocError>
+        ensures learnt { IfOk result (λ t. (cs : List Call) → IsLearnt cs t) }
+        ensures room { IfOk result (λ t. t.shapes.room ≡ room) }
+        ensures none { IfOk result (λ t. length t.nodes.items ≡ 0) }
+    {
+        Ok(Learnt {
+            alloc,
+            shapes: Shapes::open(alloc, room)?,
+            nodes: Vec::with_capacity(alloc, room as usize)?,
+            lasts: Lasts::new(alloc),
+        })
+    }
+
+    /// Learns the call that comes after those learnt. `AllocError` where memory is refused; then it is not learnt.
+    pub fn learn(&mut self, call: &Call) -> Result<(), AllocError>
+        requires room { 0 < self.old.shapes.room }
+        requires few { length self.old.nodes.items + self.old.shapes.room < 2 ^ 32 }
+        ensures learnt { OnOk result ((cs : List Call) → IsLearnt cs self.old → slice_get cs (length self.old.nodes.items) ≡ Some call.now → IsLearnt cs self.new) }
+        ensures err { OnErr result ((cs : List Call) → IsLearnt cs self.old → IsLearnt cs self.new) }
+        ensures more { OnOk result (length self.new.nodes.items ≡ length self.old.nodes.items + 1) }
+        ensures room { OnOk result (self.new.shapes.room + 1 ≡ self.old.shapes.room) }
+        ensures no_more { OnErr result ((length self.new.nodes.items ≡ length self.old.nodes.items) × (self.new.shapes.room ≡ self.old.shapes.room)) }
+    {
+        let target = target_at(&self.shapes, call);
+        let links = self.lasts.links_of(self.alloc, call);
+        let count = self.nodes.len() as u32 + 1;
+        self.nodes.reserve(1)?;
+        self.lasts.change(target, count)?;
+        self.nodes.push_reserved(Node { target, links });
+        self.shapes.absorb(call);
+        Ok(())
+    }
+
+    /// Whether the object is there after the calls. Takes no memory.
+    pub fn contains(&self, object: Object) -> bool
+        ensures { result ≡ is_live self.now.shapes.objects object }
+    {
+        match object {
+            Object::Matrix(a) => self.shapes.matrix(a).is_some(),
+            Object::Vector(v) => self.shapes.vector(v).is_some(),
+        }
+    }
+
+    /// The node of the call at this place. Takes no memory.
+    pub(crate) fn node_at(&self, at: usize) -> &Node
+        requires { at < length self.now.nodes.items }
+        ensures { slice_get self.now.nodes.items at ≡ Some result.now }
+    {
+        &self.nodes[at]
+    }
+
+    /// Whether the first link of the call at this place leads to the call at `before`. Takes no memory.
+    pub(crate) fn follows(&self, at: usize, before: u32) -> bool
+        requires { at < length self.now.nodes.items }
+        ensures { result ≡ true → Follows self.now at before }
+    {
+        let link = self.node_at(at).links[0];
+        link > before && link - before == 1
+    }
+
+    /// The call to which the first link of the call at this place leads, if it leads to one. Takes no memory.
+    pub(crate) fn first_link(&self, at: usize) -> Option<u32>
+        requires { at < length self.now.nodes.items }
+        ensures { IfSome result (Follows self.now at) }
+    {
+        let link = self.node_at(at).links[0];
+        if link == 0 {
+            return None;
+        }
+        Some(link - 1)
+    }
+}

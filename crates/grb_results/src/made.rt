@@ -1,0 +1,110 @@
+//! What one call makes of what it reads.
+ghost use Rattle.std.specs.Prelude.{◌≡◌, ◌∷◌, ◌++◌, [], true, List, None, Some, IfOk, IfSome, OnOk, OnErr};
+ghost use Rattle.std.specs.Option.{option_map};
+ghost use Rattle.grb_call.specs.declared.ids.Object.{Object};
+ghost use Rattle.grb_call.specs.Kinds.{class_of};
+ghost use Rattle.grb_call.specs.Operands.{objects_read};
+ghost use Rattle.grb_call.specs.Refused.{has_valid_values, refused_by_shapes};
+ghost use Rattle.grb_call.specs.Store.{Store, shapes_of};
+ghost use Rattle.grb_slices.specs.Content.{Contents, content_at, outcome};
+ghost use Rattle.grb_slices.specs.Slice.{is_among};
+ghost use Rattle.grb_slices.specs.Steps.{AgreeOn};
+ghost use Rattle.grb_state.specs.SharedContent.{is_free};
+ghost use Rattle.grb_results.specs.Results.{AreHeld, MayMake};
+ghost use Rattle.grb_results.specs.Value.{IsEdit, content_of, is_dup};
+
+use grb_call::{Call, Class, Object};
+use grb_sparse::{SparseMatrix, SparseVector};
+use grb_state::{Bench, SharedContent};
+use std::alloc::{AllocError, Global};
+
+/// Whether the call ends an object.
+fn is_free(call: &Call) -> bool
+    ensures { result ≡ is_free call.now }
+{
+    matches!(call, Call::FreeMatrix { .. } | Call::FreeVector { .. })
+}
+
+/// Whether the call changes one object and does not end it. Takes no memory.
+pub(crate) fn is_edit(call: &Call) -> bool
+    ensures { result ≡ true → IsEdit call.now }
+{
+    match call.class() {
+        Class::Edits => !is_free(call),
+        Class::Makes | Class::Operates | Class::Reads(_) | Class::AsksDimensions => false,
+    }
+}
+
+/// Whether the call makes an object that is equal to another. Takes no memory.
+pub(crate) fn is_dup(call: &Call) -> bool
+    ensures { result ≡ is_dup call.now }
+{
+    matches!(call, Call::DupMatrix { .. } | Call::DupVector { .. })
+}
+
+/// Changes what the output of the call held into what it holds after it: where it lies, if nothing else holds it. `AllocError` where memory
+/// is refused; then its entries are as before.
+pub(crate) fn edit(alloc: Global, value: &mut SharedContent, call: &Call) -> Result<(), AllocError>
+    requires edits { IsEdit call.now }
+    requires may { MayMake call.now (value.old ∷ []) }
+    ensures ok { OnOk result ((r : Contents) → AreHeld r (objects_read call.now) (value.old ∷ []) → outcome r call.now ≡ Some (content_of value.new)) }
+    ensures err { OnErr result (content_of value.new ≡ content_of value.old) }
+{
+    if value.refuses(call) {
+        return Ok(());
+    }
+    value.edit(alloc, call)
+}
+
+/// What a call makes that reads nothing: a new object. `AllocError` where memory is refused.
+pub(crate) fn new_object(alloc: Global, call: &Call) -> Result<Option<SharedContent>, AllocError>
+    requires { has_valid_values call.now ≡ true }
+    ensures { IfOk result (λ made. IfSome made (λ v. (r : Contents) → outcome r call.now ≡ Some (content_of v))) }
+{
+    match call {
+        Call::NewMatrix {
+            domain,
+            nrows,
+            ncols,
+        } => {
+            let matrix = SparseMatrix::new(alloc, *domain, *nrows, *ncols);
+            Ok(Some(SharedContent::of_matrix(alloc, matrix)?))
+        }
+        Call::NewVector { domain, size } => {
+            let vector = SparseVector::new(alloc, *domain, *size);
+            Ok(Some(SharedContent::of_vector(alloc, vector)?))
+        }
+        _ => Ok(None),
+    }
+}
+
+/// Puts what an object holds on the bench, next to others. `AllocError` where memory is refused.
+pub(crate) fn hold(
+    bench: &mut Bench,
+    object: Object,
+    value: SharedContent,
+) -> Result<(), AllocError>
+    ensures { OnOk result ((s : Store) (os : List Object) → AgreeOn (is_among os) (content_at bench.old) (content_at s) → content_at s object ≡ Some (content_of value) → AgreeOn (is_among (os ++ object ∷ [])) (content_at bench.new) (content_at s)) }
+{
+    bench.hold(object, value)
+}
+
+/// Takes these objects off the bench.
+pub(crate) fn clear(bench: &mut Bench, read: &[Object]) {
+    for object in read {
+        let _dropped = bench.take(*object);
+    }
+}
+
+/// What the operation leaves of its output, made of what stands on the bench. `AllocError` where memory is refused.
+pub(crate) fn operated(bench: &mut Bench, call: &Call) -> Result<Option<SharedContent>, AllocError>
+    requires operates { class_of call.now ≡ Class.Operates }
+    requires accepted { refused_by_shapes (shapes_of bench.old) call.now ≡ None }
+    ensures { IfOk result (λ made. (r : Contents) → AgreeOn (is_among (objects_read call.now)) (content_at bench.old) r → option_map content_of made ≡ outcome r call.now) }
+{
+    bench.operate(call)?;
+    match call.output() {
+        Some(output) => Ok(bench.take(output)),
+        None => unreachable!(),
+    }
+}
