@@ -1,9 +1,11 @@
 //! Results of calls, by their numbers.
-ghost use Rattle.std.specs.Prelude.{◌≡◌, ◌+◌, ◌<◌, ◌^◌, ◌++◌, ◌∷◌, [], true, List, Some, None, length, slice_get, slice_set, IfOk, IfSome, OnOk, OnErr};
+ghost use Rattle.std.specs.Prelude.{◌≡◌, ◌+◌, ◌<◌, ◌^◌, ◌++◌, ◌∷◌, [], ℕ, true, List, Some, None, length, slice_get, slice_set, IfNone, IfOk, IfSome, OnOk, OnErr};
 ghost use Rattle.grb_call.specs.declared.call.Call.{Call};
+ghost use Rattle.grb_state.specs.declared.shared_content.SharedContent.{SharedContent};
 ghost use Rattle.grb_call.specs.Store.{empty_store};
 ghost use Rattle.grb_call.specs.History.{after_all};
 ghost use Rattle.grb_slices.specs.Content.{content_at};
+ghost use Rattle.grb_results.specs.Lasts.{last_of};
 ghost use Rattle.grb_results.specs.Results.{AreOneHistory, AreTaken, IsResult, IsTable};
 ghost use Rattle.grb_results.specs.Value.{content_of};
 
@@ -113,7 +115,8 @@ impl Table {
 
     /// The result that is kept of the call at this place, if there is one. Takes no memory.
     pub fn kept(&self, at: usize) -> Option<&SharedContent>
-        ensures { IfSome result (λ v. slice_get self.now.results.items at ≡ Some (Some v.now)) }
+        ensures kept { IfSome result (λ v. slice_get self.now.results.items at ≡ Some (Some v.now)) }
+        ensures none { IfNone result ((v : SharedContent) → slice_get self.now.results.items at ≡ Some (Some v) → ⊥) }
     {
         match self.results.get(at) {
             Some(Some(value)) => Some(value),
@@ -176,7 +179,8 @@ impl Table {
 
     /// The result of the call that last changed the object, of those learnt, if it is kept. Takes no memory.
     pub fn last(&self, object: Object) -> Option<&SharedContent>
-        ensures { (cs : List Call) → IsTable cs self.now → length self.now.learnt.nodes.items ≡ length cs → IfSome result (λ v. Some (content_of v.now) ≡ content_at (after_all empty_store cs) object) }
+        ensures content { (cs : List Call) → IsTable cs self.now → length self.now.learnt.nodes.items ≡ length cs → IfSome result (λ v. Some (content_of v.now) ≡ content_at (after_all empty_store cs) object) }
+        ensures none { IfNone result ((k : ℕ) (v : SharedContent) → last_of self.now.learnt.lasts object ≡ k + 1 → slice_get self.now.results.items k ≡ Some (Some v) → ⊥) }
     {
         let count = self.learnt.lasts.last_of(object);
         if count == 0 {

@@ -3,8 +3,8 @@ use Rattle.grb_results.proofs.Frame.{answer_is}
 use Rattle.grb_results.proofs.Making.{some_of}
 use Rattle.grb_results.proofs.table.Table.last.Goals as goal
 
-pub returns : goal.returns
-returns c cs is all =
+pub returns-clause-content : goal.returns-clause-content
+returns-clause-content c cs is all =
     some_of _ _ c.kept.result
     (λ v stands. answer_is cs c.args.self.now c.args.object c.last_of-count.result (c.last_of-count.result - 1) v.now is all c.last_of-count.ensures (omega (arith, c.if-count-eq0.false)) stands)
-    c.kept.ensures
+    c.kept.ensures.kept

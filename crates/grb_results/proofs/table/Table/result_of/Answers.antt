@@ -12,4 +12,4 @@ returns-in_ok-share-in-Some-clause-result c =
     let cs : List Call = map (λ a. a.now) c.args.calls.now in
     ap (λ (x : SharedContent). Some (content_of x)) c.in_ok-share-in-Some.ensures
     ∙ some_at _ c.last.result c.in-Some.value c.in-Some.is
-    (c.last.ensures cs c.in_ok-make.ensures.table (ap (λ (l : Learnt). length l.nodes.items) c.in_ok-make.ensures.learnt ∙ (c.requires.all ∙ sym (length-map c.args.calls.now (λ a. a.now)))))
+    (c.last.ensures.content cs c.in_ok-make.ensures.table (ap (λ (l : Learnt). length l.nodes.items) c.in_ok-make.ensures.learnt ∙ (c.requires.all ∙ sym (length-map c.args.calls.now (λ a. a.now)))))
