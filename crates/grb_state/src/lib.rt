@@ -3,7 +3,9 @@
 //! A `State` holds the matrices and vectors that the calls made, with their entries. One unit is one call: `apply` makes of the
 //! store what the call makes of it, and nothing of it where the call is refused; `settle` does what waits in the objects and changes
 //! no entry; `reply` and `refused_build` read it. All places for objects to come are reserved where a state is cloned: an empty state has
-//! none. Nothing here knows of passes, of an order, or of which calls there are: the caller brings them, one after another.
+//! none. A `SharedContent` is what one object holds, in no store, and is edited by itself; a `Bench` has objects at their numbers as long
+//! as one operation is made of them. Nothing here knows of passes, of an order, or of which calls there are: the caller brings them, one
+//! after another.
 #![tactic(auto)]
 
 mod bench;
