@@ -1,5 +1,7 @@
-/* Times the store next to another case of the same: work beside a product that nobody reads, sets with totals or
- * waits between them, a product that several passes read, and a successor next to the builds of its objects.
+/* Times the store next to another case of the same: several results, in any order, again, overwritten, shared and
+ * adopted; work beside a product that nobody reads; sets with gets, totals or waits between them; a product that
+ * several passes read; and a successor next to the builds of its objects. Where a read is to make just so many calls
+ * of the history, that is asked for too.
  *
  *     beside
  *
@@ -30,6 +32,13 @@ enum {
     EDGES = 8000,
     BATCHES = 30,
     BATCH = 100,     /* sets before each square is read */
+    ROWS = 2000,     /* rows and columns of the matrices that results are made of */
+    CELLS = 12000,   /* drawn cells of each */
+    RESULTS = 8,     /* results of a store at most */
+    REFRESHED = 20,  /* turns in which each result is made anew */
+    READERS = 8,     /* passes that count one product */
+    EDITS = 10000,   /* sets in a vector */
+    MEETS = 200,     /* meetings after so many calls */
     VECTORS = 64,    /* vectors of a store that is succeeded */
     EACH = 15625     /* entries of each */
 };
@@ -260,6 +269,256 @@ static double successor(uint64_t which, uint64_t *left)
     return seconds;
 }
 
+/* How many calls of the history the last call of the pass evaluated. */
+static uint32_t made(TrB_Pass *pass)
+{
+    TrB_Facts facts;
+    OK(TrB_facts(pass, &facts));
+    return facts.made;
+}
+
+/* A result, and the matrix of which it is the square. */
+typedef struct {
+    TrB_Matrix of, square;
+} Result;
+
+static Result result(TrB_Pass *pass, uint64_t seed)
+{
+    Result r = {build(pass, ROWS, CELLS, seed), {0}};
+    OK(TrB_Matrix_new(pass, &r.square, TrB_UINT64, ROWS, ROWS));
+    return r;
+}
+
+static void enter_square(TrB_Pass *pass, Result r)
+{
+    OK(TrB_mxm(pass, r.square, TrB_NO_MATRIX, TrB_NO_ACCUM, TrB_PLUS_TIMES, r.of, r.of, TrB_DEFAULT));
+}
+
+static uint64_t count(TrB_Pass *pass, TrB_Matrix a)
+{
+    TrB_Index nvals;
+    OK(TrB_Matrix_nvals(pass, &nvals, a));
+    return nvals;
+}
+
+/* Turns in which each of so many results is entered anew, after a set in what it is made of, and counted: in the
+ * order entered, or in reverse. Each count makes a set and a product. */
+static double counted(uint64_t results, uint64_t reverse, uint64_t *left)
+{
+    TrB_Pass pass = TRB_PASS_INIT;
+    Result r[RESULTS];
+    OK(TrB_open(4096, &pass, 1));
+    for (uint64_t k = 0; k < results; k++) {
+        r[k] = result(&pass, 100 * k);
+        enter_square(&pass, r[k]);
+        count(&pass, r[k].square);
+    }
+    *left = 0;
+    double start = now();
+    for (uint64_t turn = 0; turn < REFRESHED; turn++) {
+        for (uint64_t k = 0; k < results; k++) {
+            uint64_t draw = mix(turn * RESULTS + k);
+            OK(TrB_Matrix_setElement_UINT64(&pass, r[k].of, 1, draw % ROWS, (draw >> 32) % ROWS));
+            enter_square(&pass, r[k]);
+        }
+        for (uint64_t k = 0; k < results; k++) {
+            *left += count(&pass, r[reverse ? results - 1 - k : k].square);
+            HOLDS(made(&pass) == 2);
+        }
+    }
+    double seconds = now() - start;
+    TrB_free(&pass);
+    return seconds;
+}
+
+static double two_results(uint64_t reverse, uint64_t *left)
+{
+    return counted(2, reverse, left);
+}
+
+static double four_results(uint64_t reverse, uint64_t *left)
+{
+    return counted(4, reverse, left);
+}
+
+static double eight_results(uint64_t reverse, uint64_t *left)
+{
+    return counted(8, reverse, left);
+}
+
+/* Two results that were made anew 50 times are counted in turn, so many times in all, and the first time of each makes
+ * them. */
+static double counted_again(uint64_t counts, uint64_t *left)
+{
+    TrB_Pass pass = TRB_PASS_INIT;
+    Result r[2];
+    OK(TrB_open(4096, &pass, 1));
+    for (uint64_t k = 0; k < 2; k++) {
+        r[k] = result(&pass, 100 * k);
+    }
+    for (uint64_t turn = 0; turn < 50; turn++) {
+        for (uint64_t k = 0; k < 2; k++) {
+            OK(TrB_Matrix_setElement_UINT64(&pass, r[k].of, 1, turn, turn));
+            enter_square(&pass, r[k]);
+        }
+    }
+    *left = 0;
+    double start = now();
+    for (uint64_t k = 0; k < counts; k++) {
+        *left = k < 2 ? *left + count(&pass, r[k].square) : *left;
+        HOLDS(k < 2 || (count(&pass, r[k % 2].square) > 0 && made(&pass) == 0));
+    }
+    double seconds = now() - start;
+    TrB_free(&pass);
+    return seconds;
+}
+
+/* So many products into one matrix, each in place of the one before, and a count. */
+static double overwritten(uint64_t products, uint64_t *left)
+{
+    TrB_Pass pass = TRB_PASS_INIT;
+    OK(TrB_open(4096, &pass, 1));
+    Result r = result(&pass, 0);
+    count(&pass, r.of);
+    double start = now();
+    for (uint64_t k = 0; k < products; k++) {
+        enter_square(&pass, r);
+    }
+    *left = count(&pass, r.square);
+    double seconds = now() - start;
+    HOLDS(made(&pass) == 1);
+    TrB_free(&pass);
+    return seconds;
+}
+
+/* Passes count one product in turn, beside another that nobody reads, or without it. The first of them makes it. */
+static double shared(uint64_t unread, uint64_t *left)
+{
+    TrB_Pass passes[READERS] = {TRB_PASS_INIT};
+    OK(TrB_open(4096, passes, READERS));
+    Result read = result(&passes[0], 0), other = result(&passes[0], 100);
+    enter_square(&passes[0], read);
+    if (unread) {
+        enter_square(&passes[0], other);
+    }
+    double start = now();
+    for (size_t k = 0; k < READERS; k++) {
+        *left = count(&passes[k], read.square);
+        HOLDS(k == 0 ? made(&passes[k]) > 0 : made(&passes[k]) == 0);
+    }
+    double seconds = now() - start;
+    for (size_t k = 0; k < READERS; k++) {
+        TrB_free(&passes[k]);
+    }
+    return seconds;
+}
+
+/* A pass loads, counts one of two products, and prepares. The others adopt it and count both: the time of the first
+ * count and of `prepare`, or of the others. */
+static double adopted(uint64_t others, uint64_t *left)
+{
+    TrB_Pass passes[READERS] = {TRB_PASS_INIT};
+    uint32_t evaluated;
+    OK(TrB_open(4096, passes, READERS));
+    Result r[2] = {result(&passes[0], 0), result(&passes[0], 100)};
+    enter_square(&passes[0], r[0]);
+    enter_square(&passes[0], r[1]);
+    double start = now();
+    *left = count(&passes[0], r[0].square);
+    OK(TrB_prepare(&passes[0], &evaluated));
+    double prepared = now();
+    HOLDS(evaluated == 8);
+    for (size_t k = 1; k < READERS; k++) {
+        OK(TrB_adopt(&passes[k], &passes[0]));
+        HOLDS(count(&passes[k], r[0].square) == *left && made(&passes[k]) == 0);
+        HOLDS(count(&passes[k], r[1].square) > 0 && made(&passes[k]) == 0);
+    }
+    double end = now();
+    for (size_t k = 0; k < READERS; k++) {
+        TrB_free(&passes[k]);
+    }
+    return others ? end - prepared : prepared - start;
+}
+
+/* A vector of one entry is read after so many sets in another, beside a product that nobody reads: two calls. */
+static double behind(uint64_t sets_before, uint64_t *left)
+{
+    TrB_Pass pass = TRB_PASS_INIT;
+    TrB_Vector one, many;
+    OK(TrB_open(65536, &pass, 1));
+    enter_square(&pass, result(&pass, 0));
+    OK(TrB_Vector_new(&pass, &one, TrB_UINT64, 8));
+    OK(TrB_Vector_new(&pass, &many, TrB_UINT64, EDITS));
+    OK(TrB_Vector_setElement_UINT64(&pass, one, 5, 1));
+    for (uint64_t k = 0; k < sets_before; k++) {
+        OK(TrB_Vector_setElement_UINT64(&pass, many, k, k));
+    }
+    double start = now();
+    OK(TrB_Vector_extractElement_UINT64(&pass, left, one, 1));
+    double seconds = now() - start;
+    HOLDS(*left == 5 && made(&pass) == 2);
+    TrB_free(&pass);
+    return seconds;
+}
+
+/* Sets in a vector, with a get after each or after the last, by one pass or by two in turn that met. */
+static double edits(uint32_t npasses, uint64_t each, uint64_t *left)
+{
+    TrB_Pass passes[2] = {TRB_PASS_INIT};
+    TrB_Vector v;
+    OK(TrB_open(65536, passes, npasses));
+    OK(TrB_Vector_new(&passes[0], &v, TrB_UINT64, EDITS));
+    if (npasses == 2) {
+        OK(TrB_meet(&passes[1], &passes[0]));
+    }
+    double start = now();
+    for (uint64_t k = 0; k < EDITS; k++) {
+        TrB_Pass *pass = &passes[k % npasses];
+        OK(TrB_Vector_setElement_UINT64(pass, v, k, mix(k) % EDITS));
+        if (each || k + 1 == EDITS) {
+            OK(TrB_Vector_extractElement_UINT64(pass, left, v, mix(k) % EDITS));
+            HOLDS(*left == k);
+        }
+    }
+    double seconds = now() - start;
+    for (uint32_t k = 0; k < npasses; k++) {
+        TrB_free(&passes[k]);
+    }
+    return seconds;
+}
+
+static double edits_by_one(uint64_t each, uint64_t *left)
+{
+    return edits(1, each, left);
+}
+
+static double edits_by_two(uint64_t each, uint64_t *left)
+{
+    return edits(2, each, left);
+}
+
+/* Meetings of two passes that both know so many calls and no other. */
+static double meetings(uint64_t known, uint64_t *left)
+{
+    TrB_Pass passes[2] = {TRB_PASS_INIT};
+    TrB_Vector v;
+    OK(TrB_open(65536, passes, 2));
+    OK(TrB_Vector_new(&passes[0], &v, TrB_UINT64, EDITS));
+    for (uint64_t k = 1; k < known; k++) {
+        OK(TrB_Vector_setElement_UINT64(&passes[0], v, k, k % EDITS));
+    }
+    OK(TrB_meet(&passes[1], &passes[0]));
+    double start = now();
+    for (uint64_t k = 0; k < MEETS; k++) {
+        OK(TrB_meet(&passes[k % 2], &passes[1 - k % 2]));
+    }
+    *left = MEETS;
+    double seconds = now() - start;
+    TrB_free(&passes[0]);
+    TrB_free(&passes[1]);
+    return seconds;
+}
+
 /* Times a case and another in turn, which leave the same, and tells the least time of each. */
 static void pair(const char *name, Round *round, uint64_t first, uint64_t second)
 {
@@ -280,6 +539,17 @@ static void pair(const char *name, Round *round, uint64_t first, uint64_t second
 
 int main(void)
 {
+    pair("two results in reverse, in order", two_results, 1, 0);
+    pair("four results in reverse, in order", four_results, 1, 0);
+    pair("eight results in reverse, in order", eight_results, 1, 0);
+    pair("40 counts of two results, 2 counts", counted_again, 40, 2);
+    pair("100 products into one matrix, one product", overwritten, 100, 1);
+    pair("a product that eight count beside one unread", shared, 1, 0);
+    pair("counts of seven who adopted, what they adopted", adopted, 1, 0);
+    pair("a get behind 10,000 other sets, behind none", behind, EDITS, 0);
+    pair("10,000 sets, each with a get; and one get", edits_by_one, 1, 0);
+    pair("the same by two passes in turn", edits_by_two, 1, 0);
+    pair("meetings after 60,000 calls, after 600", meetings, 60000, 600);
     pair("turns beside a product that nobody reads", turns, 1, 0);
     pair("turns of a set and a total, and a get", questions, 1, 0);
     pair("sets by one pass, a wait after each 300", sets_by_one, 300, SETS);

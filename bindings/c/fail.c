@@ -209,6 +209,9 @@ static bool serve(TrB_Pass *passes, TrB_Matrix a)
     OK(TrB_adopt(&passes[1], &passes[0]));
     OK(TrB_Matrix_nvals(&passes[1], &nvals, a));
     HOLDS(nvals == (SIZE - 1) + SIZE);
+    OK(TrB_release(&passes[1]));
+    OK(TrB_Matrix_nvals(&passes[1], &nvals, a));
+    HOLDS(nvals == (SIZE - 1) + SIZE);
     return true;
 }
 

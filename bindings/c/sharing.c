@@ -1,5 +1,5 @@
-/* What passes share: one prepares what is dear and tells how much is evaluated, and another adopts what
- * it has evaluated and makes none of it anew.
+/* What passes share: one prepares what is dear and tells how much is evaluated, another adopts what it
+ * has evaluated and makes none of it anew, and one that drops it does.
  *
  *     cc -std=c11 -O2 -o sharing sharing.c libgrb_c.a liblibc_c.a -lpthread
  */
@@ -27,7 +27,7 @@ static void reads(TrB_Pass *pass, TrB_Vector v, TrB_Index i, uint64_t wanted)
     HOLDS(x == wanted);
 }
 
-/* So many of the calls that the pass knows are evaluated, when it has prepared what is dear. */
+/* Before so many of the calls that the pass knows no answer makes one, when it has prepared what is dear. */
 static void prepares(TrB_Pass *pass, uint32_t wanted)
 {
     uint32_t evaluated;
@@ -77,7 +77,7 @@ static void adopt(void)
     end(passes);
 }
 
-/* Dear calls are prepared, and with them all before; cheap ones are left to reads. */
+/* Dear calls are prepared, and with them all that objects need; cheap ones are left to reads. */
 static void prepare(void)
 {
     static TrB_Index places[MANY];
@@ -124,9 +124,32 @@ static void prepare(void)
     end(passes);
 }
 
+/* A pass that is released makes anew what it is asked for, and one that adopted it does not. */
+static void release(void)
+{
+    TrB_Pass passes[PASSES] = {TRB_PASS_INIT};
+    TrB_Vector v;
+    OK(TrB_open(ROOM, passes, PASSES));
+    OK(TrB_Vector_new(&passes[0], &v, TrB_UINT64, 2));
+    OK(TrB_Vector_setElement_UINT64(&passes[0], v, 1, 0));
+    reads(&passes[0], v, 0, 1);
+    has_made(&passes[0], 2, 2);
+    OK(TrB_adopt(&passes[1], &passes[0]));
+
+    OK(TrB_release(&passes[0]));
+    has_made(&passes[0], 2, 0);
+    reads(&passes[0], v, 0, 1);
+    has_made(&passes[0], 2, 2);
+    printf("after a release: 2 calls to make\n");
+    reads(&passes[1], v, 0, 1);
+    has_made(&passes[1], 2, 0);
+    end(passes);
+}
+
 int main(void)
 {
     adopt();
     prepare();
+    release();
     return 0;
 }

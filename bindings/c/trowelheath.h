@@ -69,9 +69,9 @@
  *
  *   Each pass evaluates for itself. Load by one pass, prepare it, and let the others adopt it before
  *   they serve reads. While the store changes, wait with TrB_MATERIALIZE by one pass after each few
- *   hundred changes: the others go on from what that leaves. The history keeps every change, the
- *   arrays of builds too, as long as the store is open. When the room is used up, TrB_succeed opens a
- *   store that goes on from there.
+ *   hundred changes: the others go on from what that leaves. Release a pass that will stand idle, since
+ *   it holds what it has evaluated. The history keeps every change, the arrays of builds too, as long as
+ *   the store is open. When the room is used up, TrB_succeed opens a store that goes on from there.
  *
  * What the caller owes, since nothing checks it
  *
@@ -270,6 +270,7 @@ void trb_free(TrB_Pass *pass);
 int32_t trb_meet(TrB_Pass *pass, TrB_Pass *other);
 int32_t trb_adopt(TrB_Pass *pass, TrB_Pass *other);
 int32_t trb_prepare(TrB_Pass *pass, uint32_t *out);
+int32_t trb_release(TrB_Pass *pass);
 int32_t trb_facts(TrB_Pass *pass, TrB_Facts *out);
 int32_t trb_matrix_last_info(TrB_Pass *pass, int32_t *out, uint32_t a);
 int32_t trb_vector_last_info(TrB_Pass *pass, int32_t *out, uint32_t v);
@@ -438,11 +439,19 @@ static inline TrB_Info TrB_adopt(TrB_Pass *pass, TrB_Pass *other)
 }
 
 /* Evaluates what the pass knows where that is dear, so that others may adopt it. It learns nothing new
- * and changes no answer. *evaluated is how many of the known calls are evaluated then; where memory is
- * refused they are fewer, and that is no refusal. Takes no room. */
+ * and changes no answer. *evaluated is before how many of the known calls no answer makes one any more;
+ * where memory is refused they are fewer, and that is no refusal. Takes no room. */
 static inline TrB_Info TrB_prepare(TrB_Pass *pass, uint32_t *evaluated)
 {
     return (TrB_Info)trb_prepare(pass, evaluated);
+}
+
+/* Drops what the pass has evaluated, so that its memory is given back. What the pass knows stays, and
+ * other passes keep what they have. What a later answer needs is made anew, or found with other passes;
+ * no change is settled any more. Takes no room and no memory. */
+static inline TrB_Info TrB_release(TrB_Pass *pass)
+{
+    return (TrB_Info)trb_release(pass);
 }
 
 /* Tells what the pass is and knows. It learns nothing new. Takes no room. */

@@ -80,6 +80,9 @@ void values(grb::Pass &pass)
     const auto w = pass.new_vector<unsigned long long>(2);
     pass.set(w, 1, 7);
     require(pass.get(w, 1) == 7, "either name of an unsigned integer of 64 bits is taken");
+    const auto known = pass.facts().known;
+    pass.release();
+    require(pass.facts().known == known && pass.get(w, 1) == 7, "a pass that is released knows what it knew");
 }
 
 void others(grb::Pass &pass)

@@ -607,14 +607,17 @@ public:
         }
     }
 
-    /// Evaluates what the pass knows where that is dear, so that others may adopt it. Answers how many of the
-    /// known calls are evaluated then. As TrB_prepare.
+    /// Evaluates what the pass knows where that is dear, so that others may adopt it. Answers before how many of
+    /// the known calls no answer makes one any more. As TrB_prepare.
     std::uint32_t prepare()
     {
         std::uint32_t evaluated = 0;
         detail::check(TrB_prepare(&raw_, &evaluated));
         return evaluated;
     }
+
+    /// Drops what the pass has evaluated, so that its memory is given back. It knows what it knew. As TrB_release.
+    void release() { detail::check(TrB_release(&raw_)); }
 
     /// What the pass is and knows, as TrB_facts.
     [[nodiscard]] Facts facts()

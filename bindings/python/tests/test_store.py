@@ -98,6 +98,7 @@ class Closing(unittest.TestCase):
             lambda: other.main.meet(p),
             lambda: p.meet(other.main),
             p.prepare,
+            p.release,
             p.facts,
             p.is_full,
             lambda: p.succeed(20, 2),
@@ -199,6 +200,16 @@ class Passes(StoreCase):
         v = self.p.vector(5)
         v[0] = 1
         self.assertLessEqual(self.p.prepare(), 2)
+        self.assertEqual(v[0], 1)
+
+    def test_a_pass_that_is_released_knows_what_it_knew(self) -> None:
+        v = self.p.vector(5)
+        v[0] = 1
+        v.wait("materialize")
+        self.assertEqual(self.p.facts().settled, 2)
+        self.p.release()
+        facts = self.p.facts()
+        self.assertEqual((facts.known, facts.settled, facts.made), (2, 0, 0))
         self.assertEqual(v[0], 1)
 
     def test_facts_tell_what_the_pass_knows(self) -> None:

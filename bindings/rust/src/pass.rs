@@ -158,8 +158,8 @@ impl Pass {
         }
     }
 
-    /// Evaluates what the pass knows, where that is dear, so that others may [`adopt`](Pass::adopt) it. It changes no answer. It answers how
-    /// many of the calls that the pass knows are evaluated then; where memory is refused, fewer are.
+    /// Evaluates what the pass knows, where that is dear, so that others may [`adopt`](Pass::adopt) it. It changes no answer. It tells before
+    /// how many of the calls that the pass knows no answer makes one any more; where memory is refused, before fewer.
     ///
     /// # Errors
     ///
@@ -169,6 +169,17 @@ impl Pass {
         // SAFETY: the pass is borrowed mutably, so this call alone has it, and the place of the answer is a local variable.
         done(unsafe { sys::trb_prepare(&mut self.raw, &mut evaluated) })?;
         Ok(evaluated)
+    }
+
+    /// Drops what the pass has evaluated, so that its memory is given back. What the pass knows stays, and other passes keep what they have.
+    /// What a later answer needs is made anew, or found with other passes; no change is settled any more.
+    ///
+    /// # Errors
+    ///
+    /// The library refuses only a pass that has ended, and this one has not.
+    pub fn release(&mut self) -> Result<(), Error> {
+        // SAFETY: the pass is borrowed mutably, so this call alone has it.
+        done(unsafe { sys::trb_release(&mut self.raw) })
     }
 
     /// What the pass tells of itself, as of its last call. It learns nothing by this.

@@ -5,7 +5,7 @@ use Rattle.grb_core.specs.declared.refusal.Refusal.TheVariants.{UninitializedObj
 use Rattle.grb_core.specs.declared.refusal.Info.{Info}
 use Rattle.grb_call.specs.declared.call.Call.{Call}
 use Rattle.grb_call.specs.declared.ids.Object.{Object}
-use Rattle.grb_context.specs.Known.{Shared, Knowing, known}
+use Rattle.grb_context.specs.Known.{Shared, Knowing, known, none_made}
 use Rattle.grb_context.specs.Explains.{Answer}
 use Rattle.grb_context.specs.Answered.{Answered}
 use Rattle.grb_context.specs.Meeting.{Met}
@@ -72,12 +72,19 @@ IsSameButMade None new = new ≡ None
 IsSameButMade (Some old) (Some new) = new ≡ record old { pass = record old.pass { made = new.pass.made } }
 IsSameButMade (Some old) None = ⊥
 
--- a pass evaluates what it knows, and tells how many of the calls that it knows are evaluated then; or there is none
+-- a pass evaluates what it knows, and tells a number that is none above that of the calls that it knows; or there is none
 abbrev pub Prepares : Option Opened → Option Opened → ℤ → ℕ → ℕ → Type 0
 Prepares None None code before after = (code ≡ uninitialized_object) × (after ≡ before)
 Prepares (Some old) (Some new) code before after = (code ≡ success) × (new ≡ record old { pass = record old.pass { made = new.pass.made } }) × (after ≤ length (known new.pass))
 Prepares None (Some new) code before after = ⊥
 Prepares (Some old) None code before after = ⊥
+
+-- a pass drops what it has evaluated: it knows what it knew, no call is settled, and none was made; or there is none
+abbrev pub Releases : Option Opened → Option Opened → ℤ → Type 0
+Releases None None code = code ≡ uninitialized_object
+Releases (Some old) (Some new) code = (code ≡ success) × (new ≡ record old { pass = record old.pass { settled = 0; made = none_made } })
+Releases None (Some new) code = ⊥
+Releases (Some old) None code = ⊥
 
 -- whether there is a pass to tell of
 abbrev pub facts_code : Option Opened → ℤ

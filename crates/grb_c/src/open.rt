@@ -5,7 +5,7 @@ ghost use Rattle.grb_context.specs.Known.{IsPassOf};
 ghost use Rattle.grb_c.specs.Codes.{invalid_value, out_of_memory, success};
 ghost use Rattle.grb_c.specs.Handles.{are_none};
 ghost use Rattle.grb_c.specs.Opening.{AreOpened, HoldFrom, IsWithin};
-ghost use Rattle.grb_c.specs.Sessions.{AreApart, Meets, Prepares};
+ghost use Rattle.grb_c.specs.Sessions.{AreApart, Meets, Prepares, Releases};
 
 use crate::codes::{INVALID_VALUE, OUT_OF_MEMORY, SUCCESS, UNINITIALIZED_OBJECT, met_code};
 use crate::handle::TrbPass;
@@ -182,8 +182,8 @@ pub extern "C" fn trb_adopt(alloc: Global, pass: &mut TrbPass, other: &mut TrbPa
     learn(alloc, pass, other, true)
 }
 
-/// Evaluates what the pass knows where that is dear, so that others may adopt it, and tells how many of the calls that it knows are
-/// evaluated then.
+/// Evaluates what the pass knows where that is dear, so that others may adopt it, and tells before how many of the calls that it knows no
+/// answer makes one any more.
 #[unsafe(no_mangle)]
 pub extern "C" fn trb_prepare(alloc: Global, pass: &mut TrbPass, out: &mut u32) -> i32
     ensures { Prepares pass.old.raw.session pass.new.raw.session result out.old out.new }
@@ -192,6 +192,20 @@ pub extern "C" fn trb_prepare(alloc: Global, pass: &mut TrbPass, out: &mut u32) 
         return UNINITIALIZED_OBJECT;
     };
     *out = session.prepare();
+    pass.put(session);
+    SUCCESS
+}
+
+/// Drops what the pass has evaluated, so that its memory is given back: no known calls are settled any more, and what an answer needs is
+/// made anew.
+#[unsafe(no_mangle)]
+pub extern "C" fn trb_release(alloc: Global, pass: &mut TrbPass) -> i32
+    ensures { Releases pass.old.raw.session pass.new.raw.session result }
+{
+    let Some(mut session) = pass.take(alloc) else {
+        return UNINITIALIZED_OBJECT;
+    };
+    session.release();
     pass.put(session);
     SUCCESS
 }

@@ -2,7 +2,7 @@
 ghost use Rattle.std.specs.Prelude.{◌≡◌, ◌≤◌, All, IfErr, IfOk, length};
 ghost use Rattle.grb_order.specs.Order.{room_of};
 ghost use Rattle.grb_call.specs.History.{store_of};
-ghost use Rattle.grb_context.specs.Known.{IsPassOf, known};
+ghost use Rattle.grb_context.specs.Known.{IsPassOf, known, none_made};
 ghost use Rattle.grb_context.specs.Answered.{Answered};
 ghost use Rattle.grb_context.specs.Meeting.{Met};
 ghost use Rattle.grb_context.specs.Rebuilding.{IsNoSuccessor};
@@ -74,7 +74,7 @@ impl Session {
         }
     }
 
-    /// Evaluates what the pass knows, where that is dear; how many of the calls that it knows are evaluated then.
+    /// Evaluates what the pass knows, where that is dear; before how many of the calls that it knows no answer makes one any more.
     pub fn prepare(&mut self) -> u32
         ensures context { self.new.context ≡ self.old.context }
         ensures store { self.new.store ≡ self.old.store }
@@ -82,6 +82,15 @@ impl Session {
         ensures count { result ≤ length (known self.new.pass) }
     {
         self.context.prepare(&mut self.pass)
+    }
+
+    /// Drops what the pass has evaluated: no known calls are settled any more. Takes no memory.
+    pub fn release(&mut self)
+        ensures context { self.new.context ≡ self.old.context }
+        ensures store { self.new.store ≡ self.old.store }
+        ensures released { self.new.pass ≡ record self.old.pass { settled = 0; made = none_made } }
+    {
+        self.pass.release();
     }
 
     /// A context that goes on where the pass ends, and its passes, as [`Context::succeed`] has them.

@@ -81,9 +81,9 @@ impl Context {
         self.shared.meet(pass, other)
     }
 
-    /// Lets the pass learn all that the other knows, as [`Context::meet`] does, and then go on from what the other has evaluated: an answer
-    /// makes what is left. Both share those objects until one of them changes one; no entry is copied before. Takes memory for a place of
-    /// each object; where it is refused, the pass evaluates for itself. `Panic` as of `meet` (own).
+    /// Lets the pass learn all that the other knows, as [`Context::meet`] does, and then keep also what the other has evaluated: an answer makes
+    /// what is left. Both share those objects until one of them changes one; no entry is copied before. Takes memory for what the pass has to
+    /// learn; where it is refused, the pass evaluates for itself. `Panic` as of `meet` (own).
     pub fn adopt(&self, pass: &mut Pass, other: &mut Pass) -> Result<(), Refusal>
         requires pass { IsPassOf self.now pass.old }
         requires other { IsPassOf self.now other.old }
@@ -94,8 +94,9 @@ impl Context {
     }
 
     /// Evaluates the calls that the pass knows, where that is dear, so that passes that adopt it have no work of their own with that, and
-    /// answers how many of the calls that it knows are evaluated then. It learns nothing, changes no answer and no status, and does not
-    /// wait. Takes memory for the evaluation; where it is refused, fewer are evaluated, and nothing is lost (own).
+    /// answers before how many of the calls that it knows none is made any more, whatever is asked: all where each object is evaluated. It
+    /// learns nothing, changes no answer and no status, and does not wait. Takes memory for the evaluation; where it is refused, fewer are
+    /// evaluated, and nothing is lost (own).
     pub fn prepare(&self, pass: &mut Pass) -> u32
         requires { IsPassOf self.now pass.old }
         ensures pass { IsPassOf self.now pass.new }

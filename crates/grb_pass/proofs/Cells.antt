@@ -8,7 +8,7 @@ use Rattle.grb_order.specs.Word.{index_of, order_word, StartsWith}
 use Rattle.grb_order.specs.View.{learns}
 use Rattle.grb_order.specs.declared.view.View.{View}
 use Rattle.grb_records.specs.Token.{Shown}
-use Rattle.grb_pass.specs.Evaluated.{EvaluatedView}
+use Rattle.grb_results.specs.declared.table.Table.{Table}
 use Rattle.grb_pass.specs.Known.{Knowing}
 use Rattle.grb_pass.specs.Learning.{Enters, Learns}
 use Rattle.grb_pass.specs.Cells.{NameRising, OwnBelow, IsPassState}
@@ -65,7 +65,7 @@ own_tried room old new token None next is small lt fresh =
 own_tried room old new token (Some back) next is small lt fresh =
     let word : ℕ = is.2 in own_wider token.index next new.view (omega arith) (own_lost token.index old.view new.view word is.3 fresh)
 
-pub state_learns : (old new : Knowing) (e : EvaluatedView) (next : ℕ) → new.order ≡ old.order → Learns old new → new.made ≡ old.made → IsPassState old e next → IsPassState new e next
+pub state_learns : (old new : Knowing) (e : Table) (next : ℕ) → new.order ≡ old.order → Learns old new → new.made ≡ old.made → IsPassState old e next → IsPassState new e next
 state_learns old new e next order l made is = record { step = in_step_learns old new e order l made is.step; own = own_learns next old new l is.own }
 
 -- the record that was put goes after them

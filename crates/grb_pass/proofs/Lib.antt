@@ -14,6 +14,7 @@ mod Opening
 mod Owning
 pub mod Promised
 mod Readers
+mod Replying
 mod Rising
 mod Settling
 mod Spelling

@@ -1,7 +1,7 @@
 -- What a meeting leaves follows from what its parts do.
-use Rattle.std.proofs.Common.{◌≡◌, ℕ, suc, ◌+◌, ◌<◌, ◌≤◌, List, [], ◌∷◌, ◌++◌, length, refl, sym, ap, subst, ◌∙◌, arith, length-append}
+use Rattle.std.proofs.Common.{◌≡◌, ℕ, zero, suc, Some, ◌+◌, ◌<◌, ◌≤◌, List, [], ◌∷◌, ◌++◌, length, refl, sym, ap, subst, ◌∙◌, arith, length-append}
 use Rattle.grb_order.specs.Word.{number_of, StartsWith}
-use Rattle.grb_records.specs.Token.{Shown}
+use Rattle.grb_records.specs.Token.{Shown, IsSameRecord}
 use Rattle.grb_call.specs.History.{History}
 use Rattle.std.specs.Prelude.{Result}
 use Rattle.grb_core.specs.declared.refusal.Refusal.{Refusal}
@@ -10,11 +10,24 @@ use Rattle.grb_order.specs.declared.view.View.{View}
 use Rattle.grb_pass.specs.Known.{Shared, Knowing, known, none_made, spelled, AreRecords, IsPassOf}
 use Rattle.grb_pass.specs.Laws.{Begins}
 use Rattle.grb_pass.specs.Learning.{IsSteady, Learns}
-use Rattle.grb_pass.specs.Meeting.{SharesCallAt, IsMet, Met}
+use Rattle.grb_pass.specs.Meeting.{IsSameRecordAt, SharesCallAt, IsMet, Met}
 use Rattle.grb_pass.proofs.Counted.{begun}
 use Rattle.grb_pass.proofs.Learnt.{learns_then, learns_told}
 use Rattle.grb_pass.proofs.Owning.{is_known, own_learns}
 use Rattle.grb_pass.proofs.Spelling.{nothing}
+
+one_token : (t u : Shown) → Some t ≡ Some u → t ≡ u
+one_token t u e = cc
+
+-- the records of the same words are the same
+same_records : (words rest : List ℕ) (mine theirs : List Shown) → AreRecords (words ++ rest) mine → AreRecords words theirs → (at : ℕ) → IsSameRecordAt mine theirs at
+same_records words rest [] theirs of_mine of_theirs at t u e f = cc
+same_records words rest (m ∷ mine) [] of_mine of_theirs at t u e f = cc
+same_records [] rest (m ∷ mine) (n ∷ theirs) of_mine of_theirs at t u e f = absurd of_theirs
+same_records (word ∷ words) rest (m ∷ mine) (n ∷ theirs) of_mine of_theirs zero t u e f =
+    let is_m : m ≡ t = one_token m t e in let is_n : n ≡ u = one_token n u f in
+    subst (λ (x : Shown). IsSameRecord x u) is_m (subst (λ (x : Shown). IsSameRecord m x) is_n (of_mine.0 ∙ sym of_theirs.0, of_mine.1 ∙ sym of_theirs.1))
+same_records (word ∷ words) rest (m ∷ mine) (n ∷ theirs) of_mine of_theirs (suc at) t u e f = same_records words rest mine theirs of_mine.2 of_theirs.2 at t u e f
 
 -- where the records of the same words have the same calls, the shorter history begins the longer
 spelled_front : (words rest : List ℕ) (mine theirs : List Shown) → AreRecords (words ++ rest) mine → AreRecords words theirs → length theirs ≤ length mine
@@ -32,6 +45,9 @@ module _ (p q : Knowing) (of_p : IsSteady p) (of_q : IsSteady q) (starts : Start
   fewer_shown =
       let words : length p.view.words ≡ length q.view.words + length starts.0 = ap length starts.1 ∙ length-append q.view.words starts.0 in
       let few : length q.shown ≤ length q.view.words = of_q.few in omega arith
+
+  pub one_record : (at : ℕ) → IsSameRecordAt p.shown q.shown at
+  one_record at = same_records q.view.words starts.0 p.shown q.shown (subst (λ (l : List ℕ). AreRecords l p.shown) starts.1 of_p.records) of_q.records at
 
   pub begins_known : ((at : ℕ) → at < length q.shown → SharesCallAt p.shown q.shown at) → Begins (known q) (known p)
   begins_known share =

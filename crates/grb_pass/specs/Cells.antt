@@ -2,7 +2,8 @@
 use Rattle.std.specs.Prelude.{◌≡◌, ℕ, ◌+◌, ◌<◌, ◌≤◌, List, [], ◌∷◌, Some, slice_get}
 use Rattle.grb_order.specs.Word.{index_of}
 use Rattle.grb_order.specs.declared.view.View.{View}
-use Rattle.grb_pass.specs.Evaluated.{EvaluatedView, IsInStep}
+use Rattle.grb_results.specs.declared.table.Table.{Table}
+use Rattle.grb_pass.specs.Evaluated.{IsInStep}
 use Rattle.grb_pass.specs.Known.{Knowing}
 
 -- the words at these positions name cells whose indices rise strictly, from `first` on, and are below `end`
@@ -15,6 +16,6 @@ abbrev pub OwnBelow : ℕ → View → Type 0
 OwnBelow end v = NameRising 0 end v.words v.own
 
 -- what a pass keeps: its parts are in step, and its next record goes after those that its own words name
-pub record IsPassState (p : Knowing) (e : EvaluatedView) (next : ℕ) : Type 0 where
-  pub step : IsInStep p e
+pub record IsPassState (p : Knowing) (t : Table) (next : ℕ) : Type 0 where
+  pub step : IsInStep p t
   pub own : OwnBelow next p.view

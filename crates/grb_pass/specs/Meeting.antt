@@ -8,6 +8,10 @@ use Rattle.grb_pass.specs.Explains.{IsUnshown}
 use Rattle.grb_pass.specs.Laws.{Begins}
 use Rattle.grb_pass.specs.Learning.{Learns}
 
+-- where both lists have a token at this place, these are of one record
+abbrev pub IsSameRecordAt : List Shown → List Shown → ℕ → Type 0
+IsSameRecordAt a b at = (t u : Shown) → slice_get a at ≡ Some t → slice_get b at ≡ Some u → IsSameRecord t u
+
 -- where two lists have a token of one record at this place, it has one call
 abbrev pub SharesCallAt : List Shown → List Shown → ℕ → Type 0
 SharesCallAt a b at = (t u : Shown) → slice_get a at ≡ Some t → slice_get b at ≡ Some u → IsSameRecord t u → t.call ≡ u.call

@@ -1,5 +1,5 @@
 -- believed: What an answer leaves of a pass (own).
-use Rattle.std.specs.Prelude.{◌≡◌, ◌<◌, ◌≤◌, false, length, IfOk, IfSome, OnErr, OnOk, Option, Some, None, Result}
+use Rattle.std.specs.Prelude.{◌≡◌, ◌<◌, ◌≤◌, false, length, IfOk, IfSome, OnErr, OnOk, Option, None, Result}
 use Rattle.std.specs.Option.{option_or}
 use Rattle.std.specs.declared.alloc.AllocError.{AllocError}
 use Rattle.grb_core.specs.declared.refusal.Refusal.{Refusal}
@@ -10,12 +10,13 @@ use Rattle.grb_call.specs.declared.reply.Reply.{Reply}
 use Rattle.grb_call.specs.After.{refused, reply_of}
 use Rattle.grb_call.specs.History.{store_of}
 use Rattle.grb_call.specs.Kinds.{enters, is_size}
-use Rattle.grb_call.specs.Status.{Statuses, info_of, made_by, object_of, with_status}
+use Rattle.grb_call.specs.Status.{Statuses, info_of, made_by, with_status}
 use Rattle.grb_call.specs.Statuses.{status_at}
 use Rattle.grb_call.specs.Store.{Store}
-use Rattle.grb_pass.specs.Evaluated.{EvaluatedView, IsEvaluatedFor}
+use Rattle.grb_results.specs.declared.table.Table.{Table}
+use Rattle.grb_pass.specs.Evaluated.{IsEvaluatedFor, LiesReadyAfter}
 use Rattle.grb_pass.specs.Known.{Knowing, known}
-use Rattle.grb_pass.specs.Settled.{LeavesReady, settled_by}
+use Rattle.grb_pass.specs.Settled.{LeavesReady, settled_by, waited_for}
 
 -- the statuses after this answer to a call about that object
 abbrev pub statuses_with : Knowing → Option Object → Result Reply Refusal → Statuses
@@ -25,13 +26,6 @@ statuses_with p object r = with_status (room_of p.order) (option_or object (made
 pub record ReadsStore (s : Store) (c : Call) : Type 0 where
   pub reads : enters c ≡ false
   pub no_size : is_size c ≡ false
-  pub accepted : refused s c ≡ None
-
--- and it is about this one object
-pub record ReadsObject (s : Store) (o : Object) (c : Call) : Type 0 where
-  pub reads : enters c ≡ false
-  pub no_size : is_size c ≡ false
-  pub about : object_of c ≡ Some o
   pub accepted : refused s c ≡ None
 
 -- what a pass leaves that replies to such a call by what it evaluates: where all that it knows is settled it makes no call, and is refused
@@ -45,10 +39,13 @@ pub record IsReplied (old new : Knowing) (c : Call) (r : Result Reply AllocError
   pub made : length (known old) ≤ old.settled → new.made.count ≡ old.made.count
   pub ready : OnOk r (LeavesReady new c)
 
--- the same, with what was evaluated before and after, where no reply may be given
-pub record IsGiven (old new : Knowing) (before after : EvaluatedView) (c : Call) (r : Result (Option Reply) AllocError) : Type 0 where
-  pub same : new ≡ old
+-- the same, with what was evaluated before and after; the object that the call waits for lies ready
+pub record IsGiven (old new : Knowing) (before after : Table) (c : Call) (r : Result Reply AllocError) : Type 0 where
+  pub reply : IfOk r (λ reply. reply ≡ reply_of (store_of (known old)) c)
+  pub unsettled : OnErr r (old.settled < length (known old))
+  pub same : new ≡ record old { settled = new.settled }
+  pub settled : OnOk r (new.settled ≡ settled_by c (length (known old)) old.settled)
+  pub err : OnErr r (new.settled ≡ old.settled)
   pub evaluated : IsEvaluatedFor new after
   pub made : length (known old) ≤ old.settled → after.made ≡ before.made
-  pub reply : IfOk r (λ given. IfSome given (λ reply. reply ≡ reply_of (store_of (known old)) c))
-  pub unsettled : OnErr r (old.settled < length (known old))
+  pub ready : OnOk r (IfSome (waited_for c) (λ o. LiesReadyAfter after o (length (known old))))

@@ -17,7 +17,6 @@ mod read;
 mod reader;
 mod row;
 mod shared;
-mod sharing;
 mod succeed;
 
 pub use grb_rebuild::{NoSuccessor, Renumbered};

@@ -12,7 +12,8 @@ use crate::shared::Shared;
 use grb_core::Refusal;
 
 impl Shared {
-    /// What the other pass knows begins what the first one knows, since each record has one call. Changes neither.
+    /// What the other pass knows begins what the first one knows, since each record has one call. Changes neither; the loop says it for each
+    /// record, and leaves no instruction.
     fn agree(&self, reader: &mut Reader, other: &mut Reader)
         requires reader { IsPassOf self.now reader.old }
         requires other { IsPassOf self.now other.old }
@@ -25,7 +26,7 @@ impl Shared {
         ensures other { other.new ≡ other.old }
     {
         for at in 0..other.known() as usize {
-            reader.compare(&self.records, other, at);
+            reader.agree_at(&self.records, other, at);
         }
     }
 
@@ -57,8 +58,8 @@ impl Shared {
         self.meet_reader(&mut pass.reader, &mut other.reader)
     }
 
-    /// Lets the pass learn all that the other knows, as `meet` does, and then go on from what the other has evaluated: an answer makes what
-    /// is left. Both share those objects until one of them changes one. Takes memory for places; where it is refused, the pass evaluates
+    /// Lets the pass learn all that the other knows, as `meet` does, and then keep also what the other has evaluated: an answer makes what is
+    /// left. Both share those objects until one of them changes one; no entry is copied before. Where memory is refused, the pass evaluates
     /// for itself.
     pub fn adopt(&self, pass: &mut Pass, other: &mut Pass) -> Result<(), Refusal>
         requires pass { IsPassOf self.now pass.old }
@@ -68,14 +69,14 @@ impl Shared {
     {
         let met = self.meet(pass, other);
         if met.is_ok() {
-            pass.take_over(other);
+            pass.take_over(&self.records, other);
         }
         met
     }
 
-    /// Evaluates what the pass knows where that is dear, so that passes that adopt it have no work of their own with that, and answers how
-    /// many of the calls that it knows are evaluated then. It learns nothing and changes no answer. Takes memory for the evaluation; where
-    /// it is refused, fewer are evaluated.
+    /// Evaluates what the pass knows where that is dear, so that passes that adopt it have no work of their own with that, and answers before
+    /// how many of the calls that it knows none is made any more, whatever is asked: all of them where each object is evaluated. It learns
+    /// nothing and changes no answer. Takes memory for the evaluation; where it is refused, fewer are evaluated.
     pub fn prepare(&self, pass: &mut Pass) -> u32
         requires { IsPassOf self.now pass.old }
         ensures pass { IsPassOf self.now pass.new }

@@ -29,13 +29,14 @@ use crate::back_off::BackOff;
 use crate::evaluated::Evaluated;
 use crate::reader::Reader;
 use crate::row::RecordRow;
-use grb_call::{Call, Class, Extent, Kind, MatrixId, Object, Reply, VectorId, WaitMode};
+use grb_call::{Call, Class, Kind, MatrixId, Object, Reply, VectorId, WaitMode};
 use grb_core::{Info, Refusal};
 use grb_order::{Order, Seat};
 use grb_rebuild::{NoSuccessor, Rebuild, Renumbered};
 use grb_records::{Records, Token};
-use grb_replay::{Editions, State};
+use grb_replay::Versions;
 use grb_sparse::{SparseMatrix, SparseVector};
+use grb_state::State;
 use std::alloc::{AllocError, Global};
 use std::marker::Model;
 use std::sync::Arc;
@@ -92,21 +93,6 @@ fn waited_for(call: &Call) -> Option<Object>
     }
 }
 
-/// The object that a call reads entries of, or has the changes done of, where it is one object.
-fn object_read(call: &Call) -> Option<Object>
-    ensures about { IfSome result (λ object. object_of call.now ≡ Some object) }
-    ensures no_wait { IfSome result (λ object. is_materialize call.now ≡ false) }
-{
-    match call.class() {
-        Class::Reads(Extent::Object) => call.object(),
-        Class::Reads(Extent::All)
-        | Class::Makes
-        | Class::Edits
-        | Class::Operates
-        | Class::AsksDimensions => None,
-    }
-}
-
 impl Pass {
     /// A pass that knows no call, with memory for all that it can learn. `AllocError` where memory is refused.
     pub(crate) fn open(
@@ -114,7 +100,7 @@ impl Pass {
         number: u32,
         seat: Seat,
         room: u32,
-        editions: Arc<Editions>,
+        versions: Arc<Versions>,
         alone: bool,
     ) -> Result<Pass, AllocError>
         requires number { (number ≡ seat.view.number) × (number < seat.view.passes) }
@@ -123,7 +109,7 @@ impl Pass {
         ensures { IfOk result (λ pass. pass ≡ new_pass seat.table_id seat.view) }
     {
         let reader = Reader::open(alloc, number, seat, room)?;
-        let evaluated = Evaluated::open(alloc, room, editions, alone)?;
+        let evaluated = Evaluated::open(alloc, room, versions, alone)?;
         Ok(Pass {
             reader,
             evaluated,
@@ -164,9 +150,9 @@ impl Pass {
         self.reader.steps()
     }
 
-    /// How many calls of the history the pass's last call made to answer: each that it applied to its store, or to the partial stores of
-    /// the objects that it reads. A call that is made twice counts twice, and one that was refused memory counts; those that the pass has
-    /// of another's, by an edition or by [`Shared::adopt`](crate::Shared::adopt), do not. 0 before a first call and after a meeting; after
+    /// How many calls of the history the pass's last call made to answer: only calls on which the answer depends and whose results it lacked. A
+    /// call that is made twice counts twice, and one that was refused memory may count; those whose results the pass has of another's, by an
+    /// edition or by [`Shared::adopt`](crate::Shared::adopt), do not. 0 before a first call and after a meeting; after
     /// [`Shared::prepare`](crate::Shared::prepare) what that made, and after a list of calls what its last call made. It is for tests and
     /// for services that watch what reads cost. It is 0 after a call that enters and is no build, one for dimensions, a read that shapes
     /// refuse, and a read where all known calls are settled; no contract says more of the number (own). Takes no memory.
@@ -294,15 +280,14 @@ impl Pass {
         rebuild
     }
 
-    /// Takes this store, which the known calls leave, for what was evaluated. Takes no memory.
-    pub(crate) fn begin_with(&mut self, state: State)
-        requires store { state.store ≡ store_of (known self.old) }
-        requires room { room_of self.old.order ≤ state.room + length (known self.old) }
-        requires assembled { IsAssembled state }
+    /// Takes this store, which the known calls leave, for what was evaluated. Where memory is refused, an answer makes what it needs.
+    pub(crate) fn begin_with(&mut self, records: &Records, state: &State)
+        requires records { All (IsOf records.now) self.old.shown }
+        requires store { state.now.store ≡ store_of (known self.old) }
         requires none { self.old.made.ready ≡ None }
         ensures { self.new ≡ self.old }
     {
-        self.evaluated.begin_with(&self.reader, state);
+        self.evaluated.begin_with(records, &mut self.reader, state);
     }
 
     /// Puts the call as the next record of the pass, as [`RecordRow::put`] does. It is none that a word of the pass names. `OutOfMemory`
@@ -321,95 +306,55 @@ impl Pass {
         self.row.put(records, number, room, call)
     }
 
-    /// Goes on from what the other has evaluated, whose calls begin those that this pass knows.
-    pub(crate) fn take_over(&mut self, other: &Pass)
+    /// Keeps also what the other has evaluated, whose calls begin those that this pass knows.
+    pub(crate) fn take_over(&mut self, records: &Records, other: &Pass)
+        requires records { All (IsOf records.now) self.old.shown }
         requires begins { Begins (known other.now) (known self.old) }
         requires none { self.old.made.ready ≡ None }
         ensures same { self.new ≡ self.old }
     {
         self.evaluated
-            .take_over(&self.reader, &other.reader, &other.evaluated);
+            .take_over(records, &mut self.reader, &other.reader, &other.evaluated);
     }
 
-    /// Evaluates what the pass knows where that is dear, so that others can go on from there; how many of the known calls are evaluated
-    /// then.
+    /// Evaluates what the pass knows where that is dear, so that others can go on from there; how many of the known calls no answer makes any
+    /// more before another one.
     pub(crate) fn prepare(&mut self, records: &Records) -> u32
         requires records { All (IsOf records.now) self.old.shown }
         ensures same { self.new ≡ record self.old { made = self.new.made } }
         ensures count { result ≤ length (known self.new) }
     {
         self.evaluated.begin();
-        self.evaluated.go_on(records, &mut self.reader);
-        self.evaluated.prepare(records, &mut self.reader);
+        let count = self.evaluated.prepare(records, &mut self.reader);
         self.reader.note_made(self.evaluated.made());
-        self.evaluated.count(&self.reader)
+        count
     }
 
-    /// Goes on from what another pass evaluated and offered, where it is time to ask for that. No memory is missed by that.
-    fn go_on(&mut self, records: &Records)
-        requires records { All (IsOf records.now) self.old.shown }
-        ensures same { self.new ≡ record self.old { made = record self.old.made { ready = None } } }
+    /// Drops all that the pass has evaluated. What an answer needs is made anew, or found with other passes; no known calls are settled any
+    /// more. What the pass knows stays. Other passes, and who holds a snapshot, keep what they have. Takes no memory (own).
+    pub fn release(&mut self)
+        ensures { self.new ≡ record self.old { settled = 0; made = none_made } }
     {
-        self.reader.forget_ready();
-        self.evaluated.go_on(records, &mut self.reader);
+        self.reader.note_made(0);
+        self.reader.unsettle();
+        self.evaluated.begin();
+        self.evaluated.release();
     }
 
-    /// Whether the object that the call waits for lies ready, after all known calls: then that is noted. None is awaited by a call that
-    /// waits for no single object.
-    fn leaves_ready(&mut self, call: &Call) -> bool
-        requires none { self.old.made.ready ≡ None }
-        ensures same { self.new ≡ record self.old { made = self.new.made } }
-        ensures count { self.new.made.count ≡ self.old.made.count }
-        ensures ready { result ≡ true → LeavesReady self.new call.now }
-    {
-        let Some(object) = waited_for(call) else {
-            return true;
-        };
-        if !self.evaluated.lies_ready(&self.reader, object) {
-            return false;
-        }
-        self.reader.note_ready(Some(object));
-        true
-    }
-
-    /// The reply to a call that reads entries or has changes done, after all known ones, which it evaluates. One that waits for all objects
-    /// goes on with an edition of just these calls, if there is one, and settles them; one that waits for one object leaves that ready.
-    /// `AllocError` where memory is refused; then no more calls are settled than before.
-    fn reply_of_all(&mut self, records: &Records, call: &Call) -> Result<Reply, AllocError>
-        requires call { ReadsStore (store_of (known self.old)) call.now }
-        requires records { All (IsOf records.now) self.old.shown }
-        ensures { IsReplied self.old self.new call.now result }
-    {
-        self.evaluated.take_ready(records, &mut self.reader, call);
-        let all = self.evaluated.make_all(records, &mut self.reader);
-        self.reader.note_made(self.evaluated.made());
-        all?;
-        self.evaluated.settle(records, &mut self.reader, call)?;
-        self.reader.note_ready(waited_for(call));
-        Ok(self.evaluated.reply(call))
-    }
-
-    /// The reply to a call that reads entries or has changes done, after all known ones, which it evaluates: all of them, or only those
-    /// that the object depends on which it reads. One that waits for all objects settles them; one that waits for one object leaves that
-    /// ready. `AllocError` where memory is refused; then no more calls are settled than before.
+    /// The reply to a call that reads entries or has changes done, after all known ones: only calls are made that it needs. One that waits for
+    /// all objects settles them; one that waits for one object leaves that ready. `AllocError` where memory is refused; then no more calls
+    /// are settled than before.
     fn reply_of_entries(&mut self, records: &Records, call: &Call) -> Result<Reply, AllocError>
         requires call { ReadsStore (store_of (known self.old)) call.now }
         requires records { All (IsOf records.now) self.old.shown }
         ensures { IsReplied self.old self.new call.now result }
     {
-        self.go_on(records);
-        if let Some(object) = object_read(call) {
-            let reply = self
-                .evaluated
-                .reply_of_object(records, &mut self.reader, object, call);
-            self.reader.note_made(self.evaluated.made());
-            if let Some(reply) = reply? {
-                if self.leaves_ready(call) {
-                    return Ok(reply);
-                }
-            }
-        }
-        self.reply_of_all(records, call)
+        self.reader.forget_ready();
+        let reply = self.evaluated.reply(records, &mut self.reader, call);
+        self.reader.note_made(self.evaluated.made());
+        let reply = reply?;
+        self.reader.note_ready(waited_for(call));
+        Ok(reply)
     }
 
     /// How many entries the object of a build stores after all known calls, as far as these are needed to tell. `AllocError` where memory

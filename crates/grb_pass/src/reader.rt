@@ -5,13 +5,13 @@
 //!
 //! 1. `look` loads the first word that is not learnt, and learns it where it is not 0. It is one step, which is counted.
 //! 2. `next_unshown` names the first word without a token. Its record is read from the cells of the pass that entered it (`learn.rt`), and
-//!    `admit` takes in its token, its target, its shapes and its work. A record that is not shown leaves the lists as they are; the next
+//!    `admit` takes in its token, its target and its shapes. A record that is not shown leaves the lists as they are; the next
 //!    call begins there.
 //! 3. `check`, `reply` and `size` read the lists alone: no step, and no memory.
 //! 4. `enter` is made where each word has its token and the last look found 0. Where it is won the own word, token and shapes are added at
 //!    once; where it is lost the other's word alone, and the token comes back.
-//! 5. `tell` learns the words of another reader, and `compare` compares two tokens of one record, since two tokens that were compared have
-//!    one call. Both take the other by `&mut`, so a meeting has both passes to itself.
+//! 5. `tell` learns the words of another reader, and `agree_at` brings two tokens of one record together, which so have one call. Both take
+//!    the other by `&mut`, so a meeting has both passes to itself.
 //!
 //! All lists have places for each word of the order from `open` on. So no step takes memory, and none waits: each makes one step on the
 //! order at most, `tell` one for each word that it learns and three of the first word.
@@ -33,7 +33,7 @@ ghost use Rattle.grb_call.specs.Statuses.{status_at};
 ghost use Rattle.grb_pass.specs.Known.{known, new_pass, none_made};
 ghost use Rattle.grb_pass.specs.Learning.{Enters, IsNextUnshown, IsSteady};
 ghost use Rattle.grb_pass.specs.Counting.{Counts, look_steps};
-ghost use Rattle.grb_pass.specs.Meeting.{SharesCallAt};
+ghost use Rattle.grb_pass.specs.Meeting.{IsSameRecordAt, SharesCallAt};
 ghost use Rattle.grb_pass.specs.Replying.{statuses_with};
 
 use grb_call::{
@@ -42,8 +42,8 @@ use grb_call::{
 use grb_core::{Info, Refusal};
 use grb_order::{Entered, Look, Order, Seat};
 use grb_records::{Records, Token};
-use grb_replay::{Amount, Targets, live_objects};
-use grb_slices::{CallList, Wanted};
+use grb_replay::Targets;
+use grb_slices::CallList;
 use std::alloc::{AllocError, Global};
 use std::marker::Model;
 
@@ -66,8 +66,6 @@ pub(crate) struct Reader {
     made: u32,
     // The object that it left ready, and how many calls were known then.
     ready: Option<(Object, u32)>,
-    // How much work the known calls are.
-    amount: Amount,
 }
 
 impl Model for Reader {
@@ -119,7 +117,6 @@ impl Reader {
             settled: 0,
             made: 0,
             ready: None,
-            amount: Amount::none(),
         })
     }
 
@@ -204,6 +201,13 @@ impl Reader {
         self.settled = self.known();
     }
 
+    /// No known calls are settled any more.
+    pub(crate) fn unsettle(&mut self)
+        ensures { self.new ≡ record self.old { settled = 0 } }
+    {
+        self.settled = 0;
+    }
+
     /// Keeps the status that this answer leaves on the target of its call, which is about that object.
     pub(crate) fn keep(&mut self, object: Option<Object>, answer: &Result<Reply, Refusal>)
         ensures same { self.new ≡ record self.old { statuses = self.new.statuses } }
@@ -243,16 +247,6 @@ impl Reader {
         self.tokens.len() as u32
     }
 
-    /// The objects that are there after all known calls. `AllocError` where memory is refused.
-    pub(crate) fn live_objects(&self) -> Result<Wanted, AllocError> {
-        live_objects(self.allocator(), self.targets.shapes())
-    }
-
-    /// How much work the known calls are, beyond those of this part.
-    pub(crate) fn amount_beyond(&self, part: &Amount) -> Amount {
-        self.amount.beyond(part)
-    }
-
     /// The word learnt first of those whose record was not shown.
     pub(crate) fn next_unshown(&self) -> Option<u64>
         ensures next { MatchOption result (length self.now.shown ≡ length self.now.view.words) (λ word. IsNextUnshown self.now word) }
@@ -276,7 +270,6 @@ impl Reader {
         ensures { self.new ≡ record self.old { shown = self.old.shown ++ token ∷ [] } }
     {
         self.targets.go_over(call);
-        self.amount.add(call);
         self.tokens.push_reserved(token);
     }
 
@@ -321,17 +314,18 @@ impl Reader {
         self.steps = self.words() - before;
     }
 
-    /// Where both have a token of one record at this place, it has one call. Changes neither.
-    pub(crate) fn compare(&mut self, records: &Records, other: &mut Reader, at: usize)
+    /// Both have a token of one record at this place, so it has one call. Changes neither, and takes no time.
+    pub(crate) fn agree_at(&mut self, records: &Records, other: &mut Reader, at: usize)
         requires mine { at < length self.old.shown }
         requires theirs { at < length other.old.shown }
         requires of { All (IsOf records.now) self.old.shown }
         requires of_other { All (IsOf records.now) other.old.shown }
+        requires record { IsSameRecordAt self.old.shown other.old.shown at }
         ensures call { SharesCallAt self.old.shown other.old.shown at }
         ensures same { self.new ≡ self.old }
         ensures other { other.new ≡ other.old }
     {
-        records.same(&mut self.tokens[at], &mut other.tokens[at]);
+        records.agree(&mut self.tokens[at], &mut other.tokens[at]);
     }
 
     /// What becomes of the call after all known ones, or its refusal.
@@ -412,7 +406,6 @@ impl Reader {
         match order.enter(&mut self.seat, token.index()) {
             Entered::Won => {
                 self.targets.take_in(call);
-                self.amount.add(call);
                 self.tokens.push_reserved(token);
                 None
             }

@@ -8,7 +8,7 @@ ghost use Rattle.grb_pass.specs.Known.{AreNew, HasNoStatus, IsPassOf};
 use crate::pass::Pass;
 use grb_order::{Order, Seat};
 use grb_records::Records;
-use grb_replay::Editions;
+use grb_replay::Versions;
 use std::alloc::{AllocError, Global};
 use std::marker::Model;
 use std::sync::Arc;
@@ -28,11 +28,11 @@ impl Model for Shared {
     ghost view = { λ s. record { order = s.order; records = s.records } };
 }
 
-/// Places for the evaluated stores that passes share. `AllocError` where memory is refused.
-fn editions_for(alloc: Global, room: u32) -> Result<Arc<Editions>, AllocError> {
-    let editions = Editions::open(alloc, room)?;
-    match Arc::new(alloc, editions) {
-        Ok(editions) => Ok(editions),
+/// Places for the results that passes share. `AllocError` where memory is refused.
+fn versions_for(alloc: Global, room: u32) -> Result<Arc<Versions>, AllocError> {
+    let versions = Versions::open(alloc, room)?;
+    match Arc::new(alloc, versions) {
+        Ok(versions) => Ok(versions),
         Err(_refused) => Err(AllocError),
     }
 }
@@ -44,7 +44,7 @@ fn passes_of(
     seats: Vec<Seat>,
     room: u32,
     passes: u32,
-    editions: &Arc<Editions>,
+    versions: &Arc<Versions>,
 ) -> Result<Vec<Pass>, AllocError>
     requires room { (room_of order.now ≡ room) × (room ≤ MOST_ROOM) }
     requires passes { passes ≤ MOST_PASSES }
@@ -54,8 +54,8 @@ fn passes_of(
     let mut opened = Vec::with_capacity(alloc, passes as usize)?;
     for seat in seats {
         let number = opened.len() as u32;
-        let editions = Arc::try_clone(editions)?;
-        opened.push_reserved(Pass::open(alloc, number, seat, room, editions, passes == 1)?);
+        let versions = Arc::try_clone(versions)?;
+        opened.push_reserved(Pass::open(alloc, number, seat, room, versions, passes == 1)?);
     }
     Ok(opened)
 }
@@ -76,8 +76,8 @@ impl Shared {
     {
         let (order, seats) = Order::open(alloc, room, passes)?;
         let records = Records::open(alloc, passes, room)?;
-        let editions = editions_for(alloc, room)?;
-        let opened = passes_of(alloc, &order, seats, room, passes, &editions)?;
+        let versions = versions_for(alloc, room)?;
+        let opened = passes_of(alloc, &order, seats, room, passes, &versions)?;
         Ok((Shared { order, records }, opened))
     }
 }

@@ -12,7 +12,6 @@ ghost use Rattle.grb_state.specs.Live.{live_store};
 ghost use Rattle.grb_rebuild.specs.Rebuilding.{IsNoSuccessor, IsRebuild};
 ghost use Rattle.grb_rebuild.specs.Rebuilt.{AreTaken};
 ghost use Rattle.grb_rebuild.specs.Renumbered.{AreRenumbered};
-ghost use Rattle.grb_pass.specs.Evaluated.{IsAssembled};
 ghost use Rattle.grb_pass.specs.Known.{AreNew, IsPassOf, Knowing, known, none_made};
 ghost use Rattle.grb_pass.specs.Learning.{IsSteady};
 ghost use Rattle.grb_pass.specs.Succeeding.{made_by, AreBegun, IsOpenedWith};
@@ -23,7 +22,7 @@ use crate::shared::Shared;
 use grb_call::Call;
 use grb_core::Refusal;
 use grb_rebuild::{NoSuccessor, Rebuild, Renumbered};
-use grb_replay::State;
+use grb_state::State;
 use std::alloc::Global;
 
 /// What a refusal of a call of the new store says.
@@ -118,8 +117,6 @@ impl Shared {
         requires none { known pass.old ≡ [] }
         requires taken { AreTaken empty_store calls.items }
         requires store { state.store ≡ after_all empty_store calls.items }
-        requires room { room_of self.now.order ≤ state.room + length calls.items }
-        requires assembled { IsAssembled state }
         ensures pass { OnOk result (IsPassOf self.now pass.new) }
         ensures number { OnOk result (pass.new.view.number ≡ pass.old.view.number) }
         ensures passes { OnOk result (pass.new.view.passes ≡ pass.old.view.passes) }
@@ -133,7 +130,7 @@ impl Shared {
             return Err(why(refusal));
         }
         pass.begin();
-        pass.begin_with(state);
+        pass.begin_with(&self.records, &state);
         Ok(())
     }
 

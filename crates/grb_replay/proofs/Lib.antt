@@ -1,9 +1,6 @@
 mod Begins
 pub mod HeldNow
 mod SameCalls
-mod Served
 pub mod NextTarget
-pub mod Onward
-pub mod Partial
-pub mod GoneOver
+mod Taken
 pub mod Valued

@@ -26,12 +26,6 @@ pub length-targets_of : (s : ObjectShapes) (cs : List Call) → length (targets_
 length-targets_of s [] = refl
 length-targets_of s (c ∷ cs) = ap suc (length-targets_of (shapes_after s c) cs)
 
--- the targets after a place are those of the calls after it
-pub targets_of_rest : (s : Store) (cs : List Call) (k : ℕ) → drop k (targets_of (shapes_of s) cs) ≡ targets_of (shapes_of (after_all s (take k cs))) (drop k cs)
-targets_of_rest s cs zero = refl
-targets_of_rest s [] (suc k) = refl
-targets_of_rest s (c ∷ cs) (suc k) = ap (λ (u : ObjectShapes). drop k (targets_of u cs)) (sym (shapes_of-after s c)) ∙ targets_of_rest (after s c) cs k
-
 module _ (s : Store) (old new : WalkedCalls) (cs : List Call) (at : ℕ) (c : Call) (was : AreTargetsOf s old cs) (here : length old.targets ≡ at) (less : at < length cs) (is : get_or cs at c ≡ c)
     (pushed : new.targets ≡ old.targets ++ effective_target old.shapes.objects c ∷ []) (shaped : new.shapes.objects ≡ shapes_after old.shapes.objects c) where
   first : List Call
@@ -79,18 +73,6 @@ walked_further s first old new known bs at c begun lent was here less is pushed 
     let count : length bs ≡ length known - n = ap length lent ∙ length-drop n known in
     let same : get_or known (n + at) c ≡ c = sym (get_or-drop n known at c) ∙ (ap (λ (cs : List Call). get_or cs at c) (sym lent) ∙ is) in
     walked_next s old new known (n + at) c was here (omega (arith, less, count)) same pushed shaped
-
--- the walk stands where more calls come
-pub walked_more : (s : Store) (t : WalkedCalls) (cs ds : List Call) → AreTargetsOf s t cs → AreTargetsOf s t (cs ++ ds)
-walked_more s t cs ds was = record {
-  within = more cs ds (length t.targets) was.within;
-  targets_are = was.targets_are ∙ ap (targets_of (shapes_of s)) (sym (take-append-le (length t.targets) cs ds was.within));
-  shapes_are = was.shapes_are ∙ ap (λ (xs : List Call). shapes_of (after_all s xs)) (sym (take-append-le (length t.targets) cs ds was.within));
-} where
-  more : (xs ys : List Call) (n : ℕ) → n ≤ length xs → n ≤ length (xs ++ ys)
-  more [] ys n le = omega (arith, le)
-  more (x ∷ xs) ys zero le = omega arith
-  more (x ∷ xs) ys (suc n) le = let rest : n ≤ length (xs ++ ys) = more xs ys n (omega (arith, le)) in omega (arith, rest)
 
 -- the walk over all calls
 pub walk_ends : (s : Store) (t : WalkedCalls) (cs : List Call) → AreTargetsOf s t cs → length t.targets ≡ length cs → (t.targets ≡ targets_of (shapes_of s) cs) × (t.shapes.objects ≡ shapes_of (after_all s cs))

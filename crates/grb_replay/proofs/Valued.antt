@@ -3,13 +3,12 @@ use Rattle.std.proofs.Common.{◌≡◌, is_some, option_map, refl, if◌then◌
 use Rattle.std.specs.Option.{option_map_or}
 use Rattle.grb_core.specs.declared.refusal.Refusal.{Refusal}
 use Rattle.grb_call.specs.declared.reply.Reply.{Reply}
-use Rattle.grb_call.specs.Kinds.{enters}
 use Rattle.grb_call.specs.After.{answer, refused, reply_of}
 use Rattle.grb_call.specs.declared.call.Call.{Call}
 use Rattle.grb_call.specs.declared.ids.Object.{Object}
 use Rattle.grb_call.specs.declared.ids.Object.TheVariants as object
 use Rattle.grb_call.specs.Shapes.{ObjectShapes, is_live}
-use Rattle.grb_call.specs.Status.{is_same_object, object_of}
+use Rattle.grb_call.specs.Status.{is_same_object}
 use Rattle.grb_call.specs.Store.{Store, empty_store, matrix_at, matrix_shape, shapes_of, vector_at, vector_shape}
 use Rattle.grb_call.proofs.ShapesAfter.{object_at-map}
 use Rattle.grb_call.specs.History.{after_all}
@@ -21,7 +20,6 @@ use Rattle.grb_slices.specs.Wanted.{is_wanted}
 use Rattle.grb_replay.specs.Held.{slice_of, slice_length}
 use Rattle.grb_slices.specs.Followed.{Follows, GoesOn, HasGoneOver, targets_of}
 use Rattle.grb_slices.proofs.Going.{entries_are}
-use Rattle.grb_slices.proofs.Answered.{same_answer}
 
 -- the elements of the slice of one object, which is all that is wanted
 pub slice_is : (o : Object) (s : Store) (cs : List Call) (ts : List (Option Object)) (w : Wants) → ((p : Object) → w p ≡ is_same_object o p) → ts ≡ targets_of (shapes_of s) cs →
@@ -29,16 +27,6 @@ pub slice_is : (o : Object) (s : Store) (cs : List Call) (ts : List (Option Obje
 slice_is o s cs ts w one targets =
     ap (λ (v : Wants). (sliced v (entries ts cs)).elements) (λ i p. one p i)
     ∙ ap (λ (xs : List Step). (sliced (is_same_object o) xs).elements) (ap (λ (us : List (Option Object)). entries us cs) targets ∙ entries_are (shapes_of s) cs)
-
--- the answer by the part, where the object holds the same as in the whole
-pub refused-by : (whole part : Store) (c : Call) (o : Object) (r : Refusal) → enters c ≡ false → object_of c ≡ Some o → content_at whole o ≡ content_at part o → refused part c ≡ Some r →
-    ◌≡◌ {A = Result Reply Refusal} (Err r) (answer whole c)
-refused-by whole part c o r reads about same is = sym (same_answer whole part c o reads about same ∙ ap (λ (p : Option Refusal). option_map_or Err p (Ok (reply_of part c))) is)
-
-pub replied-by : (whole part : Store) (c : Call) (o : Object) (r : Reply) → enters c ≡ false → object_of c ≡ Some o → content_at whole o ≡ content_at part o → refused part c ≡ None → r ≡ reply_of part c →
-    ◌≡◌ {A = Result Reply Refusal} (Ok r) (answer whole c)
-replied-by whole part c o r reads about same is replied =
-    ap Ok replied ∙ sym (same_answer whole part c o reads about same ∙ ap (λ (p : Option Refusal). option_map_or Err p (Ok (reply_of part c))) is)
 
 none_of : {X Y Z : Type 0} (f : X → Y) (g : X → Z) (x : Option X) → is_some (option_map f x) ≡ false → option_map g x ≡ None
 none_of f g (Some x) e = cc
@@ -54,11 +42,6 @@ pub replied : (s : Store) (c : Call) (r : Reply) → refused s c ≡ None → �
 replied s c r accepted is = same_ok r (reply_of s c) (is ∙ ap (λ (p : Option Refusal). option_map_or Err p (Ok (reply_of s c))) accepted) where
   same_ok : (a b : Reply) → ◌≡◌ {A = Result Reply Refusal} (Ok a) (Ok b) → a ≡ b
   same_ok a b e = cc
-
-pub not_refused : (s : Store) (c : Call) (r : Refusal) → refused s c ≡ None → ◌≡◌ {A = Result Reply Refusal} (Err r) (answer s c) → ⊥
-not_refused s c r accepted is = apart r (reply_of s c) (is ∙ ap (λ (p : Option Refusal). option_map_or Err p (Ok (reply_of s c))) accepted) where
-  apart : (a : Refusal) (b : Reply) → ◌≡◌ {A = Result Reply Refusal} (Err a) (Ok b) → ⊥
-  apart a b e = cc
 
 -- a part that holds more
 pub narrowed : (v w : Wants) (whole part : Store) → ((p : Object) → w p ≡ true → v p ≡ true) → Follows v whole part → Follows w whole part

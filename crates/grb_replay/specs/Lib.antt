@@ -1,10 +1,8 @@
-pub mod Advanced
 pub mod Held
 pub mod Partial
-pub mod Reached
 pub mod Targets
-pub mod Editions
-pub use Rattle.grb_state.specs.Evaluated
+pub mod Versions
+pub use Rattle.grb_results.specs.Kept
+pub use Rattle.grb_results.specs.Results
 pub use Rattle.grb_state.specs.Settled
-pub use Rattle.grb_state.specs.StoredIn
 pub use Rattle.grb_state.specs.State

@@ -1,35 +1,34 @@
-//! An edition: calls, and the store that they leave.
-ghost use Rattle.std.specs.Prelude.{◌≡◌, ◌<◌, ◌≤◌, IsTrue, IfOk, IfSome, length, map, take};
-ghost use Rattle.grb_state.specs.Settled.{AreAllAssembled};
-ghost use Rattle.grb_state.specs.State.{is_assembled};
-ghost use Rattle.grb_replay.specs.Advanced.{IsAdvanced, MayAdvance};
-ghost use Rattle.grb_replay.specs.Editions.{IsFold, Serves};
+//! An edition: calls, and results of them.
+ghost use Rattle.std.specs.Prelude.{◌≡◌, ◌<◌, ◌≤◌, List, IsTrue, IfOk, IfSome, length, map, take};
+ghost use Rattle.grb_call.specs.declared.call.Call.{Call};
+ghost use Rattle.grb_results.specs.declared.exchange.Kept.{Kept};
+ghost use Rattle.grb_results.specs.Kept.{AreKept, IsSameBut, KeepsAll};
+ghost use Rattle.grb_results.specs.Results.{IsTable};
+ghost use Rattle.grb_replay.specs.Versions.{IsTaken};
 
 use counted_slot::Fits;
 use grb_call::Call;
-use grb_state::State;
+use grb_results::{Kept, Table};
 use std::alloc::{AllocError, Global};
 use std::marker::Model;
 
-/// Calls, and the store that they leave, in which no change waits.
+/// Calls, and results of them.
 #[derive(Drop)]
 pub(crate) struct Edition {
     calls: Vec<Call>,
-    state: State,
+    results: Vec<Kept>,
 }
 
 impl Model for Edition {
     ghost use Rattle.std.specs.Prelude.{◌<◌, length};
-    ghost use Rattle.grb_state.specs.Settled.{AreAllAssembled};
-    ghost use Rattle.grb_state.specs.State.{is_assembled};
-    ghost use Rattle.grb_replay.specs.Editions.{EditionView, IsFold};
+    ghost use Rattle.grb_results.specs.Kept.{AreKept};
+    ghost use Rattle.grb_replay.specs.Versions.{EditionView};
 
     ghost Value = { EditionView };
 
-    ghost view = { λ v. record { calls = v.calls.items; state = v.state } };
+    ghost view = { λ v. record { calls = v.calls.items; results = v.results.items } };
 
-    ghost invariant = { λ v. IsFold v.calls.items v.state.store × AreAllAssembled (is_assembled v.state.matrices v.state.vectors)
-        × (0 < length v.calls.items) };
+    ghost invariant = { λ v. AreKept v.calls.items v.results.items × (0 < length v.calls.items) };
 }
 
 /// Any edition fits a place: its type says all that readers need.
@@ -46,10 +45,11 @@ fn is_same_call(a: &Call, b: &Call) -> bool
     a == b
 }
 
-/// Whether the calls begin with these. Takes no memory.
+/// Whether the calls begin with these, so that results of these are results of them. Takes no memory.
 fn begin_with(calls: &[&Call], first: &[Call]) -> bool
     ensures same { IsTrue result → take (length first.now) (map (λ c. c.now) calls.now) ≡ first.now }
     ensures within { IsTrue result → length first.now ≤ length calls.now }
+    ensures kept { IsTrue result → (results : List Kept) → AreKept first.now results → AreKept (map (λ c. c.now) calls.now) results }
 {
     if first.len() > calls.len() {
         return false;
@@ -73,28 +73,42 @@ fn copies(alloc: Global, calls: &[&Call]) -> Result<Vec<Call>, AllocError>
     Ok(copies)
 }
 
+/// Lets the table keep these results also, as far as it can: one that is refused is passed over.
+fn keep_all(table: &mut Table, results: &[Kept])
+    ensures table { (cs : List Call) → AreKept cs results.now → IsTable cs table.old → IsTable cs table.new }
+    ensures same { IsSameBut table.old table.new }
+    ensures stays { KeepsAll table.old table.new }
+{
+    'results: for at in 0..results.len() {
+        let _ = table.keep(&results[at]);
+    }
+}
+
 impl Edition {
-    /// The state of these calls, with copies of them. `AllocError` where memory is refused.
-    pub(crate) fn of(alloc: Global, calls: &[&Call], state: State) -> Result<Edition, AllocError>
-        requires fold { IsFold (map (λ c. c.now) calls.now) state.store }
-        requires assembled { AreAllAssembled (is_assembled state.matrices state.vectors) }
+    /// These results of the calls, with copies of the calls. `AllocError` where memory is refused.
+    pub(crate) fn of(
+        alloc: Global,
+        calls: &[&Call],
+        results: Vec<Kept>,
+    ) -> Result<Edition, AllocError>
+        requires kept { AreKept (map (λ c. c.now) calls.now) results.items }
         requires counted { 0 < length calls.now }
         ensures { IfOk result (λ edition. edition.calls ≡ map (λ c. c.now) calls.now) }
     {
         Ok(Edition {
             calls: copies(alloc, calls)?,
-            state,
+            results,
         })
     }
 
-    /// How many calls it has, and their state, where they begin these. Takes no memory.
-    pub(crate) fn serving(&self, calls: &[&Call]) -> Option<(usize, &State)>
-        ensures serves { IfSome result (λ found. Serves (map (λ c. c.now) calls.now) found.0 found.1.now.store) }
-        ensures assembled { IfSome result (λ found. AreAllAssembled (is_assembled found.1.now.matrices found.1.now.vectors)) }
+    /// How many calls it has, and its results, where its calls begin these. Takes no memory.
+    pub(crate) fn serving(&self, calls: &[&Call]) -> Option<(usize, &[Kept])>
+        ensures kept { IfSome result (λ found. AreKept (map (λ c. c.now) calls.now) found.1.now) }
+        ensures within { IfSome result (λ found. found.0 ≤ length calls.now) }
         ensures counted { IfSome result (λ found. 0 < found.0) }
     {
         if begin_with(calls, &self.calls) {
-            Some((self.calls.len(), &self.state))
+            Some((self.calls.len(), self.results.as_slice()))
         } else {
             None
         }
@@ -105,32 +119,22 @@ impl Edition {
         self.calls.len()
     }
 
-    /// Puts its state in place of one that is evaluated less far, where its calls begin these, as [`Editions::advance`] says.
+    /// Lets the table keep its results also, where it has more calls than were seen and they begin these, as [`Versions::take_into`] says.
     ///
-    /// [`Editions::advance`]: crate::Editions::advance
-    pub(crate) fn advance(
-        &self,
-        calls: &[&Call],
-        state: &mut State,
-        evaluated: usize,
-        room: u32,
-    ) -> usize
-        requires { MayAdvance (map (λ c. c.now) calls.now) room evaluated state.old }
-        ensures { IsAdvanced (map (λ c. c.now) calls.now) room evaluated state.old result state.new }
+    /// [`Versions::take_into`]: crate::Versions::take_into
+    pub(crate) fn take_into(&self, calls: &[&Call], table: &mut Table, seen: usize) -> usize
+        ensures { IsTaken (map (λ c. c.now) calls.now) seen table.old table.new result }
     {
-        if self.calls.len() <= evaluated {
-            return evaluated;
+        if self.calls.len() <= seen {
+            return seen;
         }
-        let Some((count, found)) = self.serving(calls) else {
-            return evaluated;
+        let Some((count, results)) = self.serving(calls) else {
+            return seen;
         };
-        if count <= evaluated {
-            return evaluated;
+        if count <= seen {
+            return seen;
         }
-        let Ok(copy) = found.try_clone(room - count as u32) else {
-            return evaluated;
-        };
-        *state = copy;
+        keep_all(table, results);
         count
     }
 }

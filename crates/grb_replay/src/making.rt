@@ -6,7 +6,6 @@ ghost use Rattle.grb_slices.specs.Content.{effective_target};
 ghost use Rattle.grb_slices.specs.Slice.{Wants};
 ghost use Rattle.grb_slices.specs.Followed.{GoesOn, HasGoneOver, HasPlaceIn, LacksPlaceIn, part_after};
 
-use crate::effort::Effort;
 use grb_call::Object;
 use grb_slices::CallList;
 use grb_state::State;
@@ -35,8 +34,8 @@ pub(crate) fn pass_over(state: &mut State, object: Object)
     state.add_place(object);
 }
 
-/// Makes the call at this place on a state where it is chosen, and counts its effort; of one that is not, which is not read, the object
-/// that it would make gets a place, and is not there. `AllocError` where memory is refused; what the state holds then, no clause says.
+/// Makes the call at this place on a state where it is chosen; of one that is not, which is not read, the object that it would make gets a
+/// place, and is not there. `AllocError` where memory is refused; what the state holds then, no clause says.
 fn make_one<S, C: CallList<S>>(
     state: &mut State,
     target: Option<Object>,
@@ -44,7 +43,6 @@ fn make_one<S, C: CallList<S>>(
     source: &S,
     at: usize,
     is_chosen: bool,
-    effort: &mut Effort,
 ) -> Result<(), AllocError>
     requires held { C.is_in source.now calls.old }
     requires at { at < length (C.calls source.now calls.old) }
@@ -54,7 +52,7 @@ fn make_one<S, C: CallList<S>>(
     ensures room { OnOk result (state.old.room ≤ state.new.room + 1) }
 {
     if is_chosen {
-        return effort.make(state, calls.call_at(source, at));
+        return state.apply(calls.call_at(source, at));
     }
     let Some(object) = target else {
         return Ok(());
@@ -65,15 +63,13 @@ fn make_one<S, C: CallList<S>>(
 
 /// Makes, of the calls from a place on, which come one after another on a whole store, those that were chosen, on a state that holds of it
 /// what is wanted before them; after them the state holds what is wanted then, as the whole store does after all of them, and no other call
-/// has changed it. The effort of each call that it makes is counted. `AllocError` where memory is refused; what the state holds then, no
-/// clause says.
+/// has changed it. `AllocError` where memory is refused; what the state holds then, no clause says.
 pub(crate) fn make_chosen<S, C: CallList<S>>(
     state: &mut State,
     calls: &mut C,
     source: &S,
     from: usize,
     chosen: &[bool],
-    effort: &mut Effort,
 ) -> Result<(), AllocError>
     requires held { C.is_in source.now calls.old }
     requires targets { length (C.target_list calls.old) ≡ length (C.calls source.now calls.old) }
@@ -86,7 +82,7 @@ pub(crate) fn make_chosen<S, C: CallList<S>>(
 {
     'places: for at in from..calls.targets().len() {
         let target = calls.targets()[at];
-        make_one(state, target, calls, source, at, chosen[at - from], effort)?;
+        make_one(state, target, calls, source, at, chosen[at - from])?;
     }
     Ok(())
 }

@@ -1,28 +1,23 @@
 //! A state in which the calls of the slice of some objects were made, and no other.
-ghost use Rattle.std.specs.Prelude.{◌≡◌, ◌+◌, ◌<◌, ◌≤◌, ◌^◌, false, true, Some, length, IfOk, OnOk};
+ghost use Rattle.std.specs.Prelude.{◌≡◌, ◌+◌, ◌<◌, ◌≤◌, ◌^◌, true, length, IfOk, OnOk};
 ghost use Rattle.std.specs.Option.{option_map, option_map_or};
-ghost use Rattle.grb_call.specs.Kinds.{enters, is_size};
-ghost use Rattle.grb_call.specs.Status.{object_of};
 ghost use Rattle.grb_call.specs.Store.{empty_store, matrix_at, vector_at};
 ghost use Rattle.grb_state.specs.Settled.{AreAllAssembled};
 ghost use Rattle.grb_state.specs.State.{is_assembled, is_assembled_in};
 ghost use Rattle.grb_slices.specs.SliceFor.{IsSliceFrom};
 ghost use Rattle.grb_slices.specs.Wanted.{is_wanted};
-ghost use Rattle.grb_replay.specs.Partial.{AnswersAlike, AreTargetsFrom, FollowsFrom, GoesOnBySlice, GoesOnFrom, HoldsSliceFrom};
+ghost use Rattle.grb_replay.specs.Partial.{AreTargetsFrom, FollowsFrom, HoldsSliceFrom};
 
-use crate::effort::Effort;
 use crate::making::make_chosen;
-use grb_call::{Call, MatrixId, Object, Reply, VectorId};
-use grb_core::Refusal;
+use grb_call::{MatrixId, Object, VectorId};
 use grb_slices::{CallList, Slice, Wanted};
 use grb_sparse::{SparseMatrix, SparseVector};
 use grb_state::State;
 use std::alloc::{AllocError, Global};
 use std::marker::Model;
-use std::sync::Arc;
 
-/// Some objects of a store at one place of a list of calls. They go on to a later place by the calls that they depend on; what the other
-/// objects hold is not kept.
+/// Some objects of a store after a list of calls, which were made by the calls that they depend on alone; what the other objects hold then
+/// is not kept.
 #[derive(Drop)]
 pub struct PartialStore {
     state: State,
@@ -52,8 +47,7 @@ impl PartialStore {
 
     /// The wanted objects after the calls from a place on, which come on the store, by only the calls of the slice, with room for so many
     /// calls on the store: every other object is as it was before them, and one that would have been made is not there. No entry is copied
-    /// but of objects that these calls change. The effort of each call of the slice is counted. `AllocError` where memory is refused; the
-    /// store is as it was (own).
+    /// but of objects that these calls change. `AllocError` where memory is refused; the store is as it was (own).
     pub fn of<S, C: CallList<S>>(
         whole: &State,
         calls: &mut C,
@@ -62,7 +56,6 @@ impl PartialStore {
         slice: &Slice,
         wanted: Wanted,
         room: u32,
-        effort: &mut Effort,
     ) -> Result<PartialStore, AllocError>
         requires held { C.is_in source.now calls.old }
         requires count { length (C.target_list calls.old) ≡ length (C.calls source.now calls.old) }
@@ -80,56 +73,11 @@ impl PartialStore {
         ensures room { IfOk result (λ partial. room + from ≤ partial.state.room + length (C.calls source.now calls.old)) }
     {
         let mut state = whole.try_clone(room)?;
-        make_chosen(
-            &mut state,
-            calls,
-            source,
-            from,
-            slice.chosen.as_slice(),
-            effort,
-        )?;
+        make_chosen(&mut state, calls, source, from, slice.chosen.as_slice())?;
         Ok(PartialStore {
             state,
             objects: wanted,
         })
-    }
-
-    /// Goes on by the calls from a place on, those of the slice alone: it holds the wanted objects then, where it held what is wanted
-    /// before the calls. The effort of each call of the slice is counted. `AllocError` where memory is refused; what it holds then, no
-    /// clause says (own).
-    pub fn go_on<S, C: CallList<S>>(
-        &mut self,
-        calls: &mut C,
-        source: &S,
-        from: usize,
-        slice: &Slice,
-        wanted: Wanted,
-        effort: &mut Effort,
-    ) -> Result<(), AllocError>
-        requires held { C.is_in source.now calls.old }
-        requires count { length (C.target_list calls.old) ≡ length (C.calls source.now calls.old) }
-        requires from { from ≤ length (C.calls source.now calls.old) }
-        requires room { length (C.calls source.now calls.old) ≤ self.old.state.room + from }
-        requires slice { IsSliceFrom from slice.now (is_wanted wanted) (C.target_list calls.old) (C.calls source.now calls.old) }
-        requires within { (o : Object) → is_wanted slice.now.wanted o ≡ true → is_wanted self.old.objects o ≡ true }
-        ensures same { calls.new ≡ calls.old }
-        ensures objects { OnOk result (self.new.objects ≡ wanted) }
-        ensures follows { OnOk result (GoesOnFrom from self.old (is_wanted wanted)
-            (C.target_list calls.old) (C.calls source.now calls.old) self.new) }
-        ensures tasks { OnOk result (GoesOnBySlice from self.old (is_wanted wanted)
-            (C.target_list calls.old) (C.calls source.now calls.old) self.new) }
-        ensures room { OnOk result (self.old.state.room + from ≤ self.new.state.room + length (C.calls source.now calls.old)) }
-    {
-        make_chosen(
-            &mut self.state,
-            calls,
-            source,
-            from,
-            slice.chosen.as_slice(),
-            effort,
-        )?;
-        self.objects = wanted;
-        Ok(())
     }
 
     /// Does the changes that wait in the object, if it is there. `AllocError` where memory is refused; the entries are as before in any
@@ -157,70 +105,5 @@ impl PartialStore {
         ensures assembled { option_map_or (λ vector. vector.now.assembled) result true ≡ is_assembled_in self.now.state (Object.Vector v) }
     {
         self.state.vector(v)
-    }
-
-    /// The matrix as all share it that hold it, as far as it is held here, as [`State::held_matrix`] says. Takes no memory.
-    pub(crate) fn held_matrix(&self, a: MatrixId) -> Option<&Arc<SparseMatrix>>
-        ensures stored { option_map (λ matrix. matrix.now.value.matrix) result ≡ matrix_at self.now.state.store a }
-        ensures assembled { option_map_or (λ matrix. matrix.now.value.assembled) result true ≡ is_assembled_in self.now.state (Object.Matrix a) }
-    {
-        self.state.held_matrix(a)
-    }
-
-    /// The vector as all share it that hold it, as far as it is held here, as [`State::held_vector`] says. Takes no memory.
-    pub(crate) fn held_vector(&self, v: VectorId) -> Option<&Arc<SparseVector>>
-        ensures stored { option_map (λ vector. vector.now.value.vector) result ≡ vector_at self.now.state.store v }
-        ensures assembled { option_map_or (λ vector. vector.now.value.assembled) result true ≡ is_assembled_in self.now.state (Object.Vector v) }
-    {
-        self.state.held_vector(v)
-    }
-
-    /// Which objects it holds. Takes no memory.
-    pub fn objects(&self) -> &Wanted
-        ensures { result.now ≡ self.now.objects }
-    {
-        &self.objects
-    }
-
-    /// The answer to a call that only reads the object, as a store answers where the object holds the same. A wait has the changes done
-    /// that wait in it, and a total where they are many. `AllocError` where memory is refused to a wait; the entries are as before in any
-    /// case.
-    pub fn answer(
-        &mut self,
-        object: Object,
-        call: &Call,
-    ) -> Result<Result<Reply, Refusal>, AllocError>
-        requires reads { enters call.now ≡ false }
-        requires no_size { is_size call.now ≡ false }
-        requires about { object_of call.now ≡ Some object }
-        ensures answer { IfOk result (λ given. AnswersAlike self.old.state.store object call.now given) }
-        ensures objects { self.new.objects ≡ self.old.objects }
-        ensures store { self.new.state.store ≡ self.old.state.store }
-        ensures room { self.new.state.room ≡ self.old.state.room }
-    {
-        answer_of(&mut self.state, call, object)
-    }
-}
-
-/// The answer of the state to a call that only reads the object. A wait has the changes done that wait in it, and a total where they are
-/// many. `AllocError` where memory is refused to a wait; the entries are as before in any case.
-pub(crate) fn answer_of(
-    state: &mut State,
-    call: &Call,
-    object: Object,
-) -> Result<Result<Reply, Refusal>, AllocError>
-    requires reads { enters call.now ≡ false }
-    requires no_size { is_size call.now ≡ false }
-    requires about { object_of call.now ≡ Some object }
-    ensures answer { IfOk result (λ given. AnswersAlike state.old.store object call.now given) }
-    ensures store { state.new.store ≡ state.old.store }
-    ensures room { state.new.room ≡ state.old.room }
-{
-    match state.refused(call) {
-        Some(refusal) => Ok(Err(refusal)),
-        None => {
-            state.settle(call)?;
-            Ok(Ok(state.reply(call)))
-        }
     }
 }

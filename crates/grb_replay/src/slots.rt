@@ -112,3 +112,19 @@ pub(crate) fn shortest(slots: &[Slot], below: usize) -> Option<Seen>
     }
     found
 }
+
+/// The slot with an edition of just so many calls, that no one reads; where there is none, the one with the shortest of fewer, or with none.
+pub(crate) fn place_for(slots: &[Slot], count: usize) -> Option<Seen>
+    ensures { IfSome result (λ seen. (seen.at < length slots.now) × (seen.word % 4 < 3) × (readers seen.word ≡ 0) × (0 < count)) }
+{
+    if count == 0 {
+        return None;
+    }
+    'slots: for at in 0..slots.len() {
+        let word = slots[at].load();
+        if length_of(word) == count && is_unread(word) {
+            return Some(Seen { at, word });
+        }
+    }
+    shortest(slots, count)
+}

@@ -3,7 +3,6 @@ ghost use Rattle.std.specs.Prelude.{◌≡◌, ◌+◌, ◌<◌, ◌^◌, true, 
 ghost use Rattle.std.specs.Option.{option_map};
 ghost use Rattle.grb_replay.specs.Held.{HoldsSame, IsEmptyWhereGone, IsMadeBySlice, held_matrix, held_vector, slice_length};
 
-use crate::effort::Effort;
 use crate::partial_store::PartialStore;
 use crate::targets::{LentCalls, Targets};
 use grb_call::{Call, Object};
@@ -68,17 +67,7 @@ pub fn value_of(
     let mut wanted = Wanted::new(alloc);
     wanted.want(object)?;
     let slice = slice_for(alloc, &mut walk, &source, 0, wanted.try_clone()?)?;
-    let mut effort = Effort::new(alloc);
-    let mut store = PartialStore::of(
-        whole,
-        &mut walk,
-        &source,
-        0,
-        &slice,
-        wanted,
-        room,
-        &mut effort,
-    )?;
+    let mut store = PartialStore::of(whole, &mut walk, &source, 0, &slice, wanted, room)?;
     store.complete(object)?;
     Ok(Held {
         object,

@@ -1,5 +1,5 @@
 -- What an object holds after some of the calls: it changes at calls whose target it is, and nowhere else.
-use Rattle.std.proofs.Common.{◌≡◌, ◌≢◌, ℕ, zero, suc, ◌+◌, ◌-◌, ◌<◌, ◌≤◌, Bool, true, false, if◌then◌else◌, List, [], ◌∷◌, ◌++◌, length, take, get_or, refl, sym, ap, subst, ◌∙◌, Option, Some, None, is_some, slice_set, length-set, arith}
+use Rattle.std.proofs.Common.{◌≡◌, ◌≢◌, ℕ, zero, suc, ◌+◌, ◌-◌, ◌<◌, ◌≤◌, Bool, true, false, if◌then◌else◌, List, [], ◌∷◌, ◌++◌, length, take, get_or, append_assoc, refl, sym, ap, subst, ◌∙◌, Option, Some, None, is_some, slice_set, length-set, arith}
 use Rattle.std.specs.Prelude.{slice_get, IfSome}
 use Rattle.std.specs.Prelude.{not}
 use Rattle.std.specs.Option.{option_map, option_map_or}
@@ -20,9 +20,10 @@ use Rattle.grb_call.proofs.Runs.{after_all-append}
 use Rattle.grb_call.proofs.ShapesAfter.{shapes_of-after}
 use Rattle.grb_slices.specs.Content.{Content, Contents, content_at, target_of, effective_target, outcome}
 use Rattle.grb_slices.proofs.Effects.{own, other, effective}
-use Rattle.grb_slices.proofs.Wants.{is_same_object-self, is_same_object-true}
+use Rattle.grb_slices.proofs.Wants.{among_first, among_next, is_same_object-self, is_same_object-true}
 use Rattle.grb_results.specs.declared.learnt.Learnt.{Learnt}
 use Rattle.grb_results.specs.declared.node.Node.{Node}
+use Rattle.grb_results.specs.declared.shape.Shape.{Shape}
 use Rattle.grb_results.specs.declared.table.Table.{Table}
 use Rattle.grb_state.specs.declared.shared_content.SharedContent.{SharedContent}
 use Rattle.grb_results.specs.Lasts.{AreLinks, last_of, last_with}
@@ -30,8 +31,9 @@ use Rattle.grb_slices.specs.Slice.{is_among}
 use Rattle.grb_slices.specs.Steps.{AgreeOn}
 use Rattle.grb_slices.proofs.Refusals.{same_refusal}
 use Rattle.grb_results.specs.Results.{contents_after, target_in, IsSince, AreSince, IsNode, IsLearnt, IsResult, AreResults, IsTable, AreHeld, MayMake, LinksTo, Follows, IsFrom, Mine, Theirs, AreTaken, AreOneHistory}
+use Rattle.grb_results.specs.Overwrites.{forgets, objects_needed, shape_needed, shape_noted}
 use Rattle.grb_results.specs.Value.{IsEdit, content_of, is_dup}
-use Rattle.grb_results.proofs.Links.{edits_one}
+use Rattle.grb_results.proofs.Links.{edits_one, needs_all}
 use Rattle.grb_results.proofs.Making.{dups_one}
 use Rattle.grb_results.proofs.Lists.{some_same, take_suc, AtPush, Before, Last, pushed_at, AtSet, Other, Here, set_at, within_of, get_take, get_there}
 
@@ -84,7 +86,9 @@ apart_object o p apart e = let same : is_same_object o p ≡ true = subst (λ (q
 
 -- one call more is learnt
 module _ (cs : List Call) (old new : Learnt) (c : Call) (node : Node) (was : IsLearnt cs old) (here : slice_get cs (length old.nodes.items) ≡ Some c)
-    (target : node.target ≡ effective_target old.shapes.objects c) (links : AreLinks (last_of old.lasts) (objects_read c) node.links)
+    (target : node.target ≡ effective_target old.shapes.objects c) (links : AreLinks (last_of old.lasts) (objects_needed c) node.links)
+    (noted : node.noted ≤ length new.shapes_noted.items) (shape : shape_noted new.shapes_noted.items node.noted ≡ shape_needed old.shapes.objects c)
+    (kept : (m : ℕ) → m ≤ length old.shapes_noted.items → shape_noted new.shapes_noted.items m ≡ shape_noted old.shapes_noted.items m) (longer : length old.shapes_noted.items ≤ length new.shapes_noted.items)
     (nodes : new.nodes.items ≡ old.nodes.items ++ node ∷ []) (shaped : new.shapes.objects ≡ shapes_after old.shapes.objects c)
     (more : ℕ) (one_more : more ≡ suc (length old.nodes.items)) (lasts : (o : Object) → last_of new.lasts o ≡ last_with node.target more (last_of old.lasts) o) where
   abbrev n : ℕ
@@ -99,19 +103,31 @@ module _ (cs : List Call) (old new : Learnt) (c : Call) (node : Node) (was : IsL
   shapes_now : new.shapes.objects ≡ shapes_of (store_before cs (suc n))
   shapes_now = shaped ∙ (ap (λ u. shapes_after u c) was.shapes_are ∙ (sym (shapes_of-after (store_before cs n) c) ∙ ap shapes_of (sym (after_suc cs n c here))))
 
-  node_of : IsNode cs n node
+  node_of : IsNode cs new.shapes_noted.items n node
   node_of = record {
     target_is = target_is;
-    links_are = λ d is. subst (λ (x : Call). AreSince cs n (objects_read x) node.links) (some_same c d (sym here ∙ is))
-        (are_since cs n (last_of old.lasts) was.since (objects_read c) node.links links);
+    links_are = λ d is. subst (λ (x : Call). AreSince cs n (objects_needed x) node.links) (some_same c d (sym here ∙ is))
+        (are_since cs n (last_of old.lasts) was.since (objects_needed c) node.links links);
+    within = noted;
+    shape_is = λ d is. subst (λ (x : Call). shape_noted new.shapes_noted.items node.noted ≡ shape_needed (shapes_of (store_before cs n)) x) (some_same c d (sym here ∙ is))
+        (shape ∙ ap (λ (u : ObjectShapes). shape_needed u c) was.shapes_are);
   }
 
-  node_at : (k : ℕ) (x : Node) → slice_get new.nodes.items k ≡ Some x → IsNode cs k x
+  -- a node of before
+  node_kept : (k : ℕ) (x : Node) → IsNode cs old.shapes_noted.items k x → IsNode cs new.shapes_noted.items k x
+  node_kept k x is = record {
+    target_is = is.target_is;
+    links_are = is.links_are;
+    within = let w = is.within in omega (arith, w, longer);
+    shape_is = λ d at. kept x.noted is.within ∙ is.shape_is d at;
+  }
+
+  node_at : (k : ℕ) (x : Node) → slice_get new.nodes.items k ≡ Some x → IsNode cs new.shapes_noted.items k x
   node_at k x e = by (pushed_at old.nodes.items node k x (sym (ap (λ (xs : List Node). slice_get xs k) nodes) ∙ e))
     where
-      by : AtPush old.nodes.items node k x → IsNode cs k x
-      by (Before f) = was.nodes_are k x f
-      by (Last m f) = subst (λ (y : Node). IsNode cs k y) (sym f) (subst (λ (j : ℕ). IsNode cs j node) (sym m) node_of)
+      by : AtPush old.nodes.items node k x → IsNode cs new.shapes_noted.items k x
+      by (Before f) = node_kept k x (was.nodes_are k x f)
+      by (Last m f) = subst (λ (y : Node). IsNode cs new.shapes_noted.items k y) (sym f) (subst (λ (j : ℕ). IsNode cs new.shapes_noted.items j node) (sym m) node_of)
 
   since_by : (o : Object) (q : Option Object) → node.target ≡ q → IsSince cs (suc n) o (last_with q (suc n) (last_of old.lasts) o)
   since_by o None none = since_still cs n c o (last_of old.lasts o) here (λ e. no o (sym (sym target_is ∙ none) ∙ e)) (was.since o)
@@ -136,14 +152,14 @@ module _ (cs : List Call) (old new : Learnt) (c : Call) (node : Node) (was : IsL
   }
 
 -- nothing more is learnt
-pub learnt_still : (cs : List Call) (old new : Learnt) → new.nodes.items ≡ old.nodes.items → new.shapes.objects ≡ old.shapes.objects → ((o : Object) → last_of new.lasts o ≡ last_of old.lasts o) →
+pub learnt_still : (cs : List Call) (old new : Learnt) → new.nodes.items ≡ old.nodes.items → new.shapes_noted.items ≡ old.shapes_noted.items → new.shapes.objects ≡ old.shapes.objects → ((o : Object) → last_of new.lasts o ≡ last_of old.lasts o) →
     IsLearnt cs old → IsLearnt cs new
-learnt_still cs old new nodes shapes lasts was =
+learnt_still cs old new nodes noted shapes lasts was =
     let count : length new.nodes.items ≡ length old.nodes.items = ap length nodes in
     record {
       within = let w = was.within in omega (arith, count, w);
       shapes_are = shapes ∙ (was.shapes_are ∙ ap (λ (j : ℕ). shapes_of (store_before cs j)) (sym count));
-      nodes_are = λ k node e. was.nodes_are k node (sym (ap (λ (xs : List Node). slice_get xs k) nodes) ∙ e);
+      nodes_are = λ k node e. subst (λ (ss : List Shape). IsNode cs ss k node) (sym noted) (was.nodes_are k node (sym (ap (λ (xs : List Node). slice_get xs k) nodes) ∙ e));
       since = λ o. subst (λ (j : ℕ). IsSince cs j o (last_of new.lasts o)) (sym count) (subst (λ (m : ℕ). IsSince cs (length old.nodes.items) o m) (sym (lasts o)) (was.since o));
     }
 
@@ -192,7 +208,7 @@ there [] k h = absurd (omega arith)
 there (c ∷ cs) zero h = (c, refl)
 there (c ∷ cs) (suc k) h = there cs k (omega arith)
 
-node_there : (ns : List Node) (k : ℕ) → k < length ns → (x : Node) × (slice_get ns k ≡ Some x)
+pub node_there : (ns : List Node) (k : ℕ) → k < length ns → (x : Node) × (slice_get ns k ≡ Some x)
 node_there [] k h = absurd (omega arith)
 node_there (c ∷ cs) zero h = (c, refl)
 node_there (c ∷ cs) (suc k) h = node_there cs k (omega arith)
@@ -200,7 +216,7 @@ node_there (c ∷ cs) (suc k) h = node_there cs k (omega arith)
 some_target : (cs : List Call) (k : ℕ) (o : Object) → target_in cs k ≡ Some o → is_some (target_in cs k) ≡ true
 some_target cs k o e = ap is_some e
 
-the_target : (q : Option Object) → is_some q ≡ true → (o : Object) × (q ≡ Some o)
+pub the_target : (q : Option Object) → is_some q ≡ true → (o : Object) × (q ≡ Some o)
 the_target None e = cc
 the_target (Some o) e = (o, refl)
 
@@ -216,22 +232,22 @@ module _ (cs : List Call) (t : Table) (is : IsTable cs t) (k : ℕ) (near : k < 
       let c = there cs k in_calls in
       let node = node_there t.learnt.nodes.items k in_nodes in
       let at = links node.0 node.1 in
-      let one = since_at cs k (objects_read c.0) node.0.links at.place j ((is.learnt.nodes_are k node.0 node.1).links_are c.0 c.1) at.is in
+      let one = since_at cs k (objects_needed c.0) node.0.links at.place j ((is.learnt.nodes_are k node.0 node.1).links_are c.0 c.1) at.is in
       let within : suc j ≤ k = one.1.within in
       (omega (arith, within), some_target cs j one.0 (one.1.changed j refl))
 
   -- what the only object that the call reads holds, is what its first link leads to
-  pub follows_held : (c : Call) (o : Object) (before : ℕ) (v : SharedContent) → slice_get cs k ≡ Some c → objects_read c ≡ o ∷ [] → Follows t.learnt k before → IsResult cs before v →
+  pub follows_held : (c : Call) (o : Object) (before : ℕ) (v : SharedContent) → slice_get cs k ≡ Some c → objects_needed c ≡ o ∷ [] → Follows t.learnt k before → IsResult cs before v →
       contents_after cs k o ≡ Some (content_of v)
   follows_held c o before v here reads follows result =
       let node = node_there t.learnt.nodes.items k in_nodes in
-      let since = since_of cs k (objects_read c) node.0.links 0 (suc before) o ((is.learnt.nodes_are k node.0 node.1).links_are c here) (ap (λ (os : List Object). slice_get os 0) reads) (follows node.0 node.1) in
+      let since = since_of cs k (objects_needed c) node.0.links 0 (suc before) o ((is.learnt.nodes_are k node.0 node.1).links_are c here) (ap (λ (os : List Object). slice_get os 0) reads) (follows node.0 node.1) in
       since.same ∙ result o (since.changed before refl)
 
-  pub reads_one : (c : Call) (before : ℕ) (v : SharedContent) (o : Object) → slice_get cs k ≡ Some c → objects_read c ≡ o ∷ [] → Follows t.learnt k before → IsResult cs before v →
+  pub reads_one : (c : Call) (before : ℕ) (v : SharedContent) (o : Object) → slice_get cs k ≡ Some c → forgets c ≡ false → objects_read c ≡ o ∷ [] → Follows t.learnt k before → IsResult cs before v →
       AreHeld (contents_after cs k) (objects_read c) (v ∷ [])
-  reads_one c before v o here reads follows result =
-      subst (λ (os : List Object). AreHeld (contents_after cs k) os (v ∷ [])) (sym reads) (follows_held c o before v here reads follows result, tt)
+  reads_one c before v o here keeps reads follows result =
+      subst (λ (os : List Object). AreHeld (contents_after cs k) os (v ∷ [])) (sym reads) (follows_held c o before v here (needs_all c keeps ∙ reads) follows result, tt)
 
   pub accepted_at : (c : Call) → slice_get cs k ≡ Some c → is_some (target_in cs k) ≡ true → refused_by_shapes (shapes_of (store_before cs k)) c ≡ None
   accepted_at c here accepted = let o = the_target (target_in cs k) accepted in (is_accepted cs k c o.0 here o.1).0
@@ -249,7 +265,7 @@ module _ (cs : List Call) (t : Table) (is : IsTable cs t) (k : ℕ) (near : k < 
 
   -- an edit, and a dup, of what the first link leads to
   pub edit_held : (c : Call) (before : ℕ) (v : SharedContent) → slice_get cs k ≡ Some c → IsEdit c → Follows t.learnt k before → IsResult cs before v → AreHeld (contents_after cs k) (objects_read c) (v ∷ [])
-  edit_held c before v here edits follows result = let one = edits_one c edits.0 in reads_one c before v one.object here one.reads follows result
+  edit_held c before v here edits follows result = let one = edits_one c edits.0 in reads_one c before v one.object here edits.2 one.reads follows result
 
   pub edit_may : (c : Call) (before : ℕ) (v : SharedContent) → slice_get cs k ≡ Some c → is_some (target_in cs k) ≡ true → IsEdit c → Follows t.learnt k before → IsResult cs before v → MayMake c (v ∷ [])
   edit_may c before v here accepted edits follows result = may_make c (v ∷ []) here accepted (edit_held c before v here edits follows result)
@@ -257,19 +273,19 @@ module _ (cs : List Call) (t : Table) (is : IsTable cs t) (k : ℕ) (near : k < 
   pub dup_result : (c : Call) (before : ℕ) (v : SharedContent) → slice_get cs k ≡ Some c → is_dup c ≡ true → Follows t.learnt k before → IsResult cs before v → IsResult cs k v
   dup_result c before v here dups follows result =
       let one = dups_one c dups in
-      result_is c v here (one.outcome_is (contents_after cs k) ∙ follows_held c one.object before v here one.reads follows result)
+      result_is c v here (one.outcome_is (contents_after cs k) ∙ follows_held c one.object before v here (needs_all c one.keeps ∙ one.reads) follows result)
 
   -- an object that the call reads, by its place
-  pub read_held : (read : List Object) → ((c : Call) → slice_get cs k ≡ Some c → read ≡ objects_read c) → (place d : ℕ) (node : Node) (o : Object) (v : SharedContent) → slice_get read place ≡ Some o →
+  pub read_held : (read : List Object) → ((c : Call) → slice_get cs k ≡ Some c → read ≡ objects_needed c) → (place d : ℕ) (node : Node) (o : Object) (v : SharedContent) → slice_get read place ≡ Some o →
       slice_get t.learnt.nodes.items k ≡ Some node → get_or node.links place d ≢ 0 → IsResult cs (get_or node.links place d - 1) v → contents_after cs k o ≡ Some (content_of v)
   read_held read reads place d node o v at here some result =
       let c = there cs k in_calls in
-      let stands : slice_get (objects_read c.0) place ≡ Some o = ap (λ (os : List Object). slice_get os place) (sym (reads c.0 c.1)) ∙ at in
+      let stands : slice_get (objects_needed c.0) place ≡ Some o = ap (λ (os : List Object). slice_get os place) (sym (reads c.0 c.1)) ∙ at in
       let since = (is.learnt.nodes_are k node here).links_are c.0 c.1 in
-      let near : place < length (objects_read c.0) = within_of (objects_read c.0) place o stands in
-      let long : length (objects_read c.0) ≤ length node.links = since_long cs k (objects_read c.0) node.links since in
+      let near : place < length (objects_needed c.0) = within_of (objects_needed c.0) place o stands in
+      let long : length (objects_needed c.0) ≤ length node.links = since_long cs k (objects_needed c.0) node.links since in
       let link : slice_get node.links place ≡ Some (suc (get_or node.links place d - 1)) = link_there node.links place d (omega (arith, near, long)) some in
-      let one = since_of cs k (objects_read c.0) node.links place (suc (get_or node.links place d - 1)) o since stands link in
+      let one = since_of cs k (objects_needed c.0) node.links place (suc (get_or node.links place d - 1)) o since stands link in
       one.same ∙ result o (one.changed (get_or node.links place d - 1) refl)
 
   -- objects that hold what the call reads do not refuse it
@@ -277,10 +293,23 @@ module _ (cs : List Call) (t : Table) (is : IsTable cs t) (k : ℕ) (near : k < 
   not_refused s c here accepted agree = same_refusal s (store_before cs k) c agree ∙ accepted_at c here accepted
 
 -- one object more that the bench holds
-pub agree_more : (r t : Contents) (os : List Object) (k : ℕ) (o : Object) → slice_get os k ≡ Some o → AgreeOn (is_among (take k os ++ o ∷ [])) r t → AgreeOn (is_among (take (k + 1) os)) r t
-agree_more r t os k o at agree =
+pub more_agree : (r t : Contents) (os ps : List Object) (k : ℕ) (o : Object) → slice_get ps k ≡ Some o → AgreeOn (is_among ((os ++ take k ps) ++ o ∷ [])) r t → AgreeOn (is_among (os ++ take (k + 1) ps)) r t
+more_agree r t os ps k o at agree =
     let next : suc k ≡ k + 1 = omega arith in
-    subst (λ (j : ℕ). AgreeOn (is_among (take j os)) r t) next (subst (λ (ps : List Object). AgreeOn (is_among ps) r t) (sym (take_suc os k o at)) agree)
+    let one : (os ++ take k ps) ++ o ∷ [] ≡ os ++ take (suc k) ps = append_assoc os (take k ps) (o ∷ []) ∙ ap (λ (qs : List Object). os ++ qs) (sym (take_suc ps k o at)) in
+    subst (λ (j : ℕ). AgreeOn (is_among (os ++ take j ps)) r t) next (subst (λ (qs : List Object). AgreeOn (is_among qs) r t) one agree)
+
+end_none : (os : List Object) → os ++ [] ≡ os
+end_none [] = refl
+end_none (o ∷ os) = ap (λ (ps : List Object). o ∷ ps) (end_none os)
+
+pub agree_first : (r t : Contents) (os : List Object) → AgreeOn (is_among os) r t → AgreeOn (is_among (os ++ [])) r t
+agree_first r t os agree = subst (λ (ps : List Object). AgreeOn (is_among ps) r t) (sym (end_none os)) agree
+
+pub among_at : (os : List Object) (k : ℕ) (o : Object) → slice_get os k ≡ Some o → is_among os o ≡ true
+among_at [] k o e = cc
+among_at (p ∷ os) zero o e = subst (λ (q : Object). is_among (q ∷ os) o ≡ true) (sym (some_same p o e)) (among_first o os)
+among_at (p ∷ os) (suc k) o e = among_next o p os (among_at os k o e)
 
 take_whole : (os : List Object) (k : ℕ) → length os ≤ k → take k os ≡ os
 take_whole [] zero e = refl
@@ -288,8 +317,8 @@ take_whole [] (suc n) e = refl
 take_whole (c ∷ cs) zero e = absurd (omega (arith, e))
 take_whole (c ∷ cs) (suc n) e = ap (λ (ds : List Object). c ∷ ds) (take_whole cs n (omega (arith, e)))
 
-pub agree_all : (r t : Contents) (os : List Object) (k : ℕ) → length os ≤ k → AgreeOn (is_among (take k os)) r t → AgreeOn (is_among os) r t
-agree_all r t os k all agree = subst (λ (ps : List Object). AgreeOn (is_among ps) r t) (take_whole os k all) agree
+pub all_agree : (r t : Contents) (os ps : List Object) (k : ℕ) → length ps ≤ k → AgreeOn (is_among (os ++ take k ps)) r t → AgreeOn (is_among (os ++ ps)) r t
+all_agree r t os ps k all agree = subst (λ (qs : List Object). AgreeOn (is_among (os ++ qs)) r t) (take_whole ps k all) agree
 
 none_among : (p : Object) → is_among [] p ≡ true → ⊥
 none_among p e = cc

@@ -4,13 +4,13 @@ use Rattle.std.specs.Prelude.{slice_get}
 use Rattle.std.proofs.lemmas.List.{length_push}
 use Rattle.grb_call.specs.declared.call.Call.{Call}
 use Rattle.grb_call.specs.declared.ids.Object.{Object}
-use Rattle.grb_call.specs.Operands.{objects_read}
 use Rattle.grb_call.specs.Store.{empty_store, shapes_of}
 use Rattle.grb_call.specs.History.{after_all}
 use Rattle.grb_slices.specs.Content.{content_at}
 use Rattle.grb_results.specs.declared.learnt.Learnt.{Learnt}
 use Rattle.grb_results.specs.declared.table.Table.{Table}
 use Rattle.grb_results.specs.Lasts.{last_of}
+use Rattle.grb_results.specs.Overwrites.{objects_needed, shape_needed}
 use Rattle.grb_results.specs.Results.{AreOneHistory, AreSince, IsLearnt, IsSince, IsTable, contents_after}
 use Rattle.grb_results.proofs.Frame.{here_too, same_result, same_target}
 use Rattle.grb_results.proofs.Lists.{within_of}
@@ -45,7 +45,10 @@ module _ (cs ds : List Call) (one : AreOneHistory cs ds) where
             let in_mine : k < length cs = omega (arith, near, mine) in let in_theirs : k < length ds = omega (arith, near, theirs) in
             record {
               target_is = (was.nodes_are k node e).target_is ∙ same_target cs ds one k in_mine in_theirs;
-              links_are = λ c here. are_since_on k (objects_read c) node.links (omega (arith, in_mine)) (omega (arith, in_theirs)) ((was.nodes_are k node e).links_are c (here_too cs ds one k in_mine in_theirs ∙ here));
+              links_are = λ c here. are_since_on k (objects_needed c) node.links (omega (arith, in_mine)) (omega (arith, in_theirs)) ((was.nodes_are k node e).links_are c (here_too cs ds one k in_mine in_theirs ∙ here));
+              within = (was.nodes_are k node e).within;
+              shape_is = λ c here. (was.nodes_are k node e).shape_is c (here_too cs ds one k in_mine in_theirs ∙ here)
+                  ∙ ap (λ (xs : List Call). shape_needed (shapes_of (after_all empty_store xs)) c) (one k (omega (arith, in_mine)) (omega (arith, in_theirs)));
             };
         since = λ o. since_on (length t.nodes.items) o (last_of t.lasts o) mine theirs (was.since o);
       }

@@ -1,7 +1,13 @@
+mod Blank
+mod BlankResults
+mod Exchanging
 mod Few
-mod Frame
-mod Grown
+pub mod Frame
+pub mod Grown
+mod LastKept
 mod Links
+mod LastResults
 mod Lists
 mod Making
 mod Overwritten
+mod Rebuilt

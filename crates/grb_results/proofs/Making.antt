@@ -27,6 +27,7 @@ use Rattle.grb_state.specs.declared.shared_content.SharedContent.{SharedContent}
 use Rattle.grb_state.specs.declared.shared_content.SharedContent.TheVariants as shared
 use Rattle.grb_state.specs.SharedContent.{AreElse, HoldSame, IsAt, IsThere, MayEdit}
 use Rattle.grb_results.specs.Results.{AreHeld, MayMake}
+use Rattle.grb_results.specs.Overwrites.{forgets}
 use Rattle.grb_results.specs.Value.{IsEdit, content_of, is_dup}
 use Rattle.grb_results.proofs.Links.{EditsOne, edits_one}
 use Rattle.grb_results.proofs.Lists.{some_same}
@@ -195,10 +196,11 @@ pub record DupsOne (c : Call) : Type 0 where
   pub object : Object
   pub reads : objects_read c ≡ object ∷ []
   pub outcome_is : (r : Contents) → outcome r c ≡ r object
+  pub keeps : forgets c ≡ false
 
 pub dups_one : (c : Call) → is_dup c ≡ true → DupsOne c
-dups_one (call.DupMatrix a) e = record { object = object.Matrix a; reads = refl; outcome_is = λ r. refl }
-dups_one (call.DupVector v) e = record { object = object.Vector v; reads = refl; outcome_is = λ r. refl }
+dups_one (call.DupMatrix a) e = record { object = object.Matrix a; reads = refl; outcome_is = λ r. refl; keeps = refl }
+dups_one (call.DupVector v) e = record { object = object.Vector v; reads = refl; outcome_is = λ r. refl; keeps = refl }
 dups_one _ e = cc
 
 pub both_ok : {X E : Type 0} (P Q R : Type 0) (r : Result X E) → (P → Q → R) → OnOk r P → OnOk r Q → OnOk r R

@@ -1,6 +1,6 @@
 -- believed: What objects hold after the first calls of a list, which calls last changed them, and results of calls (own).
-use Rattle.std.specs.Prelude.{◌≡◌, ℕ, suc, ◌<◌, ◌≤◌, true, List, [], ◌∷◌, length, take, slice_get, Option, Some, None, is_some}
-use Rattle.std.specs.Option.{option_map_or}
+use Rattle.std.specs.Prelude.{◌≡◌, ℕ, suc, ◌<◌, ◌≤◌, true, List, [], ◌∷◌, ◌++◌, length, take, slice_get, Option, Some, None, is_some}
+use Rattle.std.specs.Option.{option_map, option_map_or}
 use Rattle.grb_call.specs.declared.call.Call.{Call}
 use Rattle.grb_call.specs.declared.ids.Object.{Object}
 use Rattle.grb_call.specs.Operands.{objects_read}
@@ -8,11 +8,15 @@ use Rattle.grb_call.specs.Refused.{refused_by_shapes}
 use Rattle.grb_call.specs.Store.{Store, empty_store, shapes_of}
 use Rattle.grb_call.specs.History.{after_all}
 use Rattle.grb_slices.specs.Content.{Contents, content_at, effective_target}
+use Rattle.grb_slices.specs.Slice.{is_among}
+use Rattle.grb_slices.specs.Steps.{AgreeOn}
 use Rattle.grb_results.specs.declared.learnt.Learnt.{Learnt}
 use Rattle.grb_results.specs.declared.node.Node.{Node}
+use Rattle.grb_results.specs.declared.shape.Shape.{Shape}
 use Rattle.grb_results.specs.declared.table.Table.{Table}
 use Rattle.grb_state.specs.declared.shared_content.SharedContent.{SharedContent}
 use Rattle.grb_results.specs.Lasts.{last_of}
+use Rattle.grb_results.specs.Overwrites.{blank_of, objects_needed, shape_needed, shape_noted}
 use Rattle.grb_results.specs.Value.{content_of}
 
 -- what each object holds after so many of the calls
@@ -36,16 +40,18 @@ AreSince cs n [] (m ∷ ms) = (m ≡ 0) × AreSince cs n [] ms
 AreSince cs n (o ∷ os) [] = ⊥
 AreSince cs n (o ∷ os) (m ∷ ms) = IsSince cs n o m × AreSince cs n os ms
 
--- a node is that of the call at this place
-pub record IsNode (cs : List Call) (k : ℕ) (node : Node) : Type 0 where
+-- a node is that of the call at this place, where these shapes were noted
+pub record IsNode (cs : List Call) (shapes : List Shape) (k : ℕ) (node : Node) : Type 0 where
   pub target_is : node.target ≡ target_in cs k
-  pub links_are : (c : Call) → slice_get cs k ≡ Some c → AreSince cs k (objects_read c) node.links
+  pub links_are : (c : Call) → slice_get cs k ≡ Some c → AreSince cs k (objects_needed c) node.links
+  pub within : node.noted ≤ length shapes
+  pub shape_is : (c : Call) → slice_get cs k ≡ Some c → shape_noted shapes node.noted ≡ shape_needed (shapes_of (after_all empty_store (take k cs))) c
 
 -- the first calls of the list were learnt
 pub record IsLearnt (cs : List Call) (t : Learnt) : Type 0 where
   pub within : length t.nodes.items ≤ length cs
   pub shapes_are : t.shapes.objects ≡ shapes_of (after_all empty_store (take (length t.nodes.items) cs))
-  pub nodes_are : (k : ℕ) (node : Node) → slice_get t.nodes.items k ≡ Some node → IsNode cs k node
+  pub nodes_are : (k : ℕ) (node : Node) → slice_get t.nodes.items k ≡ Some node → IsNode cs t.shapes_noted.items k node
   pub since : (o : Object) → IsSince cs (length t.nodes.items) o (last_of t.lasts o)
 
 -- this is what the target of the call at this place holds right after it
@@ -102,3 +108,16 @@ AreOneHistory cs ds = (n : ℕ) → n ≤ length cs → n ≤ length ds → take
 -- the first link of the call at this place leads to the call at another place
 abbrev pub Follows : Learnt → ℕ → ℕ → Type 0
 Follows t k before = (node : Node) → slice_get t.nodes.items k ≡ Some node → slice_get node.links 0 ≡ Some (suc before)
+
+-- this shape was noted for the call at this place, or none
+abbrev pub IsShapeAt : Learnt → ℕ → Option Shape → Type 0
+IsShapeAt t k q = (node : Node) → slice_get t.nodes.items k ≡ Some node → shape_noted t.shapes_noted.items node.noted ≡ q
+
+-- the bench holds of these objects what is said, and what it held of others, where they are of one store
+abbrev pub HoldsAlso : Contents → List Object → Store → Store → Type 0
+HoldsAlso r ps old new = (os : List Object) (s : Store) → AgreeOn (is_among os) (content_at old) (content_at s) → ((o : Object) → is_among ps o ≡ true → content_at s o ≡ r o) →
+    AgreeOn (is_among (os ++ ps)) (content_at new) (content_at s)
+
+-- this is an object that stores nothing, of the shape of the output of the call at this place
+abbrev pub IsBlankAt : Table → ℕ → SharedContent → Type 0
+IsBlankAt t k v = (node : Node) → slice_get t.learnt.nodes.items k ≡ Some node → option_map blank_of (shape_noted t.learnt.shapes_noted.items node.noted) ≡ Some (content_of v)

@@ -8,14 +8,15 @@ use Rattle.grb_slices.specs.Content.{Content, MatrixContent, VectorContent}
 use Rattle.grb_state.specs.declared.shared_content.SharedContent.{SharedContent}
 use Rattle.grb_state.specs.declared.shared_content.SharedContent.TheVariants as shared
 use Rattle.grb_state.specs.SharedContent.{is_free}
+use Rattle.grb_results.specs.Overwrites.{forgets}
 
 abbrev pub content_of : SharedContent → Content
 content_of (shared.Matrix m) = MatrixContent m.matrix
 content_of (shared.Vector x) = VectorContent x.vector
 
--- the call changes one object and does not end it
+-- the call changes what one object stores: it neither ends it nor clears it
 abbrev pub IsEdit : Call → Type 0
-IsEdit c = (class_of c ≡ Edits) × (is_free c ≡ false)
+IsEdit c = (class_of c ≡ Edits) × (is_free c ≡ false) × (forgets c ≡ false)
 
 -- the call makes an object that is equal to another
 abbrev pub is_dup : Call → Bool

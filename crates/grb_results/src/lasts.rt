@@ -1,11 +1,13 @@
 //! After how many calls each object was last changed.
-ghost use Rattle.std.specs.Prelude.{◌≡◌, ◌<◌, ◌≤◌, ◌==◌, ℕ, Some, if◌then◌else◌, length, map, slice_get, OnOk, OnErr};
+ghost use Rattle.std.specs.Prelude.{◌≡◌, ◌<◌, ◌≤◌, ◌==◌, ℕ, Some, if◌then◌else◌, length, map, slice_get, IfOk, OnOk, OnErr};
 ghost use Rattle.std.specs.Option.{option_map_or};
 ghost use Rattle.grb_call.specs.Operands.{objects_read};
 ghost use Rattle.grb_call.specs.Status.{is_same_object};
 ghost use Rattle.grb_call.specs.declared.ids.Object.{Object};
+ghost use Rattle.grb_results.specs.Overwrites.{inputs_of, objects_needed};
 ghost use Rattle.grb_results.specs.Lasts.{AreLinks, HasPlace, last_in, last_of, last_with};
 
+use crate::needed::forgets;
 use grb_call::{Call, Class, Object, objects_read};
 use std::alloc::{AllocError, Global};
 
@@ -52,14 +54,14 @@ fn object_at(objects: &[Object], at: usize) -> Object
 }
 
 impl Lasts {
-    /// No object was changed. Takes no memory.
-    pub fn new(alloc: Global) -> Lasts
-        ensures { (o : Object) → last_of result o ≡ 0 }
+    /// No object was changed, with room for so many of each sort. `AllocError` where memory is refused.
+    pub fn open(alloc: Global, room: u32) -> Result<Lasts, AllocError>
+        ensures { IfOk result (λ l. (o : Object) → last_of l o ≡ 0) }
     {
-        Lasts {
-            matrices: Vec::new(alloc),
-            vectors: Vec::new(alloc),
-        }
+        Ok(Lasts {
+            matrices: Vec::with_capacity(alloc, room as usize)?,
+            vectors: Vec::with_capacity(alloc, room as usize)?,
+        })
     }
 
     /// After how many calls the object was last changed. Takes no memory.
@@ -132,8 +134,21 @@ impl Lasts {
         ]
     }
 
+    /// After how many calls each of the call's inputs was last changed, where it is an operation.
+    fn links_of_inputs(&self, call: &Call) -> [u32; 4]
+        ensures { AreLinks (last_of self.now) (inputs_of call.now) result }
+    {
+        match call.operation() {
+            Some(operation) => match operation.second {
+                Some(second) => [self.last_of(operation.first), self.last_of(second), 0, 0],
+                None => [self.last_of(operation.first), 0, 0, 0],
+            },
+            None => [0, 0, 0, 0],
+        }
+    }
+
     /// After how many calls each object was last changed that the call reads. Takes no memory.
-    pub(crate) fn links_of(&self, alloc: Global, call: &Call) -> [u32; 4]
+    fn links_of_all(&self, alloc: Global, call: &Call) -> [u32; 4]
         ensures { AreLinks (last_of self.now) (objects_read call.now) result }
     {
         match call.class() {
@@ -145,5 +160,15 @@ impl Lasts {
                 self.links_to(objects_read(alloc, call).as_slice())
             }
         }
+    }
+
+    /// After how many calls each object was last changed that the call needs. Takes no memory.
+    pub(crate) fn links_of(&self, alloc: Global, call: &Call) -> [u32; 4]
+        ensures { AreLinks (last_of self.now) (objects_needed call.now) result }
+    {
+        if forgets(call) {
+            return self.links_of_inputs(call);
+        }
+        self.links_of_all(alloc, call)
     }
 }

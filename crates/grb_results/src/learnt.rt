@@ -1,26 +1,31 @@
 //! The calls of a list, learnt one after another.
-ghost use Rattle.std.specs.Prelude.{true, ◌≡◌, ◌+◌, ◌<◌, ◌^◌, Some, List, length, slice_get, IfOk, IfSome, OnOk, OnErr};
+ghost use Rattle.std.specs.Prelude.{true, ◌≡◌, ◌+◌, ◌<◌, ◌≤◌, ◌^◌, Some, List, length, slice_get, IfOk, IfSome, OnOk, OnErr};
 ghost use Rattle.grb_call.specs.declared.call.Call.{Call};
 ghost use Rattle.grb_call.specs.Shapes.{is_live};
-ghost use Rattle.grb_results.specs.Results.{IsLearnt, Follows};
 
 use crate::lasts::Lasts;
 use crate::node::Node;
+use crate::shape::{Shape, make_room, note, shape_needed, shape_noted};
 use grb_call::{Call, Object, Shapes};
 use grb_slices::target_at;
 use std::alloc::{AllocError, Global};
 
-/// The first calls of a list: a node for each, the shapes after them, and which of them last changed each object.
+/// The first calls of a list: a node for each, the shapes after them, and which of them last changed each object. The shape of its output is
+/// noted for those calls alone that need nothing else of it, one for a node at most.
 #[derive(Drop)]
 pub struct Learnt {
     pub(crate) alloc: Global,
     pub(crate) shapes: Shapes,
     pub(crate) nodes: Vec<Node>,
+    pub(crate) shapes_noted: Vec<Shape>,
     pub(crate) lasts: Lasts,
+    ghost fewer: { length shapes_noted.items ≤ length nodes.items },
 }
 
 impl Learnt {
-    /// No call was learnt, with room for so many. `AllocError` where memory is refused.
+    ghost use Rattle.grb_results.specs.Results.{IsLearnt, IsShapeAt, Follows};
+
+    /// No call was learnt, and at most so many may be. `AllocError` where memory is refused.
     pub fn open(alloc: Global, room: u32) -> Result<Learnt, AllocError>
         ensures learnt { IfOk result (λ t. (cs : List Call) → IsLearnt cs t) }
         ensures room { IfOk result (λ t. t.shapes.room ≡ room) }
@@ -29,8 +34,9 @@ impl Learnt {
         Ok(Learnt {
             alloc,
             shapes: Shapes::open(alloc, room)?,
-            nodes: Vec::with_capacity(alloc, room as usize)?,
-            lasts: Lasts::new(alloc),
+            nodes: Vec::with_capacity(alloc, 0)?,
+            shapes_noted: Vec::with_capacity(alloc, 0)?,
+            lasts: Lasts::open(alloc, 0)?,
         })
     }
 
@@ -46,12 +52,28 @@ impl Learnt {
     {
         let target = target_at(&self.shapes, call);
         let links = self.lasts.links_of(self.alloc, call);
+        let shape = shape_needed(&self.shapes, call);
         let count = self.nodes.len() as u32 + 1;
         self.nodes.reserve(1)?;
+        make_room(&mut self.shapes_noted, shape)?;
         self.lasts.change(target, count)?;
-        self.nodes.push_reserved(Node { target, links });
+        let noted = note(&mut self.shapes_noted, shape);
+        self.nodes.push_reserved(Node {
+            target,
+            links,
+            noted,
+        });
         self.shapes.absorb(call);
         Ok(())
+    }
+
+    /// Memory for so many calls more. `AllocError` where it is refused; what was learnt is the same in any case.
+    pub(crate) fn reserve(&mut self, more: usize) -> Result<(), AllocError>
+        ensures learnt { (cs : List Call) → IsLearnt cs self.old → IsLearnt cs self.new }
+        ensures nodes { self.new.nodes.items ≡ self.old.nodes.items }
+        ensures shapes { self.new.shapes ≡ self.old.shapes }
+    {
+        self.nodes.reserve(more)
     }
 
     /// Whether the object is there after the calls. Takes no memory.
@@ -70,6 +92,14 @@ impl Learnt {
         ensures { slice_get self.now.nodes.items at ≡ Some result.now }
     {
         &self.nodes[at]
+    }
+
+    /// The shape that was noted for the call at this place, if one was. Takes no memory.
+    pub(crate) fn shape_at(&self, at: usize) -> Option<Shape>
+        requires { at < length self.now.nodes.items }
+        ensures { IsShapeAt self.now at result }
+    {
+        shape_noted(&self.shapes_noted, self.node_at(at).noted)
     }
 
     /// Whether the first link of the call at this place leads to the call at `before`. Takes no memory.

@@ -13,6 +13,7 @@ ghost use Rattle.grb_state.specs.SharedContent.{is_free};
 ghost use Rattle.grb_results.specs.Results.{AreHeld, MayMake};
 ghost use Rattle.grb_results.specs.Value.{IsEdit, content_of, is_dup};
 
+use crate::needed::forgets;
 use grb_call::{Call, Class, Object};
 use grb_sparse::{SparseMatrix, SparseVector};
 use grb_state::{Bench, SharedContent};
@@ -25,12 +26,12 @@ fn is_free(call: &Call) -> bool
     matches!(call, Call::FreeMatrix { .. } | Call::FreeVector { .. })
 }
 
-/// Whether the call changes one object and does not end it. Takes no memory.
+/// Whether the call changes what one object stores: it neither ends it nor clears it. Takes no memory.
 pub(crate) fn is_edit(call: &Call) -> bool
     ensures { result ≡ true → IsEdit call.now }
 {
     match call.class() {
-        Class::Edits => !is_free(call),
+        Class::Edits => !is_free(call) && !forgets(call),
         Class::Makes | Class::Operates | Class::Reads(_) | Class::AsksDimensions => false,
     }
 }

@@ -1,16 +1,19 @@
 //! Results of calls, by their numbers.
-ghost use Rattle.std.specs.Prelude.{◌≡◌, ◌+◌, ◌<◌, ◌^◌, ◌++◌, ◌∷◌, [], ℕ, true, List, Some, None, length, slice_get, slice_set, IfNone, IfOk, IfSome, OnOk, OnErr};
+ghost use Rattle.std.specs.Prelude.{◌≡◌, ◌+◌, ◌<◌, ◌^◌, ◌++◌, ◌∷◌, [], ℕ, false, true, List, Some, None, length, slice_get, slice_set, IfNone, IfOk, IfSome, OnOk, OnErr};
 ghost use Rattle.grb_call.specs.declared.call.Call.{Call};
 ghost use Rattle.grb_state.specs.declared.shared_content.SharedContent.{SharedContent};
 ghost use Rattle.grb_call.specs.Store.{empty_store};
 ghost use Rattle.grb_call.specs.History.{after_all};
 ghost use Rattle.grb_slices.specs.Content.{content_at};
 ghost use Rattle.grb_results.specs.Lasts.{last_of};
+ghost use Rattle.grb_results.specs.Kept.{IsKept, IsKeptAt, IsLast, IsSameBut, KeepsAll, KeepsAlso};
 ghost use Rattle.grb_results.specs.Results.{AreOneHistory, AreTaken, IsResult, IsTable};
 ghost use Rattle.grb_results.specs.Value.{content_of};
 
+use crate::costs::EDIT;
 use crate::learnt::Learnt;
-use grb_call::{Call, Class, Object};
+use crate::node::Node;
+use grb_call::{Call, Object};
 use grb_state::SharedContent;
 use std::alloc::{AllocError, Global};
 
@@ -20,13 +23,16 @@ pub struct Table {
     pub(crate) alloc: Global,
     pub(crate) learnt: Learnt,
     pub(crate) results: Vec<Option<SharedContent>>,
-    // Which calls an operation or a dup reads, and how many calls were made: no contract says any of it.
+    // Which calls an operation or a dup reads, how many calls were made, and of how much work: no contract says any of it.
     pub(crate) reads: Vec<bool>,
-    pub(crate) made: u64,
+    pub(crate) made: u32,
+    pub(crate) work: u64,
+    // How much work there is when results are dropped next.
+    pub(crate) swept: u64,
 }
 
 /// Notes that the last of so many calls is read, for each of these numbers.
-fn mark_all(reads: &mut [bool], links: &[u32]) {
+pub(crate) fn mark_all(reads: &mut [bool], links: &[u32]) {
     for at in 0..links.len() {
         if links[at] > 0 {
             if let Some(mark) = reads.get_mut(links[at] as usize - 1) {
@@ -36,8 +42,28 @@ fn mark_all(reads: &mut [bool], links: &[u32]) {
     }
 }
 
+/// Notes that what the calls left which the one at this place reads is read, but for what its own object held before: that it changes.
+pub(crate) fn mark_others(nodes: &[Node], reads: &mut [bool], at: usize) {
+    let Some(node) = nodes.get(at) else {
+        return;
+    };
+    for place in 0..4 {
+        let link = node.links[place];
+        if link > 0 {
+            if let Some(before) = nodes.get(link as usize - 1) {
+                if before.target != node.target {
+                    mark_all(reads, &[link]);
+                }
+            }
+        }
+    }
+}
+
 /// What stands at this place, which is left empty.
-fn take_place(results: &mut Vec<Option<SharedContent>>, at: usize) -> Option<SharedContent>
+pub(crate) fn take_place(
+    results: &mut Vec<Option<SharedContent>>,
+    at: usize,
+) -> Option<SharedContent>
     requires { at < length results.old.items }
     ensures empty { results.new.items ≡ slice_set results.old.items at None }
     ensures result { slice_get results.old.items at ≡ Some result }
@@ -46,18 +72,22 @@ fn take_place(results: &mut Vec<Option<SharedContent>>, at: usize) -> Option<Sha
 }
 
 impl Table {
-    /// No call was learnt, with room for so many. `AllocError` where memory is refused.
+    /// No call was learnt, and at most so many may be. `AllocError` where memory is refused.
     pub fn open(alloc: Global, room: u32) -> Result<Table, AllocError>
         ensures table { IfOk result (λ t. (cs : List Call) → IsTable cs t) }
         ensures room { IfOk result (λ t. t.learnt.shapes.room ≡ room) }
         ensures none { IfOk result (λ t. length t.learnt.nodes.items ≡ 0) }
+        ensures places { IfOk result (λ t. length t.results.items ≡ 0) }
+        ensures made { IfOk result (λ t. t.made ≡ 0) }
     {
         Ok(Table {
             alloc,
             learnt: Learnt::open(alloc, room)?,
-            results: Vec::with_capacity(alloc, room as usize)?,
-            reads: Vec::with_capacity(alloc, room as usize)?,
+            results: Vec::with_capacity(alloc, 0)?,
+            reads: Vec::with_capacity(alloc, 0)?,
             made: 0,
+            work: 0,
+            swept: 0,
         })
     }
 
@@ -70,6 +100,11 @@ impl Table {
         ensures err { OnErr result ((cs : List Call) → IsTable cs self.old → IsTable cs self.new) }
         ensures more { OnOk result (length self.new.learnt.nodes.items ≡ length self.old.learnt.nodes.items + 1) }
         ensures room { OnOk result (self.new.learnt.shapes.room + 1 ≡ self.old.learnt.shapes.room) }
+        ensures no_more { OnErr result ((length self.new.learnt.nodes.items ≡ length self.old.learnt.nodes.items) × (self.new.learnt.shapes.room ≡ self.old.learnt.shapes.room)) }
+        ensures all_room { length self.new.learnt.nodes.items + self.new.learnt.shapes.room ≡ length self.old.learnt.nodes.items + self.old.learnt.shapes.room }
+        ensures kept { OnOk result (self.new.results.items ≡ self.old.results.items ++ None ∷ []) }
+        ensures stays { OnErr result (self.new.results.items ≡ self.old.results.items) }
+        ensures made { self.new.made ≡ self.old.made }
     {
         self.learn_at_end(call)
     }
@@ -82,35 +117,135 @@ impl Table {
         ensures err { OnErr result ((cs : List Call) → IsTable cs self.old → IsTable cs self.new) }
         ensures more { OnOk result (length self.new.learnt.nodes.items ≡ length self.old.learnt.nodes.items + 1) }
         ensures room { OnOk result (self.new.learnt.shapes.room + 1 ≡ self.old.learnt.shapes.room) }
+        ensures no_more { OnErr result ((length self.new.learnt.nodes.items ≡ length self.old.learnt.nodes.items) × (self.new.learnt.shapes.room ≡ self.old.learnt.shapes.room)) }
+        ensures all_room { length self.new.learnt.nodes.items + self.new.learnt.shapes.room ≡ length self.old.learnt.nodes.items + self.old.learnt.shapes.room }
+        ensures kept { OnOk result (self.new.results.items ≡ self.old.results.items ++ None ∷ []) }
+        ensures stays { OnErr result (self.new.results.items ≡ self.old.results.items) }
+        ensures made { self.new.made ≡ self.old.made }
     {
         self.results.reserve(1)?;
-        self.reads.push(false)?;
+        self.reads.reserve(1)?;
         self.learnt.learn(call)?;
         self.results.push_reserved(None);
-        self.mark(call);
+        self.reads.push_reserved(false);
+        self.mark();
         Ok(())
     }
 
-    /// Notes which calls left what this one reads, where it is no edit.
-    fn mark(&mut self, call: &Call)
+    /// Notes which calls left what the last one reads, but for what its own object held.
+    fn mark(&mut self)
         ensures learnt { self.new.learnt ≡ self.old.learnt }
         ensures results { self.new.results ≡ self.old.results }
+        ensures made { self.new.made ≡ self.old.made }
     {
-        match call.class() {
-            Class::Makes | Class::Operates => {
-                if let Some(node) = self.learnt.nodes.last() {
-                    mark_all(&mut self.reads, &node.links);
-                }
-            }
-            Class::Edits | Class::Reads(_) | Class::AsksDimensions => {}
+        let learnt = &self.learnt;
+        let last = learnt.nodes.len().saturating_sub(1);
+        mark_others(&learnt.nodes, &mut self.reads, last);
+    }
+
+    /// How many entries the result at this place has, if one is kept.
+    pub(crate) fn entries_at(&self, at: u32) -> u64 {
+        match self.kept(at as usize) {
+            Some(value) => value.nvals(),
+            None => 0,
         }
     }
 
-    /// How many calls were made, each time that one was: what no contract says, tests do by it. Takes no memory.
-    pub fn made(&self) -> u64
+    /// The call that the first link of the call at this place leads to, where both change one object.
+    fn own_before(&self, at: u32) -> Option<u32> {
+        let node = self.learnt.nodes.get(at as usize)?;
+        let link = node.links[0];
+        if link == 0 {
+            return None;
+        }
+        let before = self.learnt.nodes.get(link as usize - 1)?;
+        if before.target == node.target {
+            Some(link - 1)
+        } else {
+            None
+        }
+    }
+
+    /// Drops what the object of the call at this place held before it, if nothing else is known to need it.
+    pub(crate) fn drop_own(&mut self, at: u32)
+        ensures table { (cs : List Call) → IsTable cs self.old → IsTable cs self.new }
+        ensures learnt { self.new.learnt ≡ self.old.learnt }
+        ensures places { length self.new.results.items ≡ length self.old.results.items }
+    {
+        let Some(before) = self.own_before(at) else {
+            return;
+        };
+        if !self.is_free_to_change(before) {
+            return;
+        }
+        let _dropped = self.take(before as usize);
+    }
+
+    /// What the call at this place left is about to be changed. Where it is noted that something reads it, a copy counts as work;
+    /// and where a copy takes longer than to see what is needed, that is noted anew.
+    pub(crate) fn before_change(&mut self, at: u32)
+        ensures table { (cs : List Call) → IsTable cs self.old → IsTable cs self.new }
+        ensures learnt { self.new.learnt ≡ self.old.learnt }
+        ensures places { length self.new.results.items ≡ length self.old.results.items }
+    {
+        if self.is_free_to_change(at) {
+            return;
+        }
+        let entries = self.entries_at(at);
+        self.work = self.work.saturating_add(entries);
+        if entries > self.learnt.nodes.len() as u64 {
+            self.sweep();
+        }
+    }
+
+    /// How many calls were learnt. Takes no memory.
+    pub fn count(&self) -> usize
+        ensures { result ≡ length self.now.learnt.nodes.items }
+    {
+        self.learnt.nodes.len()
+    }
+
+    /// Calls that are made count from here on. Takes no memory.
+    pub fn begin(&mut self)
+        ensures { self.new ≡ record self.old { made = 0 } }
+    {
+        self.made = 0;
+    }
+
+    /// How many calls were made since it was opened or last begun, each time that one was; at most 2^32 - 1. Takes no memory.
+    pub fn made(&self) -> u32
         ensures { result ≡ self.now.made }
     {
         self.made
+    }
+
+    /// Of how much work the calls were that were made, in all: a measure without a unit. Takes no memory.
+    pub fn work(&self) -> u64
+        ensures { result ≡ self.now.work }
+    {
+        self.work
+    }
+
+    /// One call of so much work was made.
+    pub(crate) fn count_one(&mut self, work: u64)
+        ensures table { (cs : List Call) → IsTable cs self.old → IsTable cs self.new }
+        ensures learnt { self.new.learnt ≡ self.old.learnt }
+        ensures results { self.new.results ≡ self.old.results }
+    {
+        self.made = self.made.saturating_add(1);
+        self.work = self.work.saturating_add(work);
+    }
+
+    /// So many edits were made.
+    pub(crate) fn count_edits(&mut self, edits: usize)
+        ensures table { (cs : List Call) → IsTable cs self.old → IsTable cs self.new }
+        ensures learnt { self.new.learnt ≡ self.old.learnt }
+        ensures results { self.new.results ≡ self.old.results }
+    {
+        self.made = self
+            .made
+            .saturating_add(edits.min(u32::MAX as usize) as u32);
+        self.work = self.work.saturating_add(EDIT.saturating_mul(edits as u64));
     }
 
     /// The result that is kept of the call at this place, if there is one. Takes no memory.
@@ -180,6 +315,7 @@ impl Table {
     /// The result of the call that last changed the object, of those learnt, if it is kept. Takes no memory.
     pub fn last(&self, object: Object) -> Option<&SharedContent>
         ensures content { (cs : List Call) → IsTable cs self.now → length self.now.learnt.nodes.items ≡ length cs → IfSome result (λ v. Some (content_of v.now) ≡ content_at (after_all empty_store cs) object) }
+        ensures last { IfSome result (λ v. IsLast self.now object v.now) }
         ensures none { IfNone result ((k : ℕ) (v : SharedContent) → last_of self.now.learnt.lasts object ≡ k + 1 → slice_get self.now.results.items k ≡ Some (Some v) → ⊥) }
     {
         let count = self.learnt.lasts.last_of(object);
@@ -189,6 +325,14 @@ impl Table {
         self.kept(count as usize - 1)
     }
 
+    /// Whether the result of the call that last changed the object is kept. Takes no memory.
+    pub fn is_kept(&self, object: Object) -> bool
+        ensures has { result ≡ true → IsKept self.now object }
+        ensures lacks { result ≡ false → IsKept self.now object → ⊥ }
+    {
+        self.last(object).is_some()
+    }
+
     /// Keeps also the result that the other table keeps of the call at this place, where none is kept here. `AllocError` where 2^63 - 1
     /// hold it.
     fn take_one(&mut self, other: &Table, at: usize) -> Result<(), AllocError>
@@ -196,14 +340,17 @@ impl Table {
         ensures taken { AreTaken self.old.results.items other.now.results.items self.new.results.items }
         ensures learnt { self.new.learnt ≡ self.old.learnt }
         ensures places { length self.new.results.items ≡ length self.old.results.items }
+        ensures stays { KeepsAll self.old self.new }
+        ensures same { IsSameBut self.old self.new }
+        ensures kept { OnOk result (IsKeptAt other.now at → IsKeptAt self.new at) }
     {
-        if self.kept(at).is_some() {
+        if let Some(_kept) = self.kept(at) {
             return Ok(());
         }
         match other.kept(at) {
             Some(value) => {
                 let shared = value.share()?;
-                self.put(at, shared);
+                self.fill(at, shared);
                 Ok(())
             }
             None => Ok(()),
@@ -216,6 +363,9 @@ impl Table {
         ensures taken { AreTaken self.old.results.items other.now.results.items self.new.results.items }
         ensures learnt { self.new.learnt ≡ self.old.learnt }
         ensures table { (cs ds : List Call) → IsTable cs self.old → IsTable ds other.now → AreOneHistory cs ds → IsTable cs self.new }
+        ensures stays { KeepsAll self.old self.new }
+        ensures same { IsSameBut self.old self.new }
+        ensures all { OnOk result (KeepsAlso other.now self.new) }
     {
         'results: for at in 0..self.results.len().min(other.results.len()) {
             self.take_one(other, at)?;

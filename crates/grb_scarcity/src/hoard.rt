@@ -19,7 +19,7 @@ const STEP: usize = 16;
 const MOST: usize = 40_000;
 
 /// How many blocks are held at most, with those that are taken later.
-const PLACES: usize = 200_000;
+const PLACES: usize = 1_000_000;
 
 /// How many bytes one call of `deepen` puts on the stack.
 const DEPTH: usize = 65_536;

@@ -1,7 +1,6 @@
 -- What an edit makes of one object by itself, it makes of that object in each store.
 use Rattle.std.proofs.Common.{◌≡◌, ◌≢◌, ℕ, zero, suc, ◌<◌, false, List, [], ◌∷◌, ◌++◌, length, refl, sym, ap, subst, ◌∙◌, Option, Some, None, slice_set, arith}
-use Rattle.std.specs.Prelude.{Bool, map}
-use Rattle.std.specs.Option.{option_map}
+use Rattle.std.specs.Prelude.{Bool}
 use Rattle.grb_core.specs.Contents.{Matrix, Vector}
 use Rattle.grb_sparse.specs.Matrix.{SparseMatrixView}
 use Rattle.grb_sparse.specs.Vector.{SparseVectorView}

@@ -4,6 +4,7 @@ pub mod Live
 pub mod Objects
 pub mod Operation
 pub mod Places
+pub mod Reading
 pub mod Settled
 pub mod SharedContent
 pub mod StoredIn

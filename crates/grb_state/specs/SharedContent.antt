@@ -1,5 +1,6 @@
 -- believed: What one object holds, next to a store (own).
-use Rattle.std.specs.Prelude.{◌≡◌, ◌≢◌, Bool, true, false, Option, Some, None}
+use Rattle.std.specs.Prelude.{◌≡◌, ◌≢◌, ℕ, Bool, true, false, Option, Some, None}
+use Rattle.grb_core.specs.Entries.{nvals_of}
 use Rattle.grb_sparse.specs.Matrix.{SparseMatrixView}
 use Rattle.grb_sparse.specs.Vector.{SparseVectorView}
 use Rattle.grb_call.specs.declared.call.Call.{Call}
@@ -9,7 +10,9 @@ use Rattle.grb_call.specs.declared.ids.VectorId.{VectorId}
 use Rattle.grb_call.specs.declared.ids.Object.{Object}
 use Rattle.grb_call.specs.declared.ids.Object.TheVariants as object
 use Rattle.grb_call.specs.After.{refused}
+use Rattle.grb_call.specs.Kinds.{enters, is_size}
 use Rattle.grb_call.specs.Output.{output_of}
+use Rattle.grb_call.specs.Status.{object_of}
 use Rattle.grb_call.specs.Store.{Store, matrix_at, vector_at}
 use Rattle.grb_state.specs.declared.shared_content.SharedContent.{SharedContent}
 use Rattle.grb_state.specs.declared.shared_content.SharedContent.TheVariants as shared
@@ -27,6 +30,11 @@ vector_in (shared.Vector x) = Some x
 abbrev pub is_assembled_content : SharedContent → Bool
 is_assembled_content (shared.Matrix m) = m.assembled
 is_assembled_content (shared.Vector x) = x.assembled
+
+-- how many entries it stores
+abbrev pub count_of : SharedContent → ℕ
+count_of (shared.Matrix m) = nvals_of m.matrix.entries
+count_of (shared.Vector x) = nvals_of x.vector.entries
 
 -- both hold the same entries, whatever waits in them
 abbrev pub HoldSame : SharedContent → SharedContent → Type 0
@@ -62,4 +70,14 @@ pub record MayEdit (c : Call) (x : SharedContent) : Type 0 where
   pub output : Object
   pub is_output : output_of c ≡ Some output
   pub held : IsAt store output x
+  pub accepted : refused store c ≡ None
+
+-- some store has this as the object that the call reads, not only its dimensions, and does not refuse the call
+pub record MayRead (c : Call) (x : SharedContent) : Type 0 where
+  pub store : Store
+  pub object : Object
+  pub about : object_of c ≡ Some object
+  pub held : IsAt store object x
+  pub reads : enters c ≡ false
+  pub no_size : is_size c ≡ false
   pub accepted : refused store c ≡ None

@@ -71,11 +71,12 @@ pub(crate) fn edit<T: StoredObject>(
 }
 
 /// The object with this number for one more place, if it is there; no entry is copied. `AllocError` where 2^63 - 1 places hold it.
-fn share<T: StoredObject>(
+pub(crate) fn share<T: StoredObject>(
     places: &Places<T>,
     id: T::Id,
 ) -> Result<Option<SharedObject<T>>, AllocError>
-    ensures { IfOk result (λ shared. option_map T.contents shared ≡ object_at (contents_at T.contents places.now.items) (T.number id)) }
+    ensures stored { IfOk result (λ shared. option_map T.contents shared ≡ object_at (contents_at T.contents places.now.items) (T.number id)) }
+    ensures object { IfOk result (λ shared. shared ≡ object_at places.now.items (T.number id)) }
 {
     match places.get(T::number(id) as usize) {
         Some(Some(shared)) => Ok(Some(shared.share()?)),

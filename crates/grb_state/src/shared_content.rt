@@ -8,14 +8,16 @@ ghost use Rattle.grb_call.specs.After.{changed, refused_build};
 ghost use Rattle.grb_call.specs.Kinds.{class_of};
 ghost use Rattle.grb_call.specs.Output.{output_of};
 ghost use Rattle.grb_call.specs.Store.{Store};
-ghost use Rattle.grb_state.specs.SharedContent.{HoldSame, IsAt, MayEdit, is_assembled_content, is_free, matrix_in, vector_in};
+ghost use Rattle.grb_state.specs.SharedContent.{HoldSame, IsAt, MayEdit, count_of, is_assembled_content, is_free, matrix_in, vector_in};
 
 use crate::places::{assemble_shared, change_shared};
 use crate::shared::SharedObject;
+use crate::stored_object::StoredObject;
 use grb_call::{Call, Class};
 use grb_core::Value;
 use grb_sparse::{SparseMatrix, SparseVector};
 use std::alloc::{AllocError, Global};
+use std::sync::Arc;
 
 /// A matrix or a vector with its entries, for all that share it: one that changes it does so where it lies if no other holds it, and else
 /// changes a copy.
@@ -100,6 +102,54 @@ impl SharedContent {
         match self {
             SharedContent::Matrix(_) => None,
             SharedContent::Vector(vector) => Some(vector.lent()),
+        }
+    }
+
+    /// The matrix as all share it that hold it, where it is one: who clones the `Arc` holds it too, and no entry is copied. Takes no memory.
+    pub fn held_matrix(&self) -> Option<&Arc<SparseMatrix>>
+        ensures { option_map (λ m. m.now.value) result ≡ matrix_in self.now }
+    {
+        match self {
+            SharedContent::Matrix(matrix) => Some(matrix.held()),
+            SharedContent::Vector(_) => None,
+        }
+    }
+
+    /// The vector as all share it that hold it, where it is one, as [`SharedContent::held_matrix`] gives a matrix. Takes no memory.
+    pub fn held_vector(&self) -> Option<&Arc<SparseVector>>
+        ensures { option_map (λ x. x.now.value) result ≡ vector_in self.now }
+    {
+        match self {
+            SharedContent::Matrix(_) => None,
+            SharedContent::Vector(vector) => Some(vector.held()),
+        }
+    }
+
+    /// How many entries it stores. Takes no memory.
+    pub fn nvals(&self) -> u64
+        ensures { result ≡ count_of self.now }
+    {
+        match self {
+            SharedContent::Matrix(matrix) => matrix.lent().nvals(),
+            SharedContent::Vector(vector) => vector.lent().nvals(),
+        }
+    }
+
+    /// Whether no change waits in it. Takes no memory.
+    pub fn is_assembled(&self) -> bool
+        ensures { result ≡ is_assembled_content self.now }
+    {
+        match self {
+            SharedContent::Matrix(matrix) => matrix.lent().is_assembled(),
+            SharedContent::Vector(vector) => vector.lent().is_assembled(),
+        }
+    }
+
+    /// Whether so many changes wait in it that it pays to do them. Takes no memory. Either answer is right; it bears on time alone.
+    pub fn has_many_changes(&self) -> bool {
+        match self {
+            SharedContent::Matrix(matrix) => matrix.lent().has_many_changes(),
+            SharedContent::Vector(vector) => vector.lent().has_many_changes(),
         }
     }
 

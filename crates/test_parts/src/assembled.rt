@@ -1,20 +1,22 @@
 //! What a replay, an edition and a value lend, passed on as it is to what asks for objects in which no change waits: totals, an operation
 //! and a text.
 //!
-//! Contracts say that none waits there. What comes out of each is written here by hand, and no contract says that memory suffices.
+//! Contracts say that none waits there, but of an edition. What comes out of each is written here by hand, and no contract says that memory
+//! suffices.
 ghost use Rattle.std.specs.Prelude.{◌≡◌, true};
 ghost use Rattle.grb_state.specs.Settled.{AreAllAssembled};
 ghost use Rattle.grb_state.specs.State.{is_assembled};
 
 use crate::calls::{PLAIN, lent, replayed};
-use crate::editions::state_of;
+use crate::editions::results_of;
 use crate::same::same;
 use crate::texts_written::text_of;
 use crate::values::held_after;
 use grb_call::{Call, MatrixId, Object, VectorId};
 use grb_core::{BinaryOp, Domain, Monoid, Semiring, Value};
 use grb_products::{mxv, reduce_matrix, reduce_vector};
-use grb_replay::Editions;
+use grb_replay::Versions;
+use grb_results::Kept;
 use grb_sparse::{SparseMatrix, SparseVector};
 use grb_state::State;
 use std::alloc::{AllocError, Global};
@@ -151,16 +153,33 @@ fn expect_state(
     }
 }
 
+/// The first of the results that is a matrix, and the first that is a vector.
+fn first_of(results: &[Kept]) -> (Option<&SparseMatrix>, Option<&SparseVector>) {
+    let (mut matrix, mut vector) = (None, None);
+    for kept in results {
+        matrix = matrix.or(kept.content.matrix());
+        vector = vector.or(kept.content.vector());
+    }
+    (matrix, vector)
+}
+
+/// What an edition has, in which no change waits, though no contract says so.
 fn expect_edition(rt: &impl Abort, alloc: Global, calls: &[&Call]) -> Result<(), AllocError> {
-    let editions = Editions::open(alloc, 64)?;
+    let versions = Versions::open(alloc, 64)?;
     if calls.len() > 64 {
         panic!(rt; "{calls} calls", calls = calls.len());
     }
-    editions.offer(calls, state_of(alloc, calls)?)?;
-    match editions.newest(calls) {
-        Some((_, state)) => expect_state(rt, alloc, state, "an edition"),
-        None => panic!(rt; "no edition"),
+    versions.offer(calls, results_of(alloc, calls)?)?;
+    let Some((_, results)) = versions.newest(calls) else {
+        panic!(rt; "no edition");
+    };
+    let (Some(a), Some(u)) = first_of(results) else {
+        panic!(rt; "no objects");
+    };
+    if !a.is_assembled() || !u.is_assembled() {
+        panic!(rt; "changes wait");
     }
+    expect_lent(rt, alloc, a, u, "an edition")
 }
 
 fn expect_values(rt: &impl Abort, alloc: Global, calls: &[&Call]) -> Result<(), AllocError> {

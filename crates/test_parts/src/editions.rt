@@ -1,20 +1,19 @@
 //! Editions: which of them serve which calls, and which are kept.
 //!
-//! The contracts of `newest` and `advance` say that what is found is the store of the first of the calls. That an edition is found where
-//! one serves, the longest that does, which offers and which of the stores that are left are kept, whether one would be, and that one which
-//! is not is no refusal, no contract says.
-ghost use Rattle.std.specs.Prelude.{◌≡◌, ◌≤◌, length, map, IfOk};
-ghost use Rattle.grb_call.specs.Store.{empty_store};
-ghost use Rattle.grb_call.specs.History.{after_all};
-ghost use Rattle.grb_state.specs.Settled.{AreAllAssembled};
-ghost use Rattle.grb_state.specs.State.{is_assembled};
+//! The contracts of `newest` and `take_into` say that what is found are results of the calls. That an edition is found where one serves,
+//! the longest that does, which offers and which of the results that are left are kept, whether they would be, that a table then has them,
+//! and that an edition which is not kept is no refusal, no contract says.
+ghost use Rattle.std.specs.Prelude.{◌≤◌, length, map, IfOk};
+ghost use Rattle.grb_results.specs.Kept.{AreKept};
 
 use crate::calls::lent;
+use crate::results::{learnt, settle};
 use crate::same::same;
 use grb_call::{Call, VectorId};
 use grb_core::{Domain, Value};
-use grb_replay::Editions;
-use grb_state::{State, replay};
+use grb_replay::Versions;
+use grb_results::{Kept, Table};
+use grb_state::SharedContent;
 use std::alloc::{AllocError, Global};
 use std::process::Abort;
 
@@ -60,21 +59,21 @@ fn calls_of(alloc: Global, history: History) -> Result<Vec<Call>, AllocError> {
     Ok(calls)
 }
 
-/// The store that the calls leave.
-pub(crate) fn state_of(alloc: Global, calls: &[&Call]) -> Result<State, AllocError>
+/// The last results of the calls.
+pub(crate) fn results_of(alloc: Global, calls: &[&Call]) -> Result<Vec<Kept>, AllocError>
     requires { length calls.now ≤ 4096 }
-    ensures store { IfOk result (λ state. state.store ≡ after_all empty_store (map (λ c. c.now) calls.now)) }
-    ensures assembled { IfOk result (λ state. AreAllAssembled (is_assembled state.matrices state.vectors)) }
+    ensures { IfOk result (λ kept. AreKept (map (λ c. c.now) calls.now) kept.items) }
 {
-    let empty = State::empty(alloc);
-    replay(&empty, calls)
+    let mut table = learnt(alloc, calls)?;
+    settle(alloc, &mut table, calls)?;
+    table.last_results()
 }
 
-/// Offers the store that the calls leave, and the calls.
+/// Offers results of the calls, and the calls.
 fn offer(
     rt: &impl Abort,
     alloc: Global,
-    editions: &Editions,
+    versions: &Versions,
     history: History,
 ) -> Result<(), AllocError> {
     let calls = calls_of(alloc, history)?;
@@ -82,15 +81,15 @@ fn offer(
     if lent.len() > 4096 {
         panic!(rt; "{calls} calls", calls = lent.len());
     }
-    let state = state_of(alloc, &lent)?;
-    editions.offer(&lent, state)
+    let results = results_of(alloc, &lent)?;
+    versions.offer(&lent, results)
 }
 
-/// Leaves the store that the calls make, and the calls.
+/// Leaves results of the calls, and the calls.
 fn leave(
     rt: &impl Abort,
     alloc: Global,
-    editions: &Editions,
+    versions: &Versions,
     history: History,
 ) -> Result<(), AllocError> {
     let calls = calls_of(alloc, history)?;
@@ -98,39 +97,59 @@ fn leave(
     if lent.len() > 4096 {
         panic!(rt; "{calls} calls", calls = lent.len());
     }
-    let state = state_of(alloc, &lent)?;
-    editions.leave(&lent, state)
+    let results = results_of(alloc, &lent)?;
+    versions.leave(&lent, results)
 }
 
-/// What the vector stores at index 0, none where it stores nothing or is not there.
-fn stored(state: &State) -> Option<u64> {
-    match state.vector(VectorId(0))?.get(0) {
+/// What a vector stores at index 0, none where it stores nothing or is none.
+fn stored(content: &SharedContent) -> Option<u64> {
+    match content.vector()?.get(0) {
         Some(Value::Uint64(n)) => Some(n),
         _ => None,
     }
 }
 
-/// How many calls the edition has that serves the calls, and what the vector stores in it.
-fn found(editions: &Editions, calls: &[&Call]) -> Option<(usize, Option<u64>)> {
-    let (length, state) = editions.newest(calls)?;
-    Some((length, stored(state)))
+/// How many calls the edition has that serves the calls, and what the vector stores by the latest of its results.
+fn found(versions: &Versions, calls: &[&Call]) -> Option<(usize, Option<u64>)> {
+    let (length, results) = versions.newest(calls)?;
+    let mut latest: Option<&Kept> = None;
+    for kept in results {
+        let is_later = match latest {
+            Some(before) => before.at < kept.at,
+            None => true,
+        };
+        if is_later {
+            latest = Some(kept);
+        }
+    }
+    Some((length, stored(&latest?.content)))
 }
 
-/// Of how many calls a state is that goes on from an edition, and what the vector stores in it; none where it stays the empty one. The
-/// calls are 512 at most.
-fn advanced(
+/// What the vector stores by the latest result that a table has of so many of its calls.
+fn stored_before(table: &Table, count: usize) -> Option<u64> {
+    for at in (0..count).rev() {
+        if let Some(content) = table.kept(at) {
+            return stored(content);
+        }
+    }
+    None
+}
+
+/// Of how many calls an edition is from which a table takes results, and what the vector stores by the latest of them; none where it takes
+/// none. The calls are 512 at most.
+fn taken(
     alloc: Global,
-    editions: &Editions,
+    versions: &Versions,
     calls: &[&Call],
 ) -> Result<Option<(usize, Option<u64>)>, AllocError>
     requires { length calls.now ≤ 512 }
 {
-    let mut state = State::empty(alloc).try_clone(512)?;
-    let length = editions.advance(calls, &mut state, 0, 512);
+    let mut table = learnt(alloc, calls)?;
+    let length = versions.take_into(calls, &mut table, 0);
     if length == 0 {
         return Ok(None);
     }
-    Ok(Some((length, stored(&state))))
+    Ok(Some((length, stored_before(&table, length))))
 }
 
 /// Editions of a room: those offered in turn, the calls that are asked for, and what is found for them.
@@ -238,17 +257,17 @@ static ROWS: [Row; 13] = [
 ];
 
 fn expect_row(rt: &impl Abort, alloc: Global, row: &Row) -> Result<(), AllocError> {
-    let editions = Editions::open(alloc, row.room)?;
+    let versions = Versions::open(alloc, row.room)?;
     for history in row.offered {
-        offer(rt, alloc, &editions, *history)?;
+        offer(rt, alloc, &versions, *history)?;
     }
     let calls = calls_of(alloc, row.asked)?;
     let lent = lent(alloc, &calls)?;
-    same(rt, found(&editions, &lent), row.found, row.name);
+    same(rt, found(&versions, &lent), row.found, row.name);
     if lent.len() > 512 {
         panic!(rt; "{calls} calls", calls = lent.len());
     }
-    same(rt, advanced(alloc, &editions, &lent)?, row.found, row.name);
+    same(rt, taken(alloc, &versions, &lent)?, row.found, row.name);
     Ok(())
 }
 
@@ -278,9 +297,9 @@ static DOUBLED: [(u64, usize, usize); 10] = [
 
 #[test]
 fn editions_in_cells_double(rt: HostRuntime) -> Result<(), AllocError> {
-    let editions = Editions::open(rt.alloc(), 512)?;
+    let versions = Versions::open(rt.alloc(), 512)?;
     for count in [64, 100, 128, 200, 256] {
-        offer(&rt, rt.alloc(), &editions, Until(count))?;
+        offer(&rt, rt.alloc(), &versions, Until(count))?;
     }
     for (asked, in_cell, anywhere) in &DOUBLED {
         let calls = calls_of(rt.alloc(), Until(*asked))?;
@@ -288,11 +307,11 @@ fn editions_in_cells_double(rt: HostRuntime) -> Result<(), AllocError> {
         if lent.len() > 512 {
             panic!(rt; "{calls} calls", calls = lent.len());
         }
-        let cell = match found(&editions, &lent) {
+        let cell = match found(&versions, &lent) {
             Some((length, _)) => length,
             None => 0,
         };
-        let any = match advanced(rt.alloc(), &editions, &lent)? {
+        let any = match taken(rt.alloc(), &versions, &lent)? {
             Some((length, _)) => length,
             None => 0,
         };
@@ -339,16 +358,16 @@ static TAKEN: [(u32, &[History], usize, bool); 20] = [
 #[test]
 fn an_edition_is_kept_where_it_doubles_or_none_is_near(rt: HostRuntime) -> Result<(), AllocError> {
     for (at, (room, offered, count, takes)) in TAKEN.iter().enumerate() {
-        let editions = Editions::open(rt.alloc(), *room)?;
+        let versions = Versions::open(rt.alloc(), *room)?;
         for history in *offered {
-            offer(&rt, rt.alloc(), &editions, *history)?;
+            offer(&rt, rt.alloc(), &versions, *history)?;
         }
-        same(&rt, editions.takes(*count), *takes, ("row from 0", at));
+        same(&rt, versions.takes(*count), *takes, ("row from 0", at));
     }
     Ok(())
 }
 
-/// Stores that are left in turn, calls of which an edition is offered before, calls that are asked for, and what is gone on from.
+/// Results that are left in turn, calls of which an edition is offered before, calls that are asked for, and what a table takes.
 #[derive(Clone, Copy)]
 struct Latest {
     name: &'static str,
@@ -366,9 +385,9 @@ const FOUR: History = These(&[0, 2, 3, 4]);
 
 const FIVE: History = These(&[0, 2, 3, 4, 5]);
 
-static LATEST: [Latest; 13] = [
+static LATEST: [Latest; 15] = [
     Latest {
-        name: "a store that was left",
+        name: "results that were left",
         offered: &[],
         left: &[TWO],
         asked: THREE,
@@ -431,10 +450,24 @@ static LATEST: [Latest; 13] = [
         found: Some((3, Some(2))),
     },
     Latest {
-        name: "one no longer than the shortest of four is not kept",
+        name: "one shorter than each of four is not kept",
+        offered: &[],
+        left: &[THREE, FOUR, FIVE, Until(65), These(&[0, 6])],
+        asked: These(&[0, 6]),
+        found: None,
+    },
+    Latest {
+        name: "one takes the place of one of as many calls",
         offered: &[],
         left: &[TWO, THREE, FOUR, FIVE, These(&[0, 6])],
         asked: These(&[0, 6]),
+        found: Some((2, Some(5))),
+    },
+    Latest {
+        name: "which is not found any more",
+        offered: &[],
+        left: &[TWO, THREE, FOUR, FIVE, These(&[0, 6])],
+        asked: TWO,
         found: None,
     },
     Latest {
@@ -461,19 +494,19 @@ static LATEST: [Latest; 13] = [
 ];
 
 fn expect_latest(rt: &impl Abort, alloc: Global, row: &Latest) -> Result<(), AllocError> {
-    let editions = Editions::open(alloc, 128)?;
+    let versions = Versions::open(alloc, 128)?;
     for history in row.offered {
-        offer(rt, alloc, &editions, *history)?;
+        offer(rt, alloc, &versions, *history)?;
     }
     for history in row.left {
-        leave(rt, alloc, &editions, *history)?;
+        leave(rt, alloc, &versions, *history)?;
     }
     let calls = calls_of(alloc, row.asked)?;
     let lent = lent(alloc, &calls)?;
     if lent.len() > 512 {
         panic!(rt; "{calls} calls", calls = lent.len());
     }
-    same(rt, advanced(alloc, &editions, &lent)?, row.found, row.name);
+    same(rt, taken(alloc, &versions, &lent)?, row.found, row.name);
     Ok(())
 }
 
@@ -485,7 +518,7 @@ fn the_latest_are_four(rt: HostRuntime) -> Result<(), AllocError> {
     Ok(())
 }
 
-/// What was offered, and what was left; how many calls are evaluated and known; and whether one of the latest, and any edition, has more
+/// What was offered, and what was left; how many calls were seen and are known; and whether one of the latest, and any edition, has more
 /// than the ones and no more than the others.
 static BEYOND: [(&[History], &[History], usize, usize, bool, bool); 12] = [
     (&[], &[], 0, 5, false, false),
@@ -504,17 +537,17 @@ static BEYOND: [(&[History], &[History], usize, usize, bool, bool); 12] = [
 
 #[test]
 fn an_edition_is_looked_for_by_numbers_of_calls(rt: HostRuntime) -> Result<(), AllocError> {
-    for (at, (offered, left, evaluated, known, latest, any)) in BEYOND.iter().enumerate() {
-        let editions = Editions::open(rt.alloc(), 128)?;
+    for (at, (offered, left, seen, known, latest, any)) in BEYOND.iter().enumerate() {
+        let versions = Versions::open(rt.alloc(), 128)?;
         for history in *offered {
-            offer(&rt, rt.alloc(), &editions, *history)?;
+            offer(&rt, rt.alloc(), &versions, *history)?;
         }
         for history in *left {
-            leave(&rt, rt.alloc(), &editions, *history)?;
+            leave(&rt, rt.alloc(), &versions, *history)?;
         }
         let found = (
-            editions.has_latest_beyond(*evaluated, *known),
-            editions.has_beyond(*evaluated, *known),
+            versions.has_latest_beyond(*seen, *known),
+            versions.has_beyond(*seen, *known),
         );
         same(&rt, found, (*latest, *any), ("row from 0", at));
     }

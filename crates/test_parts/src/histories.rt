@@ -1,8 +1,10 @@
-//! Drawn histories: what each object holds by only the calls that it depends on, and in a replay, entry by entry and as a text, against the
-//! whole store; and each call against its copy.
+//! Drawn histories: what each object holds by only the calls that it depends on, by results in a table, and in a replay, entry by entry and
+//! as a text, against the whole store; and each call against its copy.
 //!
-//! A contract says that both hold the same, by one definition of what a call does, and nothing says that memory suffices for either.
-ghost use Rattle.std.specs.Prelude.{◌≡◌, true};
+//! A contract says that all hold the same, by one definition of what a call does, and nothing says that memory suffices for any, or that a
+//! table which is given results makes no call.
+ghost use Rattle.std.specs.Prelude.{◌≡◌, ◌<◌, ◌^◌, true, length, map};
+ghost use Rattle.grb_results.specs.Kept.{AreReady, IsTableOf};
 ghost use Rattle.grb_state.specs.Settled.{AreAllAssembled};
 ghost use Rattle.grb_state.specs.State.{is_assembled};
 
@@ -10,12 +12,14 @@ use crate::calls::{
     Answer, Choice, Operands, Operation, answer, applied, lent, operation_call, replayed, value_of,
 };
 use crate::draw::Draw;
+use crate::results::{begun, learnt, result_of, settle, taken};
 use crate::same::same;
 use crate::texts_written::text_of;
 use crate::values::held_after;
 use grb_call::{Call, MatrixId, MatrixTuples, Object, Reply, VectorId, VectorTuples};
 use grb_core::{Domain, Refusal, Value};
 use grb_market::WriteFault;
+use grb_results::Table;
 use grb_sparse::{SparseMatrix, SparseVector};
 use grb_state::State;
 use std::alloc::{AllocError, Global};
@@ -410,6 +414,146 @@ fn same_as_whole(rt: &impl Abort, alloc: Global, calls: &[&Call]) -> Result<(), 
     Ok(())
 }
 
+// ---- by tables
+
+/// The vector is by the table, which has learnt the calls, as the store answers.
+fn same_made_vector(
+    rt: &impl Abort,
+    alloc: Global,
+    table: &mut Table,
+    calls: &[&Call],
+    store: &mut State,
+    v: VectorId,
+) -> Result<(), AllocError>
+    requires { IsTableOf (map (λ c. c.now) calls.now) table.old }
+    ensures { IsTableOf (map (λ c. c.now) calls.now) table.new }
+{
+    let content = result_of(alloc, table, calls, Object::Vector(v))?;
+    match &content {
+        Some(content) => same_vector(rt, alloc, content.vector(), store, v)?,
+        None => same_vector(rt, alloc, None, store, v)?,
+    };
+    Ok(())
+}
+
+/// The matrix is by the table, which has learnt the calls, as the store answers.
+fn same_made_matrix(
+    rt: &impl Abort,
+    alloc: Global,
+    table: &mut Table,
+    calls: &[&Call],
+    store: &mut State,
+    a: MatrixId,
+) -> Result<(), AllocError>
+    requires { IsTableOf (map (λ c. c.now) calls.now) table.old }
+    ensures { IsTableOf (map (λ c. c.now) calls.now) table.new }
+{
+    let content = result_of(alloc, table, calls, Object::Matrix(a))?;
+    match &content {
+        Some(content) => same_matrix(rt, alloc, content.matrix(), store, a)?,
+        None => same_matrix(rt, alloc, None, store, a)?,
+    };
+    Ok(())
+}
+
+/// Each object is by the table, which has learnt the calls, as the store answers. How many calls it has made then.
+fn same_by_table(
+    rt: &impl Abort,
+    alloc: Global,
+    table: &mut Table,
+    calls: &[&Call],
+    store: &mut State,
+) -> Result<u32, AllocError>
+    requires { IsTableOf (map (λ c. c.now) calls.now) table.old }
+    ensures { IsTableOf (map (λ c. c.now) calls.now) table.new }
+{
+    let (vectors, matrices) = (store.vectors(), store.matrices());
+    'vectors: for v in 0..vectors {
+        same_made_vector(rt, alloc, table, calls, store, VectorId(v))?;
+    }
+    'matrices: for a in 0..matrices {
+        same_made_matrix(rt, alloc, table, calls, store, MatrixId(a))?;
+    }
+    Ok(table.made())
+}
+
+/// Each object of the state, in which no change waits, is as the store answers.
+fn same_state(
+    rt: &impl Abort,
+    alloc: Global,
+    whole: &State,
+    store: &mut State,
+) -> Result<(), AllocError>
+    requires { AreAllAssembled (is_assembled whole.now.matrices whole.now.vectors) }
+{
+    for v in 0..=store.vectors() {
+        same_replayed_vector(rt, alloc, whole, store, VectorId(v))?;
+    }
+    for a in 0..=store.matrices() {
+        same_replayed_matrix(rt, alloc, whole, store, MatrixId(a))?;
+    }
+    Ok(())
+}
+
+/// Tables that begin with the state of one, or take its results, make no call.
+fn same_given(
+    rt: &impl Abort,
+    alloc: Global,
+    table: &Table,
+    calls: &[&Call],
+    store: &mut State,
+) -> Result<(), AllocError>
+    requires few { length calls.now < 2 ^ 31 }
+    requires table { IsTableOf (map (λ c. c.now) calls.now) table.now }
+    requires ready { AreReady table.now }
+{
+    let state = table.state()?;
+    same_state(rt, alloc, &state, store)?;
+    let mut begun = begun(alloc, calls, &state)?;
+    let made = same_by_table(rt, alloc, &mut begun, calls, store)?;
+    same(rt, made, 0, "begun with a state");
+    let mut taken = taken(alloc, calls, table)?;
+    let made = same_by_table(rt, alloc, &mut taken, calls, store)?;
+    same(rt, made, 0, "with results of another table");
+    Ok(())
+}
+
+/// Each object is by tables of the calls as in a store in which changes wait: made one by one; settled, where no other call is made; given to
+/// others; and after all that nothing needs was dropped, and then all.
+fn same_by_tables(rt: &impl Abort, alloc: Global, calls: &[&Call]) -> Result<(), AllocError> {
+    let mut store = applied(rt, alloc, calls)?;
+    if calls.len() > 10_000 {
+        panic!(rt; "{calls} calls", calls = calls.len());
+    }
+    let mut table = learnt(alloc, calls)?;
+    let made = same_by_table(rt, alloc, &mut table, calls, &mut store)?;
+    settle(alloc, &mut table, calls)?;
+    same_given(rt, alloc, &table, calls, &mut store)?;
+    sweep(&mut table, calls);
+    let again = same_by_table(rt, alloc, &mut table, calls, &mut store)?;
+    same(rt, again, made, "swept");
+    release(&mut table, calls);
+    let anew = same_by_table(rt, alloc, &mut table, calls, &mut store)?;
+    same(rt, anew > made, true, "released");
+    Ok(())
+}
+
+/// Drops the results that nothing needs.
+fn sweep(table: &mut Table, calls: &[&Call])
+    requires { IsTableOf (map (λ c. c.now) calls.now) table.old }
+    ensures { IsTableOf (map (λ c. c.now) calls.now) table.new }
+{
+    table.sweep();
+}
+
+/// Drops all results.
+fn release(table: &mut Table, calls: &[&Call])
+    requires { IsTableOf (map (λ c. c.now) calls.now) table.old }
+    ensures { IsTableOf (map (λ c. c.now) calls.now) table.new }
+{
+    table.release();
+}
+
 fn same_copies(rt: &impl Abort, calls: &[Call]) -> Result<(), AllocError> {
     for call in calls {
         let copy = call.try_clone()?;
@@ -430,6 +574,19 @@ fn an_object_holds_what_it_holds_in_the_whole_store(rt: HostRuntime) -> Result<(
     let mut draw = Draw { state: 40_200 };
     for _ in 0..HISTORIES {
         expect_drawn(&rt, rt.alloc(), &mut draw)?;
+    }
+    Ok(())
+}
+
+/// How many histories are drawn for tables.
+const OF_TABLES: u32 = 30;
+
+#[test]
+fn tables_hold_what_the_whole_store_holds(rt: HostRuntime) -> Result<(), AllocError> {
+    let mut draw = Draw { state: 40_201 };
+    for _ in 0..OF_TABLES {
+        let calls = drawn_history(&rt, rt.alloc(), &mut draw)?;
+        same_by_tables(&rt, rt.alloc(), &lent(rt.alloc(), &calls)?)?;
     }
     Ok(())
 }

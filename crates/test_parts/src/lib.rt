@@ -24,8 +24,6 @@ mod objects;
 #[cfg(test)]
 mod operations;
 #[cfg(test)]
-mod partial_stores;
-#[cfg(test)]
 mod plain;
 #[cfg(test)]
 mod results;

@@ -1,5 +1,6 @@
 //! The tests of this crate, a module for each reason to have them.
 mod calls;
+mod dear;
 mod large;
 mod memory;
 mod offers;

@@ -1,6 +1,7 @@
 //! The tests of this crate, a module for each reason to have them.
 mod asked;
 mod command_line;
+mod dear;
 mod dear_races;
 mod draw;
 mod drawn;

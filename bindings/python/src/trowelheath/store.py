@@ -378,7 +378,7 @@ class Pass:
         It changes no answer. Where memory is refused, fewer calls are evaluated, and nothing is lost.
 
         Returns:
-            How many of the known calls are evaluated then.
+            Before how many of the known calls no answer makes one any more.
 
         Raises:
             StoreClosed: the store is closed.
@@ -386,6 +386,17 @@ class Pass:
         out = ctypes.c_uint32()
         self._evaluate_all("trb_prepare", out)
         return out.value
+
+    def release(self) -> None:
+        """Drops what the pass has evaluated, so that its memory is given back.
+
+        What the pass knows stays, and other passes keep what they have. What a later answer needs is made anew, or
+        found with other passes; no change is settled any more.
+
+        Raises:
+            StoreClosed: the store is closed.
+        """
+        self._call("trb_release")
 
     def facts(self) -> Facts:
         """What the pass tells of itself: what it knows, and what its last call cost. It looks for no news.

@@ -98,6 +98,20 @@ fn a_pass_that_adopts_another_knows_what_it_knows() {
 }
 
 #[test]
+fn a_pass_that_is_released_knows_what_it_knew() {
+    let mut pass = open();
+    let v = pass.new_vector::<u64>(3).unwrap();
+    pass.set(v, 1, 7).unwrap();
+    pass.wait(v, Wait::Materialize).unwrap();
+    assert_eq!(pass.facts().unwrap().settled, 2);
+    pass.release().unwrap();
+    let facts = pass.facts().unwrap();
+    assert_eq!((facts.known, facts.settled, facts.made), (2, 0, 0));
+    assert_eq!(pass.get(v, 1), Ok(Some(7)));
+    assert_eq!(pass.facts().unwrap().made, 2);
+}
+
+#[test]
 fn a_call_learns_what_others_entered_before() {
     let [mut first, mut second] = Store::open_array(10).unwrap();
     let v = first.new_vector::<u64>(3).unwrap();

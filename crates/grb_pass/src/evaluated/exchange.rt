@@ -1,186 +1,153 @@
-//! When a pass asks for a store that others left, and when it leaves its own to them.
-ghost use Rattle.std.specs.Prelude.{◌≡◌, ◌<◌, true, length, All};
+//! When a pass looks for results that others left, and when it leaves its own to them. No contract knows of it but that the table stays one
+//! of the known calls: each choice is right, and bears on time and memory alone.
+ghost use Rattle.std.specs.Prelude.{◌≡◌, ◌<◌, ◌≤◌, ◌^◌, length, map, All, IfOk, OnErr};
 ghost use Rattle.grb_records.specs.Token.{IsOf};
-ghost use Rattle.grb_call.specs.History.{store_of};
-ghost use Rattle.grb_pass.specs.Evaluated.{IsAssembled, IsEvaluatedFor};
+ghost use Rattle.grb_call.specs.History.{calls_of};
+ghost use Rattle.grb_results.specs.Kept.{IsSameBut, IsTableOf, KeepsAll};
+ghost use Rattle.grb_results.specs.Results.{IsTable};
+ghost use Rattle.grb_pass.specs.Evaluated.{IsEvaluatedFor};
 ghost use Rattle.grb_pass.specs.Known.{known};
 
-use super::{Evaluated, is_materialize};
+use super::Evaluated;
 use crate::reader::Reader;
-use crate::sharing::{advance, entries_of, offer, share};
-use grb_call::Call;
+use grb_call::{Call, Object};
 use grb_records::Records;
-use grb_replay::{Amount, Reached};
+use grb_slices::CallList;
 use std::alloc::AllocError;
 
-/// How many calls more are known where a pass asks for an edition again, and how many are to be made where it asks at once (own).
-pub(super) const MANY: usize = 64;
+/// From how much work on results are dear: that of 4,096 sets. A pass leaves them to the others when it has made them for one answer (own).
+pub(super) const DEAR: u64 = 4096 * 64;
 
-/// From how much on calls are dear, as a number of sets: a pass asks for an edition before it makes them, and offers their store when it
-/// has made them (own).
-const DEAR: u64 = 4096;
+/// How much work it is, about, to copy a call for an edition (own).
+const COPIED: u64 = 16;
 
-/// How many entries of a store are copied in the time of a set, about, where the passes that share it change its objects (own).
-const COPIED: u64 = 64;
+/// How much work it is, about, to compare a call with one of an edition (own).
+const COMPARED: u64 = 4;
+
+/// The known calls, in turn. `AllocError` where memory is refused; then none is lent.
+fn lent_calls<'a>(records: &'a Records, reader: &mut Reader) -> Result<Vec<&'a Call>, AllocError>
+    requires of { All (IsOf records.now) reader.old.shown }
+    ensures calls { IfOk result (λ calls. map (λ c. c.now) calls.items ≡ calls_of (known reader.old)) }
+    ensures same { reader.new ≡ reader.old }
+{
+    let known = reader.known() as usize;
+    let mut calls = Vec::with_capacity(reader.allocator(), known)?;
+    'calls: for at in 0..known {
+        calls.push_reserved(reader.call_at(records, at));
+    }
+    Ok(calls)
+}
 
 impl Evaluated {
-    /// Whether the known calls that were not gone over are dear.
-    pub(super) fn is_dear(&self, reader: &Reader) -> bool {
-        self.effort.of(&self.left(reader)) >= DEAR
-    }
-
-    /// Whether operations are to be made of which it has no measure: then an edition that has them was worth more than to copy its calls,
-    /// to whoever left it.
-    fn may_be_dear(&self, reader: &Reader) -> bool {
-        self.left(reader).has_operations() && self.effort.is_unknown()
-    }
-
-    /// Whether the known calls that were not gone over take as much as to compare all known calls with those of an edition.
-    fn is_worth_comparing(&self, reader: &Reader) -> bool {
-        let known = reader.amount_beyond(&Amount::none());
-        self.effort.of(&self.left(reader)) >= known.compared()
-    }
-
-    /// Whether there is an edition to go on from: in a cell where so many calls are known or more, and among the latest where those that
-    /// were not gone over are dear; but not where to compare calls would take longer than to make them.
-    fn finds(&self, reader: &Reader, from: usize) -> bool {
-        let known = reader.known() as usize;
-        let count = self.reached.count();
-        if known >= from && self.is_worth_comparing(reader) {
-            return self.editions.has_beyond(count, known);
-        }
-        if !self.editions.has_latest_beyond(count, known) {
-            return false;
-        }
-        self.may_be_dear(reader) || (self.is_dear(reader) && self.is_worth_comparing(reader))
-    }
-
-    /// Goes on from an edition where one is found, and where so many calls are known or more.
-    pub(super) fn advance_from(&mut self, records: &Records, reader: &mut Reader, from: usize)
-        requires evaluated { IsEvaluatedFor reader.old self.old }
+    /// Keeps also the results of the longest edition found of more than so many of the known calls. Nothing is missed where memory is refused.
+    fn take_edition(&mut self, records: &Records, reader: &mut Reader, seen: usize)
         requires of { All (IsOf records.now) reader.old.shown }
+        requires table { IsTable (calls_of (known reader.old)) self.old }
         ensures same { reader.new ≡ reader.old }
-        ensures evaluated { IsEvaluatedFor reader.new self.new }
-        ensures made { self.new.made ≡ self.old.made }
+        ensures table { IsTable (calls_of (known reader.new)) self.new }
+        ensures learnt { IsSameBut self.old self.new }
+        ensures stays { KeepsAll self.old self.new }
     {
-        if self.finds(reader, from) {
-            advance(&self.editions, records, reader, &mut self.reached);
-            self.let_base_go();
+        if let Ok(calls) = lent_calls(records, reader) {
+            let found = self
+                .versions
+                .take_into(calls.as_slice(), &mut self.table, seen);
+            self.seen = found.max(self.seen);
         }
     }
 
-    /// Whether a wait for all objects is to look for an edition of just the known calls: where there is one of so many, not all known calls
-    /// are settled, and some are to be made, or changes wait in an object that has entries.
-    fn finds_ready(&self, reader: &Reader) -> bool
-        ensures { result ≡ true → reader.now.settled < length (known reader.now) }
-    {
-        if reader.settled() >= reader.known() {
-            return false;
-        }
-        let known = reader.known() as usize;
-        if !self.editions.has_beyond(known - 1, known) {
-            return false;
-        }
-        !self.is_made(reader) || entries_of(self.reached.state()).waiting > 0
+    /// The fewest calls that an edition may have which is worth to be looked at: more than those looked at, and one of all known calls again.
+    fn looked(&self, reader: &Reader) -> usize {
+        self.seen.min((reader.known() as usize).saturating_sub(1))
     }
 
-    /// Goes on with an edition of just the known calls before a wait for all objects, where another pass has left one: both share its
-    /// objects then, and no call is made and no change done for the wait. Nothing is missed where memory is refused to that.
-    pub(crate) fn take_ready(&mut self, records: &Records, reader: &mut Reader, call: &Call)
-        requires evaluated { IsEvaluatedFor reader.old self.old }
+    /// Whether there is an edition to look at, and so much work is worth to compare calls.
+    fn is_worth_looking(&self, reader: &Reader, work: u64) -> bool {
+        let known = reader.known();
+        work / COMPARED >= u64::from(known)
+            && self
+                .versions
+                .has_beyond(self.looked(reader), known as usize)
+    }
+
+    /// Keeps also results that another pass left, before what the object needs is made, where that takes more than to compare calls.
+    pub(super) fn look(&mut self, records: &Records, reader: &mut Reader, object: Object)
         requires of { All (IsOf records.now) reader.old.shown }
+        requires table { IsTableOf (calls_of (known reader.old)) self.old }
         ensures same { reader.new ≡ reader.old }
-        ensures evaluated { IsEvaluatedFor reader.new self.new }
-        ensures made { self.new.made ≡ self.old.made }
+        ensures table { IsTableOf (calls_of (known reader.new)) self.new }
+        ensures learnt { IsSameBut self.old self.new }
+        ensures stays { KeepsAll self.old self.new }
     {
-        if !is_materialize(call) || !self.finds_ready(reader) {
-            return;
-        }
-        let Ok(mut store) = Reached::open(self.alloc, reader.room()) else {
-            return;
-        };
-        advance(&self.editions, records, reader, &mut store);
-        if store.count() >= reader.known() as usize {
-            self.replace(store);
-            self.objects.release();
+        let work = self.table.work_for(reader, records, object);
+        if self.is_worth_looking(reader, work) {
+            let seen = self.looked(reader);
+            self.take_edition(records, reader, seen);
         }
     }
 
-    /// Goes on from an edition before a read, or a build's check: the first time, and then where 64 calls more are known than when it last
-    /// did so, or those that were not gone over are dear; not where comparing calls would take longer.
-    pub(crate) fn go_on(&mut self, records: &Records, reader: &mut Reader)
-        requires evaluated { IsEvaluatedFor reader.old self.old }
+    /// Keeps also results that another pass left, before what all objects need is made, where that takes more than to compare calls.
+    pub(super) fn look_for_all(&mut self, records: &Records, reader: &mut Reader)
         requires of { All (IsOf records.now) reader.old.shown }
+        requires table { IsTableOf (calls_of (known reader.old)) self.old }
         ensures same { reader.new ≡ reader.old }
-        ensures evaluated { IsEvaluatedFor reader.new self.new }
-        ensures made { self.new.made ≡ self.old.made }
+        ensures table { IsTableOf (calls_of (known reader.new)) self.new }
+        ensures learnt { IsSameBut self.old self.new }
+        ensures stays { KeepsAll self.old self.new }
     {
-        let known = reader.known() as usize;
-        let from = self.next;
-        if known >= self.next {
-            self.next = known + MANY;
+        let work = self.table.work_for_all(reader, records);
+        if self.is_worth_looking(reader, work) {
+            let seen = self.looked(reader);
+            self.take_edition(records, reader, seen);
         }
-        self.advance_from(records, reader, from);
     }
 
-    /// Leaves the store, in which all known calls are evaluated, to the other passes, where there are some, and what was made for the
-    /// answer was dear, also next to copies of the calls and of what the passes may change. Nothing is missed where memory is refused to
-    /// that.
-    pub(super) fn share_dear(&mut self, records: &Records, reader: &mut Reader)
-        requires evaluated { IsEvaluatedFor reader.old self.old }
+    /// Leaves the last results, as far as they lie ready, to the other passes. `AllocError` where memory is refused; then none is left.
+    fn leave(&mut self, records: &Records, reader: &mut Reader) -> Result<(), AllocError>
         requires of { All (IsOf records.now) reader.old.shown }
+        requires table { IsTable (calls_of (known reader.old)) self.old }
         ensures same { reader.new ≡ reader.old }
-        ensures evaluated { IsEvaluatedFor reader.new self.new }
-        ensures made { self.new.made ≡ self.old.made }
-        ensures part { self.new.reached ≡ record self.old.reached { state = self.new.reached.state } }
+        ensures table { self.new ≡ self.old }
     {
-        let spent = self.effort.spent();
-        if self.alone || spent < DEAR || spent < self.reached.amount().copied() {
-            return;
-        }
-        if spent < entries_of(self.reached.state()).all / COPIED || !self.is_made(reader) {
-            return;
-        }
-        share(&self.editions, records, reader, &mut self.reached);
+        self.left = self.table.work();
+        let calls = lent_calls(records, reader)?;
+        let results = self.table.last_results()?;
+        self.versions.leave(calls.as_slice(), results)
     }
 
-    /// How many entries the objects have in which changes wait, where the call waits for all objects.
-    pub(super) fn waiting(&self, call: &Call) -> u64 {
-        if is_materialize(call) {
-            entries_of(self.reached.state()).waiting
-        } else {
-            0
-        }
+    /// Whether what was made for the answer is dear, also next to copies of the calls, and there are other passes.
+    pub(super) fn is_worth_sharing(&self, reader: &Reader) -> bool {
+        let spent = self.table.work().saturating_sub(self.begun);
+        !self.alone && spent >= DEAR && spent / COPIED >= u64::from(reader.known())
     }
 
-    /// Whether what was evaluated since the store was last offered, and what was assembled now, which are so many entries, takes as much as
-    /// copies of the calls, and of what the passes may change.
-    fn is_worth_offering(&self, reader: &Reader, assembled: u64) -> bool {
-        let made = self.effort.of(&reader.amount_beyond(&self.offered));
-        let since = made.saturating_add(assembled / COPIED);
-        let known = reader.amount_beyond(&Amount::none());
-        since >= known.copied() && since >= entries_of(self.reached.state()).all / COPIED
-    }
-
-    /// Offers the store, in which no change waits, since so many entries were assembled, to the other passes, where there are some and it
-    /// is worth that. `AllocError` where memory is refused; then it has not offered it.
-    pub(super) fn offer(
-        &mut self,
-        records: &Records,
-        reader: &mut Reader,
-        assembled: u64,
-    ) -> Result<(), AllocError>
+    /// Leaves the last results to the other passes. Nothing is missed where memory is refused to that.
+    pub(super) fn share(&mut self, records: &Records, reader: &mut Reader)
         requires of { All (IsOf records.now) reader.old.shown }
-        requires all { self.old.reached.state.store ≡ store_of (known reader.old) }
-        requires assembled { IsAssembled self.old.reached.state }
+        requires table { IsTable (calls_of (known reader.old)) self.old }
         ensures same { reader.new ≡ reader.old }
-        ensures evaluated { self.new ≡ self.old }
+        ensures table { self.new ≡ self.old }
     {
-        if self.alone || !self.is_worth_offering(reader, assembled) {
+        let _ = self.leave(records, reader);
+    }
+
+    /// Offers the last results, as far as they lie ready, to the other passes, where there are some and what was made since results were last
+    /// left is worth copies of the calls. `AllocError` where memory is refused; then none is offered.
+    pub(super) fn offer(&mut self, records: &Records, reader: &mut Reader) -> Result<(), AllocError>
+        requires of { All (IsOf records.now) reader.old.shown }
+        requires table { IsTable (calls_of (known reader.old)) self.old }
+        ensures same { reader.new ≡ reader.old }
+        ensures table { self.new ≡ self.old }
+    {
+        let since = self.table.work().saturating_sub(self.left);
+        let known = reader.known();
+        if self.alone || since / COPIED < u64::from(known) || !self.versions.takes(known as usize) {
             return Ok(());
         }
-        offer(&self.editions, records, reader, self.reached.state())?;
-        self.offered = reader.amount_beyond(&Amount::none());
+        let calls = lent_calls(records, reader)?;
+        let results = self.table.last_results()?;
+        self.versions.offer(calls.as_slice(), results)?;
+        self.left = self.table.work();
         Ok(())
     }
 }

@@ -1,8 +1,7 @@
 //! What a successor begins with: the store that all known calls leave, with the calls that make it anew; and a store that is taken for what
-//! was evaluated.
-ghost use Rattle.std.specs.Prelude.{◌≡◌, ◌+◌, ◌≤◌, length, All, IfOk, IfErr, OnOk};
+//! was evaluated. And what passes that adopt this one find made.
+ghost use Rattle.std.specs.Prelude.{◌≡◌, ◌+◌, ◌≤◌, length, All, IfOk, IfErr};
 ghost use Rattle.grb_order.specs.declared.limits.TheConstants.{MOST_ROOM};
-ghost use Rattle.grb_order.specs.Order.{room_of};
 ghost use Rattle.grb_records.specs.Token.{IsOf};
 ghost use Rattle.grb_call.specs.History.{store_of};
 ghost use Rattle.grb_state.specs.Live.{live_store};
@@ -12,26 +11,27 @@ ghost use Rattle.grb_pass.specs.Evaluated.{IsAssembled, IsEvaluatedFor};
 ghost use Rattle.grb_pass.specs.Known.{known};
 
 use super::Evaluated;
+use super::exchange::DEAR;
 use crate::reader::Reader;
-use crate::sharing::assemble;
 use grb_rebuild::{NoSuccessor, Rebuild, Renumbered, rebuild_all, rebuild_live};
 use grb_records::Records;
-use grb_replay::{Amount, Reached, State};
+use grb_state::State;
 use std::alloc::{AllocError, Global};
 
 impl Evaluated {
-    /// Evaluates all known calls and has all changes done. `AllocError` where memory is refused; what was made stays so.
-    fn make_ready(&mut self, records: &Records, reader: &mut Reader) -> Result<(), AllocError>
+    /// The store that all known calls leave, evaluated, with no change left that waits. `AllocError` where memory is refused; what was made
+    /// stays so.
+    fn whole(&mut self, records: &Records, reader: &mut Reader) -> Result<State, AllocError>
         requires evaluated { IsEvaluatedFor reader.old self.old }
         requires of { All (IsOf records.now) reader.old.shown }
         ensures same { reader.new ≡ reader.old }
         ensures evaluated { IsEvaluatedFor reader.new self.new }
-        ensures store { OnOk result (self.new.reached.state.store ≡ store_of (known reader.old)) }
-        ensures assembled { OnOk result (IsAssembled self.new.reached.state) }
+        ensures store { IfOk result (λ state. state.store ≡ store_of (known reader.old)) }
+        ensures assembled { IfOk result IsAssembled }
     {
-        self.make_all(records, reader)?;
-        assemble(reader, &mut self.reached)?;
-        Ok(())
+        self.learn(records, reader)?;
+        self.make_ready(records, reader)?;
+        self.table.state()
     }
 
     /// The store that all known calls leave, with the calls that make it anew, as [`rebuild_all`] has them.
@@ -51,10 +51,10 @@ impl Evaluated {
         ensures store { IfOk result (λ r. r.state.store ≡ store_of (known reader.old)) }
         ensures refused { IfErr result (IsNoSuccessor room (store_of (known reader.old))) }
     {
-        let Ok(()) = self.make_ready(records, reader) else {
+        let Ok(state) = self.whole(records, reader) else {
             return Err(NoSuccessor::OutOfMemory);
         };
-        rebuild_all(alloc, self.reached.state(), room)
+        rebuild_all(alloc, &state, room)
     }
 
     /// The same of the objects that are there alone, as [`rebuild_live`] has it.
@@ -75,23 +75,41 @@ impl Evaluated {
         ensures numbers { IfOk result (λ r. AreRenumbered (store_of (known reader.old)) r.1) }
         ensures refused { IfErr result (IsNoSuccessor room (live_store (store_of (known reader.old)))) }
     {
-        let Ok(()) = self.make_ready(records, reader) else {
+        let Ok(state) = self.whole(records, reader) else {
             return Err(NoSuccessor::OutOfMemory);
         };
-        rebuild_live(alloc, self.reached.state(), room)
+        rebuild_live(alloc, &state, room)
     }
 
-    /// Takes this store, which the known calls leave, for what was evaluated. Takes no memory.
-    pub(crate) fn begin_with(&mut self, reader: &Reader, state: State)
-        requires evaluated { IsEvaluatedFor reader.now self.old }
-        requires store { state.store ≡ store_of (known reader.now) }
-        requires room { room_of reader.now.order ≤ state.room + length (known reader.now) }
-        requires assembled { IsAssembled state }
-        ensures evaluated { IsEvaluatedFor reader.now self.new }
+    /// Takes this store, which the known calls leave, for what was evaluated. Where memory is refused, an answer makes what it needs.
+    pub(crate) fn begin_with(&mut self, records: &Records, reader: &mut Reader, state: &State)
+        requires evaluated { IsEvaluatedFor reader.old self.old }
+        requires of { All (IsOf records.now) reader.old.shown }
+        requires store { state.now.store ≡ store_of (known reader.old) }
+        ensures same { reader.new ≡ reader.old }
+        ensures evaluated { IsEvaluatedFor reader.new self.new }
         ensures made { self.new.made ≡ self.old.made }
     {
-        let amount = reader.amount_beyond(&Amount::none());
-        let count = reader.known() as usize;
-        self.replace(Reached::whole(self.alloc, state, count, amount));
+        if self.learn(records, reader).is_ok() {
+            self.table.begin_with(state);
+        }
+    }
+
+    /// Makes what the objects hold that are there after all known calls, where that is dear, so that others can go on from there; how many of
+    /// the known calls no answer makes any more before another one. Where memory is refused, fewer.
+    pub(crate) fn prepare(&mut self, records: &Records, reader: &mut Reader) -> u32
+        requires evaluated { IsEvaluatedFor reader.old self.old }
+        requires of { All (IsOf records.now) reader.old.shown }
+        ensures same { reader.new ≡ reader.old }
+        ensures evaluated { IsEvaluatedFor reader.new self.new }
+        ensures count { result ≤ length (known reader.new) }
+    {
+        if self.learn(records, reader).is_err() {
+            return 0;
+        }
+        if self.table.work_for_all(reader, records) >= DEAR {
+            let _ = self.make_ready(records, reader);
+        }
+        self.table.evaluated().min(reader.known())
     }
 }

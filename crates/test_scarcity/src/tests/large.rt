@@ -145,8 +145,9 @@ fn build_line<R: Abort>(
     Ok(())
 }
 
-/// Makes the calls of both passes while memory is held back. Of the 17 that are known then the other pass has made none; it makes all but
-/// the product and the matrix that was freed, or fewer where it goes on from what the first has left.
+/// Makes the calls of both passes while memory is held back. Of the 17 that are known then the other pass has made none; it makes those that
+/// the seven objects depend on, or fewer where it goes on from what the first has left: not the product, nor the making and the free of the
+/// matrix that it was for, nor the making of the vector that the sum overwrites.
 fn expect_of_both<R: Abort + Files + AllocGlobal>(
     rt: &R,
     context: &Context,
@@ -164,7 +165,7 @@ fn expect_of_both<R: Abort + Files + AllocGlobal>(
     expect_each(rt, &mut hoard, context, p, asked, &ANSWERS);
     same(rt, p.settled(), 16, "the settled calls");
     expect_each(rt, &mut hoard, context, q, wait, &[DONE]);
-    same(rt, q.made() <= 15, true, "the calls made");
+    same(rt, q.made() <= 13, true, "the calls made");
 }
 
 /// Reads what both passes ask, and asks it.

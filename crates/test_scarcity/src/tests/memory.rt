@@ -9,6 +9,9 @@ pub(super) const STEP: usize = 32;
 /// How often a call is tried at most.
 pub(super) const TRIALS: usize = 1_000;
 
+/// The same where what it makes takes more: the last of so many trials leaves nearly a whole spare.
+pub(super) const MANY_TRIALS: usize = 2_000;
+
 /// Leaves so many bytes over, and holds back what was given back since.
 pub(super) fn leave(rt: &impl Abort, hoard: &mut Hoard, bytes: usize) {
     assert!(rt; hoard.leave(bytes), "no spare is left");

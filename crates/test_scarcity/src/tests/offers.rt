@@ -42,6 +42,19 @@ fn is_done_wait<R: Abort>(rt: &R, hoard: &mut Hoard, store: &mut Store, bytes: u
     is_done
 }
 
+/// The same in a new store that has made the calls.
+fn is_done_wait_after<R: Abort>(
+    rt: &R,
+    alloc: Global,
+    hoard: &mut Hoard,
+    calls: &[Call],
+    bytes: usize,
+) -> bool {
+    let mut store = open(rt, alloc, 128);
+    make_all(rt, &store.context, &mut store.p, calls);
+    is_done_wait(rt, hoard, &mut store, bytes)
+}
+
 #[test]
 fn a_wait_that_is_done_has_left_its_store(rt: HostRuntime) -> Result<(), AllocError> {
     let (calls, _) = calls_in(&rt, rt.alloc(), "vector v uint64 4\nset v 0 5\n")?;
@@ -49,9 +62,7 @@ fn a_wait_that_is_done_has_left_its_store(rt: HostRuntime) -> Result<(), AllocEr
     leave_ample(&rt, &mut hoard);
     let mut refused = 0;
     for trial in 0..TRIALS {
-        let mut store = open(&rt, rt.alloc(), 128);
-        make_all(&rt, &store.context, &mut store.p, &calls);
-        if is_done_wait(&rt, &mut hoard, &mut store, trial * STEP) {
+        if is_done_wait_after(&rt, rt.alloc(), &mut hoard, &calls, trial * STEP) {
             break;
         }
         refused = trial + 1;

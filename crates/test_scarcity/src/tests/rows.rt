@@ -4,7 +4,7 @@ ghost use Rattle.grb_order.specs.declared.limits.TheConstants.{MOST_ROOM};
 ghost use Rattle.grb_context.specs.Known.{IsPassOf};
 
 use crate::tests::calls::calls_in;
-use crate::tests::memory::{STEP, TRIALS, hold_all, leave, leave_ample};
+use crate::tests::memory::{MANY_TRIALS, STEP, TRIALS, hold_all, leave, leave_ample};
 use crate::tests::same::same;
 use crate::tests::shown::Shown;
 use crate::tests::stores::{Answer, DONE, NO_MEMORY, Store, answers_to, copy_of, make_all, open};
@@ -222,6 +222,19 @@ fn is_refused_wait<R: Abort>(rt: &R, hoard: &mut Hoard, store: &mut Store, bytes
     is_refused
 }
 
+/// The same in a new store that has made the calls.
+fn is_refused_wait_after<R: Abort>(
+    rt: &R,
+    alloc: Global,
+    hoard: &mut Hoard,
+    calls: &[Call],
+    bytes: usize,
+) -> bool {
+    let mut store = open(rt, alloc, 128);
+    make_all(rt, &store.context, &mut store.p, calls);
+    is_refused_wait(rt, hoard, &mut store, bytes)
+}
+
 #[test]
 fn a_refused_wait_leaves_all_other_answers(rt: HostRuntime) -> Result<(), AllocError> {
     let (calls, _) = calls_in(&rt, rt.alloc(), "vector v uint64 4\nset v 0 5\n")?;
@@ -229,9 +242,7 @@ fn a_refused_wait_leaves_all_other_answers(rt: HostRuntime) -> Result<(), AllocE
     leave_ample(&rt, &mut hoard);
     let mut refused = 0;
     for trial in 0..TRIALS {
-        let mut store = open(&rt, rt.alloc(), 128);
-        make_all(&rt, &store.context, &mut store.p, &calls);
-        if !is_refused_wait(&rt, &mut hoard, &mut store, trial * STEP) {
+        if !is_refused_wait_after(&rt, rt.alloc(), &mut hoard, &calls, trial * STEP) {
             break;
         }
         refused = trial + 1;
@@ -242,14 +253,14 @@ fn a_refused_wait_leaves_all_other_answers(rt: HostRuntime) -> Result<(), AllocE
     Ok(())
 }
 
-/// A script whose calls are dear: a vector of 63 ones, which is added to itself 63 times.
+/// How often a vector is added to itself.
+const SUMS: u32 = 20;
+
+/// A script whose calls are dear to a pass that has made none of them: a vector of 8 ones, which is added to itself.
 fn dear_script(alloc: Global) -> Result<String, AllocError> {
     let mut text = String::new(alloc);
-    text.push_str("vector v uint64 63\n")?;
-    for i in 0..63 {
-        write!(text, "set v {i} 1\n")?;
-    }
-    for _ in 0..63 {
+    text.push_str("vector v uint64 8\nbuild v plus 0 1 1 1 2 1 3 1 4 1 5 1 6 1 7 1\n")?;
+    for _ in 0..SUMS {
         text.push_str("ewiseadd v v v plus\n")?;
     }
     Ok(text)
@@ -265,13 +276,27 @@ fn is_adopted<R: Abort>(rt: &R, hoard: &mut Hoard, store: &mut Store, bytes: usi
     let _ = context.prepare(p);
     same(rt, context.adopt(q, p), Ok(()), "the adoption");
     leave_ample(rt, hoard);
-    let value = context.get_vector(q, V, 62);
+    let value = context.get_vector(q, V, 7);
     let made = q.made();
-    let expected = Ok(Reply::Value(Value::Uint64(1 << 63)));
+    let expected = Ok(Reply::Value(Value::Uint64(1 << SUMS)));
     same(rt, value, expected, "the value");
     same(rt, context.get_vector(p, V, 0), expected, "the same");
-    same(rt, q.known(), 127, "the calls");
+    same(rt, q.known(), 2 + SUMS, "the calls");
     made == 0
+}
+
+/// The same in a new store that has made the calls.
+fn is_adopted_after<R: Abort>(
+    rt: &R,
+    alloc: Global,
+    hoard: &mut Hoard,
+    calls: &[Call],
+    bytes: usize,
+) -> bool {
+    let mut store = open(rt, alloc, 32);
+    leave_ample(rt, hoard);
+    make_all(rt, &store.context, &mut store.p, calls);
+    is_adopted(rt, hoard, &mut store, bytes)
 }
 
 #[test]
@@ -282,10 +307,7 @@ fn an_adoption_without_memory_leaves_all_answers(rt: HostRuntime) -> Result<(), 
     leave_ample(&rt, &mut hoard);
     let mut refused = 0;
     for trial in 0..TRIALS {
-        let mut store = open(&rt, rt.alloc(), 128);
-        leave_ample(&rt, &mut hoard);
-        make_all(&rt, &store.context, &mut store.p, &calls);
-        if is_adopted(&rt, &mut hoard, &mut store, trial * STEP) {
+        if is_adopted_after(&rt, rt.alloc(), &mut hoard, &calls, trial * STEP) {
             break;
         }
         refused = trial + 1;
@@ -296,16 +318,31 @@ fn an_adoption_without_memory_leaves_all_answers(rt: HostRuntime) -> Result<(), 
     Ok(())
 }
 
-/// A script whose calls are dear and not many: a vector that is built from 200 ones, and added to itself 63 times.
+/// The rows and the columns of a product that stores all its entries.
+const SIDE: u32 = 14;
+
+/// How many products of 14 times 14 entries are dear: each counts 16 * 196 + 64, and all of them more than 4096 * 64.
+const PRODUCTS: u32 = 84;
+
+const C: MatrixId = MatrixId(2);
+
+/// A script whose calls are dear: products of a column and a row of ones, each added to a matrix. Vectors and matrices are made in turn.
 fn left_script(alloc: Global) -> Result<String, AllocError> {
     let mut text = String::new(alloc);
-    text.push_str("vector v uint64 200\nbuild v plus")?;
-    for i in 0..200 {
-        write!(text, " {i} 1")?;
+    write!(
+        text,
+        "vector u uint64 1\nmatrix A uint64 {SIDE} 1\nvector v uint64 1\nmatrix B uint64 1 {SIDE}\nvector w uint64 1\nmatrix C uint64 {SIDE} {SIDE}\nbuild A plus"
+    )?;
+    for i in 0..SIDE {
+        write!(text, " {i} 0 1")?;
+    }
+    text.push_str("\nbuild B plus")?;
+    for j in 0..SIDE {
+        write!(text, " 0 {j} 1")?;
     }
     text.push_str("\n")?;
-    for _ in 0..63 {
-        text.push_str("ewiseadd v v v plus\n")?;
+    for _ in 0..PRODUCTS {
+        text.push_str("mxm C A B plus.times accum plus\n")?;
     }
     Ok(text)
 }
@@ -317,18 +354,32 @@ fn is_left<R: Abort>(rt: &R, hoard: &mut Hoard, store: &mut Store, bytes: usize)
 {
     let (context, p, q) = (&store.context, &mut store.p, &mut store.q);
     leave(rt, hoard, bytes);
-    let first = context.get_vector(p, V, 0);
+    let first = context.get_matrix(p, C, 0, 0);
     leave_ample(rt, hoard);
-    let expected = Ok(Reply::Value(Value::Uint64(1 << 63)));
+    let expected = Ok(Reply::Value(Value::Uint64(u64::from(PRODUCTS))));
     if first != NO_MEMORY {
         same(rt, first, expected, "the first value");
     }
-    let value = context.get_vector(q, V, 199);
+    let value = context.get_matrix(q, C, 13, 13);
     let made = q.made();
     same(rt, value, expected, "the value");
-    same(rt, context.get_vector(p, V, 0), expected, "the same");
-    same(rt, q.known(), 65, "the calls");
+    same(rt, context.get_matrix(p, C, 0, 0), expected, "the same");
+    same(rt, q.known(), 8 + PRODUCTS, "the calls");
     made == 0
+}
+
+/// The same in a new store that has made the calls.
+fn is_left_after<R: Abort>(
+    rt: &R,
+    alloc: Global,
+    hoard: &mut Hoard,
+    calls: &[Call],
+    bytes: usize,
+) -> bool {
+    let mut store = open(rt, alloc, 96);
+    leave_ample(rt, hoard);
+    make_all(rt, &store.context, &mut store.p, calls);
+    is_left(rt, hoard, &mut store, bytes)
 }
 
 #[test]
@@ -337,20 +388,20 @@ fn a_store_that_is_not_left_for_want_of_memory_changes_no_answer(
 ) -> Result<(), AllocError> {
     let script = left_script(rt.alloc())?;
     let (calls, _) = calls_in(&rt, rt.alloc(), &script)?;
-    let mut hoard = hold_all(&rt, 3_000);
+    let mut hoard = hold_all(&rt, 3 * MANY_TRIALS + 10);
     leave_ample(&rt, &mut hoard);
     let mut refused = 0;
-    for trial in 0..TRIALS {
-        let mut store = open(&rt, rt.alloc(), 96);
-        leave_ample(&rt, &mut hoard);
-        make_all(&rt, &store.context, &mut store.p, &calls);
-        if is_left(&rt, &mut hoard, &mut store, trial * STEP) {
+    for trial in 0..MANY_TRIALS {
+        if is_left_after(&rt, rt.alloc(), &mut hoard, &calls, trial * STEP) {
             break;
         }
         refused = trial + 1;
     }
     hoard.release();
     assert!(rt; println!(rt; "what dear work leaves is refused {refused} times").is_ok());
-    assert!(rt; 0 < refused && refused < TRIALS, "refused {refused} times");
+    assert!(rt;
+        0 < refused && refused < MANY_TRIALS,
+        "refused {refused} times"
+    );
     Ok(())
 }

@@ -212,14 +212,11 @@ fn plans_of(alloc: Global, calls: Vec<Call>, way: Way) -> Result<Vec<Plan>, Allo
     Ok(plans)
 }
 
-/// Whether it takes memory that the same call has not given back: all calls do but those for dimensions, and a wait for all objects by a
-/// pass that has read some, since it lets go first of what it read; and each list does.
+/// Whether it takes memory: all calls do but those for dimensions, and each list does. Before a call that is tried the first pass has read
+/// nothing but what the builds ask for, so a wait for all objects has calls to make.
 fn takes_memory(plan: &Plan) -> bool {
     match plan.call {
         Call::SizeMatrix { .. } | Call::SizeVector { .. } => plan.way == Way::List,
-        Call::WaitMatrix { mode, .. } | Call::WaitVector { mode, .. } => {
-            mode == WaitMode::Complete || matches!(plan.way, Way::List | Way::Other)
-        }
         _ => true,
     }
 }

@@ -4,11 +4,12 @@
 ghost use Rattle.std.specs.Prelude.{All};
 ghost use Rattle.grb_context.specs.Known.{IsPassOf};
 
-use crate::tests::asked::Asked::{EwiseAddVector, FillVector, NewVector, ReduceVector, SetVector};
-use crate::tests::asked::{Answer, Asked, FIRST, PLAIN, Rule, SECOND, ask};
+use crate::tests::asked::Asked::{FillMatrix, Mxm, NewMatrix, ReduceMatrix, SetMatrix};
+use crate::tests::asked::{Answer, Asked, PLAIN, Rule, ask};
 use crate::tests::plain_store::PlainStore;
 use crate::tests::rows::next_pass;
 use crate::tests::same::same;
+use grb_call::MatrixId;
 use grb_context::{Context, Pass};
 use grb_core::{BinaryOp, Domain, Monoid, Refusal, Value};
 use std::alloc::{AllocError, Global};
@@ -21,37 +22,61 @@ const THREADS: u32 = 4;
 
 const ROOM: u32 = 32;
 
-/// The entries of each vector: three operations on them are dear.
-const ENTRIES: u64 = 4_000;
+/// The rows and the columns of a product that stores all its entries: three of them are dear, as 3 * 16 * 74 * 74 is more than 4096 * 64.
+const SIDE: u64 = 74;
+
+/// A column and a row, and the matrix to which their product is added.
+const A: MatrixId = MatrixId(0);
+
+const B: MatrixId = MatrixId(1);
+
+const C: MatrixId = MatrixId(2);
 
 /// What is called first.
-static FIRST_CALLS: [Asked; 3] = [
-    NewVector(Domain::Uint64, ENTRIES),
-    NewVector(Domain::Uint64, ENTRIES),
-    FillVector(
-        FIRST,
+static FIRST_CALLS: [Asked; 5] = [
+    NewMatrix(Domain::Uint64, SIDE, 1),
+    NewMatrix(Domain::Uint64, 1, SIDE),
+    NewMatrix(Domain::Uint64, SIDE, SIDE),
+    FillMatrix(
+        A,
         Domain::Uint64,
         Rule {
-            count: ENTRIES,
+            count: SIDE,
             step: 1,
-            nrows: ENTRIES,
+            nrows: SIDE,
             ncols: 1,
+        },
+    ),
+    FillMatrix(
+        B,
+        Domain::Uint64,
+        Rule {
+            count: SIDE,
+            step: 1,
+            nrows: 1,
+            ncols: SIDE,
         },
     ),
 ];
 
-/// Adds the first vector to the second.
-const ADDED: Asked = EwiseAddVector((SECOND, None, None, PLAIN), BinaryOp::Plus, SECOND, FIRST);
+/// Adds the product to the matrix.
+const ADDED: Asked = Mxm(
+    (C, None, Some(BinaryOp::Plus), PLAIN),
+    Monoid::Plus,
+    BinaryOp::Times,
+    A,
+    B,
+);
 
 /// What each thread reads.
-const READ: Asked = ReduceVector(SECOND, Monoid::Plus);
+const READ: Asked = ReduceMatrix(C, Monoid::Plus);
 
 /// What is written in a round.
 type Round = [Asked; 4];
 
 static ROUNDS: [Round; 2] = [
-    [SetVector(FIRST, 5, Value::Uint64(70)), ADDED, ADDED, ADDED],
-    [ADDED, SetVector(SECOND, 9, Value::Uint64(7)), ADDED, ADDED],
+    [SetMatrix(A, 5, 0, Value::Uint64(70)), ADDED, ADDED, ADDED],
+    [ADDED, SetMatrix(C, 0, 9, Value::Uint64(7)), ADDED, ADDED],
 ];
 
 /// What a thread saw.

@@ -35,23 +35,23 @@ const SMALL: Scale = Scale {
     calls: 240,
 };
 
-/// Vectors of thousands of entries.
+/// Vectors so long that a build is dear, and two operations are: 4 * 66,000 is more than 4096 * 64.
 const LONG: Scale = Scale {
-    size: 9_000,
+    size: 71_000,
     side: 4,
     fills: 3,
-    entries: 6_000,
+    entries: 66_000,
     fills_matrices: false,
     is_shared: false,
     calls: 160,
 };
 
-/// Matrices whose products take thousands of sets.
+/// Matrices so wide that a product is dear: 16 * 130 * 130 is more than 4096 * 64.
 const WIDE: Scale = Scale {
-    size: 64,
-    side: 64,
+    size: 130,
+    side: 130,
     fills: 4,
-    entries: 2_000,
+    entries: 16_000,
     fills_matrices: true,
     is_shared: false,
     calls: 160,

@@ -230,11 +230,11 @@ fn what_a_pass_evaluated_is_adopted(rt: HostRuntime) -> Result<(), AllocError> {
     run(&rt, 64, &ADOPTED)
 }
 
-/// So many entries that an operation on them is dear.
-const MANY: u64 = 40_000;
+/// So many entries that an operation is dear whose result has them: it counts 2 for each, and what is dear 4096 * 64.
+const MANY: u64 = 140_000;
 
 /// One pass makes an operation that is dear, and leaves what it made; each other pass goes on from there. It is so again a call later, and
-/// again when more were left than are kept. The pass that reads first of all makes what came since.
+/// again when more were left than are kept. The pass that reads first of all makes the one call that came since.
 static DEAR: [Row; 29] = [
     (P, Asks(NewVector(Domain::Uint64, MANY), MADE)),
     (P, Asks(NewVector(Domain::Uint64, MANY), MADE_SECOND)),
@@ -272,15 +272,16 @@ fn dear_work_is_left_to_the_other_passes(rt: HostRuntime) -> Result<(), AllocErr
     run(&rt, 64, &DEAR)
 }
 
-/// A pass prepares what is dear, and then answers without a call to make; so does one that adopts it. What is not dear is not prepared. So
-/// `prepare` answers that none of the first three calls is evaluated, and then all six are, those of a pass that adopted them too.
+/// A pass prepares what is dear, and then answers without a call to make; so does one that adopts it. What is not dear is not prepared: so
+/// `prepare` answers 0 after the first three calls, and a read of the first vector makes two of them, its new one and its set. After six
+/// calls it answers that no answer makes any of them, and so it does in a pass that adopted them.
 static PREPARED: [Row; 17] = [
     (P, Asks(NewVector(Domain::Uint64, MANY), MADE)),
     (P, Asks(NewVector(Domain::Uint64, MANY), MADE_SECOND)),
     (P, Asks(SetVector(FIRST, 7, ONE), DONE)),
     (P, Prepares(0)),
     (P, Asks(GetVector(FIRST, 7), IS_1)),
-    (P, Made(3)),
+    (P, Made(2)),
     (P, Asks(ClearVector(FIRST), DONE)),
     (P, Fills(FIRST, MANY)),
     (P, Asks(ADDED, DONE)),

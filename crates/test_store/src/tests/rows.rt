@@ -29,8 +29,10 @@ pub(super) enum Step {
     Meets(u32),
     /// It adopts the pass of this number, which is answered `Ok`.
     Adopts(u32),
-    /// It prepares what it knows, of which so many calls are evaluated then.
+    /// It prepares what it knows: no answer makes one of so many of the first of these calls any more.
     Prepares(u32),
+    /// It lets go of what it has evaluated.
+    Releases,
     /// It builds the vector from a one at each index below this, which is answered `Done`.
     Fills(VectorId, u64),
     /// It knows so many calls, and has learnt as many words.
@@ -123,6 +125,7 @@ fn expect_step<A: Abort>(
         Step::Settled(calls) => same(rt, pass.settled(), calls, row),
         Step::Status(object, status) => same(rt, pass.last_info(object), status, row),
         Step::Prepares(calls) => same(rt, context.prepare(pass), calls, row),
+        Step::Releases => pass.release(),
         Step::Fills(v, count) => {
             let answer = fill(alloc, context, pass, v, count);
             same(rt, answer, Ok(Ok(Reply::Done)), row);
@@ -160,17 +163,21 @@ fn adopt(
     context: &Context,
     p: &mut Pass,
     q: &mut Pass,
+    r: &mut Pass,
     number: u32,
     other: u32,
 ) -> Result<(), Refusal>
     requires first { IsPassOf context.now p.old }
     requires second { IsPassOf context.now q.old }
+    requires third { IsPassOf context.now r.old }
     ensures first { IsPassOf context.now p.new }
     ensures second { IsPassOf context.now q.new }
+    ensures third { IsPassOf context.now r.new }
 {
     match (number, other) {
         (P, Q) => context.adopt(p, q),
         (Q, P) => context.adopt(q, p),
+        (R, P) => context.adopt(r, p),
         _ => Err(Refusal::InvalidValue),
     }
 }
@@ -198,7 +205,7 @@ fn expect_row<A: Abort>(
             same(rt, met, Ok(()), ("row from 0", at));
         }
         (number, Step::Adopts(other)) => {
-            let met = adopt(context, p, q, number, other);
+            let met = adopt(context, p, q, r, number, other);
             same(rt, met, Ok(()), ("row from 0", at));
         }
         (P, step) => expect_step(rt, alloc, context, p, step, at),

@@ -1,4 +1,4 @@
-use Rattle.std.proofs.Common.{◌≡◌, ◌∙◌, ◌++◌, ◌∷◌, [], ap, List, Option, None, ℕ}
+use Rattle.std.proofs.Common.{◌∙◌, ap, List, Option}
 use Rattle.grb_call.specs.Shapes.{object_at}
 use Rattle.grb_state.specs.Places.{contents_at}
 use Rattle.grb_state.proofs.Edited.{object_at-more}

@@ -1,14 +1,19 @@
-use Rattle.std.proofs.Common.{◌≡◌, ℕ, length, ap, subst}
+use Rattle.std.proofs.Common.{◌≡◌, length, sym, ap, subst, ◌∙◌, arith}
+use Rattle.std.specs.Prelude.{IfSome}
 use Rattle.grb_call.specs.declared.ids.Object.TheVariants as object
-use Rattle.grb_replay.specs.Partial.{LiesIn, PartialStoresView}
-use Rattle.grb_pass.specs.Evaluated.{EvaluatedView}
+use Rattle.grb_call.specs.History.{calls_of, store_of}
+use Rattle.grb_results.specs.Kept.{IsTableOf}
+use Rattle.grb_results.specs.declared.table.Table.{Table}
+use Rattle.grb_pass.specs.Evaluated.{IsEvaluatedFor, LiesReady}
 use Rattle.grb_pass.specs.Known.{known}
-use Rattle.grb_pass.proofs.Held.{lack_vector}
+use Rattle.grb_pass.proofs.Held.{lacks, lacks_unsettled, live_here, vector_live, matched, table_here}
 use Rattle.grb_pass.proofs.evaluated.Evaluated.held_vector.Goals as goal
 
-pub returns-in-None-clause-vector : goal.returns-in-None-clause-vector
-returns-in-None-clause-vector c =
-    let p = c.args.reader.now in let e : EvaluatedView = c.args.self.now in
-    let no_part : LiesIn e.objects (length (known p)) (object.Vector c.args.v) → ⊥ =
-    subst (λ (y : PartialStoresView × ℕ). LiesIn y.0 y.1 (object.Vector c.args.v) → ⊥) (λ i. (ap (λ (x : EvaluatedView). x.objects) c.self.view_is i, c.known.ensures.known i)) c.in-None.ensures.ready in
-    lack_vector p e c.requires.ready _ c.args.v c.vector_in_store.result no_part c.vector_in_store.ensures.vector c.vector_in_store.ensures.ready
+pub returns : goal.returns
+returns c =
+    let p = c.args.reader.now in let t = c.self.inside.table in let o = object.Vector c.args.v in
+    let is : IsEvaluatedFor p t = subst (λ (x : Table). IsEvaluatedFor p x) (sym c.self.view_is) c.requires.evaluated in
+    let ready : IfSome p.made.ready (LiesReady t) = subst (λ (x : Table). IfSome p.made.ready (LiesReady x)) (sym c.self.view_is) c.requires.ready in
+    let of : IsTableOf (calls_of (known p)) t = table_here p t is (omega (arith, c.if-count-known.false, c.known.ensures.known, c.count.ensures)) in
+    matched _ _ _ c.held_vector.result (c.held_vector.ensures.vector (calls_of (known p)) of) (c.held_vector.ensures.none (calls_of (known p)) of.table)
+    (λ none. (λ there. lacks_unsettled p t is ready o none (live_here (calls_of (known p)) t o of ∙ vector_live (store_of (known p)) c.args.v there), lacks p t is ready o none))

@@ -1,12 +1,13 @@
 use Prim.{search}
 use Rattle.std.proofs.Common.{rules, ◌≡◌, ◌<◌, ◌≤◌, length, arith, sym, subst}
 use Rattle.grb_pass.specs.Known.{Knowing, known}
+use Rattle.grb_pass.specs.Meeting.{IsSameRecordAt}
 use Rattle.grb_pass.proofs.Spelling.{length_spelled}
-use Rattle.grb_pass.proofs.Meeting.{begins_known, fewer_shown}
+use Rattle.grb_pass.proofs.Meeting.{begins_known, fewer_shown, one_record}
 use Rattle.grb_pass.proofs.shared.Shared.agree.Goals as goal
 
-pub compare-requires-clause-mine : goal.compare-requires-clause-mine
-compare-requires-clause-mine c =
+pub agree_at-requires-clause-mine : goal.agree_at-requires-clause-mine
+agree_at-requires-clause-mine c =
     let p = c.args.reader.now in let q = c.args.other.now in let r = c.requires in
     let fewer : length q.shown ≤ length p.shown = fewer_shown p q r.steady r.steady_other r.words r.all in
     let all : length (known q) ≡ length q.shown = length_spelled q.view.words q.shown r.steady_other.few in
@@ -14,13 +15,20 @@ compare-requires-clause-mine c =
     let within : c.loop-at.at < length p.shown = omega (arith, fewer, all, lt, c.known-at-end.ensures.known) in
     subst (λ (k : Knowing). c.loop-at.at < length k.shown) (sym c.loop-at.invariant.reader) within
 
-pub compare-requires-clause-theirs : goal.compare-requires-clause-theirs
-compare-requires-clause-theirs c =
+pub agree_at-requires-clause-theirs : goal.agree_at-requires-clause-theirs
+agree_at-requires-clause-theirs c =
     let q = c.args.other.now in let r = c.requires in
     let all : length (known q) ≡ length q.shown = length_spelled q.view.words q.shown r.steady_other.few in
     let lt : c.loop-at.at < c.known-at-end.result = c.loop-at-test.true in
     let within : c.loop-at.at < length q.shown = omega (arith, all, lt, c.known-at-end.ensures.known) in
     subst (λ (k : Knowing). c.loop-at.at < length k.shown) (sym c.loop-at.invariant.other) within
+
+pub agree_at-requires-clause-record : goal.agree_at-requires-clause-record
+agree_at-requires-clause-record c =
+    let p = c.args.reader.now in let q = c.args.other.now in let r = c.requires in
+    let same : IsSameRecordAt p.shown q.shown c.loop-at.at = one_record p q r.steady r.steady_other r.words r.all c.loop-at.at in
+    subst (λ (k : Knowing). IsSameRecordAt k.shown c.loop-at.other.shown c.loop-at.at) (sym c.loop-at.invariant.reader)
+    (subst (λ (k : Knowing). IsSameRecordAt p.shown k.shown c.loop-at.at) (sym c.loop-at.invariant.other) same)
 
 pub returns-clause-begins : goal.returns-clause-begins
 returns-clause-begins c =

@@ -1,4 +1,4 @@
-use Rattle.std.proofs.Common.{◌<◌, arith, length, List, map}
+use Rattle.std.proofs.Common.{◌<◌, arith, length, List}
 use Rattle.grb_call.specs.declared.call.Call.{Call}
 use Rattle.grb_results.specs.Results.{contents_after}
 use Rattle.grb_results.proofs.Frame.{result_is}
@@ -6,8 +6,8 @@ use Rattle.grb_results.proofs.Making.{if_ok, some_of}
 use Rattle.grb_results.proofs.table.Table.computed_at.Goals as goal
 
 pub returns-else-is_dup-clause-found : goal.returns-else-is_dup-clause-found
-returns-else-is_dup-clause-found c =
-    let cs : List Call = map (λ a. a.now) c.args.calls.now in let t = c.args.self.now in
+returns-else-is_dup-clause-found g c =
+    let cs : List Call = g.C.CallList.calls c.args.source.now c.args.calls.now in let t = c.args.self.now in
     let near : c.args.at < length t.results.items = omega (arith, c.requires.to_make.near, c.requires.all) in
     if_ok _ _ c.new_object.result
     (λ made f. some_of _ _ made (λ v makes. result_is cs t c.requires.table c.args.at near c.args.call.now v c.requires.call (makes (contents_after cs c.args.at))) f)

@@ -1,11 +1,12 @@
-use Rattle.std.proofs.Common.{◌≡◌, length, map, All}
+use Rattle.std.proofs.Common.{◌≡◌, length, All}
 use Rattle.grb_results.specs.Results.{IsTable, IsToMake}
 use Rattle.grb_results.proofs.table.Table.evaluate.Given as goal
 
 abbrev pub invariant-making : goal.invariant-making
-invariant-making l = record {
-  table : IsTable (map (λ c. c.now) l.calls) l.self;
-  stack : All (IsToMake (map (λ c. c.now) l.calls) (length l.calls)) l.stack.items;
+invariant-making g l = record {
+  same : l.calls ≡ l.initial.calls;
+  table : IsTable (g.C.CallList.calls l.source l.initial.calls) l.self;
+  stack : All (IsToMake (g.C.CallList.calls l.source l.initial.calls) (length (g.C.CallList.calls l.source l.initial.calls))) l.stack.items;
   learnt : l.self.learnt ≡ l.initial.self.learnt;
   places : length l.self.results.items ≡ length l.initial.self.results.items;
 }

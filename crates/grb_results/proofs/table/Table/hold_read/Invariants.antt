@@ -1,4 +1,6 @@
-use Rattle.std.proofs.Common.{map, take}
+use Rattle.std.proofs.Common.{◌≡◌, ◌++◌, true, List, take}
+use Rattle.grb_call.specs.Store.{Store}
+use Rattle.grb_call.specs.declared.ids.Object.{Object}
 use Rattle.grb_slices.specs.Content.{content_at}
 use Rattle.grb_slices.specs.Slice.{is_among}
 use Rattle.grb_slices.specs.Steps.{AgreeOn}
@@ -6,4 +8,6 @@ use Rattle.grb_results.specs.Results.{contents_after}
 use Rattle.grb_results.proofs.table.Table.hold_read.Given as goal
 
 abbrev pub invariant-places : goal.invariant-places
-invariant-places l = AgreeOn (is_among (take l.place l.read)) (content_at l.bench) (contents_after (map (λ c. c.now) l.calls) l.at)
+invariant-places g l = (os : List Object) (s : Store) → AgreeOn (is_among os) (content_at l.initial.bench) (content_at s) →
+    ((o : Object) → is_among l.read o ≡ true → content_at s o ≡ contents_after (g.C.CallList.calls l.source l.calls) l.at o) →
+    AgreeOn (is_among (os ++ take l.place l.read)) (content_at l.bench) (content_at s)

@@ -1,5 +1,4 @@
-use Rattle.std.proofs.Common.{length, List, map, sym, ap, ◌∙◌, Some}
-use lib.ListN.{length-map}
+use Rattle.std.proofs.Common.{length, List, ap, ◌∙◌, Some}
 use Rattle.grb_call.specs.declared.call.Call.{Call}
 use Rattle.grb_state.specs.declared.shared_content.SharedContent.{SharedContent}
 use Rattle.grb_results.specs.declared.learnt.Learnt.{Learnt}
@@ -8,8 +7,8 @@ use Rattle.grb_results.proofs.Making.{some_at}
 use Rattle.grb_results.proofs.table.Table.result_of.Goals as goal
 
 pub returns-in_ok-share-in-Some-clause-result : goal.returns-in_ok-share-in-Some-clause-result
-returns-in_ok-share-in-Some-clause-result c =
-    let cs : List Call = map (λ a. a.now) c.args.calls.now in
+returns-in_ok-share-in-Some-clause-result g c =
+    let cs : List Call = g.C.CallList.calls c.args.source.now c.args.calls.now in
     ap (λ (x : SharedContent). Some (content_of x)) c.in_ok-share-in-Some.ensures
     ∙ some_at _ c.last.result c.in-Some.value c.in-Some.is
-    (c.last.ensures.content cs c.in_ok-make.ensures.table (ap (λ (l : Learnt). length l.nodes.items) c.in_ok-make.ensures.learnt ∙ (c.requires.all ∙ sym (length-map c.args.calls.now (λ a. a.now)))))
+    (c.last.ensures.content cs c.in_ok-make.ensures.table (ap (λ (l : Learnt). length l.nodes.items) c.in_ok-make.ensures.learnt ∙ c.requires.table.all))

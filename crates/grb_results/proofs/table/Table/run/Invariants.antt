@@ -1,13 +1,14 @@
-use Rattle.std.proofs.Common.{◌<◌, length, map, All}
+use Rattle.std.proofs.Common.{◌≡◌, ◌<◌, length, All}
 use Rattle.grb_results.specs.Results.{IsResult, IsToMake}
 use Rattle.grb_results.proofs.table.Table.run.Given as goal
 
 abbrev pub invariant-run : goal.invariant-run
-invariant-run l = record {
-  stack : All (IsToMake (map (λ c. c.now) l.calls) (length l.calls)) l.stack.items;
-  near : l.last < length l.calls;
-  result : IsResult (map (λ c. c.now) l.calls) l.last l.value;
+invariant-run g l = record {
+  same : l.calls ≡ l.initial.calls;
+  stack : All (IsToMake (g.C.CallList.calls l.source l.initial.calls) (length (g.C.CallList.calls l.source l.initial.calls))) l.stack.items;
+  near : l.last < length (g.C.CallList.calls l.source l.initial.calls);
+  result : IsResult (g.C.CallList.calls l.source l.initial.calls) l.last l.value;
 }
 
 abbrev pub decreases-run : goal.decreases-run
-decreases-run l = length l.stack.items
+decreases-run g l = length l.stack.items

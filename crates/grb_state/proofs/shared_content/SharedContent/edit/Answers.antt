@@ -1,4 +1,4 @@
-use Rattle.std.proofs.Common.{subst, ◌∙◌}
+use Rattle.std.proofs.Common.{subst}
 use Rattle.grb_state.specs.declared.shared_content.SharedContent.{SharedContent}
 use Rattle.grb_state.specs.SharedContent.{IsAt}
 use Rattle.grb_state.proofs.ByNumber.{on_ok}

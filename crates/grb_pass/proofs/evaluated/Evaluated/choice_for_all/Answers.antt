@@ -1,8 +1,0 @@
-use Rattle.grb_call.specs.Store.{empty_store, shapes_of}
-use Rattle.grb_call.specs.History.{calls_of}
-use Rattle.grb_replay.proofs.NextTarget.{length-targets_of}
-use Rattle.grb_pass.specs.Known.{known}
-use Rattle.grb_pass.proofs.evaluated.Evaluated.choice_for_all.Goals as goal
-
-pub for_all-requires-clause-targets : goal.for_all-requires-clause-targets
-for_all-requires-clause-targets c = length-targets_of (shapes_of empty_store) (calls_of (known c.args.reader.now))

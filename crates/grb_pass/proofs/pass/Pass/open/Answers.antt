@@ -1,0 +1,23 @@
+use Rattle.std.proofs.Common.{◌≡◌, ap, sym, subst, ◌∙◌}
+use Rattle.std.specs.Prelude.{IfSome}
+use Rattle.grb_order.specs.Order.{room_of}
+use Rattle.grb_order.specs.declared.view.View.{View}
+use Rattle.grb_results.specs.declared.table.Table.{Table}
+use Rattle.grb_pass.specs.Cells.{OwnBelow}
+use Rattle.grb_pass.specs.Evaluated.{LiesReady}
+use Rattle.grb_pass.specs.Known.{Knowing, new_pass}
+use Rattle.grb_pass.proofs.Evaluating.{evaluated_opened}
+use Rattle.grb_pass.proofs.pass.Pass.open.Goals as goal
+
+pub invariant_of-result : goal.invariant_of-result
+invariant_of-result c =
+    let r : Knowing = c.in_ok-reader.reader in let t : Table = c.in_ok-evaluated.evaluated in let next = c.open-3.result.next in
+    let e : r ≡ new_pass c.args.seat.table_id c.args.seat.view = c.in_ok-reader.ensures in
+    record {
+      step = record {
+        evaluated = evaluated_opened r t c.in_ok-evaluated.ensures.table c.in_ok-evaluated.ensures.none (c.in_ok-evaluated.ensures.room ∙ c.requires.room.0 ∙ ap (λ (k : Knowing). room_of k.order) (sym e)) (ap (λ (k : Knowing). k.settled) e);
+        made = ap (λ (k : Knowing). k.made.count) e ∙ sym c.in_ok-evaluated.ensures.made;
+        ready = subst (λ (k : Knowing). IfSome k.made.ready (LiesReady t)) (sym e) tt;
+      };
+      own = subst (λ (k : Knowing). OwnBelow next k.view) (sym e) (subst (λ (v : View). OwnBelow next v) (sym c.requires.fresh) tt);
+    }

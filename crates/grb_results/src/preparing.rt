@@ -1,0 +1,79 @@
+//! How much is left to make of what objects hold.
+ghost use Rattle.std.specs.Prelude.{◌≡◌};
+ghost use Rattle.grb_results.specs.Kept.{IsTableOf};
+
+use crate::dropping::is_marked;
+use crate::table::Table;
+use grb_call::{MatrixId, Object, VectorId};
+use grb_slices::CallList;
+
+impl Table {
+    /// How much work it is, about, to make what the object holds, if it is there.
+    fn work_if_there<S, C: CallList<S>>(&self, calls: &mut C, source: &S, object: Object) -> u64
+        requires held { C.is_in source.now calls.old }
+        requires table { IsTableOf (C.calls source.now calls.old) self.now }
+        ensures same { calls.new ≡ calls.old }
+    {
+        if !self.learnt.contains(object) {
+            return 0;
+        }
+        self.work_for(calls, source, object)
+    }
+
+    /// How much work it is, about, to make what the matrices hold that are there, each by itself.
+    fn work_for_matrices<S, C: CallList<S>>(&self, calls: &mut C, source: &S) -> u64
+        requires held { C.is_in source.now calls.old }
+        requires table { IsTableOf (C.calls source.now calls.old) self.now }
+        ensures same { calls.new ≡ calls.old }
+    {
+        let mut work: u64 = 0;
+        'matrices: for number in 0..self.learnt.shapes.matrices() {
+            let more = self.work_if_there(calls, source, Object::Matrix(MatrixId(number)));
+            work = work.saturating_add(more);
+        }
+        work
+    }
+
+    /// How much work it is, about, to make what the vectors hold that are there, each by itself.
+    fn work_for_vectors<S, C: CallList<S>>(&self, calls: &mut C, source: &S) -> u64
+        requires held { C.is_in source.now calls.old }
+        requires table { IsTableOf (C.calls source.now calls.old) self.now }
+        ensures same { calls.new ≡ calls.old }
+    {
+        let mut work: u64 = 0;
+        'vectors: for number in 0..self.learnt.shapes.vectors() {
+            let more = self.work_if_there(calls, source, Object::Vector(VectorId(number)));
+            work = work.saturating_add(more);
+        }
+        work
+    }
+
+    /// How much work it is, about, to make what all objects hold that are there, each by itself, as [`Table::work_for`] has it.
+    pub fn work_for_all<S, C: CallList<S>>(&self, calls: &mut C, source: &S) -> u64
+        requires held { C.is_in source.now calls.old }
+        requires table { IsTableOf (C.calls source.now calls.old) self.now }
+        ensures same { calls.new ≡ calls.old }
+    {
+        let matrices = self.work_for_matrices(calls, source);
+        matrices.saturating_add(self.work_for_vectors(calls, source))
+    }
+
+    /// The first place that is marked and of which no result is kept; how many places there are where there is none.
+    fn first_to_make(&self, marks: &[bool]) -> usize {
+        'places: for at in 0..self.results.len() {
+            if is_marked(marks, at) && self.kept(at).is_none() {
+                return at;
+            }
+        }
+        self.results.len()
+    }
+
+    /// Before how many of the calls learnt no answer about an object that is there after them makes one: all, where each of these objects is
+    /// kept; 0 where memory for marks is refused. No contract says more of it.
+    pub fn evaluated(&self) -> u32 {
+        match self.needed() {
+            Ok(marks) => u32::try_from(self.first_to_make(&marks)).unwrap_or(u32::MAX),
+            Err(_refused) => 0,
+        }
+    }
+}

@@ -1,0 +1,174 @@
+//! All objects that are there, evaluated, with no change left that waits.
+ghost use Rattle.std.specs.Prelude.{◌≡◌, true, List, length, OnOk, OnErr};
+ghost use Rattle.grb_call.specs.declared.call.Call.{Call};
+ghost use Rattle.grb_call.specs.declared.ids.MatrixId.{MatrixId};
+ghost use Rattle.grb_call.specs.declared.ids.Object.{Object};
+ghost use Rattle.grb_call.specs.declared.ids.VectorId.{VectorId};
+ghost use Rattle.grb_results.specs.Kept.{AreReady, IsTableOf};
+ghost use Rattle.grb_results.specs.Results.{IsTable};
+ghost use Rattle.grb_results.specs.Settling.{IsReadyIfThere};
+
+use crate::table::Table;
+use grb_call::{Call, MatrixId, Object, VectorId};
+use grb_slices::CallList;
+use grb_state::Bench;
+use std::alloc::AllocError;
+
+impl Table {
+    /// Whether the object lies ready, if it is there. Takes no memory.
+    fn is_ready_if_there(&self, object: Object) -> bool
+        ensures ready { result ≡ true → IsReadyIfThere self.now object }
+        ensures lacks { IsReadyIfThere self.now object → result ≡ true }
+    {
+        if self.learnt.contains(object) {
+            self.is_ready(object)
+        } else {
+            true
+        }
+    }
+
+    /// Whether each matrix lies ready that is there. Takes no memory.
+    fn are_matrices_ready(&self) -> bool
+        ensures ready { result ≡ true → (a : MatrixId) → IsReadyIfThere self.now (Object.Matrix a) }
+        ensures lacks { ((a : MatrixId) → IsReadyIfThere self.now (Object.Matrix a)) → result ≡ true }
+    {
+        for n in 0..self.learnt.shapes.matrices() {
+            if !self.is_ready_if_there(Object::Matrix(MatrixId(n))) {
+                return false;
+            }
+        }
+        true
+    }
+
+    /// Whether each vector lies ready that is there. Takes no memory.
+    fn are_vectors_ready(&self) -> bool
+        ensures ready { result ≡ true → (v : VectorId) → IsReadyIfThere self.now (Object.Vector v) }
+        ensures lacks { ((v : VectorId) → IsReadyIfThere self.now (Object.Vector v)) → result ≡ true }
+    {
+        for n in 0..self.learnt.shapes.vectors() {
+            if !self.is_ready_if_there(Object::Vector(VectorId(n))) {
+                return false;
+            }
+        }
+        true
+    }
+
+    /// Whether each object that is there after the calls learnt lies ready. Takes no memory.
+    pub fn are_ready(&self) -> bool
+        ensures ready { result ≡ true → AreReady self.now }
+        ensures lacks { AreReady self.now → result ≡ true }
+    {
+        self.are_matrices_ready() && self.are_vectors_ready()
+    }
+
+    /// Makes what the object holds, if it is there, and has the changes done that wait in it. `AllocError` where memory is refused.
+    fn make_ready<S, C: CallList<S>>(
+        &mut self,
+        bench: &mut Bench,
+        stack: &mut Vec<u32>,
+        calls: &mut C,
+        source: &S,
+        object: Object,
+    ) -> Result<(), AllocError>
+        requires held { C.is_in source.now calls.old }
+        requires table { IsTableOf (C.calls source.now calls.old) self.old }
+        ensures same { calls.new ≡ calls.old }
+        ensures table { IsTable (C.calls source.now calls.old) self.new }
+        ensures learnt { self.new.learnt ≡ self.old.learnt }
+    {
+        if !self.learnt.contains(object) {
+            return Ok(());
+        }
+        self.make(bench, stack, calls, source, object)?;
+        self.assemble_last(object)
+    }
+
+    /// The same for each matrix. `AllocError` where memory is refused.
+    fn make_matrices<S, C: CallList<S>>(
+        &mut self,
+        bench: &mut Bench,
+        stack: &mut Vec<u32>,
+        calls: &mut C,
+        source: &S,
+    ) -> Result<(), AllocError>
+        requires held { C.is_in source.now calls.old }
+        requires table { IsTableOf (C.calls source.now calls.old) self.old }
+        ensures same { calls.new ≡ calls.old }
+        ensures table { IsTable (C.calls source.now calls.old) self.new }
+        ensures learnt { self.new.learnt ≡ self.old.learnt }
+    {
+        for n in 0..self.learnt.shapes.matrices() {
+            self.make_ready(bench, stack, calls, source, Object::Matrix(MatrixId(n)))?;
+        }
+        Ok(())
+    }
+
+    /// The same for each vector. `AllocError` where memory is refused.
+    fn make_vectors<S, C: CallList<S>>(
+        &mut self,
+        bench: &mut Bench,
+        stack: &mut Vec<u32>,
+        calls: &mut C,
+        source: &S,
+    ) -> Result<(), AllocError>
+        requires held { C.is_in source.now calls.old }
+        requires table { IsTableOf (C.calls source.now calls.old) self.old }
+        ensures same { calls.new ≡ calls.old }
+        ensures table { IsTable (C.calls source.now calls.old) self.new }
+        ensures learnt { self.new.learnt ≡ self.old.learnt }
+    {
+        for n in 0..self.learnt.shapes.vectors() {
+            self.make_ready(bench, stack, calls, source, Object::Vector(VectorId(n)))?;
+        }
+        Ok(())
+    }
+
+    /// Makes what each object holds that is there, and has all changes done. `AllocError` where memory is refused.
+    fn make_all<S, C: CallList<S>>(
+        &mut self,
+        bench: &mut Bench,
+        stack: &mut Vec<u32>,
+        calls: &mut C,
+        source: &S,
+    ) -> Result<(), AllocError>
+        requires held { C.is_in source.now calls.old }
+        requires table { IsTableOf (C.calls source.now calls.old) self.old }
+        ensures same { calls.new ≡ calls.old }
+        ensures table { IsTable (C.calls source.now calls.old) self.new }
+        ensures learnt { self.new.learnt ≡ self.old.learnt }
+        ensures ready { OnOk result (AreReady self.new) }
+    {
+        self.make_matrices(bench, stack, calls, source)?;
+        self.make_vectors(bench, stack, calls, source)?;
+        if !self.are_ready() {
+            return Err(AllocError);
+        }
+        Ok(())
+    }
+
+    /// Makes what each object holds that is there after these calls, which were all learnt, and has all changes done. Nothing is done where all
+    /// lie ready. `AllocError` where memory is refused; what was made stays so.
+    ///
+    /// Source: GraphBLAS C API 2.0, `GrB_MATERIALIZE`; that it is for all objects is own.
+    pub fn settle_all<S, C: CallList<S>>(
+        &mut self,
+        bench: &mut Bench,
+        stack: &mut Vec<u32>,
+        calls: &mut C,
+        source: &S,
+    ) -> Result<(), AllocError>
+        requires held { C.is_in source.now calls.old }
+        requires table { IsTableOf (C.calls source.now calls.old) self.old }
+        ensures same { calls.new ≡ calls.old }
+        ensures table { IsTable (C.calls source.now calls.old) self.new }
+        ensures learnt { self.new.learnt ≡ self.old.learnt }
+        ensures ready { OnOk result (AreReady self.new) }
+        ensures stays { AreReady self.old → self.new ≡ self.old }
+        ensures memory { OnErr result (AreReady self.old → ⊥) }
+    {
+        if self.are_ready() {
+            return Ok(());
+        }
+        self.make_all(bench, stack, calls, source)
+    }
+}
