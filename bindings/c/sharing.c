@@ -124,6 +124,28 @@ static void prepare(void)
     end(passes);
 }
 
+/* A load is dear by itself: who adopts it builds nothing. */
+static void load(void)
+{
+    static TrB_Index places[MANY];
+    static uint64_t ones[MANY];
+    for (size_t k = 0; k < MANY; k++) {
+        places[k] = k;
+        ones[k] = 1;
+    }
+
+    TrB_Pass passes[PASSES] = {TRB_PASS_INIT};
+    TrB_Vector u;
+    OK(TrB_open(ROOM, passes, PASSES));
+    OK(TrB_Vector_new(&passes[0], &u, TrB_UINT64, MANY));
+    OK(TrB_Vector_build_UINT64(&passes[0], u, places, ones, MANY, TrB_PLUS));
+    prepares(&passes[0], 2);
+    OK(TrB_adopt(&passes[1], &passes[0]));
+    reads(&passes[1], u, 7, 1);
+    has_made(&passes[1], 2, 0);
+    end(passes);
+}
+
 /* A pass that is released makes anew what it is asked for, and one that adopted it does not. */
 static void release(void)
 {
@@ -150,6 +172,7 @@ int main(void)
 {
     adopt();
     prepare();
+    load();
     release();
     return 0;
 }

@@ -19,7 +19,7 @@ const ENTRY: u64 = 2;
 const PRODUCT_ENTRY: u64 = 16;
 
 /// A tuple of a build.
-const TUPLE: u64 = 4;
+const TUPLE: u64 = 8;
 
 /// So many calls are many.
 const MANY_CALLS: u32 = 64;
