@@ -77,16 +77,21 @@ static void adopt(void)
     end(passes);
 }
 
-/* Dear calls are prepared, and with them all that objects need; cheap ones are left to reads. */
-static void prepare(void)
+/* What a load stores: a 1 at each of many places. */
+static TrB_Index places[MANY];
+static uint64_t ones[MANY];
+
+static void fill(void)
 {
-    static TrB_Index places[MANY];
-    static uint64_t ones[MANY];
     for (size_t k = 0; k < MANY; k++) {
         places[k] = k;
         ones[k] = 1;
     }
+}
 
+/* Dear calls are prepared, and with them all that objects need; cheap ones are left to reads. */
+static void prepare(void)
+{
     TrB_Pass passes[PASSES] = {TRB_PASS_INIT};
     TrB_Vector u, w;
     OK(TrB_open(ROOM, passes, PASSES));
@@ -127,13 +132,6 @@ static void prepare(void)
 /* A load is dear by itself: who adopts it builds nothing. */
 static void load(void)
 {
-    static TrB_Index places[MANY];
-    static uint64_t ones[MANY];
-    for (size_t k = 0; k < MANY; k++) {
-        places[k] = k;
-        ones[k] = 1;
-    }
-
     TrB_Pass passes[PASSES] = {TRB_PASS_INIT};
     TrB_Vector u;
     OK(TrB_open(ROOM, passes, PASSES));
@@ -170,6 +168,7 @@ static void release(void)
 
 int main(void)
 {
+    fill();
     adopt();
     prepare();
     load();

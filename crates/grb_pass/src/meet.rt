@@ -13,7 +13,7 @@ use grb_core::Refusal;
 
 impl Shared {
     /// What the other pass knows begins what the first one knows, since each record has one call. Changes neither; the loop says it for each
-    /// record, and leaves no instruction.
+    /// record, and compares none.
     fn agree(&self, reader: &mut Reader, other: &mut Reader)
         requires reader { IsPassOf self.now reader.old }
         requires other { IsPassOf self.now other.old }

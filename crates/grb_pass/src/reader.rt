@@ -314,7 +314,7 @@ impl Reader {
         self.steps = self.words() - before;
     }
 
-    /// Both have a token of one record at this place, so it has one call. Changes neither, and takes no time.
+    /// Both have a token of one record at this place, so it has one call. Changes neither, and compares nothing.
     pub(crate) fn agree_at(&mut self, records: &Records, other: &mut Reader, at: usize)
         requires mine { at < length self.old.shown }
         requires theirs { at < length other.old.shown }

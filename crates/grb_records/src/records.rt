@@ -1,5 +1,5 @@
 //! The calls that passes recorded, each written once and then read by all.
-ghost use Rattle.std.specs.Prelude.{◌≡◌, ◌⊎◌, ◌<◌, ◌≤◌, length, All, None, Some, Err, MatchOption, IfOk, IfErr, IfSome};
+ghost use Rattle.std.specs.Prelude.{◌≡◌, ◌↔◌, ◌⊎◌, ◌<◌, ◌≤◌, length, All, None, Some, Err, MatchOption, IfOk, IfErr, IfSome, IsTrue};
 ghost use Rattle.once_cell.specs.Once.{cell_name};
 
 use crate::token::Token;
@@ -131,8 +131,23 @@ impl Records {
         }
     }
 
-    /// Both are tokens of one record, so they have one call. It compares nothing and takes no time: what a cell was known to hold, it holds
-    /// for good. Takes no memory and does not wait.
+    /// Whether both are tokens of one record. Then they have one call. Takes no memory and does not wait.
+    pub fn same(&self, a: &mut Token, b: &mut Token) -> bool
+        requires a { IsOf self.now a.old }
+        requires b { IsOf self.now b.old }
+        ensures record { IsTrue result ↔ IsSameRecord a.old b.old }
+        ensures call { IsTrue result → a.old.call ≡ b.old.call }
+        ensures same { (a.new ≡ a.old) × (b.new ≡ b.old) }
+    {
+        if a.pass != b.pass || a.index != b.index {
+            return false;
+        }
+        a.note.compare(b.note.again());
+        true
+    }
+
+    /// The same of two tokens that are known to be of one record: they have one call. It compares neither passes nor indices, since what a
+    /// cell was known to hold, it holds for good. Takes no memory and does not wait.
     pub fn agree(&self, a: &mut Token, b: &mut Token)
         requires a { IsOf self.now a.old }
         requires b { IsOf self.now b.old }
