@@ -77,14 +77,15 @@ static void adopt(void)
     end(passes);
 }
 
-/* What a load stores: a 1 at each of many places. */
-static TrB_Index places[MANY];
+/* What a load stores: a 1 at each of many places, from the first to the last and the other way. */
+static TrB_Index places[MANY], backwards[MANY];
 static uint64_t ones[MANY];
 
 static void fill(void)
 {
     for (size_t k = 0; k < MANY; k++) {
         places[k] = k;
+        backwards[k] = MANY - 1 - k;
         ones[k] = 1;
     }
 }
@@ -103,7 +104,7 @@ static void prepare(void)
     OK(TrB_Vector_setElement_UINT64(&passes[0], w, 2, 7));
     prepares(&passes[0], 0);
 
-    /* Two more, of which each is dear. */
+    /* Two more: a build of places that rise, which shares them, and a dear operation, which needs it. */
     OK(TrB_Vector_build_UINT64(&passes[0], u, places, ones, MANY, TrB_PLUS));
     OK(TrB_Vector_eWiseAdd(&passes[0], w, TrB_NO_VECTOR, TrB_NO_ACCUM, TrB_PLUS, u, w, TrB_DEFAULT));
     prepares(&passes[0], 5);
@@ -129,7 +130,7 @@ static void prepare(void)
     end(passes);
 }
 
-/* A load is dear by itself: who adopts it builds nothing. */
+/* A load of places that rise is shared, and not dear. One that has to be sorted is: who adopts it builds nothing. */
 static void load(void)
 {
     TrB_Pass passes[PASSES] = {TRB_PASS_INIT};
@@ -137,10 +138,13 @@ static void load(void)
     OK(TrB_open(ROOM, passes, PASSES));
     OK(TrB_Vector_new(&passes[0], &u, TrB_UINT64, MANY));
     OK(TrB_Vector_build_UINT64(&passes[0], u, places, ones, MANY, TrB_PLUS));
-    prepares(&passes[0], 2);
+    prepares(&passes[0], 0);
+    OK(TrB_Vector_clear(&passes[0], u));
+    OK(TrB_Vector_build_UINT64(&passes[0], u, backwards, ones, MANY, TrB_PLUS));
+    prepares(&passes[0], 4);
     OK(TrB_adopt(&passes[1], &passes[0]));
     reads(&passes[1], u, 7, 1);
-    has_made(&passes[1], 2, 0);
+    has_made(&passes[1], 4, 0);
     end(passes);
 }
 

@@ -10,8 +10,9 @@ use crate::handle::TrbPass;
 use crate::item::Item;
 use grb_call::{Call, MatrixId, MatrixTuples, VectorId, VectorTuples};
 use std::alloc::{AllocError, Global};
+use std::sync::Arc;
 
-/// The list of these arrays, made once with its room reserved. `AllocError` where memory is refused; then nothing is made.
+/// The cells of these arrays in a list, made once with its room reserved. `AllocError` where memory is refused; then nothing is made.
 fn matrix_cells<T: Item>(
     alloc: Global,
     rows: &[u64],
@@ -29,7 +30,7 @@ fn matrix_cells<T: Item>(
     MatrixTuples::from_vec(cells)
 }
 
-/// The list of these arrays, made once with its room reserved. `AllocError` where memory is refused; then nothing is made.
+/// The indices of these arrays in a list, made once with its room reserved. `AllocError` where memory is refused; then nothing is made.
 fn vector_cells<T: Item>(
     alloc: Global,
     indices: &[u64],
@@ -43,6 +44,40 @@ fn vector_cells<T: Item>(
         cells.push_reserved((indices[at], values[at].value()));
     }
     VectorTuples::from_vec(cells)
+}
+
+/// The tuples of these arrays: where each cell comes before the next one, the entries of a matrix, which a build shares; else a list.
+/// `AllocError` where memory is refused; then nothing is made.
+fn matrix_tuples<T: Item>(
+    alloc: Global,
+    rows: &[u64],
+    columns: &[u64],
+    values: &[T],
+) -> Result<MatrixTuples, AllocError>
+    requires rows { length rows.now ≡ length values.now }
+    requires columns { length columns.now ≡ length values.now }
+    ensures { IfOk result (λ tuples. tuples ≡ cells_of_arrays T.value rows.now columns.now values.now) }
+{
+    match T::matrix_of(alloc, rows, columns, values)? {
+        Some(matrix) => Ok(MatrixTuples::from_matrix(Arc::new(alloc, matrix)?)),
+        None => matrix_cells(alloc, rows, columns, values),
+    }
+}
+
+/// The tuples of these arrays: where each index is below the next one, the entries of a vector, which a build shares; else a list.
+/// `AllocError` where memory is refused; then nothing is made.
+fn vector_tuples<T: Item>(
+    alloc: Global,
+    indices: &[u64],
+    values: &[T],
+) -> Result<VectorTuples, AllocError>
+    requires { length indices.now ≡ length values.now }
+    ensures { IfOk result (λ tuples. tuples ≡ indices_of_arrays T.value indices.now values.now) }
+{
+    match T::vector_of(alloc, indices, values)? {
+        Some(vector) => Ok(VectorTuples::from_vector(Arc::new(alloc, vector)?)),
+        None => vector_cells(alloc, indices, values),
+    }
 }
 
 /// The build of a matrix from these arrays.
@@ -62,7 +97,7 @@ fn matrix_build<T: Item>(
     if rows.len() != values.len() || columns.len() != values.len() {
         return Err(INVALID_VALUE);
     }
-    match matrix_cells(alloc, rows, columns, values) {
+    match matrix_tuples(alloc, rows, columns, values) {
         Ok(tuples) => Ok(Call::BuildMatrix {
             a: MatrixId(a),
             tuples,
@@ -88,7 +123,7 @@ fn vector_build<T: Item>(
     if indices.len() != values.len() {
         return Err(INVALID_VALUE);
     }
-    match vector_cells(alloc, indices, values) {
+    match vector_tuples(alloc, indices, values) {
         Ok(tuples) => Ok(Call::BuildVector {
             v: VectorId(v),
             tuples,

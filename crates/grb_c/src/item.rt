@@ -1,12 +1,18 @@
 //! The values of one domain as C has them.
-ghost use Rattle.std.specs.Prelude.{◌≡◌};
+ghost use Rattle.std.specs.Prelude.{◌≡◌, true, length, map, IfOk, IfSome};
 ghost use Rattle.grb_core.specs.declared.domain.Domain.{Domain};
 ghost use Rattle.grb_core.specs.declared.domain.Domain.TheVariants as domain;
 ghost use Rattle.grb_core.specs.declared.value.Value.{Value};
 ghost use Rattle.grb_core.specs.declared.value.Value.TheVariants as value;
+ghost use Rattle.grb_core.specs.Entries.{values_of};
+ghost use Rattle.grb_sparse.specs.Arrays.{paired};
+ghost use Rattle.grb_core.specs.Entries.{values_of};
+ghost use Rattle.grb_sparse.specs.Arrays.{entries_of_arrays};
 ghost use Rattle.grb_c.specs.Tuples.{bool_in, number_in};
 
 use grb_core::{Domain, Value};
+use grb_sparse::{FlatRows, SparseMatrix, SparseVector};
+use std::alloc::{AllocError, Global};
 
 /// What stands in an array of C for the values of one domain.
 pub(crate) trait Item: Copy {
@@ -30,6 +36,39 @@ pub(crate) trait Item: Copy {
     /// What C has of a value of the domain.
     fn of(stored: Value) -> Self
         ensures { result ≡ item stored };
+
+    /// The values of a matrix of the domain, in the order of its entries.
+    fn of_lists(lists: &FlatRows) -> &[Self]
+        requires { lists.now.domain ≡ domain }
+        ensures { result.now ≡ map item (values_of lists.now.entries) };
+
+    /// The values of a vector of the domain, in the order of its entries.
+    fn of_vector(vector: &SparseVector) -> &[Self]
+        requires assembled { vector.now.assembled ≡ true }
+        requires domain { vector.now.vector.domain ≡ domain }
+        ensures { result.now ≡ map item (values_of vector.now.vector.entries) };
+
+    /// The matrix of these arrays, if each cell comes before the next one.
+    fn matrix_of(
+        alloc: Global,
+        rows: &[u64],
+        columns: &[u64],
+        items: &[Self],
+    ) -> Result<Option<SparseMatrix>, AllocError>
+        requires columns { length columns.now ≡ length rows.now }
+        requires items { length items.now ≡ length rows.now }
+        ensures entries { IfOk result (λ made. IfSome made (λ a. a.matrix.entries ≡ entries_of_arrays rows.now columns.now (map value items.now))) }
+        ensures assembled { IfOk result (λ made. IfSome made (λ a. a.assembled ≡ true)) };
+
+    /// The vector of these arrays, if each index is below the next one.
+    fn vector_of(
+        alloc: Global,
+        indices: &[u64],
+        items: &[Self],
+    ) -> Result<Option<SparseVector>, AllocError>
+        requires { length items.now ≡ length indices.now }
+        ensures entries { IfOk result (λ made. IfSome made (λ v. v.vector.entries ≡ paired indices.now (map value items.now))) }
+        ensures assembled { IfOk result (λ made. IfSome made (λ v. v.assembled ≡ true)) };
 }
 
 impl Item for u64 {
@@ -53,6 +92,31 @@ impl Item for u64 {
             Value::Bool(_) => 0,
         }
     }
+
+    fn of_lists(lists: &FlatRows) -> &[u64] {
+        lists.numbers()
+    }
+
+    fn of_vector(vector: &SparseVector) -> &[u64] {
+        vector.numbers()
+    }
+
+    fn matrix_of(
+        alloc: Global,
+        rows: &[u64],
+        columns: &[u64],
+        items: &[u64],
+    ) -> Result<Option<SparseMatrix>, AllocError> {
+        SparseMatrix::of_numbers(alloc, rows, columns, items)
+    }
+
+    fn vector_of(
+        alloc: Global,
+        indices: &[u64],
+        items: &[u64],
+    ) -> Result<Option<SparseVector>, AllocError> {
+        SparseVector::of_numbers(alloc, indices, items)
+    }
 }
 
 impl Item for bool {
@@ -75,5 +139,30 @@ impl Item for bool {
             Value::Bool(x) => x,
             Value::Uint64(_) => false,
         }
+    }
+
+    fn of_lists(lists: &FlatRows) -> &[bool] {
+        lists.bools()
+    }
+
+    fn of_vector(vector: &SparseVector) -> &[bool] {
+        vector.bools()
+    }
+
+    fn matrix_of(
+        alloc: Global,
+        rows: &[u64],
+        columns: &[u64],
+        items: &[bool],
+    ) -> Result<Option<SparseMatrix>, AllocError> {
+        SparseMatrix::of_bools(alloc, rows, columns, items)
+    }
+
+    fn vector_of(
+        alloc: Global,
+        indices: &[u64],
+        items: &[bool],
+    ) -> Result<Option<SparseVector>, AllocError> {
+        SparseVector::of_bools(alloc, indices, items)
     }
 }

@@ -17,6 +17,7 @@ mod session;
 mod succession;
 mod tuples;
 mod version;
+mod written;
 
 pub use facts::TrbFacts;
 pub use handle::TrbPass;

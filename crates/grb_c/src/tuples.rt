@@ -1,7 +1,7 @@
 //! All entries of an object, into arrays.
 ghost use Rattle.std.specs.Prelude.{◌≡◌, ◌≤◌, length, true};
 ghost use Rattle.grb_c.specs.Handles.{ReadsBools, ReadsBoolsOfVector, ReadsNumbers, ReadsNumbersOfVector};
-ghost use Rattle.grb_c.specs.Tuples.{PutsMatrix, PutsVector, ReadsAll, ReadsAllOfVector, ReadsMatrixBy, ReadsVectorBy, written};
+ghost use Rattle.grb_c.specs.Tuples.{PutsMatrix, PutsVector, ReadsAll, ReadsAllOfVector, ReadsMatrixBy, ReadsVectorBy};
 
 use crate::codes::{
     DOMAIN_MISMATCH, INSUFFICIENT_SPACE, SUCCESS, UNINITIALIZED_OBJECT, refusal_code,
@@ -9,49 +9,10 @@ use crate::codes::{
 use crate::handle::TrbPass;
 use crate::item::Item;
 use crate::session::Session;
+use crate::written::{write_matrix, write_vector};
 use grb_call::{MatrixId, VectorId, WaitMode};
 use grb_sparse::{SparseMatrix, SparseVector};
 use std::alloc::Global;
-
-/// Writes all entries of the matrix to the front of the arrays.
-fn write_matrix<T: Item>(
-    matrix: &SparseMatrix,
-    rows: &mut [u64],
-    columns: &mut [u64],
-    values: &mut [T],
-)
-    requires assembled { matrix.now.assembled ≡ true }
-    requires rows { length matrix.now.matrix.entries ≤ length rows.old }
-    requires columns { length matrix.now.matrix.entries ≤ length columns.old }
-    requires values { length matrix.now.matrix.entries ≤ length values.old }
-    ensures rows { rows.new ≡ written (λ e. e.0.0) matrix.now.matrix.entries rows.old }
-    ensures columns { columns.new ≡ written (λ e. e.0.1) matrix.now.matrix.entries columns.old }
-    ensures values { values.new ≡ written (λ e. T.item e.1) matrix.now.matrix.entries values.old }
-{
-    let mut at = 0;
-    for entry in matrix.entries() {
-        rows[at] = entry.0.0;
-        columns[at] = entry.0.1;
-        values[at] = T::of(entry.1);
-        at += 1;
-    }
-}
-
-/// Writes all entries of the vector to the front of the arrays.
-fn write_vector<T: Item>(vector: &SparseVector, indices: &mut [u64], values: &mut [T])
-    requires assembled { vector.now.assembled ≡ true }
-    requires indices { length vector.now.vector.entries ≤ length indices.old }
-    requires values { length vector.now.vector.entries ≤ length values.old }
-    ensures indices { indices.new ≡ written (λ e. e.0) vector.now.vector.entries indices.old }
-    ensures values { values.new ≡ written (λ e. T.item e.1) vector.now.vector.entries values.old }
-{
-    let mut at = 0;
-    for entry in vector.entries() {
-        indices[at] = entry.0;
-        values[at] = T::of(entry.1);
-        at += 1;
-    }
-}
 
 /// Writes all entries of a matrix of this domain to the front of the arrays, where each has room, and tells how many there are.
 fn put_matrix<T: Item>(

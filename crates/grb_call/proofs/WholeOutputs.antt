@@ -1,6 +1,6 @@
 -- What an operation writes into a whole output is whole.
 use Rattle.std.proofs.Common.{◌≡◌, ℕ, Bool, true, false, [], sym, ap, subst, Option, Some, IfSome}
-use Rattle.std.specs.Option.{option_map, option_map_or}
+use Rattle.std.specs.Option.{option_map_or}
 use Rattle.std.specs.Ordering.{nat_cmp}
 use Rattle.std.specs.FinMap.{nat_cmp-IsAntisymmetric}
 use Rattle.std.specs.Cmp.{nat_cmp_total}
@@ -17,7 +17,7 @@ use Rattle.grb_core.proofs.ResultLaws.{ewise_makes_entries, transposed_makes_ent
 use Rattle.grb_call.specs.declared.descriptor.Descriptor.{Descriptor}
 use Rattle.grb_call.specs.declared.ids.MatrixId.{MatrixId}
 use Rattle.grb_call.specs.declared.ids.VectorId.{VectorId}
-use Rattle.grb_call.specs.Output.{entries_in, written_matrix, written_vector}
+use Rattle.grb_call.specs.Written.{written_matrix, written_vector}
 use Rattle.grb_call.specs.Store.{Store, matrix_at, vector_at, matrix_entries, vector_entries}
 use Rattle.grb_call.proofs.Operations.{IsMatrixAt, IsTurnedAt, IsVectorAt, EwiseMatrices, EwiseVectors}
 
@@ -31,17 +31,17 @@ matrix_entries_are m is = record { ordered = is.ordered; within = is.within; of_
 vector_entries_are : (x : Vector) → IsVector x → AreVectorEntries x.size x.domain x.entries
 vector_entries_are x is = record { ordered = is.ordered; within = is.within; of_domain = is.of_domain }
 
-pub written_matrix_is : (s : Store) (mask : Option MatrixId) (accum : Option BinaryOp) (d : Descriptor) (computed : MatrixEntries) (m : Matrix) → IsMatrix m → AccumulatesIn m.domain accum →
-    AreMatrixEntries m.nrows m.ncols m.domain computed → IsMatrix (written_matrix (entries_in s) mask accum d computed m)
-written_matrix_is s mask accum d computed m is accumulates made =
-    let inside = is_inside cell_cmp d.structure d.comp (option_map (matrix_entries s) mask) in
+pub written_matrix_is : (mask : Option MatrixEntries) (accum : Option BinaryOp) (d : Descriptor) (computed : MatrixEntries) (m : Matrix) → IsMatrix m → AccumulatesIn m.domain accum →
+    AreMatrixEntries m.nrows m.ncols m.domain computed → IsMatrix (written_matrix mask accum d computed m)
+written_matrix_is mask accum d computed m is accumulates made =
+    let inside = is_inside cell_cmp d.structure d.comp mask in
     let new = written_makes_entries cell_cmp cell_cmp_total cell_cmp-IsAntisymmetric (IsCellBelow m.nrows m.ncols) m.domain inside d.replace accum m.entries computed accumulates (matrix_entries_are m is) made in
     record { nrows = is.nrows; ncols = is.ncols; ordered = new.ordered; within = new.within; of_domain = new.of_domain }
 
-pub written_vector_is : (s : Store) (mask : Option VectorId) (accum : Option BinaryOp) (d : Descriptor) (computed : VectorEntries) (x : Vector) → IsVector x → AccumulatesIn x.domain accum →
-    AreVectorEntries x.size x.domain computed → IsVector (written_vector (entries_in s) mask accum d computed x)
-written_vector_is s mask accum d computed x is accumulates made =
-    let inside = is_inside nat_cmp d.structure d.comp (option_map (vector_entries s) mask) in
+pub written_vector_is : (mask : Option VectorEntries) (accum : Option BinaryOp) (d : Descriptor) (computed : VectorEntries) (x : Vector) → IsVector x → AccumulatesIn x.domain accum →
+    AreVectorEntries x.size x.domain computed → IsVector (written_vector mask accum d computed x)
+written_vector_is mask accum d computed x is accumulates made =
+    let inside = is_inside nat_cmp d.structure d.comp mask in
     let new = written_makes_entries nat_cmp nat_cmp_total nat_cmp-IsAntisymmetric (IsBelow x.size) x.domain inside d.replace accum x.entries computed accumulates (vector_entries_are x is) made in
     record { size = is.size; ordered = new.ordered; within = new.within; of_domain = new.of_domain }
 

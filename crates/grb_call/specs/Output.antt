@@ -1,25 +1,27 @@
 -- believed: The object that a call changes, its output, and what the call makes of it: GraphBLAS C API 2.0, the methods of "Matrix
 -- methods" and "Vector methods", and "Operations". Inputs, mask and old output are those of the store before the call, so that one
 -- object may be all of them.
-use Rattle.std.specs.Prelude.{[], if◌then◌else◌, Option, Some, None}
-use Rattle.std.specs.Option.{option_map}
+use Rattle.std.specs.Prelude.{Bool, [], if◌then◌else◌, Option, Some, None}
+use Rattle.std.specs.Option.{option_map, option_map_or}
 use Rattle.std.specs.Ordering.{nat_cmp}
 use Rattle.std.specs.FinMap.{put}
-use Rattle.grb_core.specs.declared.operator.BinaryOp.{BinaryOp}
 use Rattle.grb_core.specs.Entries.{cell_cmp, MatrixEntries, VectorEntries, cells_of, without_entry, built_from}
-use Rattle.grb_core.specs.Mask.{is_inside}
-use Rattle.grb_core.specs.Written.{written}
 use Rattle.grb_core.specs.Results.{ewise_add, ewise_mult, mxv_of, mxm_of, reduce_rows_of, turned, vxm_of}
 use Rattle.grb_core.specs.Contents.{Matrix, Vector, edited_matrix, edited_vector, resized_matrix, resized_vector}
 use Rattle.grb_call.specs.declared.call.Call.{Call}
 use Rattle.grb_call.specs.declared.call.Call.TheVariants as call
-use Rattle.grb_call.specs.declared.descriptor.Descriptor.{Descriptor}
 use Rattle.grb_call.specs.declared.ids.MatrixId.{MatrixId}
 use Rattle.grb_call.specs.declared.ids.VectorId.{VectorId}
 use Rattle.grb_call.specs.declared.ids.Object.{Object}
+use Rattle.grb_call.specs.declared.ids.Object.TheVariants as object
+use Rattle.grb_call.specs.declared.operation.Operation.{Operation}
+use Rattle.grb_call.specs.declared.operation.OperationKind.{OperationKind}
+use Rattle.grb_call.specs.declared.operation.OperationKind.TheVariants.{EwiseAdd, EwiseMult, Product, Rows}
 use Rattle.grb_call.specs.Kinds.{enters}
+use Rattle.grb_call.specs.Operation.{operation_of}
 use Rattle.grb_call.specs.Status.{object_of}
 use Rattle.grb_call.specs.Store.{Store, matrix_entries, vector_entries}
+use Rattle.grb_call.specs.Written.{written_matrix, written_vector}
 
 -- the object that the call changes, of those that were made before it
 abbrev pub output_of : Call → Option Object
@@ -33,15 +35,41 @@ pub record ObjectEntries : Type 0 where
 abbrev pub entries_in : Store → ObjectEntries
 entries_in s = record { matrix = matrix_entries s; vector = vector_entries s }
 
--- the matrix with the result of an operation written into it, by mask, accumulator and descriptor
-abbrev pub written_matrix : ObjectEntries → Option MatrixId → Option BinaryOp → Descriptor → MatrixEntries → Matrix → Matrix
-written_matrix r mask accum d computed m =
-    edited_matrix (λ old. written cell_cmp (is_inside cell_cmp d.structure d.comp (option_map r.matrix mask)) d.replace accum old computed) m
+-- the entries of an object that is a matrix, and of one that is a vector; none of an object of the other sort
+abbrev pub matrix_read : ObjectEntries → Object → MatrixEntries
+matrix_read r (object.Matrix a) = r.matrix a
+matrix_read r (object.Vector v) = []
+
+abbrev pub vector_read : ObjectEntries → Object → VectorEntries
+vector_read r (object.Matrix a) = []
+vector_read r (object.Vector v) = r.vector v
+
+-- the entries of the matrix that an operation computes of its inputs, of which the descriptor may turn the first; none where it
+-- computes a vector
+abbrev pub matrix_computed : ObjectEntries → OperationKind → Bool → Object → Option Object → Option MatrixEntries
+matrix_computed r (EwiseAdd op) tran (object.Matrix a) (Some (object.Matrix b)) = Some (ewise_add cell_cmp op (turned tran (r.matrix a)) (r.matrix b))
+matrix_computed r (EwiseMult op) tran (object.Matrix a) (Some (object.Matrix b)) = Some (ewise_mult cell_cmp op (turned tran (r.matrix a)) (r.matrix b))
+matrix_computed r (Product semiring) tran (object.Matrix a) (Some (object.Matrix b)) = Some (mxm_of semiring (turned tran (r.matrix a)) (r.matrix b))
+matrix_computed r _ tran _ _ = None
+
+-- the same of a vector; none where the operation computes a matrix
+abbrev pub vector_computed : ObjectEntries → OperationKind → Bool → Object → Option Object → Option VectorEntries
+vector_computed r (EwiseAdd op) tran (object.Vector u) (Some (object.Vector v)) = Some (ewise_add nat_cmp op (r.vector u) (r.vector v))
+vector_computed r (EwiseMult op) tran (object.Vector u) (Some (object.Vector v)) = Some (ewise_mult nat_cmp op (r.vector u) (r.vector v))
+vector_computed r (Product semiring) tran (object.Matrix a) (Some (object.Vector u)) = Some (mxv_of semiring (turned tran (r.matrix a)) (r.vector u))
+vector_computed r (Product semiring) tran (object.Vector u) (Some (object.Matrix a)) = Some (vxm_of semiring (r.vector u) (r.matrix a))
+vector_computed r (Rows monoid) tran (object.Matrix a) None = Some (reduce_rows_of monoid (turned tran (r.matrix a)))
+vector_computed r _ tran _ _ = None
+
+-- the matrix that an operation leaves of this one: what it computes is written into it, where that is a matrix
+abbrev pub matrix_operated : ObjectEntries → Operation → Matrix → Matrix
+matrix_operated r o m =
+    option_map_or (λ computed. written_matrix (option_map (matrix_read r) o.mask) o.accum o.d computed m) (matrix_computed r o.kind o.d.tran o.first o.second) m
 
 -- the same of a vector
-abbrev pub written_vector : ObjectEntries → Option VectorId → Option BinaryOp → Descriptor → VectorEntries → Vector → Vector
-written_vector r mask accum d computed x =
-    edited_vector (λ old. written nat_cmp (is_inside nat_cmp d.structure d.comp (option_map r.vector mask)) d.replace accum old computed) x
+abbrev pub vector_operated : ObjectEntries → Operation → Vector → Vector
+vector_operated r o x =
+    option_map_or (λ computed. written_vector (option_map (vector_read r) o.mask) o.accum o.d computed x) (vector_computed r o.kind o.d.tran o.first o.second) x
 
 -- the matrix that the call makes of the one that it changes and does not end, by the entries of the objects that it reads
 abbrev pub matrix_made : ObjectEntries → Call → Matrix → Matrix
@@ -50,10 +78,7 @@ matrix_made r (call.RemoveMatrix a i j) m = edited_matrix (without_entry cell_cm
 matrix_made r (call.ClearMatrix a) m = edited_matrix (λ _. []) m
 matrix_made r (call.ResizeMatrix a nrows ncols) m = resized_matrix nrows ncols m
 matrix_made r (call.BuildMatrix a tuples dup) m = edited_matrix (λ _. built_from cell_cmp dup (cells_of tuples)) m
-matrix_made r (call.EwiseAddMatrix c mask accum op a b d) m = written_matrix r mask accum d (ewise_add cell_cmp op (turned d.tran (r.matrix a)) (r.matrix b)) m
-matrix_made r (call.EwiseMultMatrix c mask accum op a b d) m = written_matrix r mask accum d (ewise_mult cell_cmp op (turned d.tran (r.matrix a)) (r.matrix b)) m
-matrix_made r (call.Mxm c mask accum semiring a b d) m = written_matrix r mask accum d (mxm_of semiring (turned d.tran (r.matrix a)) (r.matrix b)) m
-matrix_made r _ m = m
+matrix_made r c m = option_map_or (λ o. matrix_operated r o m) (operation_of c) m
 
 -- the same of a vector
 abbrev pub vector_made : ObjectEntries → Call → Vector → Vector
@@ -62,12 +87,7 @@ vector_made r (call.RemoveVector v i) x = edited_vector (without_entry nat_cmp i
 vector_made r (call.ClearVector v) x = edited_vector (λ _. []) x
 vector_made r (call.ResizeVector v size) x = resized_vector size x
 vector_made r (call.BuildVector v tuples dup) x = edited_vector (λ _. built_from nat_cmp dup tuples) x
-vector_made r (call.EwiseAddVector w mask accum op u v d) x = written_vector r mask accum d (ewise_add nat_cmp op (r.vector u) (r.vector v)) x
-vector_made r (call.EwiseMultVector w mask accum op u v d) x = written_vector r mask accum d (ewise_mult nat_cmp op (r.vector u) (r.vector v)) x
-vector_made r (call.Mxv w mask accum semiring a u d) x = written_vector r mask accum d (mxv_of semiring (turned d.tran (r.matrix a)) (r.vector u)) x
-vector_made r (call.Vxm w mask accum semiring u a d) x = written_vector r mask accum d (vxm_of semiring (r.vector u) (r.matrix a)) x
-vector_made r (call.ReduceRows w mask accum monoid a d) x = written_vector r mask accum d (reduce_rows_of monoid (turned d.tran (r.matrix a))) x
-vector_made r _ x = x
+vector_made r c x = option_map_or (λ o. vector_operated r o x) (operation_of c) x
 
 -- the matrix that the call leaves, in this store, of the one that it changes and does not end
 abbrev pub matrix_after : Store → Call → Matrix → Matrix

@@ -6,9 +6,14 @@ use Rattle.grb_core.specs.declared.domain.Domain.{Domain}
 use Rattle.grb_core.specs.declared.domain.Domain.TheVariants as domain
 use Rattle.grb_core.specs.declared.value.Value.{Value}
 use Rattle.grb_core.specs.Value.{value_domain}
-use Rattle.grb_call.specs.Refused.{same_domain}
+use Rattle.grb_core.specs.Entries.{MatrixEntries}
+use Rattle.grb_call.specs.SameDomain.{same_domain}
 use Rattle.grb_call.specs.declared.known.Domains.{Domains}
 use Rattle.grb_call.specs.declared.known.Largest.{Largest}
+
+-- the entries of a matrix as tuples of a row, a column and a value
+abbrev pub tuples_of : MatrixEntries → List (ℕ × ℕ × Value)
+tuples_of es = map (λ e. (e.0.0, e.0.1, e.1)) es
 
 -- whether all values are of the domain, by what is known of both domains
 abbrev pub are_of : Domains → Domain → Bool

@@ -14,7 +14,7 @@ use Rattle.grb_core.specs.Contents.{Vector, Matrix, IsVector, IsMatrix}
 use Rattle.grb_core.specs.Written.{pointwise}
 use Rattle.grb_core.proofs.Made.{all-map, within-pointwise}
 use Rattle.grb_kernels.specs.Typed.{entries_of}
-use Rattle.grb_rows.specs.Cells.{cell_of, decoded}
+use Rattle.grb_lists.specs.Cells.{cell_of, decoded}
 use Rattle.grb_ewise.proofs.Whole.{vector_of}
 use Rattle.grb_ewise.proofs.WholeMatrix.{matrix_of}
 

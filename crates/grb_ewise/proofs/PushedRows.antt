@@ -6,9 +6,9 @@ use Rattle.std.proofs.lemmas.List.{map-append, length_push}
 use Rattle.grb_core.specs.declared.value.Value.{Value}
 use Rattle.grb_core.specs.Entries.{Cell, VectorEntries, MatrixEntries}
 use Rattle.grb_kernels.specs.Typed.{entries_of}
-use Rattle.grb_rows.specs.Cells.{cell_of, decoded, coded, codes_of, row_at, IsFlat}
-use Rattle.grb_rows.proofs.CellCodes.{cell_of-code_of}
-use Rattle.grb_rows.proofs.FlatCells.{length-codes, standing, new_before, new_flat, same_flat}
+use Rattle.grb_lists.specs.Cells.{cell_of, decoded, coded, codes_of, row_at, IsFlat}
+use Rattle.grb_lists.proofs.CellCodes.{cell_of-code_of}
+use Rattle.grb_lists.proofs.FlatCells.{length-codes, standing, new_before, new_flat, same_flat}
 use Rattle.grb_kernels.proofs.Lists.{append_nil}
 use Rattle.grb_ewise.specs.Rows.{flat_entries}
 use Rattle.grb_ewise.proofs.MatrixRows.{with_row}

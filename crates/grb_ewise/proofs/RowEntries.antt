@@ -8,9 +8,9 @@ use Rattle.grb_core.specs.declared.value.Value.{Value}
 use Rattle.grb_core.specs.Entries.{VectorEntries, MatrixEntries, cell_cmp}
 use Rattle.grb_core.specs.Results.{row_of}
 use Rattle.grb_kernels.specs.Typed.{entries_of}
-use Rattle.grb_rows.specs.Stored.{paired}
-use Rattle.grb_rows.specs.Cells.{codes_of}
-use Rattle.grb_rows.proofs.CellCodes.{is_sorted-decoded}
+use Rattle.grb_lists.specs.Stored.{paired}
+use Rattle.grb_lists.specs.Cells.{codes_of}
+use Rattle.grb_lists.proofs.CellCodes.{is_sorted-decoded}
 use Rattle.grb_ewise.specs.Rows.{flat_entries}
 use Rattle.grb_ewise.proofs.Lent.{entries-paired}
 use Rattle.grb_ewise.proofs.MatrixRows.{row-sorted}

@@ -15,7 +15,7 @@ use Rattle.grb_core.specs.Results.{row_of}
 use Rattle.grb_core.specs.Written.{pointwise}
 use Rattle.grb_kernels.specs.Typed.{entries_of}
 use Rattle.grb_kernels.proofs.Lists.{append_nil}
-use Rattle.grb_rows.specs.Cells.{IsFlat}
+use Rattle.grb_lists.specs.Cells.{IsFlat}
 use Rattle.grb_ewise.specs.Rows.{flat_entries}
 use Rattle.grb_ewise.proofs.MatrixRows.{with_row, rows_from, rows_from-more, below-rows_from, pointwise-with_row}
 use Rattle.grb_ewise.proofs.PushedRows.{entries-pushed_row, flat-pushed_row}

@@ -9,7 +9,7 @@ ghost use Rattle.grb_core.specs.Written.{pointwise};
 ghost use Rattle.grb_core.specs.Results.{row_of};
 ghost use Rattle.grb_kernels.specs.Merging.{most_of};
 ghost use Rattle.grb_kernels.specs.Typed.{entries_of};
-ghost use Rattle.grb_rows.specs.Cells.{decoded, IsFlat};
+ghost use Rattle.grb_lists.specs.Cells.{decoded, IsFlat};
 ghost use Rattle.grb_ewise.specs.Rows.{flat_entries};
 
 use crate::stored::Stored;

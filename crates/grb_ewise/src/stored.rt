@@ -8,12 +8,12 @@ ghost use Rattle.grb_core.specs.Entries.{cell_cmp, values_of};
 ghost use Rattle.grb_core.specs.Contents.{IsVector};
 ghost use Rattle.grb_core.specs.Results.{row_of};
 ghost use Rattle.grb_kernels.specs.Typed.{entries_of};
-ghost use Rattle.grb_rows.specs.Cells.{decoded, IsFlat};
+ghost use Rattle.grb_lists.specs.Cells.{decoded, IsFlat};
 ghost use Rattle.grb_ewise.specs.Made.{listed_vector};
 ghost use Rattle.grb_ewise.specs.Rows.{flat_entries};
 
 use grb_kernels::{EntryList, EntrySlice, Operated};
-use grb_rows::FlatRows;
+use grb_lists::FlatRows;
 use grb_sparse::SparseVector;
 use std::alloc::{AllocError, Global};
 

@@ -3,7 +3,7 @@ ghost use Rattle.std.specs.Prelude.{◌≡◌, ◌<◌, true, IsTrue};
 ghost use Rattle.std.specs.FinMap.{is_sorted};
 ghost use Rattle.grb_core.specs.Entries.{cell_cmp};
 ghost use Rattle.grb_core.specs.Contents.{IsMatrix};
-ghost use Rattle.grb_rows.specs.Cells.{decoded};
+ghost use Rattle.grb_lists.specs.Cells.{decoded};
 
 use grb_kernels::Scalar;
 use grb_sparse::{FlatRows, SparseMatrix};

@@ -4,10 +4,11 @@ ghost use Rattle.std.specs.Option.{option_map, option_or};
 ghost use Rattle.grb_core.specs.Operator.{op_domain, value_of_op};
 ghost use Rattle.grb_core.specs.Mask.{is_inside};
 ghost use Rattle.grb_core.specs.Written.{AccumulatesIn, accumulated, either_value, pointwise, masked, written};
+ghost use Rattle.grb_call.specs.Written.{written_by};
 ghost use Rattle.grb_kernels.specs.Masked.{by_mask};
 ghost use Rattle.grb_ewise.specs.Objects.{AreAlike, IsLike};
 ghost use Rattle.grb_ewise.specs.Premises.{IsMatrixInput, IsMatrixOutput, IsVectorInput, IsVectorOutput};
-ghost use Rattle.grb_ewise.specs.Written.{written_by, written_into_matrix, written_into_vector};
+ghost use Rattle.grb_ewise.specs.Written.{written_into_matrix, written_into_vector};
 
 use crate::objects::SparseObject;
 use crate::pairing::pair;

@@ -11,7 +11,7 @@ ghost use Rattle.grb_kernels.specs.Merging.{made, with_kept, most_of, owned, len
 
 use crate::list::{EntryList, EntrySlice};
 use crate::scalar::Scalar;
-use grb_rows::next_place;
+use grb_lists::next_place;
 use std::alloc::{AllocError, Global};
 
 /// How many times as long as another a list is at least, if it is searched for the indices of the other and not read.

@@ -17,7 +17,7 @@ use Rattle.std.proofs.lemmas.List.{take_all, take_more, at_drop_more, map-append
 use Rattle.grb_core.specs.declared.value.Value.{Value}
 use Rattle.grb_core.specs.declared.value.Value.TheVariants as value
 use Rattle.grb_core.specs.Entries.{Cell, cell_cmp, cells_of, MatrixEntries, map_from, values_of, restricted, values_at}
-use Rattle.grb_rows.proofs.Places.{holds}
+use Rattle.grb_lists.proofs.Places.{holds}
 use Rattle.grb_core.proofs.Maps.{cell_cmp_total, below-trans, find-map_from, find-tied_below, is_sorted-map_from}
 use Rattle.grb_market.specs.Gathered.{comes_before, has_place, count_apart, are_apart}
 use Rattle.grb_market.proofs.EntryMaps.{same_map, tied_cells, same_cell, same_place, map_from-push, is_some-map_from}

@@ -28,7 +28,7 @@ use Rattle.grb_core.specs.Contents.{Matrix, IsDimension}
 use Rattle.grb_core.proofs.Dimensions.{dimension-fits}
 use Rattle.grb_core.specs.Laws.{HavePlacesApart}
 use Rattle.grb_core.proofs.Maps.{cell_cmp_total}
-use Rattle.grb_rows.proofs.Places.{holds, below_at, first, second}
+use Rattle.grb_lists.proofs.Places.{holds, below_at, first, second}
 use Rattle.grb_market.specs.declared.head.Size.{Size}
 use Rattle.grb_market.specs.Line.{ended, lines_from, lines_of, is_comment}
 use Rattle.grb_market.specs.Numbers.{Number, is_blank, is_digit, words_of, begins_blank, ends_blank, number_of, numeral_of, numbers_from}

@@ -12,7 +12,7 @@ use lib.Dec.{T}
 use Rattle.grb_core.specs.declared.value.Value.{Value}
 use Rattle.grb_core.specs.Entries.{Cell, cell_cmp, MatrixEntries, map_from}
 use Rattle.std.specs.Prelude.{IsTrue}
-use Rattle.grb_rows.proofs.Places.{passes}
+use Rattle.grb_lists.proofs.Places.{passes}
 use Rattle.grb_core.proofs.Maps.{cell_cmp_total, cell_cmp-IsAntisymmetric, find-append_maps, find-map_from, is_sorted-map_from}
 use Rattle.grb_market.specs.declared.head.Head.{Head}
 use Rattle.grb_market.specs.Spells.{mirrored, written_out}

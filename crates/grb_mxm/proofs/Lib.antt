@@ -1,12 +1,3 @@
-pub mod LowestBit
-pub mod MarksOf
-pub mod WordByWord
-pub mod Cleared
-pub mod Taken
-pub mod Tops
-pub mod Reach
-pub mod Renamed
-pub mod RowSums
 pub mod OpenRow
 pub mod ProductRows
 pub mod ScaledRow
@@ -15,5 +6,4 @@ pub mod WholeProduct
 pub mod MaskedSums
 pub mod States
 pub mod MaskedProduct
-pub mod RowSpans
 pub mod Names

@@ -21,11 +21,11 @@ use Rattle.grb_core.proofs.Edits.{find-restricted}
 use Rattle.grb_core.proofs.Written.{find-masked, is_sorted-masked, find-accumulated, accumulated_value}
 use Rattle.grb_kernels.specs.Typed.{kept}
 use Rattle.grb_ewise.proofs.MatrixRows.{find-row, row-sorted}
-use Rattle.grb_products.specs.Open.{marked_at}
-use Rattle.grb_products.specs.Products.{products}
-use Rattle.grb_products.proofs.Sums.{product_of-products, products-same}
+use Rattle.grb_semirings.specs.Open.{marked_at}
+use Rattle.grb_semirings.specs.Products.{products}
+use Rattle.grb_semirings.proofs.Sums.{product_of-products, products-same}
 use Rattle.grb_mxm.specs.Rows.{picked, product_row, selected_product, bounding}
-use Rattle.grb_mxm.specs.Bits.{AreAmong}
+use Rattle.grb_mxm.specs.AllowedSums.{AreAmong}
 use Rattle.grb_mxm.proofs.OpenRow.{transposed, find-product_row}
 use Rattle.grb_mxm.proofs.ProductRows.{sorted-mxm, row_of-mxm, product_row-sorted}
 use Rattle.grb_mxm.proofs.MaskedSums.{none_among}

@@ -11,9 +11,9 @@ use Rattle.grb_core.specs.declared.value.Value.{Value}
 use Rattle.grb_core.specs.Entries.{VectorEntries}
 use Rattle.grb_kernels.specs.Typed.{entries_of}
 use Rattle.grb_ewise.specs.Ranks.{Rise}
-use Rattle.grb_products.proofs.Bounded.{indices_rise}
-use Rattle.grb_mxm.specs.Rows.{name_in, renamed}
-use Rattle.grb_mxm.proofs.Renamed.{holds, passes}
+use Rattle.grb_sums.proofs.Rising.{indices_rise}
+use Rattle.grb_sums.specs.Naming.{name_in, renamed}
+use Rattle.grb_sums.proofs.Renamed.{holds, passes}
 
 fst : (a b : Bool) → T (a && b) → T a
 fst true b p = tt

@@ -17,13 +17,13 @@ use Rattle.grb_core.specs.Entries.{VectorEntries, MatrixEntries, before_entries}
 use Rattle.grb_core.specs.Results.{row_of, column_of, product_of}
 use Rattle.grb_core.proofs.Maps.{find-before, is_sorted-before, same_entries_at, find-map_on_indices, is_sorted-map_on_indices}
 use Rattle.grb_kernels.specs.Typed.{kept}
-use Rattle.grb_products.specs.Open.{marked_at}
-use Rattle.grb_products.specs.Products.{products}
-use Rattle.grb_products.proofs.RowByRow.{same_test, in_its_row, by_its_row, is_in}
-use Rattle.grb_products.proofs.Sums.{product_of-products, products-same}
-use Rattle.grb_mxm.specs.Open.{marked_from}
+use Rattle.grb_semirings.specs.Open.{marked_at}
+use Rattle.grb_semirings.specs.Products.{products}
+use Rattle.grb_sums.proofs.RowByRow.{same_test, in_its_row, by_its_row, is_in}
+use Rattle.grb_semirings.proofs.Sums.{product_of-products, products-same}
+use Rattle.grb_sums.specs.Open.{marked_from}
 use Rattle.grb_mxm.specs.Rows.{product_row}
-use Rattle.grb_mxm.proofs.Renamed.{RiseBelow}
+use Rattle.grb_sums.proofs.Renamed.{RiseBelow}
 
 and : (a b : Bool) → T a → T b → T (a && b)
 and true b p q = q

@@ -14,8 +14,8 @@ use Rattle.grb_core.specs.Results.{row_of, column_of, rows_of, columns_of, cells
 use Rattle.grb_core.proofs.Maps.{same_entries_at, is_sorted-map_from, find-map_from, is_sorted-map_on_indices}
 use Rattle.grb_core.proofs.Gridded.{is_sorted-cells}
 use Rattle.grb_ewise.proofs.MatrixRows.{with_row, by_row, find-with_row, find-row, row-sorted}
-use Rattle.grb_products.proofs.RowByRow.{same_test, in_its_row, is_in}
-use Rattle.grb_products.proofs.Sums.{product_of-products}
+use Rattle.grb_sums.proofs.RowByRow.{same_test, in_its_row, is_in}
+use Rattle.grb_semirings.proofs.Sums.{product_of-products}
 use Rattle.grb_mxm.specs.Rows.{product_row}
 
 and : (a b : Bool) → T a → T b → T (a && b)

@@ -20,14 +20,15 @@ use Rattle.grb_core.specs.Results.{row_of, column_of}
 use Rattle.grb_core.proofs.Maps.{same_entries_at}
 use Rattle.grb_kernels.specs.Typed.{entries_of}
 use Rattle.grb_ewise.proofs.MatrixRows.{row-sorted}
-use Rattle.grb_products.specs.ColumnSums.{with_values}
-use Rattle.grb_products.specs.Products.{list_of}
-use Rattle.grb_products.proofs.Folds.{fold_of-one}
-use Rattle.grb_products.proofs.Sums.{product_of-products}
-use Rattle.grb_mxm.specs.Rows.{renamed, product_row}
+use Rattle.grb_sums.specs.ColumnSums.{with_values}
+use Rattle.grb_semirings.specs.Products.{list_of}
+use Rattle.grb_semirings.proofs.Folds.{fold_of-one}
+use Rattle.grb_semirings.proofs.Sums.{product_of-products}
+use Rattle.grb_sums.specs.Naming.{renamed}
+use Rattle.grb_mxm.specs.Rows.{product_row}
 use Rattle.grb_mxm.proofs.OpenRow.{transposed, find-product_row}
 use Rattle.grb_mxm.proofs.ProductRows.{product_row-sorted}
-use Rattle.grb_mxm.proofs.RowSums.{found_product}
+use Rattle.grb_sums.proofs.SummedRow.{found_product}
 
 and : (a b : Bool) → T a → T b → T (a && b)
 and true b p q = q

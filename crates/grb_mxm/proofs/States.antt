@@ -1,7 +1,8 @@
 -- The states of places under a mask, as two lists of marks: where a sum is allowed, and where there is one.
 use Rattle.std.proofs.Common.{◌≡◌, ℕ, zero, suc, Bool, true, false, List, [], ◌∷◌, refl, sym, ap, ◌∙◌, length, get_or, set}
 use Rattle.grb_core.specs.declared.value.Value.{Value}
-use Rattle.grb_mxm.specs.Bits.{is_allowed, is_summed, allowed_of, summed_of, AreAmong, HoldUnmarked, HoldAll}
+use Rattle.grb_mxm.specs.AllowedSums.{is_allowed, is_summed, allowed_of, summed_of, AreAmong}
+use Rattle.grb_sums.specs.Marks.{HoldUnmarked, HoldAll}
 
 differ : false ≡ true → ⊥
 differ e = cc

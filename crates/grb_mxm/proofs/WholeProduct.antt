@@ -14,7 +14,7 @@ use Rattle.grb_core.specs.Results.{mxm_of}
 use Rattle.grb_core.specs.ResultLaws.{IsCellBelow, AreEntries}
 use Rattle.grb_core.proofs.ResultLaws.{mxm_makes_entries}
 use Rattle.grb_mxm.specs.Rows.{selected_product}
-use Rattle.grb_mxm.proofs.Renamed.{holds, passes}
+use Rattle.grb_sums.proofs.Renamed.{holds, passes}
 use Rattle.grb_mxm.proofs.MaskedProduct.{is_sorted-restricted}
 use Rattle.grb_ewise.proofs.WholeMatrix.{matrix_of, same_matrix, whole-same}
 

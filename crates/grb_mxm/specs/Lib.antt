@@ -1,4 +1,2 @@
 pub mod Rows
-pub mod Bits
-pub mod Open
-pub mod Reach
+pub mod AllowedSums

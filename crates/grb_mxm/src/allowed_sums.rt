@@ -8,16 +8,17 @@ ghost use Rattle.grb_core.specs.Operator.{value_of_op};
 ghost use Rattle.grb_core.specs.Monoid.{monoid_op, monoid_domain, identity_of};
 ghost use Rattle.grb_core.specs.Written.{either_value, both_values};
 ghost use Rattle.grb_kernels.specs.Typed.{entries_of, first_entries};
-ghost use Rattle.grb_products.specs.Open.{marked_at};
+ghost use Rattle.grb_semirings.specs.Open.{marked_at};
 ghost use Rattle.grb_ewise.specs.Ranks.{Rise};
-ghost use Rattle.grb_mxm.specs.Rows.{name_in, picked};
-ghost use Rattle.grb_mxm.specs.Bits.{HoldUnmarked, StandsIn, IsUnmarked, AreAllowedSums, allowed_of, summed_of};
+ghost use Rattle.grb_sums.specs.Naming.{name_in};
+ghost use Rattle.grb_mxm.specs.Rows.{picked};
+ghost use Rattle.grb_sums.specs.Marks.{HoldUnmarked};
+ghost use Rattle.grb_mxm.specs.AllowedSums.{StandsIn, IsUnmarked, AreAllowedSums, allowed_of, summed_of};
 
-use crate::gustavson::RowSums;
-use crate::naming::Names;
 use grb_ewise::Stored;
 use grb_kernels::{Operator, Scalar, emit};
-use grb_products::MonoidOver;
+use grb_semirings::MonoidOver;
+use grb_sums::{Names, RowSums};
 
 /// The state of a place that the mask does not select.
 pub(crate) const OUTSIDE: u8 = 0;

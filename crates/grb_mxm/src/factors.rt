@@ -4,22 +4,21 @@ ghost use Rattle.std.specs.Option.{option_map};
 ghost use Rattle.std.specs.Borrow.{Bor};
 ghost use Rattle.std.specs.FinMap.{is_sorted};
 ghost use Rattle.grb_core.specs.Entries.{cell_cmp};
-ghost use Rattle.grb_rows.specs.Cells.{decoded};
-ghost use Rattle.grb_rows.specs.Stored.{RowView};
+ghost use Rattle.grb_lists.specs.Cells.{decoded};
+ghost use Rattle.grb_lists.specs.Stored.{RowView};
 ghost use Rattle.grb_ewise.specs.Ranks.{Rise};
-ghost use Rattle.grb_mxm.specs.Rows.{AreRows, name_in, columns_in, selected_product};
+ghost use Rattle.grb_mxm.specs.Rows.{AreRows, columns_in, selected_product};
+ghost use Rattle.grb_sums.specs.Naming.{name_in};
 
 use crate::mask_rows::MaskRows;
 use crate::masked_rows::multiply_masked;
-use crate::naming::Names;
-use crate::ranked::RankedRows;
 use crate::rows::MadeRows;
-use crate::spans::spans_of;
 use crate::whole_rows::multiply_whole;
 use grb_ewise::{Stored, distinct, is_worth_opening, ranks_of};
 use grb_kernels::{Operator, Scalar};
-use grb_products::{BySemiring, MatrixRows, MonoidOver};
-use grb_rows::FlatRows;
+use grb_lists::FlatRows;
+use grb_semirings::{BySemiring, MatrixRows, MonoidOver};
+use grb_sums::{Names, RankedRows, spans_of};
 use std::alloc::{AllocError, Global};
 
 /// Two matrices that are multiplied by whichever semiring at the cells that a mask selects, which is read by structure or by value; at all

@@ -6,17 +6,11 @@
 #![tactic(auto)]
 
 mod allowed_sums;
-mod bits;
 mod factors;
-mod gustavson;
 mod mask_rows;
 mod masked_rows;
 mod mxm_product;
-mod naming;
-mod open_sums;
-mod ranked;
 mod rows;
-mod spans;
 mod whole_rows;
 
 pub use mxm_product::mxm;

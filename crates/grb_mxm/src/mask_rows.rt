@@ -6,17 +6,16 @@ ghost use Rattle.grb_core.specs.Entries.{cell_cmp};
 ghost use Rattle.grb_core.specs.Mask.{selects};
 ghost use Rattle.grb_core.specs.Results.{row_of};
 ghost use Rattle.grb_kernels.specs.Typed.{entries_of};
-ghost use Rattle.grb_rows.specs.Cells.{decoded};
+ghost use Rattle.grb_lists.specs.Cells.{decoded};
 ghost use Rattle.grb_ewise.specs.Ranks.{Rise};
-ghost use Rattle.grb_mxm.specs.Rows.{name_in};
-ghost use Rattle.grb_mxm.specs.Bits.{AreSelected, is_allowed, is_summed, allowed_of, summed_of};
+ghost use Rattle.grb_sums.specs.Naming.{name_in};
+ghost use Rattle.grb_mxm.specs.AllowedSums.{AreSelected, is_allowed, is_summed, allowed_of, summed_of};
 
 use crate::allowed_sums::{ALLOWED, OUTSIDE};
-use crate::naming::Names;
-use crate::ranked::row_at;
 use grb_core::Domain;
 use grb_ewise::Stored;
-use grb_rows::FlatRows;
+use grb_lists::FlatRows;
+use grb_sums::{Names, row_at};
 
 /// A mask whose columns have ranks, as those of `RankedRows` do, read by structure or by value. It may be of either domain.
 #[derive(Drop)]

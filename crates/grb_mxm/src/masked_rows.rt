@@ -3,19 +3,18 @@ ghost use Rattle.std.specs.Prelude.{◌≡◌, ◌<◌, length, Some, IfOk};
 ghost use Rattle.grb_core.specs.Monoid.{identity_of};
 ghost use Rattle.grb_core.specs.Results.{row_of};
 ghost use Rattle.grb_kernels.specs.Typed.{entries_of};
-ghost use Rattle.grb_rows.specs.Cells.{decoded};
-ghost use Rattle.grb_mxm.specs.Rows.{AreRows, AreSpans, selected_product};
-ghost use Rattle.grb_mxm.specs.Bits.{IsUnmarked};
+ghost use Rattle.grb_lists.specs.Cells.{decoded};
+ghost use Rattle.grb_mxm.specs.Rows.{AreRows, selected_product};
+ghost use Rattle.grb_sums.specs.Spans.{AreSpans};
+ghost use Rattle.grb_mxm.specs.AllowedSums.{IsUnmarked};
 
 use crate::allowed_sums::{AllowedSums, OUTSIDE, take_picked};
-use crate::gustavson::sum_row;
 use crate::mask_rows::MaskRows;
-use crate::ranked::RankedRows;
 use crate::rows::{MadeRows, RowMaker, make_rows};
-use crate::spans::{part, span_of, spans_of};
 use grb_ewise::Stored;
 use grb_kernels::{EntrySlice, Operator};
-use grb_products::{MatrixRows, MonoidOver};
+use grb_semirings::{MatrixRows, MonoidOver};
+use grb_sums::{RankedRows, part, span_of, spans_of, sum_row};
 use std::alloc::{AllocError, Global};
 use std::marker::PhantomData;
 

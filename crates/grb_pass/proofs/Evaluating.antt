@@ -2,8 +2,7 @@
 use Rattle.std.proofs.Common.{◌≡◌, ℕ, zero, suc, ◌+◌, ◌<◌, ◌≤◌, ◌⊎◌, inl, inr, List, [], ◌∷◌, ◌++◌, length, get_or, take, true, refl, sym, ap, ◌∙◌, subst, arith, length-append}
 use Rattle.std.specs.Prelude.{IfSome, OnOk, is_some, Option, Some, None, Result, Ok, Err, slice_get}
 use Rattle.std.specs.Result.{is_ok}
-use Rattle.std.specs.Option.{option_map}
-use Rattle.std.proofs.lemmas.Option.{slice_get-map, slice_get_read, slice_get_within, get_or_from_slice_get}
+use Rattle.std.proofs.lemmas.Option.{slice_get_within, get_or_from_slice_get}
 use Rattle.std.proofs.lemmas.List.{take_more, append-nil, length_push, take-append-le}
 use Rattle.grb_order.specs.Word.{order_word, number_of}
 use Rattle.grb_order.specs.Order.{room_of}
@@ -17,18 +16,15 @@ use Rattle.grb_call.specs.Store.{empty_store, shapes_of}
 use Rattle.grb_results.specs.Kept.{IsReady, IsTableOf, KeepsAll}
 use Rattle.grb_results.specs.Lasts.{last_of}
 use Rattle.grb_results.specs.Results.{AreOneHistory, IsTable}
-use Rattle.grb_results.specs.declared.learnt.Learnt.{Learnt}
+use Rattle.grb_results.specs.declared.Learnt.{Learnt}
 use Rattle.grb_results.specs.declared.table.Table.{Table}
 use Rattle.grb_results.proofs.Grown.{table_on}
-use Rattle.grb_pass.specs.Known.{Knowing, Making, known, spelled}
-use Rattle.grb_pass.specs.Laws.{Begins}
-use Rattle.grb_pass.specs.Learning.{Enters, Learns}
-use Rattle.grb_pass.specs.Evaluated.{IsEvaluatedFor, IsInStep, IsSettledTable, LiesReady}
-use Rattle.grb_pass.proofs.Spelling.{length_spelled, calls_of-append, calls_of-spelled, spelled_push, spelled_more}
-
-pub length-calls_of : (h : History) → length (calls_of h) ≡ length h
-length-calls_of [] = refl
-length-calls_of (e ∷ h) = ap suc (length-calls_of h)
+use Rattle.grb_reader.specs.Known.{Knowing, Making, known, spelled}
+use Rattle.grb_reader.specs.Laws.{Begins}
+use Rattle.grb_reader.specs.Learning.{Enters, Learns}
+use Rattle.grb_pass.specs.Evaluated.{IsEvaluatedFor, IsInStep, IsPassState, IsSettledTable, LiesReady}
+use Rattle.grb_reader.proofs.Cells.{own_learns}
+use Rattle.grb_reader.proofs.Spelling.{length-calls_of, calls_of-append, spelled_push, spelled_more}
 
 pub ok_holds : {X E : Type 0} (r : Result X E) (P : Type 0) → is_ok r ≡ true → OnOk r P → P
 ok_holds (Ok x) P ok p = p
@@ -76,6 +72,9 @@ in_step_learns old new t order l made kept = record {
   made = ap (λ (m : Making). m.count) made ∙ kept.made;
   ready = left_ready old new t made kept.ready;
 }
+
+pub state_learns : (old new : Knowing) (e : Table) (next : ℕ) → new.order ≡ old.order → Learns old new → new.made ≡ old.made → IsPassState old e next → IsPassState new e next
+state_learns old new e next order l made is = record { step = in_step_learns old new e order l made is.step; own = own_learns next old new l is.own }
 
 -- where as many calls are noted as were made
 pub evaluated_noted : (p : Knowing) (t : Table) (made : Making) → IsEvaluatedFor p t → IsEvaluatedFor (record p { made = made }) t
@@ -197,15 +196,6 @@ in_step_tried room old new token t back order same made is all kept = record {
   made = ap (λ (m : Making). m.count) made ∙ kept.made;
   ready = left_ready old new t made kept.ready;
 }
-
-pub known_within : (p : Knowing) (k : ℕ) → length p.shown ≤ length p.view.words → k < length (known p) → k < length p.shown
-known_within p k few lt = let n : length (known p) ≡ length p.shown = length_spelled p.view.words p.shown few in omega (arith, lt, n)
-
--- the call of a record that was shown
-pub call_known : (p : Knowing) (k : ℕ) (t : Shown) → length p.shown ≤ length p.view.words → k < length p.shown → t ≡ get_or p.shown k t → slice_get (calls_of (known p)) k ≡ Some t.call
-call_known p k t few lt is =
-    ap (λ (cs : List Call). slice_get cs k) (calls_of-spelled p.view.words p.shown few) ∙ slice_get-map (λ (x : Shown). x.call) p.shown k
-    ∙ ap (option_map (λ (x : Shown). x.call)) (slice_get_read p.shown (length p.shown) k t refl lt is)
 
 pub le_or_lt : (m n : ℕ) → (m ≤ n) ⊎ (n < m)
 le_or_lt zero n = inl (omega arith)

@@ -1,11 +1,11 @@
 -- Where an object lies that a wait had the changes done of.
-use Rattle.std.proofs.Common.{◌≡◌, ℕ, ◌<◌, ◌≤◌, ◌⊎◌, inl, inr, true, length, is_some, refl, sym, ap, subst, ◌∙◌, arith, Option, Some, None, option_map, List, take}
+use Rattle.std.proofs.Common.{◌≡◌, ℕ, ◌<◌, ◌≤◌, ◌⊎◌, inl, inr, true, length, is_some, refl, ap, subst, ◌∙◌, arith, Option, Some, None, option_map, List}
 use Rattle.std.specs.Prelude.{IfNone, IfSome, MatchOption}
 use Rattle.grb_call.specs.declared.ids.Object.{Object}
 use Rattle.grb_call.specs.declared.ids.Object.TheVariants as object
 use Rattle.grb_call.specs.Shapes.{ObjectShapes, is_live}
 use Rattle.grb_call.specs.Store.{Store, empty_store, matrix_at, shapes_of, vector_at}
-use Rattle.grb_call.specs.History.{after_all, calls_of, store_of}
+use Rattle.grb_call.specs.History.{after_all, calls_of}
 use Rattle.grb_call.specs.declared.call.Call.{Call}
 use Rattle.grb_call.specs.declared.ids.MatrixId.{MatrixId}
 use Rattle.grb_call.specs.declared.ids.VectorId.{VectorId}
@@ -15,9 +15,10 @@ use Rattle.grb_slices.proofs.Live.{live_by}
 use Rattle.grb_results.specs.Kept.{IsReady, IsTableOf}
 use Rattle.grb_results.specs.declared.table.Table.{Table}
 use Rattle.grb_pass.specs.Evaluated.{IsEvaluatedFor, LiesReady, LiesReadyAfter}
-use Rattle.grb_pass.specs.Known.{Knowing, known}
-use Rattle.grb_pass.specs.Settled.{IsLeftReady}
-use Rattle.grb_pass.proofs.Evaluating.{le_or_lt, length-calls_of}
+use Rattle.grb_reader.specs.Known.{Knowing, known}
+use Rattle.grb_reader.specs.Settled.{IsLeftReady}
+use Rattle.grb_pass.proofs.Evaluating.{le_or_lt}
+use Rattle.grb_reader.proofs.Spelling.{length-calls_of}
 
 -- the table of all known calls
 pub table_here : (p : Knowing) (t : Table) → IsEvaluatedFor p t → length (known p) ≤ length t.learnt.nodes.items → IsTableOf (calls_of (known p)) t

@@ -11,7 +11,7 @@ use Rattle.grb_order.specs.Holding.{Holding, TableId}
 use Rattle.grb_order.specs.Order.{AreFresh, room_of}
 use Rattle.grb_records.specs.Token.{IsOf}
 use Rattle.grb_call.specs.Statuses.{no_rows}
-use Rattle.grb_pass.specs.Known.{Shared, Knowing, none_made, AreNew, HasNoStatus, IsPassOf}
+use Rattle.grb_reader.specs.Known.{Shared, Knowing, none_made, AreNew, HasNoStatus, IsPassOf}
 use Rattle.grb_call.proofs.StatusRows.{none_at}
 
 get_before : {A : Type 0} (xs : List A) (y : A) (k : ℕ) → k < length xs → slice_get (xs ++ y ∷ []) k ≡ slice_get xs k

@@ -7,20 +7,20 @@ use Rattle.grb_call.specs.declared.call.Call.{Call}
 use Rattle.grb_call.specs.declared.ids.Object.{Object}
 use Rattle.grb_call.specs.Kinds.{enters}
 use Rattle.grb_call.specs.Status.{info_of, made_by, object_of, statuses_after, with_status}
-use Rattle.grb_pass.specs.Known.{Shared, Knowing, known, IsPassOf}
-use Rattle.grb_pass.specs.Explains.{Answer, ExplainsAnswer, IsCaughtUp, ground_of}
-use Rattle.grb_pass.specs.Counting.{CountsCall, LooksOnce}
+use Rattle.grb_reader.specs.Known.{Shared, Knowing, known, IsPassOf}
+use Rattle.grb_reader.specs.Explains.{Answer, ExplainsAnswer, IsCaughtUp, ground_of}
+use Rattle.grb_reader.specs.Counting.{CountsCall, LooksOnce}
 use Rattle.grb_call.specs.Statuses.{status_at}
-use Rattle.grb_pass.specs.Learning.{IsSteady}
-use Rattle.grb_pass.specs.Made.{MakesNone}
+use Rattle.grb_reader.specs.Learning.{IsSteady}
+use Rattle.grb_reader.specs.Made.{MakesNone}
 use Rattle.grb_pass.specs.Answered.{Promise, Answered, promised}
-use Rattle.grb_pass.specs.Replying.{statuses_with}
-use Rattle.grb_pass.specs.Settled.{LeavesReady, settled_after}
-use Rattle.grb_pass.proofs.Alike.{with_rest, explains_alike, caught_up_alike, counts_alike, known_alike}
-use Rattle.grb_pass.proofs.Answering.{memory_explained}
-use Rattle.grb_pass.proofs.Counted.{begun, explains_begun, counts_begun}
-use Rattle.grb_pass.proofs.Owning.{own_calls, is_known}
-use Rattle.grb_pass.proofs.Learnt.{pass_same}
+use Rattle.grb_reader.specs.Replying.{statuses_with}
+use Rattle.grb_reader.specs.Settled.{LeavesReady, settled_after}
+use Rattle.grb_reader.proofs.Alike.{with_rest, explains_alike, caught_up_alike, counts_alike, known_alike}
+use Rattle.grb_reader.proofs.Answering.{memory_explained}
+use Rattle.grb_reader.proofs.Counted.{begun, explains_begun, counts_begun}
+use Rattle.grb_reader.proofs.Owning.{own_calls, is_known}
+use Rattle.grb_reader.proofs.Learnt.{pass_same}
 use Rattle.grb_pass.proofs.Settling.{explains_settled}
 
 -- what a call promises, field by field

@@ -1,6 +1,6 @@
 -- The reply to a call that only reads one object.
-use Rattle.std.proofs.Common.{◌≡◌, ℕ, ◌<◌, ◌≤◌, ◌⊎◌, inl, inr, Bool, true, false, if◌then◌else◌, length, List, refl, sym, ap, subst, ◌∙◌, arith, Some, None}
-use Rattle.std.specs.Prelude.{◌&&◌, IfSome, Option, Result, Ok, Err}
+use Rattle.std.proofs.Common.{◌≡◌, ℕ, ◌<◌, ◌≤◌, ◌⊎◌, inl, inr, Bool, true, false, if◌then◌else◌, length, refl, sym, ap, subst, ◌∙◌, Some, None}
+use Rattle.std.specs.Prelude.{◌&&◌, IfSome, Result, Ok, Err}
 use Rattle.std.specs.Result.{IsErr}
 use Rattle.std.specs.declared.alloc.AllocError.{AllocError}
 use Rattle.grb_call.specs.declared.call.Call.{Call}
@@ -17,9 +17,9 @@ use Rattle.grb_call.proofs.Passed.{has_passed}
 use Rattle.grb_results.specs.Kept.{IsKept, IsReady, IsTableOf, ReadsObject}
 use Rattle.grb_results.specs.declared.table.Table.{Table}
 use Rattle.grb_pass.specs.Evaluated.{IsEvaluatedFor, LiesReadyAfter}
-use Rattle.grb_pass.specs.Known.{Knowing, known}
-use Rattle.grb_pass.specs.Replying.{IsGiven}
-use Rattle.grb_pass.specs.Settled.{is_materialize, settled_by, waited_for}
+use Rattle.grb_reader.specs.Known.{Knowing, known}
+use Rattle.grb_pass.specs.Given.{IsGiven}
+use Rattle.grb_reader.specs.Settled.{is_materialize, waited_for}
 use Rattle.grb_pass.proofs.Evaluating.{le_or_lt}
 use Rattle.grb_pass.proofs.Held.{live_here}
 

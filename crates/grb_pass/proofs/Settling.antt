@@ -14,9 +14,9 @@ use Rattle.grb_call.specs.declared.ids.Object.TheVariants as object
 use Rattle.grb_call.specs.declared.reply.Reply.{Reply}
 use Rattle.grb_call.specs.History.{Entry, History}
 use Rattle.grb_call.specs.Kinds.{enters, is_size}
-use Rattle.grb_pass.specs.Known.{Knowing, known}
-use Rattle.grb_pass.specs.Explains.{Answer, ExplainsAnswer, ExplainsCall, is_entered}
-use Rattle.grb_pass.specs.Settled.{is_materialize, settled_after, waited_for, IsLeftReady, LeavesReady}
+use Rattle.grb_reader.specs.Known.{Knowing, known}
+use Rattle.grb_reader.specs.Explains.{Answer, ExplainsAnswer, ExplainsCall, is_entered}
+use Rattle.grb_reader.specs.Settled.{is_materialize, settled_after, waited_for, IsLeftReady, LeavesReady}
 use Rattle.grb_state.specs.Settled.{AreAllAssembled, HasWaited, IsSettled}
 
 enters_no_materialize : (c : Call) → enters c ≡ true → is_materialize c ≡ false

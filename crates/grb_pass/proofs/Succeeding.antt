@@ -16,10 +16,10 @@ use Rattle.grb_call.specs.Statuses.{no_rows}
 use Rattle.grb_call.proofs.Runs.{after_all-append}
 use Rattle.grb_rebuild.specs.Rebuilt.{rebuilt}
 use Rattle.grb_rebuild.proofs.Rebuilding.{rebuild_leaves_the_store}
-use Rattle.grb_pass.specs.Known.{AreNew, IsPassOf, Shared, Knowing, known, none_made}
-use Rattle.grb_pass.specs.Laws.{Begins}
+use Rattle.grb_reader.specs.Known.{AreNew, IsPassOf, Shared, Knowing, known, none_made}
+use Rattle.grb_reader.specs.Laws.{Begins}
 use Rattle.grb_pass.specs.Succeeding.{AreBegun, BeginsWith, IsOpened, IsOpenedWith, made_by, begun}
-use Rattle.grb_pass.proofs.Spelling.{calls_of-append}
+use Rattle.grb_reader.proofs.Spelling.{calls_of-append}
 
 -- the store after one more call
 pub store_of-push : (h : History) (n : ℕ) (c : Call) → store_of (h ++ (n, c) ∷ []) ≡ after (store_of h) c

@@ -1,6 +1,6 @@
 -- What a wait leaves of a pass.
-use Rattle.std.proofs.Common.{◌≡◌, ℕ, false, true, length, refl, sym, ap, subst, ◌∙◌, Option, Some, None, option_map}
-use Rattle.std.specs.Prelude.{IfSome, is_some}
+use Rattle.std.proofs.Common.{◌≡◌, ℕ, false, true, length, refl, sym, subst, ◌∙◌, Option, Some, None, option_map}
+use Rattle.std.specs.Prelude.{IfSome}
 use Rattle.grb_call.specs.declared.call.Call.{Call}
 use Rattle.grb_call.specs.declared.call.Call.TheVariants as call
 use Rattle.grb_call.specs.declared.descriptor.WaitMode.TheVariants.{Complete, Materialize}
@@ -10,8 +10,8 @@ use Rattle.grb_call.specs.Status.{object_of}
 use Rattle.grb_state.specs.Settled.{settles}
 use Rattle.grb_results.specs.declared.table.Table.{Table}
 use Rattle.grb_pass.specs.Evaluated.{IsEvaluatedFor, IsInStep, LiesReady, LiesReadyAfter}
-use Rattle.grb_pass.specs.Known.{Knowing, Making, known}
-use Rattle.grb_pass.specs.Settled.{is_materialize, waited_for, LeavesReady}
+use Rattle.grb_reader.specs.Known.{Knowing, known}
+use Rattle.grb_reader.specs.Settled.{is_materialize, waited_for, LeavesReady}
 use Rattle.grb_pass.proofs.Evaluating.{evaluated_noted}
 
 same_some : {X : Type 0} (x y : X) → Some x ≡ Some y → x ≡ y

@@ -5,11 +5,11 @@ use Rattle.grb_order.specs.Order.{room_of}
 use Rattle.grb_call.specs.declared.call.Call.{Call}
 use Rattle.grb_call.specs.Kinds.{enters}
 use Rattle.grb_call.specs.Status.{statuses_after}
-use Rattle.grb_pass.specs.Known.{Shared, Knowing, known, calls_by, IsKnown}
-use Rattle.grb_pass.specs.Explains.{Answer, entered_calls, ground_of, ExplainsCall, IsCaughtUp, MayLackMemory}
-use Rattle.grb_pass.specs.Counting.{CountsCall, LooksOnce}
-use Rattle.grb_pass.specs.Made.{MakesNone}
-use Rattle.grb_pass.specs.Settled.{LeavesReady}
+use Rattle.grb_reader.specs.Known.{Shared, Knowing, known, calls_by, IsKnown}
+use Rattle.grb_reader.specs.Explains.{Answer, entered_calls, ground_of, ExplainsCall, IsCaughtUp, MayLackMemory}
+use Rattle.grb_reader.specs.Counting.{CountsCall, LooksOnce}
+use Rattle.grb_reader.specs.Made.{MakesNone}
+use Rattle.grb_reader.specs.Settled.{LeavesReady}
 use Rattle.grb_call.specs.Statuses.{status_at}
 
 -- One call of a pass, with what the pass knows before and after it. The answer is that of one history, which it now knows to the end

@@ -8,7 +8,8 @@ use Rattle.grb_state.specs.State.{RoomyStore, is_assembled}
 use Rattle.grb_results.specs.Kept.{AreReady, IsReady}
 use Rattle.grb_results.specs.Results.{IsTable}
 use Rattle.grb_results.specs.declared.table.Table.{Table}
-use Rattle.grb_pass.specs.Known.{Knowing, known}
+use Rattle.grb_reader.specs.Cells.{OwnBelow}
+use Rattle.grb_reader.specs.Known.{Knowing, known}
 
 -- no change waits in any object
 abbrev pub IsAssembled : RoomyStore → Type 0
@@ -41,3 +42,8 @@ pub record IsInStep (p : Knowing) (t : Table) : Type 0 where
   pub evaluated : IsEvaluatedFor p t
   pub made : p.made.count ≡ t.made
   pub ready : IfSome p.made.ready (LiesReady t)
+
+-- what a pass keeps: its parts are in step, and its next record goes after those that its own words name
+pub record IsPassState (p : Knowing) (t : Table) (next : ℕ) : Type 0 where
+  pub step : IsInStep p t
+  pub own : OwnBelow next p.view

@@ -6,7 +6,7 @@ use Rattle.grb_call.specs.Store.{Store}
 use Rattle.grb_call.specs.History.{History, store_of}
 use Rattle.grb_call.specs.Statuses.{no_rows}
 use Rattle.grb_rebuild.specs.Rebuilt.{rebuilt}
-use Rattle.grb_pass.specs.Known.{Shared, Knowing, IsPassOf, known, none_made}
+use Rattle.grb_reader.specs.Known.{Shared, Knowing, IsPassOf, known, none_made}
 
 -- the history of these calls, made by one pass
 abbrev pub made_by : ℕ → List Call → History

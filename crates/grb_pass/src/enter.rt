@@ -21,19 +21,19 @@ ghost use Rattle.std.specs.Prelude.{◌≡◌, ◌+◌, ◌<◌, ◌≤◌, ◌^
 ghost use Rattle.grb_order.specs.Order.{room_of};
 ghost use Rattle.grb_records.specs.Token.{IsOf};
 ghost use Rattle.grb_call.specs.Kinds.{enters, is_build};
-ghost use Rattle.grb_pass.specs.Known.{IsPassOf};
-ghost use Rattle.grb_pass.specs.Point.{GrewTo};
-ghost use Rattle.grb_pass.specs.Explains.{ExplainsAnswer, IsCaughtUp, ground_of};
+ghost use Rattle.grb_reader.specs.Known.{IsPassOf};
+ghost use Rattle.grb_reader.specs.Point.{GrewTo};
+ghost use Rattle.grb_reader.specs.Explains.{ExplainsAnswer, IsCaughtUp, ground_of};
 ghost use Rattle.grb_pass.specs.Answered.{Answered};
-ghost use Rattle.grb_pass.specs.Counting.{Counts, CountsTries, CountsCall};
-ghost use Rattle.grb_pass.specs.Cells.{OwnBelow};
-ghost use Rattle.grb_pass.specs.Learning.{IsReady, IsRefused, IsSteady, Learns, LooksAtEnd};
+ghost use Rattle.grb_reader.specs.Counting.{Counts, CountsTries, CountsCall};
+ghost use Rattle.grb_reader.specs.Cells.{OwnBelow};
+ghost use Rattle.grb_reader.specs.Learning.{IsReady, IsRefused, IsSteady, Learns, LooksAtEnd};
 
-use crate::learn::End;
 use crate::pass::Pass;
 use crate::shared::Shared;
 use grb_call::{Call, Reply};
 use grb_core::Refusal;
+use grb_reader::End;
 use grb_records::Token;
 
 impl Shared {

@@ -8,15 +8,15 @@ ghost use Rattle.grb_call.specs.declared.call.Call.{Call};
 ghost use Rattle.grb_results.specs.Kept.{IsSameBut, IsTableOf};
 ghost use Rattle.grb_results.specs.Results.{IsTable};
 ghost use Rattle.grb_pass.specs.Evaluated.{IsEvaluatedFor};
-ghost use Rattle.grb_pass.specs.Known.{known};
-ghost use Rattle.grb_pass.specs.Laws.{Begins};
+ghost use Rattle.grb_reader.specs.Known.{known};
+ghost use Rattle.grb_reader.specs.Laws.{Begins};
 
 mod answers;
 mod exchange;
 mod held;
 mod succeeding;
 
-use crate::reader::Reader;
+use grb_reader::Reader;
 use grb_records::Records;
 use grb_replay::Versions;
 use grb_results::Table;

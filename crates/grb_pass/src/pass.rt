@@ -16,22 +16,20 @@ ghost use Rattle.grb_state.specs.StoredIn.{IsMatrixOf, IsVectorOf};
 ghost use Rattle.grb_rebuild.specs.Rebuilding.{IsNoSuccessor, IsRebuild};
 ghost use Rattle.grb_rebuild.specs.Renumbered.{AreRenumbered};
 ghost use Rattle.grb_pass.specs.Evaluated.{IsAssembled};
-ghost use Rattle.grb_pass.specs.Known.{known, new_pass, none_made};
-ghost use Rattle.grb_pass.specs.Counting.{Counts};
-ghost use Rattle.grb_pass.specs.Laws.{Begins};
-ghost use Rattle.grb_pass.specs.Learning.{Enters, IsSteady};
-ghost use Rattle.grb_pass.specs.Cells.{OwnBelow};
-ghost use Rattle.grb_pass.specs.Reading.{IsBuildChecked, IsChecked, count_call, count_of_output};
-ghost use Rattle.grb_pass.specs.Replying.{IsReplied, ReadsStore, statuses_with};
-ghost use Rattle.grb_pass.specs.Settled.{is_materialize, waited_for, LeavesReady, MayLackMatrix, MayLackVector};
+ghost use Rattle.grb_reader.specs.Known.{known, new_pass, none_made};
+ghost use Rattle.grb_reader.specs.Counting.{Counts};
+ghost use Rattle.grb_reader.specs.Laws.{Begins};
+ghost use Rattle.grb_reader.specs.Learning.{Enters, IsSteady};
+ghost use Rattle.grb_reader.specs.Cells.{OwnBelow};
+ghost use Rattle.grb_reader.specs.Reading.{IsBuildChecked, IsChecked, count_call, count_of_output};
+ghost use Rattle.grb_reader.specs.Replying.{IsReplied, ReadsStore, statuses_with};
+ghost use Rattle.grb_reader.specs.Settled.{is_materialize, waited_for, LeavesReady, MayLackMatrix, MayLackVector};
 
-use crate::back_off::BackOff;
 use crate::evaluated::Evaluated;
-use crate::reader::Reader;
-use crate::row::RecordRow;
 use grb_call::{Call, Class, Kind, MatrixId, Object, Reply, VectorId, WaitMode};
 use grb_core::{Info, Refusal};
 use grb_order::{Order, Seat};
+use grb_reader::{BackOff, Reader, RecordRow};
 use grb_rebuild::{NoSuccessor, Rebuild, Renumbered};
 use grb_records::{Records, Token};
 use grb_replay::Versions;
@@ -54,8 +52,8 @@ pub struct Pass {
 }
 
 impl Model for Pass {
-    ghost use Rattle.grb_pass.specs.Cells.{IsPassState};
-    ghost use Rattle.grb_pass.specs.Known.{Knowing};
+    ghost use Rattle.grb_pass.specs.Evaluated.{IsPassState};
+    ghost use Rattle.grb_reader.specs.Known.{Knowing};
 
     ghost Value = { Knowing };
 

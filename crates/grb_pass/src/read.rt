@@ -2,13 +2,13 @@
 ghost use Rattle.std.specs.Prelude.{◌≡◌, false, length, OnOk};
 ghost use Rattle.grb_order.specs.Order.{room_of};
 ghost use Rattle.grb_call.specs.Kinds.{enters};
-ghost use Rattle.grb_pass.specs.Known.{IsPassOf, known};
-ghost use Rattle.grb_pass.specs.Explains.{ExplainsAnswer, IsCaughtUp, ground_of};
+ghost use Rattle.grb_reader.specs.Known.{IsPassOf, known};
+ghost use Rattle.grb_reader.specs.Explains.{ExplainsAnswer, IsCaughtUp, ground_of};
 ghost use Rattle.grb_pass.specs.Answered.{Answered};
-ghost use Rattle.grb_pass.specs.Counting.{CountsCall, LooksOnce};
-ghost use Rattle.grb_pass.specs.Learning.{IsSteady};
-ghost use Rattle.grb_pass.specs.Made.{ReadsNone};
-ghost use Rattle.grb_pass.specs.Settled.{LeavesReady, settled_after};
+ghost use Rattle.grb_reader.specs.Counting.{CountsCall, LooksOnce};
+ghost use Rattle.grb_reader.specs.Learning.{IsSteady};
+ghost use Rattle.grb_reader.specs.Made.{ReadsNone};
+ghost use Rattle.grb_reader.specs.Settled.{LeavesReady, settled_after};
 
 use crate::pass::Pass;
 use crate::shared::Shared;

@@ -3,7 +3,7 @@ ghost use Rattle.std.specs.Prelude.{◌≡◌, ◌<◌, ◌≤◌, ◌*◌, All,
 ghost use Rattle.grb_order.specs.declared.limits.TheConstants.{MOST_PASSES, MOST_ROOM, MOST_SEATS};
 ghost use Rattle.grb_order.specs.Order.{room_of, AreFresh};
 ghost use Rattle.grb_records.specs.Token.{HasRows};
-ghost use Rattle.grb_pass.specs.Known.{AreNew, HasNoStatus, IsPassOf};
+ghost use Rattle.grb_reader.specs.Known.{AreNew, HasNoStatus, IsPassOf};
 
 use crate::pass::Pass;
 use grb_order::{Order, Seat};
@@ -21,7 +21,7 @@ pub struct Shared {
 }
 
 impl Model for Shared {
-    ghost use Rattle.grb_pass.specs.Known.{Shared};
+    ghost use Rattle.grb_reader.specs.Known.{Shared};
 
     ghost Value = { Shared };
 

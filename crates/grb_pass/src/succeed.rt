@@ -12,15 +12,15 @@ ghost use Rattle.grb_state.specs.Live.{live_store};
 ghost use Rattle.grb_rebuild.specs.Rebuilding.{IsNoSuccessor, IsRebuild};
 ghost use Rattle.grb_rebuild.specs.Rebuilt.{AreTaken};
 ghost use Rattle.grb_rebuild.specs.Renumbered.{AreRenumbered};
-ghost use Rattle.grb_pass.specs.Known.{AreNew, IsPassOf, Knowing, known, none_made};
-ghost use Rattle.grb_pass.specs.Learning.{IsSteady};
+ghost use Rattle.grb_reader.specs.Known.{AreNew, IsPassOf, Knowing, known, none_made};
+ghost use Rattle.grb_reader.specs.Learning.{IsSteady};
 ghost use Rattle.grb_pass.specs.Succeeding.{made_by, AreBegun, IsOpenedWith};
 
-use crate::learn::End;
 use crate::pass::Pass;
 use crate::shared::Shared;
 use grb_call::Call;
 use grb_core::Refusal;
+use grb_reader::End;
 use grb_rebuild::{NoSuccessor, Rebuild, Renumbered};
 use grb_state::State;
 use std::alloc::Global;

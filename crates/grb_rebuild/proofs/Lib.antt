@@ -1,4 +1,3 @@
-pub mod SortedBuilds
 pub mod Numbers
 pub mod Rebuilding
 pub mod Taken

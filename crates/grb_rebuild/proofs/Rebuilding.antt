@@ -24,14 +24,15 @@ use Rattle.grb_call.specs.declared.ids.MatrixId.{MatrixId}
 use Rattle.grb_call.specs.declared.ids.VectorId.{VectorId}
 use Rattle.grb_call.specs.Shapes.{matrix_shape_at, vector_shape_at}
 use Rattle.grb_call.specs.Refused.{same_domain}
+use Rattle.grb_call.specs.Tuples.{tuples_of}
 use Rattle.grb_call.specs.Store.{Store, IsStore, empty_store, shapes_of, matrix_shape, vector_shape, matrix_at, vector_at}
 use Rattle.grb_call.specs.After.{refused, changed, after}
 use Rattle.grb_call.specs.History.{after_all}
 use Rattle.grb_call.proofs.ShapesAfter.{object_at-map}
 use Rattle.grb_call.proofs.ObjectLists.{object_at-end, length-push}
 use Rattle.grb_call.proofs.Runs.{after_all-append}
-use Rattle.grb_rebuild.specs.Rebuilt.{monoid_for, tuples_of, matrix_build, matrix_calls, matrices_calls, vector_build, vector_calls, vectors_calls, rebuilt}
-use Rattle.grb_rebuild.proofs.SortedBuilds.{built_from-sorted}
+use Rattle.grb_rebuild.specs.Rebuilt.{monoid_for, matrix_build, matrix_calls, matrices_calls, vector_build, vector_calls, vectors_calls, rebuilt}
+use Rattle.grb_call.proofs.SortedBuilds.{built_from-sorted}
 
 abbrev pub store : List (Option Matrix) → List (Option Vector) → Store
 store ms vs = record { matrices = ms; vectors = vs }

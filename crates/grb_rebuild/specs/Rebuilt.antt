@@ -1,12 +1,11 @@
 -- believed: The calls that make a store anew (own): number by number, matrices first and then vectors, a new and, where entries are
 -- stored, a build of them in their order; of a number that was freed a new and a free, so that each object has the number that it had,
 -- and the next one is given the next number.
-use Rattle.std.specs.Prelude.{◌≡◌, ℕ, ◌+◌, ◌*◌, ◌≤◌, true, List, [], ◌∷◌, ◌++◌, map, length, Option, Some, None}
+use Rattle.std.specs.Prelude.{◌≡◌, ℕ, ◌+◌, ◌*◌, ◌≤◌, true, List, [], ◌∷◌, ◌++◌, length, Option, Some, None}
 use Rattle.grb_core.specs.declared.domain.Domain.{Domain}
 use Rattle.grb_core.specs.declared.domain.Domain.TheVariants as domain
 use Rattle.grb_core.specs.declared.monoid.Monoid.{Monoid}
 use Rattle.grb_core.specs.declared.monoid.Monoid.TheVariants as monoid
-use Rattle.grb_core.specs.declared.value.Value.{Value}
 use Rattle.grb_core.specs.Contents.{Matrix, Vector}
 use Rattle.grb_core.specs.Entries.{MatrixEntries, VectorEntries}
 use Rattle.grb_call.specs.declared.call.Call.{Call}
@@ -14,6 +13,7 @@ use Rattle.grb_call.specs.declared.call.Call.TheVariants as call
 use Rattle.grb_call.specs.declared.ids.MatrixId.{MatrixId}
 use Rattle.grb_call.specs.declared.ids.VectorId.{VectorId}
 use Rattle.grb_call.specs.Store.{Store, IsStore, empty_store}
+use Rattle.grb_call.specs.Tuples.{tuples_of}
 use Rattle.grb_call.specs.Kinds.{enters}
 use Rattle.grb_call.specs.After.{refused, after}
 use Rattle.grb_call.specs.History.{after_all}
@@ -22,10 +22,6 @@ use Rattle.grb_call.specs.History.{after_all}
 abbrev pub monoid_for : Domain → Monoid
 monoid_for domain.Bool = monoid.Lor
 monoid_for domain.Uint64 = monoid.Plus
-
--- the entries as tuples of a row, a column and a value
-abbrev pub tuples_of : MatrixEntries → List (ℕ × ℕ × Value)
-tuples_of es = map (λ e. (e.0.0, e.0.1, e.1)) es
 
 -- the build of a matrix that stores these entries, if it stores any
 abbrev pub matrix_build : MatrixId → Domain → MatrixEntries → List Call

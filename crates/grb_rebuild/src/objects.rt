@@ -2,12 +2,13 @@
 ghost use Rattle.std.specs.Prelude.{◌≡◌, ◌++◌, true, None, OnOk, IfOk, IfSome};
 ghost use Rattle.std.specs.Option.{option_map};
 ghost use Rattle.grb_core.specs.Contents.{IsMatrix, IsVector};
-ghost use Rattle.grb_rebuild.specs.Rebuilt.{monoid_for, matrix_build, matrix_calls, tuples_of, vector_build, vector_calls};
+ghost use Rattle.grb_rebuild.specs.Rebuilt.{monoid_for, matrix_build, matrix_calls, vector_build, vector_calls};
 
 use grb_call::{Call, MatrixId, MatrixTuples, VectorId, VectorTuples};
-use grb_core::{Domain, Monoid, Value};
+use grb_core::{Domain, Monoid};
 use grb_sparse::{SparseMatrix, SparseVector};
-use std::alloc::{AllocError, Global};
+use std::alloc::AllocError;
+use std::sync::Arc;
 
 /// A monoid of the domain.
 fn monoid_for(domain: Domain) -> Monoid
@@ -19,44 +20,19 @@ fn monoid_for(domain: Domain) -> Monoid
     }
 }
 
-/// The entries as tuples, in their order. `AllocError` where memory is refused; then nothing is made.
-fn tuples_of(alloc: Global, matrix: &SparseMatrix) -> Result<Vec<(u64, u64, Value)>, AllocError>
-    requires { matrix.now.assembled ≡ true }
-    ensures { IfOk result (λ tuples. tuples.items ≡ tuples_of matrix.now.matrix.entries) }
-{
-    let mut tuples = Vec::with_capacity(alloc, matrix.nvals() as usize)?;
-    'entries: for entry in matrix.entries() {
-        tuples.push((entry.0.0, entry.0.1, entry.1))?;
-    }
-    Ok(tuples)
-}
-
-/// The entries as pairs, in their order. `AllocError` where memory is refused; then nothing is made.
-fn pairs_of(alloc: Global, vector: &SparseVector) -> Result<Vec<(u64, Value)>, AllocError>
-    requires { vector.now.assembled ≡ true }
-    ensures { IfOk result (λ pairs. pairs.items ≡ vector.now.vector.entries) }
-{
-    let mut pairs = Vec::with_capacity(alloc, vector.nvals() as usize)?;
-    'entries: for entry in vector.entries() {
-        pairs.push(entry)?;
-    }
-    Ok(pairs)
-}
-
 /// Puts the build of the matrix after the calls, if it stores an entry. `AllocError` where memory is refused; then it is not put.
 fn push_matrix_build(
-    alloc: Global,
     calls: &mut Vec<Call>,
     a: MatrixId,
-    matrix: &SparseMatrix,
+    matrix: &Arc<SparseMatrix>,
 ) -> Result<(), AllocError>
-    requires { matrix.now.assembled ≡ true }
-    ensures { OnOk result (calls.new.items ≡ calls.old.items ++ matrix_build a matrix.now.matrix.domain matrix.now.matrix.entries) }
+    requires { matrix.now.value.assembled ≡ true }
+    ensures { OnOk result (calls.new.items ≡ calls.old.items ++ matrix_build a matrix.now.value.matrix.domain matrix.now.value.matrix.entries) }
 {
     if matrix.nvals() == 0 {
         return Ok(());
     }
-    let tuples = MatrixTuples::from_vec(tuples_of(alloc, matrix)?)?;
+    let tuples = MatrixTuples::from_matrix(Arc::try_clone(matrix)?);
     let dup = monoid_for(matrix.domain());
     calls.push(Call::BuildMatrix { a, tuples, dup })?;
     Ok(())
@@ -64,18 +40,17 @@ fn push_matrix_build(
 
 /// Puts the build of the vector after the calls, if it stores an entry. `AllocError` where memory is refused; then it is not put.
 fn push_vector_build(
-    alloc: Global,
     calls: &mut Vec<Call>,
     v: VectorId,
-    vector: &SparseVector,
+    vector: &Arc<SparseVector>,
 ) -> Result<(), AllocError>
-    requires { vector.now.assembled ≡ true }
-    ensures { OnOk result (calls.new.items ≡ calls.old.items ++ vector_build v vector.now.vector.domain vector.now.vector.entries) }
+    requires { vector.now.value.assembled ≡ true }
+    ensures { OnOk result (calls.new.items ≡ calls.old.items ++ vector_build v vector.now.value.vector.domain vector.now.value.vector.entries) }
 {
     if vector.nvals() == 0 {
         return Ok(());
     }
-    let tuples = VectorTuples::from_vec(pairs_of(alloc, vector)?)?;
+    let tuples = VectorTuples::from_vector(Arc::try_clone(vector)?);
     let dup = monoid_for(vector.domain());
     calls.push(Call::BuildVector { v, tuples, dup })?;
     Ok(())
@@ -110,14 +85,13 @@ fn push_freed_vector(calls: &mut Vec<Call>, v: VectorId) -> Result<(), AllocErro
 /// Puts the calls that make what stands at a matrix's number after these. `AllocError` where memory is refused; then some of these calls
 /// may be there.
 pub(crate) fn push_matrix(
-    alloc: Global,
     calls: &mut Vec<Call>,
     number: u32,
-    matrix: Option<&SparseMatrix>,
+    matrix: Option<&Arc<SparseMatrix>>,
 ) -> Result<(), AllocError>
-    requires { IfSome matrix (λ m. m.now.assembled ≡ true) }
-    ensures whole { IfSome (option_map (λ m. m.now.matrix) matrix.entry) IsMatrix }
-    ensures calls { OnOk result (calls.new.items ≡ calls.old.items ++ matrix_calls number (option_map (λ m. m.now.matrix) matrix.entry)) }
+    requires { IfSome matrix (λ m. m.now.value.assembled ≡ true) }
+    ensures whole { IfSome (option_map (λ m. m.now.value.matrix) matrix.entry) IsMatrix }
+    ensures calls { OnOk result (calls.new.items ≡ calls.old.items ++ matrix_calls number (option_map (λ m. m.now.value.matrix) matrix.entry)) }
 {
     let a = MatrixId(number);
     match matrix {
@@ -130,7 +104,7 @@ pub(crate) fn push_matrix(
                 nrows,
                 ncols,
             })?;
-            push_matrix_build(alloc, calls, a, matrix)
+            push_matrix_build(calls, a, matrix)
         }
     }
 }
@@ -138,14 +112,13 @@ pub(crate) fn push_matrix(
 /// Puts the calls that make what stands at a vector's number after these. `AllocError` where memory is refused; then some of these calls
 /// may be there.
 pub(crate) fn push_vector(
-    alloc: Global,
     calls: &mut Vec<Call>,
     number: u32,
-    vector: Option<&SparseVector>,
+    vector: Option<&Arc<SparseVector>>,
 ) -> Result<(), AllocError>
-    requires { IfSome vector (λ v. v.now.assembled ≡ true) }
-    ensures whole { IfSome (option_map (λ v. v.now.vector) vector.entry) IsVector }
-    ensures calls { OnOk result (calls.new.items ≡ calls.old.items ++ vector_calls number (option_map (λ v. v.now.vector) vector.entry)) }
+    requires { IfSome vector (λ v. v.now.value.assembled ≡ true) }
+    ensures whole { IfSome (option_map (λ v. v.now.value.vector) vector.entry) IsVector }
+    ensures calls { OnOk result (calls.new.items ≡ calls.old.items ++ vector_calls number (option_map (λ v. v.now.value.vector) vector.entry)) }
 {
     let v = VectorId(number);
     match vector {
@@ -154,7 +127,7 @@ pub(crate) fn push_vector(
             let size = vector.dims();
             let domain = vector.domain();
             calls.push(Call::NewVector { domain, size })?;
-            push_vector_build(alloc, calls, v, vector)
+            push_vector_build(calls, v, vector)
         }
     }
 }

@@ -10,7 +10,7 @@ use grb_call::{Call, MatrixId, Object, VectorId};
 use grb_state::State;
 use std::alloc::{AllocError, Global};
 
-/// The calls that make the store anew. Each entry is copied once. `AllocError` where memory is refused.
+/// The calls that make the store anew. The builds share the entries, and none is copied. `AllocError` where memory is refused.
 pub(crate) fn calls_for(alloc: Global, state: &State) -> Result<Vec<Call>, AllocError>
     requires { AreAllAssembled (is_assembled state.now.matrices state.now.vectors) }
     ensures calls { IfOk result (λ calls. calls.items ≡ rebuilt state.now.store) }
@@ -18,10 +18,10 @@ pub(crate) fn calls_for(alloc: Global, state: &State) -> Result<Vec<Call>, Alloc
 {
     let mut calls = Vec::new(alloc);
     'matrices: for number in 0..state.matrices() {
-        push_matrix(alloc, &mut calls, number, state.matrix(MatrixId(number)))?;
+        push_matrix(&mut calls, number, state.held_matrix(MatrixId(number)))?;
     }
     'vectors: for number in 0..state.vectors() {
-        push_vector(alloc, &mut calls, number, state.vector(VectorId(number)))?;
+        push_vector(&mut calls, number, state.held_vector(VectorId(number)))?;
     }
     Ok(calls)
 }

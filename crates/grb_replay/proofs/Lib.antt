@@ -1,6 +1,5 @@
 mod Begins
 pub mod HeldNow
 mod SameCalls
-pub mod NextTarget
 mod Taken
 pub mod Valued

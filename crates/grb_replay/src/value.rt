@@ -4,9 +4,8 @@ ghost use Rattle.std.specs.Option.{option_map};
 ghost use Rattle.grb_replay.specs.Held.{HoldsSame, IsEmptyWhereGone, IsMadeBySlice, held_matrix, held_vector, slice_length};
 
 use crate::partial_store::PartialStore;
-use crate::targets::{LentCalls, Targets};
 use grb_call::{Call, Object};
-use grb_slices::{Wanted, slice_for};
+use grb_slices::{LentCalls, Targets, Wanted, slice_for};
 use grb_sparse::{SparseMatrix, SparseVector};
 use grb_state::State;
 use std::alloc::{AllocError, Global};

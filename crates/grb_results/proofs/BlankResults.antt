@@ -19,14 +19,16 @@ use Rattle.grb_slices.specs.Content.{Content, Contents, content_at, outcome, tar
 use Rattle.grb_slices.specs.Slice.{is_among}
 use Rattle.grb_slices.specs.Steps.{AgreeOn}
 use Rattle.grb_state.specs.declared.shared_content.SharedContent.{SharedContent}
-use Rattle.grb_results.specs.declared.shape.Shape.{Shape}
+use Rattle.grb_links.specs.declared.shape.Shape.{Shape}
 use Rattle.grb_results.specs.declared.table.Table.{Table}
-use Rattle.grb_results.specs.Overwrites.{blank_of, forgets, inputs_of, is_clear, shape_at, shape_noted, shape_of_any}
-use Rattle.grb_results.specs.Results.{IsBlankAt, IsResult, IsTable, contents_after, target_in}
+use Rattle.grb_links.specs.Overwrites.{blank_of, forgets, inputs_of, is_clear, shape_at, shape_noted, shape_of_any}
+use Rattle.grb_links.specs.Learnt.{contents_after, target_in}
+use Rattle.grb_results.specs.Results.{IsBlankAt, IsResult, IsTable}
 use Rattle.grb_results.specs.Value.{content_of}
-use Rattle.grb_results.proofs.Blank.{IsAnew, accepts_emptied, anew, clear_is, clear_leaves, clear_of, emptied_there, inputs_else, overwrites_emptied}
-use Rattle.grb_results.proofs.Frame.{in_nodes, is_accepted, node_there, result_is, some_result, store_before, the_target}
-use Rattle.grb_results.proofs.Lists.{some_same}
+use Rattle.grb_links.proofs.Blank.{IsAnew, accepts_emptied, anew, clear_is, clear_leaves, clear_of, emptied_there, inputs_else, overwrites_emptied}
+use Rattle.grb_links.proofs.Frame.{is_accepted, node_there, store_before, the_target}
+use Rattle.grb_results.proofs.Frame.{in_nodes, result_is, some_result}
+use Rattle.grb_links.proofs.Lists.{some_same}
 
 the_shape : (q : Option Shape) (w : Content) → option_map blank_of q ≡ Some w → (x : Shape) × (q ≡ Some x) × (blank_of x ≡ w)
 the_shape None w e = cc

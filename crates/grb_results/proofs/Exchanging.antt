@@ -6,14 +6,16 @@ use Rattle.std.specs.Option.{option_map}
 use Rattle.grb_call.specs.declared.call.Call.{Call}
 use Rattle.grb_state.specs.declared.shared_content.SharedContent.{SharedContent}
 use Rattle.grb_results.specs.declared.exchange.Kept.{Kept}
-use Rattle.grb_results.specs.declared.learnt.Learnt.{Learnt}
+use Rattle.grb_links.specs.declared.learnt.Learnt.{Learnt}
 use Rattle.grb_results.specs.declared.table.Table.{Table}
 use Rattle.grb_results.specs.Exchanged.{AreLeft}
 use Rattle.grb_results.specs.Kept.{AreKept, IsKeptAt, IsKeptOf, IsSameBut, KeepsAll}
-use Rattle.grb_results.specs.Results.{AreTaken, IsFrom, IsLearnt, IsResult, IsTable, Mine, Theirs}
+use Rattle.grb_links.specs.Learnt.{IsLearnt}
+use Rattle.grb_results.specs.Results.{AreTaken, IsFrom, IsResult, IsTable, Mine, Theirs}
 use Rattle.grb_results.specs.Value.{content_of}
 use Rattle.grb_results.proofs.Frame.{table_taken}
-use Rattle.grb_results.proofs.Lists.{AtSet, Here, Other, set_at, set_beside, some_same, within_of}
+use Rattle.grb_links.proofs.Lists.{some_same, within_of}
+use Rattle.grb_results.proofs.Lists.{AtSet, Here, Other, set_at, set_beside}
 
 abbrev Places : Type 0
 Places = List (Option SharedContent)

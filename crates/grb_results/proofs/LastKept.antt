@@ -8,12 +8,13 @@ use Rattle.grb_call.specs.Store.{shapes_of}
 use Rattle.grb_state.specs.declared.shared_content.SharedContent.{SharedContent}
 use Rattle.grb_slices.proofs.Live.{live_by}
 use Rattle.grb_slices.specs.Content.{Content, content_at}
-use Rattle.grb_results.specs.declared.learnt.Learnt.{Learnt}
+use Rattle.grb_links.specs.declared.learnt.Learnt.{Learnt}
 use Rattle.grb_results.specs.declared.table.Table.{Table}
 use Rattle.grb_results.specs.Kept.{IsKept, IsLast}
-use Rattle.grb_results.specs.Lasts.{last_of}
-use Rattle.grb_results.specs.Results.{AreResults, IsLearnt, IsTable, contents_after}
-use Rattle.grb_results.proofs.Frame.{none_since, store_before}
+use Rattle.grb_links.specs.Lasts.{last_of}
+use Rattle.grb_links.specs.Learnt.{IsLearnt, contents_after}
+use Rattle.grb_results.specs.Results.{AreResults, IsTable}
+use Rattle.grb_links.proofs.Frame.{none_since, store_before}
 
 -- what is there was once changed
 pub last_there : (cs : List Call) (t : Table) (o : Object) → IsTable cs t → last_of t.learnt.lasts o ≡ 0 → is_live t.learnt.shapes.objects o ≡ true → ⊥

@@ -15,14 +15,16 @@ use Rattle.grb_slices.specs.Content.{Content, content_at}
 use Rattle.grb_state.specs.SharedContent.{IsAt, MayRead, is_assembled_content}
 use Rattle.grb_state.specs.declared.shared_content.SharedContent.{SharedContent}
 use Rattle.grb_state.specs.declared.shared_content.SharedContent.TheVariants as shared
-use Rattle.grb_results.specs.declared.learnt.Learnt.{Learnt}
+use Rattle.grb_links.specs.declared.learnt.Learnt.{Learnt}
 use Rattle.grb_results.specs.declared.table.Table.{Table}
 use Rattle.grb_results.specs.Kept.{IsKept, IsLast, IsReady, ReadsObject}
-use Rattle.grb_results.specs.Lasts.{last_of}
-use Rattle.grb_results.specs.Results.{IsLearnt, IsResult, IsTable}
+use Rattle.grb_links.specs.Lasts.{last_of}
+use Rattle.grb_links.specs.Learnt.{IsLearnt}
+use Rattle.grb_results.specs.Results.{IsResult, IsTable}
 use Rattle.grb_results.specs.Settling.{IsSettledAt}
 use Rattle.grb_results.specs.Value.{content_of}
-use Rattle.grb_results.proofs.Lists.{AtSet, Other, Here, set_at, some_same}
+use Rattle.grb_links.proofs.Lists.{some_same}
+use Rattle.grb_results.proofs.Lists.{AtSet, Other, Here, set_at}
 use Rattle.grb_results.proofs.Making.{at_of}
 
 -- one result at most is the last of an object

@@ -1,6 +1,6 @@
 -- One call on single objects makes its outcome.
 use Rattle.std.proofs.Common.{◌≡◌, ◌≢◌, Bool, true, false, ◌||◌, List, [], ◌∷◌, ◌++◌, refl, sym, ap, subst, ◌∙◌, Option, Some, None, is_some}
-use Rattle.std.specs.Prelude.{◌&&◌, Result, Ok, Err, OnOk, IfOk, IfSome}
+use Rattle.std.specs.Prelude.{Result, Ok, Err, OnOk, IfOk, IfSome}
 use Rattle.std.specs.List.{list_any}
 use Rattle.std.specs.Option.{option_map, option_map_or, option_or}
 use Rattle.grb_core.specs.declared.refusal.Refusal.{Refusal}
@@ -27,10 +27,9 @@ use Rattle.grb_state.specs.declared.shared_content.SharedContent.{SharedContent}
 use Rattle.grb_state.specs.declared.shared_content.SharedContent.TheVariants as shared
 use Rattle.grb_state.specs.SharedContent.{AreElse, HoldSame, IsAt, IsThere, MayEdit}
 use Rattle.grb_results.specs.Results.{AreHeld, MayMake}
-use Rattle.grb_results.specs.Overwrites.{forgets}
-use Rattle.grb_results.specs.Value.{IsEdit, content_of, is_dup}
-use Rattle.grb_results.proofs.Links.{EditsOne, edits_one}
-use Rattle.grb_results.proofs.Lists.{some_same}
+use Rattle.grb_results.specs.Value.{IsEdit, content_of}
+use Rattle.grb_links.proofs.Links.{EditsOne, edits_one}
+use Rattle.grb_links.proofs.Lists.{some_same}
 
 -- what an object of a store holds, in both words
 the_matrix : (q : Option Matrix) (m : Matrix) → option_map MatrixContent q ≡ Some (MatrixContent m) → q ≡ Some m
@@ -191,18 +190,6 @@ module _ (s : Store) (c : Call) (operates : class_of c ≡ Operates) (accepted :
       ∙ (ap (λ (t : Store). content_at t o) (sym (after_by s c None operation_accepted))
       ∙ (own s c o accepted (target_operates (shapes_of s) c operates ∙ output) ∙ frame (content_at s) r c agree))
 
--- a dup
-pub record DupsOne (c : Call) : Type 0 where
-  pub object : Object
-  pub reads : objects_read c ≡ object ∷ []
-  pub outcome_is : (r : Contents) → outcome r c ≡ r object
-  pub keeps : forgets c ≡ false
-
-pub dups_one : (c : Call) → is_dup c ≡ true → DupsOne c
-dups_one (call.DupMatrix a) e = record { object = object.Matrix a; reads = refl; outcome_is = λ r. refl; keeps = refl }
-dups_one (call.DupVector v) e = record { object = object.Vector v; reads = refl; outcome_is = λ r. refl; keeps = refl }
-dups_one _ e = cc
-
 pub both_ok : {X E : Type 0} (P Q R : Type 0) (r : Result X E) → (P → Q → R) → OnOk r P → OnOk r Q → OnOk r R
 both_ok P Q R (Ok x) f p q = f p q
 both_ok P Q R (Err e) f p q = p
@@ -221,8 +208,3 @@ if_ok P Q (Err e) f p = p
 
 pub some_at : {X : Type 0} (P : X → Type 0) (q : Option X) (x : X) → q ≡ Some x → IfSome q P → P x
 some_at {X = X} P q x e p = subst (λ (y : Option X). IfSome y P) e p
-
-pub both_true : (a b : Bool) → (a && b) ≡ true → (a ≡ true) × (b ≡ true)
-both_true true true e = (refl, refl)
-both_true true false e = cc
-both_true false b e = cc

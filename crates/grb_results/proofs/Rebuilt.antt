@@ -17,16 +17,19 @@ use Rattle.grb_state.specs.SharedContent.{IsAt, is_assembled_content, matrix_in,
 use Rattle.grb_state.specs.State.{is_assembled, stored, stored_matrix, stored_vector}
 use Rattle.grb_state.specs.declared.shared_content.SharedContent.{SharedContent}
 use Rattle.grb_state.specs.declared.shared_content.SharedContent.TheVariants as shared
-use Rattle.grb_results.specs.declared.learnt.Learnt.{Learnt}
+use Rattle.grb_links.specs.declared.learnt.Learnt.{Learnt}
 use Rattle.grb_results.specs.declared.table.Table.{Table}
 use Rattle.grb_results.specs.Exchanged.{AreMatricesOf, AreVectorsOf, Begins, IsLastKept, OfEach}
 use Rattle.grb_results.specs.Kept.{AreReady, IsReady, IsSameBut, IsTableOf, KeepsAll}
-use Rattle.grb_results.specs.Lasts.{last_of}
-use Rattle.grb_results.specs.Results.{IsResult, IsTable, contents_after}
+use Rattle.grb_links.specs.Lasts.{last_of}
+use Rattle.grb_links.specs.Learnt.{contents_after}
+use Rattle.grb_results.specs.Results.{IsResult, IsTable}
 use Rattle.grb_results.specs.Value.{content_of}
 use Rattle.grb_results.proofs.Exchanging.{same_more, same_still}
-use Rattle.grb_results.proofs.Frame.{after_these, answer_is, none_there}
-use Rattle.grb_results.proofs.Lists.{length_map, objects_more, some_same, take_whole}
+use Rattle.grb_links.proofs.Frame.{after_these, none_there}
+use Rattle.grb_results.proofs.Frame.{answer_is}
+use Rattle.grb_links.proofs.Lists.{some_same}
+use Rattle.grb_results.proofs.Lists.{length_map, objects_more, take_whole}
 use Rattle.grb_results.proofs.Making.{of_at}
 
 -- the result that is kept of the call that last changed an object

@@ -13,7 +13,7 @@ use Rattle.grb_state.specs.State.{stored_matrices, stored_vectors}
 use Rattle.grb_state.specs.declared.shared_content.SharedContent.{SharedContent}
 use Rattle.grb_results.specs.declared.table.Table.{Table}
 use Rattle.grb_results.specs.Kept.{IsSameBut, IsTableOf, KeepsAll}
-use Rattle.grb_results.specs.Lasts.{last_of}
+use Rattle.grb_links.specs.Lasts.{last_of}
 
 -- this is kept as the result of the call that last changed the object
 pub record IsLastKept (t : Table) (o : Object) (v : SharedContent) : Type 0 where

@@ -12,7 +12,7 @@ use Rattle.grb_state.specs.SharedContent.{is_assembled_content}
 use Rattle.grb_state.specs.declared.shared_content.SharedContent.{SharedContent}
 use Rattle.grb_results.specs.declared.exchange.Kept.{Kept}
 use Rattle.grb_results.specs.declared.table.Table.{Table}
-use Rattle.grb_results.specs.Lasts.{last_of}
+use Rattle.grb_links.specs.Lasts.{last_of}
 use Rattle.grb_results.specs.Results.{IsResult, IsTable}
 
 -- the result of the call that last changed the object is kept

@@ -97,7 +97,7 @@ impl Table {
         ensures kept { IsKept self.new object }
         ensures ready { OnOk result (IsReady self.new object) }
     {
-        let count = self.learnt.lasts.last_of(object);
+        let count = self.learnt.last_of(object);
         assemble_at(self.alloc, &mut self.results, count as usize - 1)
     }
 

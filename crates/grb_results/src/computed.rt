@@ -3,15 +3,15 @@ ghost use Rattle.std.specs.Prelude.{◌≡◌, ◌<◌, ◌≤◌, ◌^◌, fals
 ghost use Rattle.grb_call.specs.declared.call.Call.{Call};
 ghost use Rattle.grb_call.specs.Kinds.{class_of};
 ghost use Rattle.grb_call.specs.Operands.{objects_read};
-ghost use Rattle.grb_results.specs.Overwrites.{forgets, inputs_of, is_clear, objects_needed};
-ghost use Rattle.grb_results.specs.Results.{HoldsAlso, IsBlankAt, IsResult, IsTable, IsToMake, contents_after};
-ghost use Rattle.grb_results.specs.Value.{is_dup};
+ghost use Rattle.grb_links.specs.Overwrites.{forgets, inputs_of, is_clear, objects_needed};
+ghost use Rattle.grb_links.specs.Learnt.{contents_after};
+ghost use Rattle.grb_results.specs.Results.{HoldsAlso, IsBlankAt, IsResult, IsTable, IsToMake};
+ghost use Rattle.grb_links.specs.Dup.{is_dup};
 
-use crate::made::{clear, hold, is_dup, new_object, operated};
-use crate::needed::{forgets, is_clear};
-use crate::shape::blank;
+use crate::made::{blank, clear, hold, new_object, operated};
 use crate::table::Table;
 use grb_call::{Call, Class, Object, objects_read};
+use grb_links::{forgets, is_clear, is_dup};
 use grb_slices::CallList;
 use grb_state::{Bench, SharedContent};
 use std::alloc::AllocError;

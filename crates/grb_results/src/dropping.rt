@@ -5,15 +5,10 @@ ghost use Rattle.grb_results.specs.Exchanged.{AreLeft};
 ghost use Rattle.grb_results.specs.Kept.{IsSameBut};
 ghost use Rattle.grb_results.specs.Results.{IsTable};
 
-use crate::table::{Table, mark_all, mark_others, take_place};
-use grb_call::{MatrixId, Object, VectorId};
+use crate::table::{Table, take_place};
+use grb_links::{clear_all, is_marked};
 use grb_state::SharedContent;
 use std::alloc::AllocError;
-
-/// Whether this place is marked.
-pub(crate) fn is_marked(marks: &[bool], at: usize) -> bool {
-    marks.get(at).copied().unwrap_or(false)
-}
 
 /// Drops what is kept at this place, if that is not needed.
 fn drop_unless(results: &mut Vec<Option<SharedContent>>, at: usize, needed: bool)
@@ -37,48 +32,18 @@ fn drop_unmarked(results: &mut Vec<Option<SharedContent>>, marks: &[bool])
     }
 }
 
-/// Takes all marks away.
-fn clear_all(marks: &mut [bool]) {
-    for at in 0..marks.len() {
-        marks[at] = false;
-    }
-}
-
 impl Table {
-    /// Marks the place of the call that last changed the object, if the object is there.
-    fn mark_last(&self, marks: &mut [bool], object: Object) {
-        if self.learnt.contains(object) {
-            mark_all(marks, &[self.learnt.lasts.last_of(object)]);
-        }
-    }
-
-    /// Marks the last places of the matrices that are there.
-    fn mark_matrices(&self, marks: &mut [bool]) {
-        'matrices: for number in 0..self.learnt.shapes.matrices() {
-            self.mark_last(marks, Object::Matrix(MatrixId(number)));
-        }
-    }
-
-    /// Marks the last places of the vectors that are there.
-    fn mark_vectors(&self, marks: &mut [bool]) {
-        'vectors: for number in 0..self.learnt.shapes.vectors() {
-            self.mark_last(marks, Object::Vector(VectorId(number)));
-        }
-    }
-
     /// Marks what the call at this place reads, if it is needed itself and no result of it is kept.
     fn mark_read(&self, marks: &mut [bool], at: usize) {
         if !is_marked(marks, at) || self.kept(at).is_some() {
             return;
         }
-        if let Some(node) = self.learnt.nodes.get(at) {
-            mark_all(marks, &node.links);
-        }
+        self.learnt.mark_links(marks, at);
     }
 
     /// Marks what is needed to make what is marked: from the last call back, since each reads what calls before it left.
     fn mark_back(&self, marks: &mut [bool]) {
-        let count = self.learnt.nodes.len();
+        let count = self.learnt.count();
         'back: for later in 0..count {
             self.mark_read(marks, count - 1 - later);
         }
@@ -88,8 +53,7 @@ impl Table {
     pub(crate) fn needed(&self) -> Result<Vec<bool>, AllocError> {
         let mut marks = Vec::new(self.alloc);
         marks.resize(self.results.len(), false)?;
-        self.mark_matrices(&mut marks);
-        self.mark_vectors(&mut marks);
+        self.learnt.mark_lasts(&mut marks);
         self.mark_back(&mut marks);
         Ok(marks)
     }
@@ -103,7 +67,7 @@ impl Table {
         'places: for at in 0..self.results.len() {
             if is_marked(marks, at) && self.kept(at).is_none() {
                 let learnt = &self.learnt;
-                mark_others(&learnt.nodes, &mut self.reads, at);
+                learnt.mark_others(&mut self.reads, at);
             }
         }
     }
@@ -131,7 +95,7 @@ impl Table {
     {
         'places: for at in 0..self.results.len() {
             let learnt = &self.learnt;
-            mark_others(&learnt.nodes, &mut self.reads, at);
+            learnt.mark_others(&mut self.reads, at);
         }
     }
 
@@ -146,7 +110,7 @@ impl Table {
 
     /// How many entries the results have that are kept, and 16 for each call learnt.
     fn extent(&self) -> u64 {
-        let mut extent = (self.learnt.nodes.len() as u64).saturating_mul(16);
+        let mut extent = (self.learnt.count() as u64).saturating_mul(16);
         'results: for at in 0..self.results.len() {
             if let Some(content) = self.kept(at) {
                 extent = extent.saturating_add(content.nvals());

@@ -10,10 +10,10 @@ ghost use Rattle.grb_results.specs.Kept.{IsKept, IsTableOf};
 ghost use Rattle.grb_results.specs.Results.{IsTable, IsToMake, LinksTo};
 ghost use Rattle.grb_results.specs.Value.{content_of};
 
-use crate::costs::work_of;
 use crate::made::{clear, is_edit};
 use crate::table::Table;
 use grb_call::{Call, Object};
+use grb_links::work_of;
 use grb_slices::CallList;
 use grb_state::{Bench, SharedContent};
 use std::alloc::AllocError;
@@ -65,7 +65,7 @@ impl Table {
         }
         match self.computed_at(bench, calls, source, call, at)? {
             Some(value) => {
-                self.count_one(work_of(call, &value));
+                self.count_one(work_of(call, value.nvals()));
                 self.drop_own(at);
                 self.run_on(stack, calls, source, at, value)
             }
@@ -178,7 +178,7 @@ impl Table {
         if self.is_kept(object) {
             return Ok(());
         }
-        let count = self.learnt.lasts.last_of(object);
+        let count = self.learnt.last_of(object);
         if count == 0 {
             return Ok(());
         }

@@ -8,7 +8,6 @@ ghost use Rattle.grb_results.specs.Results.{AreTaken, IsResult, IsTable};
 ghost use Rattle.grb_results.specs.Value.{content_of};
 
 use crate::table::Table;
-use grb_call::{MatrixId, Object, VectorId};
 use grb_state::SharedContent;
 use std::alloc::{AllocError, Global};
 
@@ -74,35 +73,19 @@ impl Table {
         }
     }
 
-    /// Gives the last result of the object, if the object is there and lies ready. `AllocError` where memory is refused.
-    fn give_last(&self, given: &mut Vec<Kept>, object: Object) -> Result<(), AllocError>
+    /// Gives the last result of the object at this place of those that the calls made, if it is there and lies ready. `AllocError` where memory
+    /// is refused.
+    fn give_last(&self, given: &mut Vec<Kept>, place: u64) -> Result<(), AllocError>
         ensures { (cs : List Call) → IsTable cs self.now → AreKept cs given.old.items → AreKept cs given.new.items }
     {
-        let count = self.learnt.lasts.last_of(object);
-        if count == 0 || !self.learnt.contains(object) {
+        let Some(object) = self.learnt.live_at(place) else {
+            return Ok(());
+        };
+        let count = self.learnt.last_of(object);
+        if count == 0 {
             return Ok(());
         }
         self.give_at(given, count - 1)
-    }
-
-    /// Gives the last results of the matrices. `AllocError` where memory is refused.
-    fn give_matrices(&self, given: &mut Vec<Kept>) -> Result<(), AllocError>
-        ensures { (cs : List Call) → IsTable cs self.now → AreKept cs given.old.items → AreKept cs given.new.items }
-    {
-        'matrices: for number in 0..self.learnt.shapes.matrices() {
-            self.give_last(given, Object::Matrix(MatrixId(number)))?;
-        }
-        Ok(())
-    }
-
-    /// Gives the last results of the vectors. `AllocError` where memory is refused.
-    fn give_vectors(&self, given: &mut Vec<Kept>) -> Result<(), AllocError>
-        ensures { (cs : List Call) → IsTable cs self.now → AreKept cs given.old.items → AreKept cs given.new.items }
-    {
-        'vectors: for number in 0..self.learnt.shapes.vectors() {
-            self.give_last(given, Object::Vector(VectorId(number)))?;
-        }
-        Ok(())
     }
 
     /// The last results of the objects that are there after the calls learnt and lie ready. No entry is copied. `AllocError` where memory is
@@ -111,8 +94,9 @@ impl Table {
         ensures { (cs : List Call) → IsTable cs self.now → IfOk result (λ kept. AreKept cs kept.items) }
     {
         let mut given = Vec::new(self.alloc);
-        self.give_matrices(&mut given)?;
-        self.give_vectors(&mut given)?;
+        'objects: for place in 0..self.learnt.objects() {
+            self.give_last(&mut given, place)?;
+        }
         Ok(given)
     }
 }

@@ -9,12 +9,14 @@ ghost use Rattle.grb_call.specs.Store.{Store, shapes_of};
 ghost use Rattle.grb_slices.specs.Content.{Contents, content_at, outcome};
 ghost use Rattle.grb_slices.specs.Slice.{is_among};
 ghost use Rattle.grb_slices.specs.Steps.{AgreeOn};
+ghost use Rattle.grb_links.specs.Overwrites.{blank_of};
 ghost use Rattle.grb_state.specs.SharedContent.{is_free};
 ghost use Rattle.grb_results.specs.Results.{AreHeld, MayMake};
-ghost use Rattle.grb_results.specs.Value.{IsEdit, content_of, is_dup};
+ghost use Rattle.grb_results.specs.Value.{IsEdit, content_of};
 
-use crate::needed::forgets;
 use grb_call::{Call, Class, Object};
+use grb_core::is_dimension;
+use grb_links::{Shape, forgets};
 use grb_sparse::{SparseMatrix, SparseVector};
 use grb_state::{Bench, SharedContent};
 use std::alloc::{AllocError, Global};
@@ -34,13 +36,6 @@ pub(crate) fn is_edit(call: &Call) -> bool
         Class::Edits => !is_free(call) && !forgets(call),
         Class::Makes | Class::Operates | Class::Reads(_) | Class::AsksDimensions => false,
     }
-}
-
-/// Whether the call makes an object that is equal to another. Takes no memory.
-pub(crate) fn is_dup(call: &Call) -> bool
-    ensures { result ≡ is_dup call.now }
-{
-    matches!(call, Call::DupMatrix { .. } | Call::DupVector { .. })
 }
 
 /// Changes what the output of the call held into what it holds after it: where it lies, if nothing else holds it. `AllocError` where memory
@@ -107,5 +102,27 @@ pub(crate) fn operated(bench: &mut Bench, call: &Call) -> Result<Option<SharedCo
     match call.output() {
         Some(output) => Ok(bench.take(output)),
         None => unreachable!(),
+    }
+}
+
+/// An object of this shape that stores nothing; none where its dimensions are out of range. `AllocError` where memory is refused.
+pub(crate) fn blank(alloc: Global, shape: Shape) -> Result<Option<SharedContent>, AllocError>
+    ensures { IfOk result (λ found. IfSome found (λ v. content_of v ≡ blank_of shape)) }
+{
+    match shape {
+        Shape::Matrix(domain, nrows, ncols) => {
+            if !is_dimension(nrows) || !is_dimension(ncols) {
+                return Ok(None);
+            }
+            let matrix = SparseMatrix::new(alloc, domain, nrows, ncols);
+            Ok(Some(SharedContent::of_matrix(alloc, matrix)?))
+        }
+        Shape::Vector(domain, size) => {
+            if !is_dimension(size) {
+                return Ok(None);
+            }
+            let vector = SparseVector::new(alloc, domain, size);
+            Ok(Some(SharedContent::of_vector(alloc, vector)?))
+        }
     }
 }

@@ -2,60 +2,24 @@
 ghost use Rattle.std.specs.Prelude.{◌≡◌};
 ghost use Rattle.grb_results.specs.Kept.{IsTableOf};
 
-use crate::dropping::is_marked;
 use crate::table::Table;
-use grb_call::{MatrixId, Object, VectorId};
+use grb_links::is_marked;
 use grb_slices::CallList;
 
 impl Table {
-    /// How much work it is, about, to make what the object holds, if it is there.
-    fn work_if_there<S, C: CallList<S>>(&self, calls: &mut C, source: &S, object: Object) -> u64
-        requires held { C.is_in source.now calls.old }
-        requires table { IsTableOf (C.calls source.now calls.old) self.now }
-        ensures same { calls.new ≡ calls.old }
-    {
-        if !self.learnt.contains(object) {
-            return 0;
-        }
-        self.work_for(calls, source, object)
-    }
-
-    /// How much work it is, about, to make what the matrices hold that are there, each by itself.
-    fn work_for_matrices<S, C: CallList<S>>(&self, calls: &mut C, source: &S) -> u64
-        requires held { C.is_in source.now calls.old }
-        requires table { IsTableOf (C.calls source.now calls.old) self.now }
-        ensures same { calls.new ≡ calls.old }
-    {
-        let mut work: u64 = 0;
-        'matrices: for number in 0..self.learnt.shapes.matrices() {
-            let more = self.work_if_there(calls, source, Object::Matrix(MatrixId(number)));
-            work = work.saturating_add(more);
-        }
-        work
-    }
-
-    /// How much work it is, about, to make what the vectors hold that are there, each by itself.
-    fn work_for_vectors<S, C: CallList<S>>(&self, calls: &mut C, source: &S) -> u64
-        requires held { C.is_in source.now calls.old }
-        requires table { IsTableOf (C.calls source.now calls.old) self.now }
-        ensures same { calls.new ≡ calls.old }
-    {
-        let mut work: u64 = 0;
-        'vectors: for number in 0..self.learnt.shapes.vectors() {
-            let more = self.work_if_there(calls, source, Object::Vector(VectorId(number)));
-            work = work.saturating_add(more);
-        }
-        work
-    }
-
     /// How much work it is, about, to make what all objects hold that are there, each by itself, as [`Table::work_for`] has it.
     pub fn work_for_all<S, C: CallList<S>>(&self, calls: &mut C, source: &S) -> u64
         requires held { C.is_in source.now calls.old }
         requires table { IsTableOf (C.calls source.now calls.old) self.now }
         ensures same { calls.new ≡ calls.old }
     {
-        let matrices = self.work_for_matrices(calls, source);
-        matrices.saturating_add(self.work_for_vectors(calls, source))
+        let mut work: u64 = 0;
+        'objects: for place in 0..self.learnt.objects() {
+            if let Some(object) = self.learnt.live_at(place) {
+                work = work.saturating_add(self.work_for(calls, source, object));
+            }
+        }
+        work
     }
 
     /// The first place that is marked and of which no result is kept; how many places there are where there is none.

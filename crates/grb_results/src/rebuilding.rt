@@ -21,7 +21,7 @@ impl Table {
         ensures kept { IfSome result (λ content. IsLastKept self.now object content.now) }
         ensures none { IfNone result (IsReady self.now object → ⊥) }
     {
-        let count = self.learnt.lasts.last_of(object);
+        let count = self.learnt.last_of(object);
         if count == 0 {
             return None;
         }
@@ -66,7 +66,7 @@ impl Table {
         ensures few { IfOk result (λ all. length all.items < 2 ^ 32) }
     {
         let mut all = Vec::new(self.alloc);
-        'matrices: for number in 0..self.learnt.shapes.matrices() {
+        'matrices: for number in 0..self.learnt.matrices() {
             all.push(self.shared_matrix(MatrixId(number))?)?;
         }
         Ok(all)
@@ -80,7 +80,7 @@ impl Table {
         ensures few { IfOk result (λ all. length all.items < 2 ^ 32) }
     {
         let mut all = Vec::new(self.alloc);
-        'vectors: for number in 0..self.learnt.shapes.vectors() {
+        'vectors: for number in 0..self.learnt.vectors() {
             all.push(self.shared_vector(VectorId(number))?)?;
         }
         Ok(all)
@@ -102,7 +102,7 @@ impl Table {
     fn begin_object(&mut self, state: &State, object: Object)
         ensures { Begins state.now.store self.old self.new }
     {
-        let count = self.learnt.lasts.last_of(object);
+        let count = self.learnt.last_of(object);
         if count == 0 || self.kept(count as usize - 1).is_some() {
             return;
         }
@@ -113,24 +113,6 @@ impl Table {
         }
     }
 
-    /// Takes the matrices that the state holds.
-    fn begin_matrices(&mut self, state: &State)
-        ensures { Begins state.now.store self.old self.new }
-    {
-        'matrices: for number in 0..self.learnt.shapes.matrices() {
-            self.begin_object(state, Object::Matrix(MatrixId(number)));
-        }
-    }
-
-    /// Takes the vectors that the state holds.
-    fn begin_vectors(&mut self, state: &State)
-        ensures { Begins state.now.store self.old self.new }
-    {
-        'vectors: for number in 0..self.learnt.shapes.vectors() {
-            self.begin_object(state, Object::Vector(VectorId(number)));
-        }
-    }
-
     /// Takes what this state holds, which the calls learnt leave, for their last results, as far as none is kept here. No entry is copied.
     /// Takes no memory.
     pub fn begin_with(&mut self, state: &State)
@@ -138,7 +120,10 @@ impl Table {
         ensures same { IsSameBut self.old self.new }
         ensures stays { KeepsAll self.old self.new }
     {
-        self.begin_matrices(state);
-        self.begin_vectors(state);
+        'objects: for place in 0..self.learnt.objects() {
+            if let Some(object) = self.learnt.live_at(place) {
+                self.begin_object(state, object);
+            }
+        }
     }
 }

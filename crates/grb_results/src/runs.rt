@@ -1,13 +1,14 @@
 //! The result of a run of edits: each next edit goes into the content that the one before left.
 ghost use Rattle.std.specs.Prelude.{◌≡◌, ◌<◌, true, Some, None, length, slice_get, All, IfOk, OnOk, OnErr};
 ghost use Rattle.grb_call.specs.declared.call.Call.{Call};
-ghost use Rattle.grb_results.specs.Results.{Follows, IsResult, IsTable, IsToMake};
+ghost use Rattle.grb_links.specs.Learnt.{Follows};
+ghost use Rattle.grb_results.specs.Results.{IsResult, IsTable, IsToMake};
 ghost use Rattle.grb_results.specs.Value.{IsEdit};
 
-use crate::costs::{is_short_edit, work_of_edit};
 use crate::made::{edit, is_edit};
 use crate::table::Table;
 use grb_call::Call;
+use grb_links::{is_short_edit, work_of_edit};
 use grb_slices::CallList;
 use grb_state::SharedContent;
 use std::alloc::AllocError;

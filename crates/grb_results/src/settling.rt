@@ -4,6 +4,7 @@ ghost use Rattle.grb_call.specs.declared.call.Call.{Call};
 ghost use Rattle.grb_call.specs.declared.ids.MatrixId.{MatrixId};
 ghost use Rattle.grb_call.specs.declared.ids.Object.{Object};
 ghost use Rattle.grb_call.specs.declared.ids.VectorId.{VectorId};
+ghost use Rattle.grb_call.specs.Shapes.{is_live};
 ghost use Rattle.grb_results.specs.Kept.{AreReady, IsTableOf};
 ghost use Rattle.grb_results.specs.Results.{IsTable};
 ghost use Rattle.grb_results.specs.Settling.{IsReadyIfThere};
@@ -32,7 +33,7 @@ impl Table {
         ensures ready { result ≡ true → (a : MatrixId) → IsReadyIfThere self.now (Object.Matrix a) }
         ensures lacks { ((a : MatrixId) → IsReadyIfThere self.now (Object.Matrix a)) → result ≡ true }
     {
-        for n in 0..self.learnt.shapes.matrices() {
+        for n in 0..self.learnt.matrices() {
             if !self.is_ready_if_there(Object::Matrix(MatrixId(n))) {
                 return false;
             }
@@ -45,7 +46,7 @@ impl Table {
         ensures ready { result ≡ true → (v : VectorId) → IsReadyIfThere self.now (Object.Vector v) }
         ensures lacks { ((v : VectorId) → IsReadyIfThere self.now (Object.Vector v)) → result ≡ true }
     {
-        for n in 0..self.learnt.shapes.vectors() {
+        for n in 0..self.learnt.vectors() {
             if !self.is_ready_if_there(Object::Vector(VectorId(n))) {
                 return false;
             }
@@ -61,7 +62,7 @@ impl Table {
         self.are_matrices_ready() && self.are_vectors_ready()
     }
 
-    /// Makes what the object holds, if it is there, and has the changes done that wait in it. `AllocError` where memory is refused.
+    /// Makes what the object holds, which is there, and has the changes done that wait in it. `AllocError` where memory is refused.
     fn make_ready<S, C: CallList<S>>(
         &mut self,
         bench: &mut Bench,
@@ -72,55 +73,13 @@ impl Table {
     ) -> Result<(), AllocError>
         requires held { C.is_in source.now calls.old }
         requires table { IsTableOf (C.calls source.now calls.old) self.old }
+        requires live { is_live self.old.learnt.shapes.objects object ≡ true }
         ensures same { calls.new ≡ calls.old }
         ensures table { IsTable (C.calls source.now calls.old) self.new }
         ensures learnt { self.new.learnt ≡ self.old.learnt }
     {
-        if !self.learnt.contains(object) {
-            return Ok(());
-        }
         self.make(bench, stack, calls, source, object)?;
         self.assemble_last(object)
-    }
-
-    /// The same for each matrix. `AllocError` where memory is refused.
-    fn make_matrices<S, C: CallList<S>>(
-        &mut self,
-        bench: &mut Bench,
-        stack: &mut Vec<u32>,
-        calls: &mut C,
-        source: &S,
-    ) -> Result<(), AllocError>
-        requires held { C.is_in source.now calls.old }
-        requires table { IsTableOf (C.calls source.now calls.old) self.old }
-        ensures same { calls.new ≡ calls.old }
-        ensures table { IsTable (C.calls source.now calls.old) self.new }
-        ensures learnt { self.new.learnt ≡ self.old.learnt }
-    {
-        for n in 0..self.learnt.shapes.matrices() {
-            self.make_ready(bench, stack, calls, source, Object::Matrix(MatrixId(n)))?;
-        }
-        Ok(())
-    }
-
-    /// The same for each vector. `AllocError` where memory is refused.
-    fn make_vectors<S, C: CallList<S>>(
-        &mut self,
-        bench: &mut Bench,
-        stack: &mut Vec<u32>,
-        calls: &mut C,
-        source: &S,
-    ) -> Result<(), AllocError>
-        requires held { C.is_in source.now calls.old }
-        requires table { IsTableOf (C.calls source.now calls.old) self.old }
-        ensures same { calls.new ≡ calls.old }
-        ensures table { IsTable (C.calls source.now calls.old) self.new }
-        ensures learnt { self.new.learnt ≡ self.old.learnt }
-    {
-        for n in 0..self.learnt.shapes.vectors() {
-            self.make_ready(bench, stack, calls, source, Object::Vector(VectorId(n)))?;
-        }
-        Ok(())
     }
 
     /// Makes what each object holds that is there, and has all changes done. `AllocError` where memory is refused.
@@ -138,8 +97,11 @@ impl Table {
         ensures learnt { self.new.learnt ≡ self.old.learnt }
         ensures ready { OnOk result (AreReady self.new) }
     {
-        self.make_matrices(bench, stack, calls, source)?;
-        self.make_vectors(bench, stack, calls, source)?;
+        'objects: for place in 0..self.learnt.objects() {
+            if let Some(object) = self.learnt.live_at(place) {
+                self.make_ready(bench, stack, calls, source, object)?;
+            }
+        }
         if !self.are_ready() {
             return Err(AllocError);
         }

@@ -5,15 +5,14 @@ ghost use Rattle.grb_state.specs.declared.shared_content.SharedContent.{SharedCo
 ghost use Rattle.grb_call.specs.Store.{empty_store};
 ghost use Rattle.grb_call.specs.History.{after_all};
 ghost use Rattle.grb_slices.specs.Content.{content_at};
-ghost use Rattle.grb_results.specs.Lasts.{last_of};
+ghost use Rattle.grb_links.specs.Lasts.{last_of};
 ghost use Rattle.grb_results.specs.Kept.{IsKept, IsKeptAt, IsLast, IsSameBut, KeepsAll, KeepsAlso};
-ghost use Rattle.grb_results.specs.Results.{AreOneHistory, AreTaken, IsResult, IsTable};
+ghost use Rattle.grb_links.specs.Learnt.{AreOneHistory};
+ghost use Rattle.grb_results.specs.Results.{AreTaken, IsResult, IsTable};
 ghost use Rattle.grb_results.specs.Value.{content_of};
 
-use crate::costs::EDIT;
-use crate::learnt::Learnt;
-use crate::node::Node;
 use grb_call::{Call, Object};
+use grb_links::{EDIT_WORK, Learnt};
 use grb_state::SharedContent;
 use std::alloc::{AllocError, Global};
 
@@ -29,34 +28,6 @@ pub struct Table {
     pub(crate) work: u64,
     // How much work there is when results are dropped next.
     pub(crate) swept: u64,
-}
-
-/// Notes that the last of so many calls is read, for each of these numbers.
-pub(crate) fn mark_all(reads: &mut [bool], links: &[u32]) {
-    for at in 0..links.len() {
-        if links[at] > 0 {
-            if let Some(mark) = reads.get_mut(links[at] as usize - 1) {
-                *mark = true;
-            }
-        }
-    }
-}
-
-/// Notes that what the calls left which the one at this place reads is read, but for what its own object held before: that it changes.
-pub(crate) fn mark_others(nodes: &[Node], reads: &mut [bool], at: usize) {
-    let Some(node) = nodes.get(at) else {
-        return;
-    };
-    for place in 0..4 {
-        let link = node.links[place];
-        if link > 0 {
-            if let Some(before) = nodes.get(link as usize - 1) {
-                if before.target != node.target {
-                    mark_all(reads, &[link]);
-                }
-            }
-        }
-    }
 }
 
 /// What stands at this place, which is left empty.
@@ -139,8 +110,8 @@ impl Table {
         ensures made { self.new.made ≡ self.old.made }
     {
         let learnt = &self.learnt;
-        let last = learnt.nodes.len().saturating_sub(1);
-        mark_others(&learnt.nodes, &mut self.reads, last);
+        let last = learnt.count().saturating_sub(1);
+        learnt.mark_others(&mut self.reads, last);
     }
 
     /// How many entries the result at this place has, if one is kept.
@@ -151,28 +122,13 @@ impl Table {
         }
     }
 
-    /// The call that the first link of the call at this place leads to, where both change one object.
-    fn own_before(&self, at: u32) -> Option<u32> {
-        let node = self.learnt.nodes.get(at as usize)?;
-        let link = node.links[0];
-        if link == 0 {
-            return None;
-        }
-        let before = self.learnt.nodes.get(link as usize - 1)?;
-        if before.target == node.target {
-            Some(link - 1)
-        } else {
-            None
-        }
-    }
-
     /// Drops what the object of the call at this place held before it, if nothing else is known to need it.
     pub(crate) fn drop_own(&mut self, at: u32)
         ensures table { (cs : List Call) → IsTable cs self.old → IsTable cs self.new }
         ensures learnt { self.new.learnt ≡ self.old.learnt }
         ensures places { length self.new.results.items ≡ length self.old.results.items }
     {
-        let Some(before) = self.own_before(at) else {
+        let Some(before) = self.learnt.own_before(at) else {
             return;
         };
         if !self.is_free_to_change(before) {
@@ -193,7 +149,7 @@ impl Table {
         }
         let entries = self.entries_at(at);
         self.work = self.work.saturating_add(entries);
-        if entries > self.learnt.nodes.len() as u64 {
+        if entries > self.learnt.count() as u64 {
             self.sweep();
         }
     }
@@ -202,7 +158,7 @@ impl Table {
     pub fn count(&self) -> usize
         ensures { result ≡ length self.now.learnt.nodes.items }
     {
-        self.learnt.nodes.len()
+        self.learnt.count()
     }
 
     /// Calls that are made count from here on. Takes no memory.
@@ -245,7 +201,9 @@ impl Table {
         self.made = self
             .made
             .saturating_add(edits.min(u32::MAX as usize) as u32);
-        self.work = self.work.saturating_add(EDIT.saturating_mul(edits as u64));
+        self.work = self
+            .work
+            .saturating_add(EDIT_WORK.saturating_mul(edits as u64));
     }
 
     /// The result that is kept of the call at this place, if there is one. Takes no memory.
@@ -318,7 +276,7 @@ impl Table {
         ensures last { IfSome result (λ v. IsLast self.now object v.now) }
         ensures none { IfNone result ((k : ℕ) (v : SharedContent) → last_of self.now.learnt.lasts object ≡ k + 1 → slice_get self.now.results.items k ≡ Some (Some v) → ⊥) }
     {
-        let count = self.learnt.lasts.last_of(object);
+        let count = self.learnt.last_of(object);
         if count == 0 {
             return None;
         }

@@ -1,16 +1,19 @@
 -- Changes one after the other: what is stored at an index after them.
-use Rattle.std.proofs.Common.{Result, Ok, Err, ◌≡◌, ℕ, ◌+◌, ◌≤◌, Bool, true, false, not, cond, nat_eq, List, [], ◌∷◌, ◌++◌, length, Some, None, Option, refl, sym, ap, ◌∙◌, arith}
+use Rattle.std.proofs.Common.{Result, Ok, Err, ◌≡◌, ℕ, ◌+◌, ◌<◌, ◌≤◌, Bool, true, false, not, cond, nat_eq, List, [], ◌∷◌, ◌++◌, length, Some, None, Option, refl, sym, ap, ◌∙◌, arith}
 use Rattle.std.specs.Prelude.{is_some, IsOk, OnOk}
+use Rattle.std.specs.List.{AllByRecursion}
+use Rattle.std.specs.declared.cmp.Ordering.TheVariants.{Less, Equal, Greater}
 use Rattle.std.specs.Ordering.{nat_cmp, eq_by_cmp}
 use Rattle.std.specs.Option.{option_or}
 use Rattle.std.specs.Cmp.{nat_cmp_total}
 use Rattle.std.specs.FinMap.{find, put, is_sorted, nat_cmp-IsAntisymmetric}
-use Rattle.std.specs.FinMap.Entries.{is_sorted-put, is_sorted-where_key, find-put, find-where_key, length-put, length_without, same_entries}
+use Rattle.std.specs.FinMap.Entries.{by_order, is_sorted-put, is_sorted-where_key, find-put, find-where_key, length-put, length_without, same_entries}
 use Rattle.std.proofs.lemmas.Bool.Decides.{nat_tests}
 use lib.Dec.{T}
 use Rattle.grb_core.specs.declared.value.Value.{Value}
-use Rattle.grb_core.specs.Entries.{VectorEntries}
+use Rattle.grb_core.specs.Entries.{VectorEntries, without_entry}
 use Rattle.grb_rows.specs.Pending.{Change, changed_at, changed, last_at, over}
+use Rattle.grb_lists.proofs.Ends.{keys_put}
 
 pub eq_cmp : (q k : ℕ) → eq_by_cmp nat_cmp q k ≡ nat_eq q k
 eq_cmp q k = grind (arith, nat_tests)
@@ -95,3 +98,42 @@ length-changed_le (c ∷ cs) m h =
 pub told : {X E : Type 0} {P : Type 0} (r : Result X E) → IsOk r → OnOk r P → P
 told (Ok x) i h = h
 told (Err e) i h = cc
+
+-- ---- changes at the end of a map
+lower : (a k : ℕ) → a < k → nat_cmp a k ≡ Less
+lower a k l = grind (arith, nat_tests)
+
+other : (a k : ℕ) → a < k → eq_by_cmp nat_cmp a k ≡ false
+other a k l = grind (arith, nat_tests)
+
+changed_at-front : (k : ℕ) (c : Option Value) (e : ℕ × Value) (m : VectorEntries) → k < e.0 → changed_at k c (m ++ e ∷ []) ≡ changed_at k c m ++ e ∷ []
+changed_at-front k None e [] l = ap (λ b. cond (not b) (e ∷ []) []) (other k e.0 l)
+changed_at-front k None e (x ∷ m) l =
+    elim (eq_by_cmp nat_cmp k x.0) as (λ b. cond (not b) (x ∷ without_entry nat_cmp k (m ++ e ∷ [])) (without_entry nat_cmp k (m ++ e ∷ [])) ≡ cond (not b) (x ∷ without_entry nat_cmp k m) (without_entry nat_cmp k m) ++ e ∷ []) [
+      | true ↦ changed_at-front k None e m l
+      | false ↦ ap (λ (s : VectorEntries). x ∷ s) (changed_at-front k None e m l)
+    ]
+changed_at-front k (Some v) e [] l = ap (λ r. by_order r ((k, v) ∷ e ∷ []) ((e.0, v) ∷ []) (e ∷ (k, v) ∷ [])) (lower k e.0 l)
+changed_at-front k (Some v) e (x ∷ m) l =
+    elim (nat_cmp k x.0) as (λ r. by_order r ((k, v) ∷ x ∷ (m ++ e ∷ [])) ((x.0, v) ∷ (m ++ e ∷ [])) (x ∷ put nat_cmp k v (m ++ e ∷ [])) ≡ by_order r ((k, v) ∷ x ∷ m) ((x.0, v) ∷ m) (x ∷ put nat_cmp k v m) ++ e ∷ []) [
+      | Less ↦ refl
+      | Equal ↦ refl
+      | Greater ↦ ap (λ (s : VectorEntries). x ∷ s) (changed_at-front k (Some v) e m l)
+    ]
+
+-- an entry above all changes stays at the end
+pub changed-front : (cs : List Change) (e : ℕ × Value) (m : VectorEntries) → AllByRecursion (λ c. c.0 < e.0) cs → changed (m ++ e ∷ []) cs ≡ changed m cs ++ e ∷ []
+changed-front [] e m h = refl
+changed-front (c ∷ cs) e m h = ap (λ (n : VectorEntries). changed n cs) (changed_at-front c.0 c.1 e m h.0) ∙ changed-front cs e (changed_at c.0 c.1 m) h.1
+
+-- indices after changes
+keys_changed_at : (x k : ℕ) (c : Option Value) (m : VectorEntries) → k < x → AllByRecursion (λ e. e.0 < x) m → AllByRecursion (λ e. e.0 < x) (changed_at k c m)
+keys_changed_at x k None [] l h = tt
+keys_changed_at x k None (e ∷ m) l h =
+    let rest = keys_changed_at x k None m l h.1 in
+    elim (eq_by_cmp nat_cmp k e.0) as (λ b. AllByRecursion (λ e. e.0 < x) (cond (not b) (e ∷ without_entry nat_cmp k m) (without_entry nat_cmp k m))) [ true ↦ rest | false ↦ (h.0, rest) ]
+keys_changed_at x k (Some v) m l h = keys_put (λ a. a < x) k v m l h
+
+pub keys_changed : (x : ℕ) (cs : List Change) (m : VectorEntries) → AllByRecursion (λ e. e.0 < x) m → AllByRecursion (λ c. c.0 < x) cs → AllByRecursion (λ e. e.0 < x) (changed m cs)
+keys_changed x [] m h g = h
+keys_changed x (c ∷ cs) m h g = keys_changed x cs (changed_at c.0 c.1 m) (keys_changed_at x c.0 c.1 m g.0 h) g.1

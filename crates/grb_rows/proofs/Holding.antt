@@ -7,10 +7,10 @@ use lib.Dec.{T}
 use Rattle.grb_core.specs.declared.value.Value.{Value}
 use Rattle.grb_core.specs.Entries.{VectorEntries}
 use Rattle.grb_rows.specs.Pending.{Change, PendingView, changed_at, changed, last_at, IsChangeOf}
-use Rattle.grb_rows.specs.Stored.{RowView}
+use Rattle.grb_lists.specs.Stored.{RowView}
 use Rattle.grb_rows.specs.Held.{stored, IsLaid, held_view, IsHeld}
 use Rattle.grb_rows.specs.Layers.{IsPlaced}
-use Rattle.grb_rows.proofs.Places.{holds}
+use Rattle.grb_lists.proofs.Places.{holds}
 use Rattle.grb_rows.proofs.Changes.{find-changed_at, is_sorted-changed_at, length-changed_at, length-changed_le, same_map}
 use Rattle.grb_rows.proofs.LaidOut.{is_sorted-stored, same_changes}
 use Rattle.grb_rows.proofs.Layered.{placed-same}

@@ -9,9 +9,9 @@ use lib.Dec.{T}
 use Rattle.grb_core.specs.declared.value.Value.{Value}
 use Rattle.grb_core.specs.Entries.{VectorEntries, restricted, without_entry}
 use Rattle.grb_rows.specs.Pending.{Change, changed_at}
-use Rattle.grb_rows.proofs.Ends.{keys_rise, put-end, without-end}
+use Rattle.grb_lists.proofs.Ends.{keys_rise, put-end, without-end}
 use Rattle.grb_rows.proofs.Merging.{none_between, all-part, so_far, ChangesBelow, run_more}
-use Rattle.grb_rows.proofs.Cut.{restricted-push, all-restricted}
+use Rattle.grb_lists.proofs.Cut.{restricted-push, all-restricted}
 
 -- one more entry of those from a place on
 part_more : (s at : ℕ) (m : VectorEntries) (d : ℕ × Value) → s ≤ at → at < length m → drop s (take (suc at) m) ≡ drop s (take at m) ++ get_or m at d ∷ []

@@ -13,10 +13,10 @@ use Rattle.grb_core.specs.declared.value.Value.TheVariants as value
 use Rattle.grb_core.specs.Value.{value_domain}
 use Rattle.grb_core.specs.Entries.{VectorEntries}
 use Rattle.grb_rows.specs.Pending.{Change, changed, last_at, IsChangeOf, over}
-use Rattle.grb_rows.specs.Stored.{RowView}
+use Rattle.grb_lists.specs.Stored.{RowView}
 use Rattle.grb_rows.specs.Held.{stored, IsLaid}
-use Rattle.grb_rows.proofs.Places.{first, second, holds, passes, find-at, put-at}
-use Rattle.grb_rows.proofs.Ends.{tie}
+use Rattle.grb_lists.proofs.Places.{first, second, holds, passes, find-at, put-at}
+use Rattle.grb_lists.proofs.Ends.{tie}
 use Rattle.grb_rows.proofs.Changes.{eq_cmp, find-changed, is_sorted-changed, same_map}
 
 is_it : (q k : ℕ) → nat_eq q k ≡ true → q ≡ k

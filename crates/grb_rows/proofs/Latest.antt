@@ -1,22 +1,23 @@
 -- The last changes as a table lists them, where no two are of one index.
-use Rattle.std.proofs.Common.{◌≡◌, ℕ, suc, ◌+◌, ◌<◌, ◌≤◌, true, false, cond, nat_eq, List, [], ◌∷◌, length, get_or, Some, None, Option, refl, sym, ap, subst, ◌∙◌, arith}
-use Rattle.std.specs.Prelude.{All, IfSome}
-use Rattle.std.specs.List.{AllByRecursion, IsDistinct}
-use Rattle.std.specs.List.Sorted.{IsSortedByKey}
+use Rattle.std.proofs.Common.{◌≡◌, ℕ, suc, ◌+◌, ◌<◌, ◌≤◌, true, false, not, cond, nat_eq, List, [], ◌∷◌, length, get_or, Some, None, Option, refl, sym, ap, subst, ◌∙◌, arith}
+use Rattle.std.specs.Prelude.{◌&&◌, All, IfSome}
+use Rattle.std.specs.List.{AllByRecursion, IsDistinct, filter}
+use Rattle.std.specs.List.Sorted.{IsSortedByKey, IsStableByKey, ties}
 use Rattle.std.specs.Map.{keys_of, lookup}
 use Rattle.std.specs.Option.{option_or}
 use Rattle.std.specs.Ordering.{nat_cmp, is_lt}
 use Rattle.std.specs.FinMap.{find, is_sorted}
 use Rattle.std.specs.FinMap.Entries.{below_all}
 use Rattle.std.proofs.lemmas.Bool.Decides.{nat_tests}
+use Rattle.std.proofs.lemmas.List.Elements.{filter_agree}
 use Rattle.std.proofs.lemmas.Map.Keys.{IsDistinct-head, IsDistinct-tail}
 use lib.Dec.{T}
 use Rattle.grb_core.specs.declared.value.Value.{Value}
 use Rattle.grb_core.specs.declared.domain.Domain.{Domain}
 use Rattle.grb_rows.specs.Pending.{Change, last_at, IsChangeOf}
-use Rattle.grb_rows.proofs.Ends.{find-key, lt_of, not_less}
-use Rattle.grb_rows.proofs.FlatLists.{both}
-use Rattle.grb_rows.proofs.Places.{first, second}
+use Rattle.grb_lists.proofs.Ends.{find-key, lt_of, not_less}
+use Rattle.grb_lists.proofs.FlatLists.{both}
+use Rattle.grb_lists.proofs.Places.{first, second}
 
 is_it : (q k : ℕ) → nat_eq q k ≡ true → q ≡ k
 is_it q k h = grind (arith, nat_tests)
@@ -79,3 +80,32 @@ pub all_found : (domain : Domain) (es : List Change) → T (is_sorted nat_cmp es
 all_found domain es h f = λ k d l.
     let e = get_or es k d in
     subst (λ w. IfSome w (λ c. IsChangeOf domain (e.0, c))) (find-key es k d h l) (f e.0)
+
+-- ---- the last change of each index, after a stable sort
+last_of : List Change → Option (Option Value)
+last_of [] = None
+last_of (c ∷ cs) = option_or (last_of cs) (Some c.1)
+
+last_at-filter : (q : ℕ) (cs : List Change) → last_at q cs ≡ last_of (filter (λ c. nat_eq q c.0) cs)
+unfolding last_of
+last_at-filter q [] = refl
+last_at-filter q (c ∷ cs) =
+    elim (nat_eq q c.0) as (λ b. option_or (last_at q cs) (cond b (Some c.1) None) ≡ last_of (cond b (c ∷ filter (λ c. nat_eq q c.0) cs) (filter (λ c. nat_eq q c.0) cs))) [
+      | true ↦ ap (λ l. option_or l (Some c.1)) (last_at-filter q cs)
+      | false ↦ or_none (last_at q cs) ∙ last_at-filter q cs
+    ]
+  where
+    or_none : (l : Option (Option Value)) → option_or l None ≡ l
+    or_none None = refl
+    or_none (Some x) = refl
+
+pub last_at-stable : (xs ys : List Change) → IsStableByKey (λ c. c.0) nat_cmp xs ys → (q : ℕ) → last_at q ys ≡ last_at q xs
+last_at-stable xs ys stable q =
+    last_at-filter q ys
+    ∙ ap last_of (filter_agree (λ c. nat_eq q c.0) (ties (λ a b. is_lt (nat_cmp a.0 b.0)) (q, None)) (λ c. same q c.0) ys
+    ∙ stable (q, None)
+    ∙ sym (filter_agree (λ c. nat_eq q c.0) (ties (λ a b. is_lt (nat_cmp a.0 b.0)) (q, None)) (λ c. same q c.0) xs))
+    ∙ sym (last_at-filter q xs)
+  where
+    same : (q k : ℕ) → nat_eq q k ≡ (not (is_lt (nat_cmp q k)) && not (is_lt (nat_cmp k q)))
+    same q k = grind (arith, nat_tests)

@@ -19,9 +19,9 @@ use Rattle.grb_core.specs.declared.domain.Domain.{Domain}
 use Rattle.grb_core.specs.Entries.{VectorEntries}
 use Rattle.grb_rows.specs.Pending.{Change, last_at, IsChangeOf}
 use Rattle.grb_rows.specs.Layers.{is_listed, IsPlaced, AreApart, placed_after}
-use Rattle.grb_rows.proofs.Places.{find-at}
-use Rattle.grb_rows.proofs.Ends.{tie}
-use Rattle.grb_rows.proofs.FlatLists.{rises}
+use Rattle.grb_lists.proofs.Places.{find-at}
+use Rattle.grb_lists.proofs.Ends.{tie}
+use Rattle.grb_lists.proofs.FlatLists.{rises}
 use Rattle.grb_rows.proofs.Latest.{none_last}
 
 -- ---- changes of cells that differ

@@ -11,8 +11,8 @@ use Rattle.grb_core.specs.declared.value.Value.{Value}
 use Rattle.grb_core.specs.declared.value.Value.TheVariants as value
 use Rattle.grb_core.specs.Entries.{VectorEntries, without_entry}
 use Rattle.grb_rows.specs.Pending.{Change, changed_at, changed}
-use Rattle.grb_rows.proofs.Changes.{changed-push}
-use Rattle.grb_rows.proofs.Ends.{above, tie, itself, keys_rise, below_taken, keys_changed, changed-front}
+use Rattle.grb_rows.proofs.Changes.{changed-push, keys_changed, changed-front}
+use Rattle.grb_lists.proofs.Ends.{above, tie, itself, keys_rise, below_taken}
 
 pub none_between : {A : Type 0} (s e : ℕ) (m : List A) → e ≤ s → drop s (take e m) ≡ []
 none_between zero zero m l = refl

@@ -2,7 +2,7 @@
 use Rattle.std.specs.Arc.{arc_value}
 use Rattle.grb_rows.specs.declared.base.Lists.{Lists}
 use Rattle.grb_rows.specs.declared.base.Lists.TheVariants as lists
-use Rattle.grb_rows.specs.Stored.{RowView}
+use Rattle.grb_lists.specs.Stored.{RowView}
 
 -- the rows, whoever has them
 abbrev pub rows_of : Lists → RowView

@@ -5,7 +5,7 @@ use Rattle.std.specs.FinMap.{is_sorted}
 use Rattle.grb_core.specs.declared.domain.Domain.{Domain}
 use Rattle.grb_core.specs.Entries.{VectorEntries}
 use Rattle.grb_rows.specs.Pending.{Change, PendingView, changed, last_at, IsChangeOf}
-use Rattle.grb_rows.specs.Stored.{RowView}
+use Rattle.grb_lists.specs.Stored.{RowView}
 use Rattle.grb_rows.specs.Layers.{IsPlaced}
 
 -- the map: the entries, and then the changes

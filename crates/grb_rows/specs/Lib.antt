@@ -1,8 +1,9 @@
 pub mod Base
-pub mod Cells
 pub mod Held
 pub mod Layers
-pub mod Packed
 pub mod Pending
-pub mod Stored
-pub mod Values
+pub use Rattle.grb_lists.specs.Arrays
+pub use Rattle.grb_lists.specs.Cells
+pub use Rattle.grb_lists.specs.Packed
+pub use Rattle.grb_lists.specs.Stored
+pub use Rattle.grb_lists.specs.Values

@@ -4,8 +4,8 @@ ghost use Rattle.grb_core.specs.declared.value.Value.{Value as Stored};
 ghost use Rattle.grb_core.specs.Value.{value_domain};
 ghost use Rattle.grb_rows.specs.Base.{rows_of};
 
-use crate::flat::FlatRows;
 use grb_core::Value;
+use grb_lists::FlatRows;
 use std::alloc::AllocError;
 use std::marker::Model;
 use std::mem;
@@ -25,7 +25,7 @@ pub(crate) struct Base {
 }
 
 impl Model for Base {
-    ghost use Rattle.grb_rows.specs.Stored.{RowView};
+    ghost use Rattle.grb_lists.specs.Stored.{RowView};
 
     ghost Value = { RowView };
 

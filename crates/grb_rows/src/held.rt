@@ -5,17 +5,17 @@ ghost use Rattle.std.specs.FinMap.{find, put};
 ghost use Rattle.grb_core.specs.declared.value.Value.{Value as Stored};
 ghost use Rattle.grb_core.specs.Value.{value_domain};
 ghost use Rattle.grb_core.specs.Entries.{without_entry};
-ghost use Rattle.grb_rows.specs.Cells.{entries_within};
+ghost use Rattle.grb_lists.specs.Cells.{entries_within};
 ghost use Rattle.grb_rows.specs.Held.{stored, settled_view, unreserved_view, IsLaid};
 ghost use Rattle.grb_rows.specs.Layers.{IsPlaced};
 ghost use Rattle.grb_rows.specs.Pending.{changed};
 
 use crate::base::Base;
-use crate::flat::FlatRows;
 use crate::layers::Layers;
 use crate::merge;
 use crate::pending::Pending;
 use grb_core::{Domain, Value};
+use grb_lists::FlatRows;
 use std::alloc::{AllocError, Global};
 use std::marker::Model;
 

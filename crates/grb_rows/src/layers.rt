@@ -4,8 +4,8 @@ ghost use Rattle.std.proofs.Props.{props};
 ghost use Rattle.grb_rows.specs.Pending.{IsChangeOf};
 ghost use Rattle.grb_rows.specs.Layers.{IsChanged};
 
-use crate::flat::FlatRows;
 use grb_core::Value;
+use grb_lists::FlatRows;
 use std::collections::HashMap;
 
 /// What an object stores where changes wait: the entries that were assembled, and the changes over them. Nothing is copied.

@@ -5,11 +5,11 @@ ghost use Rattle.std.specs.Ordering.{nat_cmp};
 ghost use Rattle.std.specs.FinMap.{is_sorted};
 ghost use Rattle.grb_core.specs.declared.value.Value.{Value as Stored};
 ghost use Rattle.grb_core.specs.Contents.{is_cell_in};
-ghost use Rattle.grb_rows.specs.Cells.{cell_of, entries_within};
+ghost use Rattle.grb_lists.specs.Cells.{cell_of, entries_within};
 ghost use Rattle.grb_rows.specs.Pending.{changed, changed_at, IsChangeOf};
 
-use crate::flat::FlatRows;
 use grb_core::Value;
+use grb_lists::FlatRows;
 use std::alloc::AllocError;
 
 /// The entries of a row after changes in rising order of their indices. The entries between two changes are copied whole, and the entry at

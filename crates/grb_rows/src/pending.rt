@@ -10,8 +10,8 @@ ghost use Rattle.std.specs.List.{IsDistinct};
 ghost use Rattle.std.specs.Map.{keys_of};
 ghost use Rattle.std.specs.Vec.{vec_len, vec_capacity};
 
-use crate::{packed, values};
 use grb_core::Value;
+use grb_lists::packed;
 use std::alloc::{AllocError, AllocFailed, Global};
 use std::collections::HashMap;
 use std::marker::Model;
@@ -193,7 +193,7 @@ impl Pending {
     {
         Ok(Pending {
             latest: copied(&self.latest)?,
-            places: values::copied(*self.places.allocator(), &self.places)?,
+            places: grb_lists::copied(*self.places.allocator(), &self.places)?,
             reserved: 0,
             apart: self.apart,
         })

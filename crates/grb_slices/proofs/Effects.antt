@@ -5,36 +5,36 @@ use lib.ListN.{length-map}
 use Rattle.std.specs.Prelude.{◌==◌}
 use Rattle.std.specs.List.{list_all}
 use Rattle.std.specs.Option.{option_map_or, option_or}
-use Rattle.std.specs.Ordering.{nat_cmp}
-use Rattle.grb_core.specs.declared.operator.BinaryOp.{BinaryOp}
 use Rattle.grb_core.specs.declared.value.Value.{Value}
 use Rattle.grb_core.specs.declared.monoid.Monoid.{Monoid}
 use Rattle.grb_core.specs.declared.refusal.Refusal.{Refusal}
 use Rattle.grb_core.specs.declared.refusal.Refusal.TheVariants.{OutputNotEmpty, IndexOutOfBounds}
-use Rattle.grb_core.specs.Contents.{Matrix, Vector, edited_matrix, edited_vector}
-use Rattle.grb_core.specs.Entries.{cell_cmp, MatrixEntries, VectorEntries, nvals_of}
-use Rattle.grb_core.specs.Mask.{is_inside}
-use Rattle.grb_core.specs.Written.{written}
-use Rattle.grb_core.specs.Results.{ewise_add, ewise_mult, mxv_of, mxm_of, reduce_rows_of, turned, vxm_of}
+use Rattle.grb_core.specs.Contents.{Matrix, Vector}
+use Rattle.grb_core.specs.Entries.{nvals_of}
 use Rattle.grb_call.specs.declared.call.Call.{Call}
 use Rattle.grb_call.specs.declared.call.Call.TheVariants as call
-use Rattle.grb_call.specs.declared.descriptor.Descriptor.{Descriptor}
 use Rattle.grb_call.specs.declared.ids.MatrixId.{MatrixId}
 use Rattle.grb_call.specs.declared.ids.VectorId.{VectorId}
 use Rattle.grb_call.specs.declared.ids.Object.{Object}
 use Rattle.grb_call.specs.declared.ids.Object.TheVariants as object
+use Rattle.grb_call.specs.declared.operation.Operation.{Operation}
 use Rattle.grb_call.specs.Shapes.{ObjectShapes, MatrixShape, VectorShape, object_at}
-use Rattle.grb_call.specs.Operands.{matrix_mask, objects_read, vector_mask}
-use Rattle.grb_call.specs.Output.{entries_in, matrix_after, vector_after, written_matrix, written_vector}
+use Rattle.grb_call.specs.Operands.{masks, named, objects_read, operands}
+use Rattle.grb_call.specs.Operation.{if_any, operation_of, operation_objects}
+use Rattle.grb_call.specs.Output.{entries_in, output_of, matrix_after, vector_after, matrix_left, vector_left, matrix_made, vector_made}
 use Rattle.grb_call.specs.Refused.{refused_by_shapes, is_in_bounds}
-use Rattle.grb_call.specs.Store.{Store, shapes_of, matrix_shape, vector_shape, matrix_at, vector_at, matrix_entries, vector_entries, put_matrix, put_vector}
-use Rattle.grb_call.specs.After.{has_old_entries, refused_build, changed, after}
+use Rattle.grb_call.specs.Store.{Store, shapes_of, matrix_shape, vector_shape, matrix_at, vector_at}
+use Rattle.grb_call.specs.After.{has_old_entries, refused_build, changed, output_changed, after}
+use Rattle.grb_call.proofs.Changed.{matrix_left-none, vector_left-none}
+use Rattle.grb_call.proofs.ObjectLists.{object_at-end}
+use Rattle.grb_call.proofs.ObjectsAfter.{other_matrix-output, other_vector-output}
+use Rattle.grb_call.proofs.Operated.{SameEntries, ReadsSame, matrix_made-same, vector_made-same}
 use Rattle.grb_call.proofs.ShapesAfter.{object_at-map}
-use Rattle.grb_call.proofs.ObjectLists.{object_at-end, object_at-set_other}
-use Rattle.grb_slices.specs.Content.{Content, MatrixContent, VectorContent, Contents, content_at, target_of, effective_target, held_by_matrix, held_by_vector, entries_held, filled_matrix, filled_vector, content_made, outcome}
+use Rattle.grb_slices.specs.Content.{Content, MatrixContent, VectorContent, Contents, content_at, target_of, effective_target, held_by_matrix, held_by_vector, entries_held, can_fill_matrix, can_fill_vector, filled_matrix, filled_vector, content_made, output_made, outcome}
 use Rattle.grb_slices.specs.Steps.{AgreeOn}
 use Rattle.grb_slices.specs.Slice.{is_among}
-use Rattle.grb_slices.proofs.Wants.{among_first, among_next}
+use Rattle.grb_slices.proofs.Outputs.{output_among}
+use Rattle.grb_slices.proofs.Wants.{among_after, among_before, among_first, among_next}
 
 -- places of a list of objects
 module _ {X : Type 0} where
@@ -52,13 +52,6 @@ module _ {X : Type 0} where
   object_at-count : {Y : Type 0} (g : X → Y) (xs : List (Option X)) (o : Option X) → object_at (xs ++ o ∷ []) (length (map (option_map g) xs)) ≡ o
   object_at-count g xs o = ap (object_at (xs ++ o ∷ [])) (length-map xs (option_map g)) ∙ object_at-end xs o
 
--- the entries of the objects, by what they hold
-abbrev matrix_in : Contents → MatrixId → MatrixEntries
-matrix_in r a = (entries_held r).matrix a
-
-abbrev vector_in : Contents → VectorId → VectorEntries
-vector_in r v = (entries_held r).vector v
-
 -- the entries that a call reads of the store are those of what its objects hold
 held_m : (o : Option Matrix) → held_by_matrix (option_map MatrixContent o) ≡ option_map_or (λ m. m.entries) o []
 held_m None = refl
@@ -69,63 +62,50 @@ held_v None = refl
 held_v (Some x) = refl
 
 module _ (s : Store) where
-  in_m : (a : MatrixId) → matrix_entries s a ≡ matrix_in (content_at s) a
-  in_m a = sym (held_m (matrix_at s a))
+  in_any : (o : Object) → SameEntries (entries_in s) (entries_held (content_at s)) o
+  in_any (object.Matrix a) = sym (held_m (matrix_at s a))
+  in_any (object.Vector v) = sym (held_v (vector_at s v))
 
-  in_v : (v : VectorId) → vector_entries s v ≡ vector_in (content_at s) v
-  in_v v = sym (held_v (vector_at s v))
+  if_any-in : (q : Option Object) → IfSome q (SameEntries (entries_in s) (entries_held (content_at s)))
+  if_any-in None = tt
+  if_any-in (Some o) = in_any o
 
-  mask_m : (mask : Option MatrixId) → option_map (matrix_entries s) mask ≡ option_map (matrix_in (content_at s)) mask
-  mask_m None = refl
-  mask_m (Some m) = ap (λ es. Some es) (in_m m)
+  reads_in : (q : Option Operation) → IfSome q (ReadsSame (entries_in s) (entries_held (content_at s)))
+  reads_in None = tt
+  reads_in (Some o) = record { first = in_any o.first; second = if_any-in o.second; mask = if_any-in o.mask }
 
-  mask_v : (mask : Option VectorId) → option_map (vector_entries s) mask ≡ option_map (vector_in (content_at s)) mask
-  mask_v None = refl
-  mask_v (Some m) = ap (λ es. Some es) (in_v m)
+  made_m : (c : Call) (m : Matrix) → matrix_after s c m ≡ matrix_made (entries_held (content_at s)) c m
+  made_m c m = matrix_made-same (entries_in s) (entries_held (content_at s)) c m (reads_in (operation_of c))
 
-  written_m : (mask : Option MatrixId) (accum : Option BinaryOp) (d : Descriptor) (x y : MatrixEntries) (m : Matrix) → x ≡ y →
-      written_matrix (entries_in s) mask accum d x m ≡ written_matrix (entries_held (content_at s)) mask accum d y m
-  written_m mask accum d x y m e =
-      ap (λ (p : Option MatrixEntries). edited_matrix (λ old. written cell_cmp (is_inside cell_cmp d.structure d.comp p) d.replace accum old x) m) (mask_m mask)
-      ∙ ap (λ (z : MatrixEntries). written_matrix (entries_held (content_at s)) mask accum d z m) e
+  made_v : (c : Call) (x : Vector) → vector_after s c x ≡ vector_made (entries_held (content_at s)) c x
+  made_v c x = vector_made-same (entries_in s) (entries_held (content_at s)) c x (reads_in (operation_of c))
 
-  written_v : (mask : Option VectorId) (accum : Option BinaryOp) (d : Descriptor) (x y : VectorEntries) (m : Vector) → x ≡ y →
-      written_vector (entries_in s) mask accum d x m ≡ written_vector (entries_held (content_at s)) mask accum d y m
-  written_v mask accum d x y m e =
-      ap (λ (p : Option VectorEntries). edited_vector (λ old. written nat_cmp (is_inside nat_cmp d.structure d.comp p) d.replace accum old x) m) (mask_v mask)
-      ∙ ap (λ (z : VectorEntries). written_vector (entries_held (content_at s)) mask accum d z m) e
+-- the call ends its output, or may find it filled
+abbrev ends_or_fills : Call → Bool
+ends_or_fills (call.FreeMatrix a) = true
+ends_or_fills (call.FreeVector v) = true
+ends_or_fills (call.BuildMatrix a tuples dup) = true
+ends_or_fills (call.BuildVector v tuples dup) = true
+ends_or_fills _ = false
 
-  -- what two objects hold goes into one result
-  two_m : {R : Type 0} (f : MatrixEntries → MatrixEntries → R) (a b : MatrixId) →
-      f (matrix_entries s a) (matrix_entries s b) ≡ f (matrix_in (content_at s) a) (matrix_in (content_at s) b)
-  two_m f a b = ap (λ p. f p (matrix_entries s b)) (in_m a) ∙ ap (f (matrix_in (content_at s) a)) (in_m b)
+-- what any other call leaves of its output
+module _ (s : Store) where
+  left_m : (c : Call) (o : Option Matrix) → ends_or_fills c ≡ false → option_map MatrixContent (matrix_left s c o) ≡ option_map (content_made (content_at s) c) (option_map MatrixContent o)
+  left_m (call.FreeMatrix a) o e = cc
+  left_m (call.BuildMatrix a tuples dup) o e = cc
+  left_m c None e = ap (option_map MatrixContent) (matrix_left-none s c)
+  left_m c (Some m) e = ap (λ y. Some (MatrixContent y)) (made_m s c m)
 
-  two_v : {R : Type 0} (f : VectorEntries → VectorEntries → R) (u v : VectorId) →
-      f (vector_entries s u) (vector_entries s v) ≡ f (vector_in (content_at s) u) (vector_in (content_at s) v)
-  two_v f u v = ap (λ p. f p (vector_entries s v)) (in_v u) ∙ ap (f (vector_in (content_at s) u)) (in_v v)
+  left_v : (c : Call) (o : Option Vector) → ends_or_fills c ≡ false → option_map VectorContent (vector_left s c o) ≡ option_map (content_made (content_at s) c) (option_map VectorContent o)
+  left_v (call.FreeVector v) o e = cc
+  left_v (call.BuildVector v tuples dup) o e = cc
+  left_v c None e = ap (option_map VectorContent) (vector_left-none s c)
+  left_v c (Some x) e = ap (λ y. Some (VectorContent y)) (made_v s c x)
 
-  both : {R : Type 0} (f : MatrixEntries → VectorEntries → R) (a : MatrixId) (u : VectorId) →
-      f (matrix_entries s a) (vector_entries s u) ≡ f (matrix_in (content_at s) a) (vector_in (content_at s) u)
-  both f a u = ap (λ p. f p (vector_entries s u)) (in_m a) ∙ ap (f (matrix_in (content_at s) a)) (in_v u)
-
--- the target
-through_m : (r : Contents) (c : Call) (f : Matrix → Matrix) → ((m : Matrix) → f m ≡ filled_matrix r c m) → (o : Option Matrix) →
-    option_map MatrixContent (option_map f o) ≡ option_map (content_made r c) (option_map MatrixContent o)
-through_m r c f same None = refl
-through_m r c f same (Some m) = ap (λ y. Some (MatrixContent y)) (same m)
-
-through_v : (r : Contents) (c : Call) (f : Vector → Vector) → ((x : Vector) → f x ≡ filled_vector r c x) → (o : Option Vector) →
-    option_map VectorContent (option_map f o) ≡ option_map (content_made r c) (option_map VectorContent o)
-through_v r c f same None = refl
-through_v r c f same (Some m) = ap (λ y. Some (VectorContent y)) (same m)
-
-edited_m : (s : Store) (a : MatrixId) (c : Call) (f : Matrix → Matrix) → ((m : Matrix) → f m ≡ filled_matrix (content_at s) c m) →
-    content_at (put_matrix s a (option_map f (matrix_at s a))) (object.Matrix a) ≡ option_map (content_made (content_at s) c) (content_at s (object.Matrix a))
-edited_m s a c f same = ap (option_map MatrixContent) (object_at-set_own s.matrices a.0 (option_map f) refl) ∙ through_m (content_at s) c f same (matrix_at s a)
-
-edited_v : (s : Store) (v : VectorId) (c : Call) (f : Vector → Vector) → ((x : Vector) → f x ≡ filled_vector (content_at s) c x) →
-    content_at (put_vector s v (option_map f (vector_at s v))) (object.Vector v) ≡ option_map (content_made (content_at s) c) (content_at s (object.Vector v))
-edited_v s v c f same = ap (option_map VectorContent) (object_at-set_own s.vectors v.0 (option_map f) refl) ∙ through_v (content_at s) c f same (vector_at s v)
+  own-output : (c : Call) (q : Option Object) → ends_or_fills c ≡ false → IfSome q (λ o. content_at (output_changed s c q) o ≡ output_made (content_at s) c q)
+  own-output c None e = tt
+  own-output c (Some (object.Matrix a)) e = ap (option_map MatrixContent) (object_at-set_own s.matrices a.0 (matrix_left s c) (matrix_left-none s c)) ∙ left_m c (matrix_at s a) e
+  own-output c (Some (object.Vector v)) e = ap (option_map VectorContent) (object_at-set_own s.vectors v.0 (vector_left s c) (vector_left-none s c)) ∙ left_v c (vector_at s v) e
 
 -- a build is refused by what its object stores, or by its bounds, or fills it
 module _ (s t : Store) (o : Object) where
@@ -206,33 +186,9 @@ own-at s (call.DupMatrix a) = ap (option_map MatrixContent) (object_at-count mat
 own-at s (call.DupVector v) = ap (option_map VectorContent) (object_at-count vector_shape s.vectors _)
 own-at s (call.FreeMatrix a) = ap (option_map MatrixContent) (object_at-set_own s.matrices a.0 (λ _. None) refl)
 own-at s (call.FreeVector v) = ap (option_map VectorContent) (object_at-set_own s.vectors v.0 (λ _. None) refl)
-own-at s (call.SetMatrix a i j value) = edited_m s a (call.SetMatrix a i j value) _ (λ _. refl)
-own-at s (call.SetVector v i value) = edited_v s v (call.SetVector v i value) _ (λ _. refl)
-own-at s (call.RemoveMatrix a i j) = edited_m s a (call.RemoveMatrix a i j) _ (λ _. refl)
-own-at s (call.RemoveVector v i) = edited_v s v (call.RemoveVector v i) _ (λ _. refl)
-own-at s (call.ClearMatrix a) = edited_m s a (call.ClearMatrix a) _ (λ _. refl)
-own-at s (call.ClearVector v) = edited_v s v (call.ClearVector v) _ (λ _. refl)
-own-at s (call.ResizeMatrix a nrows ncols) = edited_m s a (call.ResizeMatrix a nrows ncols) _ (λ _. refl)
-own-at s (call.ResizeVector v size) = edited_v s v (call.ResizeVector v size) _ (λ _. refl)
 own-at s (call.BuildMatrix a tuples dup) = built_m s a tuples dup (matrix_at s a) refl
 own-at s (call.BuildVector v tuples dup) = built_v s v tuples dup (vector_at s v) refl
-own-at s (call.EwiseAddMatrix c mask accum op a b d) =
-    edited_m s c (call.EwiseAddMatrix c mask accum op a b d) _ (λ m. written_m s mask accum d _ _ m (two_m s (λ x y. ewise_add cell_cmp op (turned d.tran x) y) a b))
-own-at s (call.EwiseMultMatrix c mask accum op a b d) =
-    edited_m s c (call.EwiseMultMatrix c mask accum op a b d) _ (λ m. written_m s mask accum d _ _ m (two_m s (λ x y. ewise_mult cell_cmp op (turned d.tran x) y) a b))
-own-at s (call.EwiseAddVector w mask accum op u v d) =
-    edited_v s w (call.EwiseAddVector w mask accum op u v d) _ (λ x. written_v s mask accum d _ _ x (two_v s (ewise_add nat_cmp op) u v))
-own-at s (call.EwiseMultVector w mask accum op u v d) =
-    edited_v s w (call.EwiseMultVector w mask accum op u v d) _ (λ x. written_v s mask accum d _ _ x (two_v s (ewise_mult nat_cmp op) u v))
-own-at s (call.Mxv w mask accum semiring a u d) =
-    edited_v s w (call.Mxv w mask accum semiring a u d) _ (λ x. written_v s mask accum d _ _ x (both s (λ x y. mxv_of semiring (turned d.tran x) y) a u))
-own-at s (call.Vxm w mask accum semiring u a d) =
-    edited_v s w (call.Vxm w mask accum semiring u a d) _ (λ x. written_v s mask accum d _ _ x (both s (λ z y. vxm_of semiring y z) a u))
-own-at s (call.Mxm c mask accum semiring a b d) =
-    edited_m s c (call.Mxm c mask accum semiring a b d) _ (λ m. written_m s mask accum d _ _ m (two_m s (λ x y. mxm_of semiring (turned d.tran x) y) a b))
-own-at s (call.ReduceRows w mask accum monoid a d) =
-    edited_v s w (call.ReduceRows w mask accum monoid a d) _ (λ x. written_v s mask accum d _ _ x (ap (λ (z : MatrixEntries). reduce_rows_of monoid (turned d.tran z)) (in_m s a)))
-own-at s _ = tt
+own-at s c = own-output s c (output_of c) refl
 
 if_some-at : {X : Type 0} (P : X → Type 0) (o : Option X) (x : X) → o ≡ Some x → IfSome o P → P x
 if_some-at {X = X} P o x e h = subst (λ (q : Option X). IfSome q P) e h
@@ -248,32 +204,16 @@ module _ (s : Store) where
   other_m : (c : Call) (a : MatrixId) → target_of (shapes_of s) c ≢ Some (object.Matrix a) → matrix_at (changed s c) a ≡ matrix_at s a
   other_m (call.NewMatrix domain nrows ncols) a other = object_at-push_other s.matrices _ a.0 (λ e. other (ap (λ n. Some (object.Matrix (record { 0 = n }))) (length-map s.matrices (option_map matrix_shape) ∙ sym e)))
   other_m (call.DupMatrix b) a other = object_at-push_other s.matrices _ a.0 (λ e. other (ap (λ n. Some (object.Matrix (record { 0 = n }))) (length-map s.matrices (option_map matrix_shape) ∙ sym e)))
-  other_m (call.FreeMatrix b) a other = object_at-set_other s.matrices b.0 a.0 _ (λ e. other (ap (λ n. Some (object.Matrix (record { 0 = n }))) e))
-  other_m (call.SetMatrix b i j value) a other = object_at-set_other s.matrices b.0 a.0 _ (λ e. other (ap (λ n. Some (object.Matrix (record { 0 = n }))) e))
-  other_m (call.RemoveMatrix b i j) a other = object_at-set_other s.matrices b.0 a.0 _ (λ e. other (ap (λ n. Some (object.Matrix (record { 0 = n }))) e))
-  other_m (call.ClearMatrix b) a other = object_at-set_other s.matrices b.0 a.0 _ (λ e. other (ap (λ n. Some (object.Matrix (record { 0 = n }))) e))
-  other_m (call.ResizeMatrix b nrows ncols) a other = object_at-set_other s.matrices b.0 a.0 _ (λ e. other (ap (λ n. Some (object.Matrix (record { 0 = n }))) e))
-  other_m (call.BuildMatrix b tuples dup) a other = object_at-set_other s.matrices b.0 a.0 _ (λ e. other (ap (λ n. Some (object.Matrix (record { 0 = n }))) e))
-  other_m (call.EwiseAddMatrix c mask accum op b p d) a other = object_at-set_other s.matrices c.0 a.0 _ (λ e. other (ap (λ n. Some (object.Matrix (record { 0 = n }))) e))
-  other_m (call.EwiseMultMatrix c mask accum op b p d) a other = object_at-set_other s.matrices c.0 a.0 _ (λ e. other (ap (λ n. Some (object.Matrix (record { 0 = n }))) e))
-  other_m (call.Mxm c mask accum semiring b p d) a other = object_at-set_other s.matrices c.0 a.0 _ (λ e. other (ap (λ n. Some (object.Matrix (record { 0 = n }))) e))
-  other_m _ a other = refl
+  other_m (call.NewVector domain size) a other = refl
+  other_m (call.DupVector v) a other = refl
+  other_m c a other = other_matrix-output s c (output_of c) a other
 
   other_v : (c : Call) (v : VectorId) → target_of (shapes_of s) c ≢ Some (object.Vector v) → vector_at (changed s c) v ≡ vector_at s v
   other_v (call.NewVector domain size) v other = object_at-push_other s.vectors _ v.0 (λ e. other (ap (λ n. Some (object.Vector (record { 0 = n }))) (length-map s.vectors (option_map vector_shape) ∙ sym e)))
   other_v (call.DupVector w) v other = object_at-push_other s.vectors _ v.0 (λ e. other (ap (λ n. Some (object.Vector (record { 0 = n }))) (length-map s.vectors (option_map vector_shape) ∙ sym e)))
-  other_v (call.FreeVector w) v other = object_at-set_other s.vectors w.0 v.0 _ (λ e. other (ap (λ n. Some (object.Vector (record { 0 = n }))) e))
-  other_v (call.SetVector w i value) v other = object_at-set_other s.vectors w.0 v.0 _ (λ e. other (ap (λ n. Some (object.Vector (record { 0 = n }))) e))
-  other_v (call.RemoveVector w i) v other = object_at-set_other s.vectors w.0 v.0 _ (λ e. other (ap (λ n. Some (object.Vector (record { 0 = n }))) e))
-  other_v (call.ClearVector w) v other = object_at-set_other s.vectors w.0 v.0 _ (λ e. other (ap (λ n. Some (object.Vector (record { 0 = n }))) e))
-  other_v (call.ResizeVector w size) v other = object_at-set_other s.vectors w.0 v.0 _ (λ e. other (ap (λ n. Some (object.Vector (record { 0 = n }))) e))
-  other_v (call.BuildVector w tuples dup) v other = object_at-set_other s.vectors w.0 v.0 _ (λ e. other (ap (λ n. Some (object.Vector (record { 0 = n }))) e))
-  other_v (call.EwiseAddVector w mask accum op u p d) v other = object_at-set_other s.vectors w.0 v.0 _ (λ e. other (ap (λ n. Some (object.Vector (record { 0 = n }))) e))
-  other_v (call.EwiseMultVector w mask accum op u p d) v other = object_at-set_other s.vectors w.0 v.0 _ (λ e. other (ap (λ n. Some (object.Vector (record { 0 = n }))) e))
-  other_v (call.Mxv w mask accum semiring b u d) v other = object_at-set_other s.vectors w.0 v.0 _ (λ e. other (ap (λ n. Some (object.Vector (record { 0 = n }))) e))
-  other_v (call.Vxm w mask accum semiring u b d) v other = object_at-set_other s.vectors w.0 v.0 _ (λ e. other (ap (λ n. Some (object.Vector (record { 0 = n }))) e))
-  other_v (call.ReduceRows w mask accum monoid b d) v other = object_at-set_other s.vectors w.0 v.0 _ (λ e. other (ap (λ n. Some (object.Vector (record { 0 = n }))) e))
-  other_v _ v other = refl
+  other_v (call.NewMatrix domain nrows ncols) v other = refl
+  other_v (call.DupMatrix a) v other = refl
+  other_v c v other = other_vector-output s c (output_of c) v other
 
   other-changed : (c : Call) (o : Object) → target_of (shapes_of s) c ≢ Some o → content_at (changed s c) o ≡ content_at s o
   other-changed c (object.Matrix a) other = ap (option_map MatrixContent) (other_m c a other)
@@ -315,129 +255,43 @@ module _ (r t : Contents) where
       option_map (content_made r c) (r o) ≡ option_map (content_made t c) (t o)
   framed c o m v e = made_same c m v (r o) ∙ ap (option_map (content_made t c)) e
 
-  masked_m : (mask : Option MatrixId) → AgreeOn (is_among (matrix_mask mask)) r t → option_map (matrix_in r) mask ≡ option_map (matrix_in t) mask
-  masked_m None agree = refl
-  masked_m (Some m) agree = ap (λ o. Some (held_by_matrix o)) (agree_first (object.Matrix m) [] agree)
+  -- the entries of each object that the call reads
+  held_same : (o : Object) → r o ≡ t o → SameEntries (entries_held r) (entries_held t) o
+  held_same (object.Matrix a) e = ap held_by_matrix e
+  held_same (object.Vector v) e = ap held_by_vector e
 
-  masked_v : (mask : Option VectorId) → AgreeOn (is_among (vector_mask mask)) r t → option_map (vector_in r) mask ≡ option_map (vector_in t) mask
-  masked_v None agree = refl
-  masked_v (Some m) agree = ap (λ o. Some (held_by_vector o)) (agree_first (object.Vector m) [] agree)
+  any_same : (q : Option Object) → AgreeOn (is_among (if_any q)) r t → IfSome q (SameEntries (entries_held r) (entries_held t))
+  any_same None agree = tt
+  any_same (Some o) agree = held_same o (agree_first o [] agree)
 
-  wrote_m : (mask : Option MatrixId) (accum : Option BinaryOp) (d : Descriptor) (x y : MatrixEntries) (m : Matrix) → AgreeOn (is_among (matrix_mask mask)) r t → x ≡ y →
-      written_matrix (entries_held r) mask accum d x m ≡ written_matrix (entries_held t) mask accum d y m
-  wrote_m mask accum d x y m agree e =
-      ap (λ (p : Option MatrixEntries). edited_matrix (λ old. written cell_cmp (is_inside cell_cmp d.structure d.comp p) d.replace accum old x) m) (masked_m mask agree)
-      ∙ ap (λ (z : MatrixEntries). written_matrix (entries_held t) mask accum d z m) e
+  reads_same : (q : Option Operation) (os : List Object) → AgreeOn (is_among (option_map_or operation_objects q os ++ option_map_or (λ o. if_any o.mask) q [])) r t →
+      IfSome q (ReadsSame (entries_held r) (entries_held t))
+  reads_same None os agree = tt
+  reads_same (Some o) os agree =
+      let inputs : AgreeOn (is_among (o.first ∷ (if_any o.second ++ if_any o.mask))) r t = agree_next o.output (o.first ∷ (if_any o.second ++ if_any o.mask)) agree in
+      let rest : AgreeOn (is_among (if_any o.second ++ if_any o.mask)) r t = agree_next o.first (if_any o.second ++ if_any o.mask) inputs in
+      record {
+        first = held_same o.first (agree_first o.first (if_any o.second ++ if_any o.mask) inputs);
+        second = any_same o.second (λ p wanted. rest p (among_before p (if_any o.second) (if_any o.mask) wanted));
+        mask = any_same o.mask (λ p wanted. rest p (among_after p (if_any o.second) (if_any o.mask) wanted));
+      }
 
-  wrote_v : (mask : Option VectorId) (accum : Option BinaryOp) (d : Descriptor) (x y : VectorEntries) (m : Vector) → AgreeOn (is_among (vector_mask mask)) r t → x ≡ y →
-      written_vector (entries_held r) mask accum d x m ≡ written_vector (entries_held t) mask accum d y m
-  wrote_v mask accum d x y m agree e =
-      ap (λ (p : Option VectorEntries). edited_vector (λ old. written nat_cmp (is_inside nat_cmp d.structure d.comp p) d.replace accum old x) m) (masked_v mask agree)
-      ∙ ap (λ (z : VectorEntries). written_vector (entries_held t) mask accum d z m) e
+  filled_m : (c : Call) (m : Matrix) → AgreeOn (is_among (objects_read c)) r t → filled_matrix r c m ≡ filled_matrix t c m
+  filled_m c m agree = ap (λ (y : Matrix). if can_fill_matrix c m then y else m) (matrix_made-same (entries_held r) (entries_held t) c m (reads_same (operation_of c) (if_any (named c)) agree))
 
-  -- a call on a matrix of two matrices, and on a vector of two vectors
-  of_two_m : (f : MatrixEntries → MatrixEntries → MatrixEntries) (c : Call) (o a b : MatrixId) (mask : Option MatrixId) (accum : Option BinaryOp) (d : Descriptor) →
-      ((q : Contents) (m : Matrix) → filled_matrix q c m ≡ written_matrix (entries_held q) mask accum d (f (matrix_in q a) (matrix_in q b)) m) → ((q : Contents) (x : Vector) → filled_vector q c x ≡ x) →
-      AgreeOn (is_among (object.Matrix o ∷ object.Matrix a ∷ object.Matrix b ∷ matrix_mask mask)) r t →
-      option_map (content_made r c) (r (object.Matrix o)) ≡ option_map (content_made t c) (t (object.Matrix o))
-  of_two_m f c o a b mask accum d is vector agree =
-      let first = agree_next (object.Matrix o) (object.Matrix a ∷ object.Matrix b ∷ matrix_mask mask) agree in
-      let second = agree_next (object.Matrix a) (object.Matrix b ∷ matrix_mask mask) first in
-      let rest = agree_next (object.Matrix b) (matrix_mask mask) second in
-      let same : f (matrix_in r a) (matrix_in r b) ≡ f (matrix_in t a) (matrix_in t b) =
-      ap (λ p. f (held_by_matrix p) (matrix_in r b)) (agree_first (object.Matrix a) (object.Matrix b ∷ matrix_mask mask) first)
-      ∙ ap (λ p. f (matrix_in t a) (held_by_matrix p)) (agree_first (object.Matrix b) (matrix_mask mask) second) in
-      framed c (object.Matrix o)
-      (λ m. is r m ∙ (wrote_m mask accum d (f (matrix_in r a) (matrix_in r b)) (f (matrix_in t a) (matrix_in t b)) m rest same ∙ sym (is t m)))
-      (λ x. vector r x ∙ sym (vector t x)) (agree_first (object.Matrix o) (object.Matrix a ∷ object.Matrix b ∷ matrix_mask mask) agree)
+  filled_v : (c : Call) (x : Vector) → AgreeOn (is_among (objects_read c)) r t → filled_vector r c x ≡ filled_vector t c x
+  filled_v c x agree = ap (λ (y : Vector). if can_fill_vector c x then y else x) (vector_made-same (entries_held r) (entries_held t) c x (reads_same (operation_of c) (if_any (named c)) agree))
 
-  of_two_v : (f : VectorEntries → VectorEntries → VectorEntries) (c : Call) (o u v : VectorId) (mask : Option VectorId) (accum : Option BinaryOp) (d : Descriptor) →
-      ((q : Contents) (m : Matrix) → filled_matrix q c m ≡ m) → ((q : Contents) (x : Vector) → filled_vector q c x ≡ written_vector (entries_held q) mask accum d (f (vector_in q u) (vector_in q v)) x) →
-      AgreeOn (is_among (object.Vector o ∷ object.Vector u ∷ object.Vector v ∷ vector_mask mask)) r t →
-      option_map (content_made r c) (r (object.Vector o)) ≡ option_map (content_made t c) (t (object.Vector o))
-  of_two_v f c o u v mask accum d matrix is agree =
-      let first = agree_next (object.Vector o) (object.Vector u ∷ object.Vector v ∷ vector_mask mask) agree in
-      let second = agree_next (object.Vector u) (object.Vector v ∷ vector_mask mask) first in
-      let rest = agree_next (object.Vector v) (vector_mask mask) second in
-      let same : f (vector_in r u) (vector_in r v) ≡ f (vector_in t u) (vector_in t v) =
-      ap (λ p. f (held_by_vector p) (vector_in r v)) (agree_first (object.Vector u) (object.Vector v ∷ vector_mask mask) first)
-      ∙ ap (λ p. f (vector_in t u) (held_by_vector p)) (agree_first (object.Vector v) (vector_mask mask) second) in
-      framed c (object.Vector o) (λ m. matrix r m ∙ sym (matrix t m))
-      (λ x. is r x ∙ (wrote_v mask accum d (f (vector_in r u) (vector_in r v)) (f (vector_in t u) (vector_in t v)) x rest same ∙ sym (is t x)))
-      (agree_first (object.Vector o) (object.Vector u ∷ object.Vector v ∷ vector_mask mask) agree)
-
-  -- a call on a vector of a matrix and a vector
-  of_both : (f : MatrixEntries → VectorEntries → VectorEntries) (c : Call) (o u : VectorId) (a : MatrixId) (mask : Option VectorId) (accum : Option BinaryOp) (d : Descriptor) →
-      ((q : Contents) (m : Matrix) → filled_matrix q c m ≡ m) → ((q : Contents) (x : Vector) → filled_vector q c x ≡ written_vector (entries_held q) mask accum d (f (matrix_in q a) (vector_in q u)) x) →
-      AgreeOn (is_among (object.Vector o ∷ object.Matrix a ∷ object.Vector u ∷ vector_mask mask)) r t →
-      option_map (content_made r c) (r (object.Vector o)) ≡ option_map (content_made t c) (t (object.Vector o))
-  of_both f c o u a mask accum d matrix is agree =
-      let first = agree_next (object.Vector o) (object.Matrix a ∷ object.Vector u ∷ vector_mask mask) agree in
-      let second = agree_next (object.Matrix a) (object.Vector u ∷ vector_mask mask) first in
-      let rest = agree_next (object.Vector u) (vector_mask mask) second in
-      let same : f (matrix_in r a) (vector_in r u) ≡ f (matrix_in t a) (vector_in t u) =
-      ap (λ p. f (held_by_matrix p) (vector_in r u)) (agree_first (object.Matrix a) (object.Vector u ∷ vector_mask mask) first)
-      ∙ ap (λ p. f (matrix_in t a) (held_by_vector p)) (agree_first (object.Vector u) (vector_mask mask) second) in
-      framed c (object.Vector o) (λ m. matrix r m ∙ sym (matrix t m))
-      (λ x. is r x ∙ (wrote_v mask accum d (f (matrix_in r a) (vector_in r u)) (f (matrix_in t a) (vector_in t u)) x rest same ∙ sym (is t x)))
-      (agree_first (object.Vector o) (object.Matrix a ∷ object.Vector u ∷ vector_mask mask) agree)
-
-  -- and of a vector and a matrix
-  of_turned_both : (f : VectorEntries → MatrixEntries → VectorEntries) (c : Call) (o u : VectorId) (a : MatrixId) (mask : Option VectorId) (accum : Option BinaryOp) (d : Descriptor) →
-      ((q : Contents) (m : Matrix) → filled_matrix q c m ≡ m) → ((q : Contents) (x : Vector) → filled_vector q c x ≡ written_vector (entries_held q) mask accum d (f (vector_in q u) (matrix_in q a)) x) →
-      AgreeOn (is_among (object.Vector o ∷ object.Vector u ∷ object.Matrix a ∷ vector_mask mask)) r t →
-      option_map (content_made r c) (r (object.Vector o)) ≡ option_map (content_made t c) (t (object.Vector o))
-  of_turned_both f c o u a mask accum d matrix is agree =
-      let first = agree_next (object.Vector o) (object.Vector u ∷ object.Matrix a ∷ vector_mask mask) agree in
-      let second = agree_next (object.Vector u) (object.Matrix a ∷ vector_mask mask) first in
-      let rest = agree_next (object.Matrix a) (vector_mask mask) second in
-      let same : f (vector_in r u) (matrix_in r a) ≡ f (vector_in t u) (matrix_in t a) =
-      ap (λ p. f (held_by_vector p) (matrix_in r a)) (agree_first (object.Vector u) (object.Matrix a ∷ vector_mask mask) first)
-      ∙ ap (λ p. f (vector_in t u) (held_by_matrix p)) (agree_first (object.Matrix a) (vector_mask mask) second) in
-      framed c (object.Vector o) (λ m. matrix r m ∙ sym (matrix t m))
-      (λ x. is r x ∙ (wrote_v mask accum d (f (vector_in r u) (matrix_in r a)) (f (vector_in t u) (matrix_in t a)) x rest same ∙ sym (is t x)))
-      (agree_first (object.Vector o) (object.Vector u ∷ object.Matrix a ∷ vector_mask mask) agree)
-
-  -- a call on a vector of a matrix
-  of_one : (f : MatrixEntries → VectorEntries) (c : Call) (o : VectorId) (a : MatrixId) (mask : Option VectorId) (accum : Option BinaryOp) (d : Descriptor) →
-      ((q : Contents) (m : Matrix) → filled_matrix q c m ≡ m) → ((q : Contents) (x : Vector) → filled_vector q c x ≡ written_vector (entries_held q) mask accum d (f (matrix_in q a)) x) →
-      AgreeOn (is_among (object.Vector o ∷ object.Matrix a ∷ vector_mask mask)) r t →
-      option_map (content_made r c) (r (object.Vector o)) ≡ option_map (content_made t c) (t (object.Vector o))
-  of_one f c o a mask accum d matrix is agree =
-      let first = agree_next (object.Vector o) (object.Matrix a ∷ vector_mask mask) agree in
-      let rest = agree_next (object.Matrix a) (vector_mask mask) first in
-      let same : f (matrix_in r a) ≡ f (matrix_in t a) = ap (λ p. f (held_by_matrix p)) (agree_first (object.Matrix a) (vector_mask mask) first) in
-      framed c (object.Vector o) (λ m. matrix r m ∙ sym (matrix t m))
-      (λ x. is r x ∙ (wrote_v mask accum d (f (matrix_in r a)) (f (matrix_in t a)) x rest same ∙ sym (is t x)))
-      (agree_first (object.Vector o) (object.Matrix a ∷ vector_mask mask) agree)
+  frame-output : (c : Call) (q : Option Object) → output_of c ≡ q → AgreeOn (is_among (objects_read c)) r t → output_made r c q ≡ output_made t c q
+  frame-output c None is agree = refl
+  frame-output c (Some o) is agree =
+      framed c o (λ m. filled_m c m agree) (λ x. filled_v c x agree) (agree o (among_before o (operands c) (masks c) (output_among c o is)))
 
 pub frame : (r t : Contents) (c : Call) → AgreeOn (is_among (objects_read c)) r t → outcome r c ≡ outcome t c
+frame r t (call.NewMatrix domain nrows ncols) agree = refl
+frame r t (call.NewVector domain size) agree = refl
 frame r t (call.DupMatrix a) agree = agree_first (object.Matrix a) [] agree
 frame r t (call.DupVector v) agree = agree_first (object.Vector v) [] agree
-frame r t (call.SetMatrix a i j value) agree = framed r t (call.SetMatrix a i j value) (object.Matrix a) (λ _. refl) (λ _. refl) (agree_first (object.Matrix a) [] agree)
-frame r t (call.SetVector v i value) agree = framed r t (call.SetVector v i value) (object.Vector v) (λ _. refl) (λ _. refl) (agree_first (object.Vector v) [] agree)
-frame r t (call.RemoveMatrix a i j) agree = framed r t (call.RemoveMatrix a i j) (object.Matrix a) (λ _. refl) (λ _. refl) (agree_first (object.Matrix a) [] agree)
-frame r t (call.RemoveVector v i) agree = framed r t (call.RemoveVector v i) (object.Vector v) (λ _. refl) (λ _. refl) (agree_first (object.Vector v) [] agree)
-frame r t (call.ClearMatrix a) agree = framed r t (call.ClearMatrix a) (object.Matrix a) (λ _. refl) (λ _. refl) (agree_first (object.Matrix a) [] agree)
-frame r t (call.ClearVector v) agree = framed r t (call.ClearVector v) (object.Vector v) (λ _. refl) (λ _. refl) (agree_first (object.Vector v) [] agree)
-frame r t (call.ResizeMatrix a nrows ncols) agree = framed r t (call.ResizeMatrix a nrows ncols) (object.Matrix a) (λ _. refl) (λ _. refl) (agree_first (object.Matrix a) [] agree)
-frame r t (call.ResizeVector v size) agree = framed r t (call.ResizeVector v size) (object.Vector v) (λ _. refl) (λ _. refl) (agree_first (object.Vector v) [] agree)
-frame r t (call.BuildMatrix a tuples dup) agree = framed r t (call.BuildMatrix a tuples dup) (object.Matrix a) (λ _. refl) (λ _. refl) (agree_first (object.Matrix a) [] agree)
-frame r t (call.BuildVector v tuples dup) agree = framed r t (call.BuildVector v tuples dup) (object.Vector v) (λ _. refl) (λ _. refl) (agree_first (object.Vector v) [] agree)
-frame r t (call.EwiseAddMatrix c mask accum op a b d) agree =
-    of_two_m r t (λ x y. ewise_add cell_cmp op (turned d.tran x) y) (call.EwiseAddMatrix c mask accum op a b d) c a b mask accum d (λ _ _. refl) (λ _ _. refl) agree
-frame r t (call.EwiseMultMatrix c mask accum op a b d) agree =
-    of_two_m r t (λ x y. ewise_mult cell_cmp op (turned d.tran x) y) (call.EwiseMultMatrix c mask accum op a b d) c a b mask accum d (λ _ _. refl) (λ _ _. refl) agree
-frame r t (call.EwiseAddVector w mask accum op u v d) agree =
-    of_two_v r t (ewise_add nat_cmp op) (call.EwiseAddVector w mask accum op u v d) w u v mask accum d (λ _ _. refl) (λ _ _. refl) agree
-frame r t (call.EwiseMultVector w mask accum op u v d) agree =
-    of_two_v r t (ewise_mult nat_cmp op) (call.EwiseMultVector w mask accum op u v d) w u v mask accum d (λ _ _. refl) (λ _ _. refl) agree
-frame r t (call.Mxv w mask accum semiring a u d) agree =
-    of_both r t (λ x y. mxv_of semiring (turned d.tran x) y) (call.Mxv w mask accum semiring a u d) w u a mask accum d (λ _ _. refl) (λ _ _. refl) agree
-frame r t (call.Vxm w mask accum semiring u a d) agree =
-    of_turned_both r t (vxm_of semiring) (call.Vxm w mask accum semiring u a d) w u a mask accum d (λ _ _. refl) (λ _ _. refl) agree
-frame r t (call.Mxm c mask accum semiring a b d) agree =
-    of_two_m r t (λ x y. mxm_of semiring (turned d.tran x) y) (call.Mxm c mask accum semiring a b d) c a b mask accum d (λ _ _. refl) (λ _ _. refl) agree
-frame r t (call.ReduceRows w mask accum monoid a d) agree =
-    of_one r t (λ x. reduce_rows_of monoid (turned d.tran x)) (call.ReduceRows w mask accum monoid a d) w a mask accum d (λ _ _. refl) (λ _ _. refl) agree
-frame r t _ agree = refl
+frame r t (call.FreeMatrix a) agree = refl
+frame r t (call.FreeVector v) agree = refl
+frame r t c agree = frame-output r t c (output_of c) refl agree

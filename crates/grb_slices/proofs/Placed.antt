@@ -1,5 +1,5 @@
 -- Whether a store has a place for the target of a call, told by numbers.
-use Rattle.std.proofs.Common.{◌≡◌, ℕ, zero, suc, ◌<◌, true, false, List, [], ◌∷◌, length, refl, sym, ap, subst, ◌∙◌, arith, Option, Some, None, is_some}
+use Rattle.std.proofs.Common.{◌≡◌, ℕ, zero, suc, ◌<◌, true, false, List, [], ◌∷◌, length, refl, sym, ap, ◌∙◌, arith, Option, Some, None, is_some}
 use Rattle.std.specs.Option.{option_map_or}
 use Rattle.grb_call.specs.declared.call.Call.{Call}
 use Rattle.grb_call.specs.declared.call.Call.TheVariants as call
@@ -7,72 +7,22 @@ use Rattle.grb_call.specs.declared.ids.Object.{Object}
 use Rattle.grb_call.specs.declared.ids.Object.TheVariants as object
 use Rattle.grb_call.specs.Operands.{masks, objects_read, operands}
 use Rattle.grb_call.specs.Output.{output_of}
-use Rattle.grb_call.specs.Shapes.{ObjectShapes, is_live, object_at}
+use Rattle.grb_call.specs.Shapes.{is_live, object_at}
 use Rattle.grb_call.specs.Store.{Store, shapes_of, with_place}
+use Rattle.grb_call.proofs.Outputs.{some_object}
 use Rattle.grb_slices.specs.Content.{effective_target, target_of}
 use Rattle.grb_slices.specs.Followed.{HasPlaceIn, LacksPlaceIn, part_after}
-use Rattle.grb_slices.specs.Slice.{is_among}
 use Rattle.grb_slices.proofs.Effects.{effective}
 use Rattle.grb_slices.proofs.Followed.{matrices_of, vectors_of}
 use Rattle.grb_slices.proofs.Live.{all_of, initialized}
-use Rattle.grb_slices.proofs.Wants.{among_before, among_first}
+use Rattle.grb_slices.proofs.Outputs.{output_among, output_target}
+use Rattle.grb_slices.proofs.Wants.{among_before}
 
 -- the number of an object
 abbrev number : Option Object → ℕ
 number (Some (object.Matrix a)) = a.0
 number (Some (object.Vector v)) = v.0
 number None = 0
-
-some_object : (o p : Object) → ◌≡◌ {A = Option Object} (Some o) (Some p) → o ≡ p
-some_object o p e = cc
-
-first : (p : Object) (os : List Object) (o : Object) → ◌≡◌ {A = Option Object} (Some p) (Some o) → is_among (p ∷ os) o ≡ true
-first p os o e = subst (λ (q : Object). is_among (p ∷ os) q ≡ true) (some_object p o e) (among_first p os)
-
--- a call names its output
-output_among : (c : Call) (o : Object) → output_of c ≡ Some o → is_among (operands c) o ≡ true
-output_among (call.NewMatrix domain nrows ncols) o e = cc
-output_among (call.NewVector domain size) o e = cc
-output_among (call.FreeMatrix a) o e = first (object.Matrix a) [] o e
-output_among (call.FreeVector v) o e = first (object.Vector v) [] o e
-output_among (call.SetMatrix a i j value) o e = first (object.Matrix a) [] o e
-output_among (call.SetVector v i value) o e = first (object.Vector v) [] o e
-output_among (call.RemoveMatrix a i j) o e = first (object.Matrix a) [] o e
-output_among (call.RemoveVector v i) o e = first (object.Vector v) [] o e
-output_among (call.GetMatrix a i j) o e = cc
-output_among (call.GetVector v i) o e = cc
-output_among (call.NvalsMatrix a) o e = cc
-output_among (call.NvalsVector v) o e = cc
-output_among (call.SizeMatrix a) o e = cc
-output_among (call.SizeVector v) o e = cc
-output_among (call.ClearMatrix a) o e = first (object.Matrix a) [] o e
-output_among (call.ClearVector v) o e = first (object.Vector v) [] o e
-output_among (call.ResizeMatrix a nrows ncols) o e = first (object.Matrix a) [] o e
-output_among (call.ResizeVector v size) o e = first (object.Vector v) [] o e
-output_among (call.DupMatrix a) o e = cc
-output_among (call.DupVector v) o e = cc
-output_among (call.BuildMatrix a tuples dup) o e = first (object.Matrix a) [] o e
-output_among (call.BuildVector v tuples dup) o e = first (object.Vector v) [] o e
-output_among (call.EwiseAddMatrix c mask accum op a b d) o e = first (object.Matrix c) (object.Matrix a ∷ object.Matrix b ∷ []) o e
-output_among (call.EwiseAddVector w mask accum op u v d) o e = first (object.Vector w) (object.Vector u ∷ object.Vector v ∷ []) o e
-output_among (call.EwiseMultMatrix c mask accum op a b d) o e = first (object.Matrix c) (object.Matrix a ∷ object.Matrix b ∷ []) o e
-output_among (call.EwiseMultVector w mask accum op u v d) o e = first (object.Vector w) (object.Vector u ∷ object.Vector v ∷ []) o e
-output_among (call.Mxv w mask accum semiring a u d) o e = first (object.Vector w) (object.Matrix a ∷ object.Vector u ∷ []) o e
-output_among (call.Vxm w mask accum semiring u a d) o e = first (object.Vector w) (object.Vector u ∷ object.Matrix a ∷ []) o e
-output_among (call.Mxm c mask accum semiring a b d) o e = first (object.Matrix c) (object.Matrix a ∷ object.Matrix b ∷ []) o e
-output_among (call.ReduceRows w mask accum monoid a d) o e = first (object.Vector w) (object.Matrix a ∷ []) o e
-output_among (call.ReduceMatrix a monoid) o e = cc
-output_among (call.ReduceVector v monoid) o e = cc
-output_among (call.WaitMatrix a mode) o e = cc
-output_among (call.WaitVector v mode) o e = cc
-
--- a call with an output has it as its target
-output_target : (s : ObjectShapes) (c : Call) (o : Object) → output_of c ≡ Some o → target_of s c ≡ Some o
-output_target s (call.NewMatrix domain nrows ncols) o e = cc
-output_target s (call.NewVector domain size) o e = cc
-output_target s (call.DupMatrix a) o e = cc
-output_target s (call.DupVector v) o e = cc
-output_target s _ o e = e
 
 -- an object that is there is among those that were made
 within : {X : Type 0} (xs : List (Option X)) (n : ℕ) → is_some (object_at xs n) ≡ true → n < length xs

@@ -1,5 +1,5 @@
 -- Why a call is refused is a matter of what it reads.
-use Rattle.std.proofs.Common.{◌≡◌, ℕ, Bool, true, false, not, ◌&&◌, nat_lt, if◌then◌else◌, List, [], ◌∷◌, refl, sym, ap, ◌∙◌, Option, Some, None, option_map, is_some}
+use Rattle.std.proofs.Common.{◌≡◌, ℕ, Bool, true, false, not, ◌&&◌, nat_lt, if◌then◌else◌, List, [], ◌∷◌, refl, sym, ap, ◌∙◌, Option, Some, None, option_map, is_some, IfSome}
 use Rattle.std.specs.Prelude.{◌==◌}
 use Rattle.std.specs.List.{list_all}
 use Rattle.std.specs.Option.{option_map_or}
@@ -13,10 +13,13 @@ use Rattle.grb_call.specs.declared.ids.MatrixId.{MatrixId}
 use Rattle.grb_call.specs.declared.ids.VectorId.{VectorId}
 use Rattle.grb_call.specs.declared.ids.Object.{Object}
 use Rattle.grb_call.specs.declared.ids.Object.TheVariants as object
-use Rattle.grb_call.specs.Operands.{given_domains, masks, matrix_mask, objects_read, operands, vector_mask}
+use Rattle.grb_call.specs.declared.operation.Operation.{Operation}
+use Rattle.grb_call.specs.declared.operation.OperationKind.{OperationKind}
+use Rattle.grb_call.specs.declared.operation.OperationKind.TheVariants.{EwiseAdd, EwiseMult, Product, Rows}
+use Rattle.grb_call.specs.Operands.{given_domains, masks, named, objects_read, operands}
+use Rattle.grb_call.specs.Operation.{if_any, operation_objects, operation_of}
 use Rattle.grb_call.specs.Shapes.{ObjectShapes, MatrixShape, VectorShape, matrix_shape_at, vector_shape_at, is_live, domain_at, nrows_at, ncols_at, size_at}
-use Rattle.grb_call.specs.Refused.{is_initialized, has_valid_values, has_valid_index, has_one_domain, has_fitting_dims, same_domain, are_of_domain, is_one_domain, refused_by_shapes, turned_ncols, turned_nrows}
-use Rattle.grb_call.specs.Fits.{matrix_mask_fits, vector_mask_fits}
+use Rattle.grb_call.specs.Refused.{is_initialized, has_valid_values, has_valid_index, has_one_domain, has_fitting_dims, same_domain, are_of_domain, is_one_domain, same_shape, mask_fits, ewise_fits, product_fits, rows_fit, fitting_of, operation_fits, refused_by_shapes, turned_ncols, turned_nrows}
 use Rattle.grb_call.specs.Store.{Store, shapes_of, matrix_shape, vector_shape, matrix_at, vector_at}
 use Rattle.grb_call.proofs.ShapesAfter.{object_at-map}
 use Rattle.grb_slices.specs.Content.{Content, MatrixContent, VectorContent, content_at}
@@ -102,13 +105,15 @@ module _ (s t : ObjectShapes) where
   sizes : (u v : VectorId) → SameAt s t (object.Vector u) → SameAt s t (object.Vector v) → (size_at s u == size_at s v) ≡ (size_at t u == size_at t v)
   sizes u v x y = ap (λ n. n == size_at s v) (size u x) ∙ ap (λ n. size_at t u == n) (size v y)
 
-  matrix_mask_same : (mask : Option MatrixId) (c : MatrixId) → SameAt s t (object.Matrix c) → SameOn s t (matrix_mask mask) → matrix_mask_fits s mask c ≡ matrix_mask_fits t mask c
-  matrix_mask_same None c x same = refl
-  matrix_mask_same (Some m) c x same = dims m c (first (object.Matrix m) [] same) x
+  shape_same : (m o : Object) → SameAt s t m → SameAt s t o → same_shape s m o ≡ same_shape t m o
+  shape_same (object.Matrix a) (object.Matrix b) x y = dims a b x y
+  shape_same (object.Vector u) (object.Vector v) x y = sizes u v x y
+  shape_same (object.Matrix a) (object.Vector v) x y = refl
+  shape_same (object.Vector u) (object.Matrix b) x y = refl
 
-  vector_mask_same : (mask : Option VectorId) (w : VectorId) → SameAt s t (object.Vector w) → SameOn s t (vector_mask mask) → vector_mask_fits s mask w ≡ vector_mask_fits t mask w
-  vector_mask_same None w x same = refl
-  vector_mask_same (Some m) w x same = sizes m w (first (object.Vector m) [] same) x
+  mask_same : (mask : Option Object) (output : Object) → IfSome mask (SameAt s t) → SameAt s t output → mask_fits s mask output ≡ mask_fits t mask output
+  mask_same None output x y = refl
+  mask_same (Some m) output x y = shape_same m output x y
 
   columns_columns : (a b : MatrixId) → SameAt s t (object.Matrix a) → SameAt s t (object.Matrix b) → (ncols_at s a == ncols_at s b) ≡ (ncols_at t a == ncols_at t b)
   columns_columns a b x y = ap (λ n. n == ncols_at s b) (columns a x) ∙ ap (λ n. ncols_at t a == n) (columns b y)
@@ -134,39 +139,52 @@ module _ (s t : ObjectShapes) where
   both : (a b x y : Bool) → a ≡ x → b ≡ y → (a && b) ≡ (x && y)
   both a b x y e f = ap (λ n. n && b) e ∙ ap (λ n. x && n) f
 
+  -- how the objects of an operation fit together, by what it computes
+  ewise_same : (tran : Bool) (mask : Option Object) (output first : Object) (second : Option Object) → SameAt s t output → SameAt s t first → IfSome second (SameAt s t) → IfSome mask (SameAt s t) →
+      ewise_fits s tran mask output first second ≡ ewise_fits t tran mask output first second
+  ewise_same tran mask (object.Matrix c) (object.Matrix a) (Some (object.Matrix b)) one two three masked =
+      both _ _ _ _ (both _ _ _ _ (same_number _ _ _ _ (turned_rows tran a two) (rows c one)) (same_number _ _ _ _ (turned_columns tran a two) (columns c one)))
+      (both _ _ _ _ (dims b c three one) (mask_same mask (object.Matrix c) masked one))
+  ewise_same tran mask (object.Vector w) (object.Vector u) (Some (object.Vector v)) one two three masked =
+      both _ _ _ _ (sizes u w two one) (both _ _ _ _ (sizes v w three one) (mask_same mask (object.Vector w) masked one))
+  ewise_same tran mask _ _ _ one two three masked = refl
+
+  product_same : (tran : Bool) (mask : Option Object) (output first : Object) (second : Option Object) → SameAt s t output → SameAt s t first → IfSome second (SameAt s t) → IfSome mask (SameAt s t) →
+      product_fits s tran mask output first second ≡ product_fits t tran mask output first second
+  product_same tran mask (object.Matrix c) (object.Matrix a) (Some (object.Matrix b)) one two three masked =
+      both _ _ _ _ (same_number _ _ _ _ (turned_rows tran a two) (rows c one)) (both _ _ _ _ (columns_columns b c three one)
+      (both _ _ _ _ (same_number _ _ _ _ (turned_columns tran a two) (rows b three)) (mask_same mask (object.Matrix c) masked one)))
+  product_same tran mask (object.Vector w) (object.Matrix a) (Some (object.Vector u)) one two three masked =
+      both _ _ _ _ (same_number _ _ _ _ (turned_rows tran a two) (size w one)) (both _ _ _ _ (same_number _ _ _ _ (turned_columns tran a two) (size u three)) (mask_same mask (object.Vector w) masked one))
+  product_same tran mask (object.Vector w) (object.Vector u) (Some (object.Matrix a)) one two three masked =
+      both _ _ _ _ (columns_size a w three one) (both _ _ _ _ (rows_size a u three two) (mask_same mask (object.Vector w) masked one))
+  product_same tran mask _ _ _ one two three masked = refl
+
+  rows_same : (tran : Bool) (mask : Option Object) (output first : Object) (second : Option Object) → SameAt s t output → SameAt s t first → IfSome mask (SameAt s t) →
+      rows_fit s tran mask output first second ≡ rows_fit t tran mask output first second
+  rows_same tran mask (object.Vector w) (object.Matrix a) None one two masked = both _ _ _ _ (same_number _ _ _ _ (turned_rows tran a two) (size w one)) (mask_same mask (object.Vector w) masked one)
+  rows_same tran mask _ _ _ one two masked = refl
+
+  kind_same : (kind : OperationKind) (tran : Bool) (mask : Option Object) (output first : Object) (second : Option Object) → SameAt s t output → SameAt s t first → IfSome second (SameAt s t) → IfSome mask (SameAt s t) →
+      fitting_of kind s tran mask output first second ≡ fitting_of kind t tran mask output first second
+  kind_same (EwiseAdd op) = ewise_same
+  kind_same (EwiseMult op) = ewise_same
+  kind_same (Product semiring) = product_same
+  kind_same (Rows monoid) = λ tran mask output input second one two three masked. rows_same tran mask output input second one two masked
+
+  any_same : (q : Option Object) → SameOn s t (if_any q) → IfSome q (SameAt s t)
+  any_same None same = tt
+  any_same (Some o) same = first o [] same
+
+  any_fitting : (q : Option Operation) (os : List Object) → SameOn s t (option_map_or operation_objects q os) → SameOn s t (option_map_or (λ o. if_any o.mask) q []) →
+      option_map_or (operation_fits s) q true ≡ option_map_or (operation_fits t) q true
+  any_fitting None os same masked = refl
+  any_fitting (Some o) os same masked =
+      let inputs : SameOn s t (o.first ∷ if_any o.second) = next o.output (o.first ∷ if_any o.second) same in
+      kind_same o.kind o.d.tran o.mask o.output o.first o.second (first o.output (o.first ∷ if_any o.second) same) (first o.first (if_any o.second) inputs) (any_same o.second (next o.first (if_any o.second) inputs)) (any_same o.mask masked)
+
   fitting : (c : Call) → SameOn s t (operands c) → SameOn s t (masks c) → has_fitting_dims s c ≡ has_fitting_dims t c
-  fitting (call.EwiseAddMatrix c mask accum op a b d) same masked =
-      let one = first (object.Matrix c) (object.Matrix a ∷ object.Matrix b ∷ []) same in let rest = next (object.Matrix c) (object.Matrix a ∷ object.Matrix b ∷ []) same in
-      let two = first (object.Matrix a) (object.Matrix b ∷ []) rest in let three = first (object.Matrix b) [] (next (object.Matrix a) (object.Matrix b ∷ []) rest) in
-      both _ _ _ _ (both _ _ _ _ (same_number _ _ _ _ (turned_rows d.tran a two) (rows c one)) (same_number _ _ _ _ (turned_columns d.tran a two) (columns c one))) (both _ _ _ _ (dims b c three one) (matrix_mask_same mask c one masked))
-  fitting (call.EwiseMultMatrix c mask accum op a b d) same masked =
-      let one = first (object.Matrix c) (object.Matrix a ∷ object.Matrix b ∷ []) same in let rest = next (object.Matrix c) (object.Matrix a ∷ object.Matrix b ∷ []) same in
-      let two = first (object.Matrix a) (object.Matrix b ∷ []) rest in let three = first (object.Matrix b) [] (next (object.Matrix a) (object.Matrix b ∷ []) rest) in
-      both _ _ _ _ (both _ _ _ _ (same_number _ _ _ _ (turned_rows d.tran a two) (rows c one)) (same_number _ _ _ _ (turned_columns d.tran a two) (columns c one))) (both _ _ _ _ (dims b c three one) (matrix_mask_same mask c one masked))
-  fitting (call.EwiseAddVector w mask accum op u v d) same masked =
-      let one = first (object.Vector w) (object.Vector u ∷ object.Vector v ∷ []) same in let rest = next (object.Vector w) (object.Vector u ∷ object.Vector v ∷ []) same in
-      let two = first (object.Vector u) (object.Vector v ∷ []) rest in let three = first (object.Vector v) [] (next (object.Vector u) (object.Vector v ∷ []) rest) in
-      both _ _ _ _ (sizes u w two one) (both _ _ _ _ (sizes v w three one) (vector_mask_same mask w one masked))
-  fitting (call.EwiseMultVector w mask accum op u v d) same masked =
-      let one = first (object.Vector w) (object.Vector u ∷ object.Vector v ∷ []) same in let rest = next (object.Vector w) (object.Vector u ∷ object.Vector v ∷ []) same in
-      let two = first (object.Vector u) (object.Vector v ∷ []) rest in let three = first (object.Vector v) [] (next (object.Vector u) (object.Vector v ∷ []) rest) in
-      both _ _ _ _ (sizes u w two one) (both _ _ _ _ (sizes v w three one) (vector_mask_same mask w one masked))
-  fitting (call.Mxv w mask accum semiring a u d) same masked =
-      let one = first (object.Vector w) (object.Matrix a ∷ object.Vector u ∷ []) same in let rest = next (object.Vector w) (object.Matrix a ∷ object.Vector u ∷ []) same in
-      let two = first (object.Matrix a) (object.Vector u ∷ []) rest in let three = first (object.Vector u) [] (next (object.Matrix a) (object.Vector u ∷ []) rest) in
-      both _ _ _ _ (same_number _ _ _ _ (turned_rows d.tran a two) (size w one)) (both _ _ _ _ (same_number _ _ _ _ (turned_columns d.tran a two) (size u three)) (vector_mask_same mask w one masked))
-  fitting (call.Vxm w mask accum semiring u a d) same masked =
-      let one = first (object.Vector w) (object.Vector u ∷ object.Matrix a ∷ []) same in let rest = next (object.Vector w) (object.Vector u ∷ object.Matrix a ∷ []) same in
-      let two = first (object.Vector u) (object.Matrix a ∷ []) rest in let three = first (object.Matrix a) [] (next (object.Vector u) (object.Matrix a ∷ []) rest) in
-      both _ _ _ _ (columns_size a w three one) (both _ _ _ _ (rows_size a u three two) (vector_mask_same mask w one masked))
-  fitting (call.Mxm c mask accum semiring a b d) same masked =
-      let one = first (object.Matrix c) (object.Matrix a ∷ object.Matrix b ∷ []) same in let rest = next (object.Matrix c) (object.Matrix a ∷ object.Matrix b ∷ []) same in
-      let two = first (object.Matrix a) (object.Matrix b ∷ []) rest in let three = first (object.Matrix b) [] (next (object.Matrix a) (object.Matrix b ∷ []) rest) in
-      both _ _ _ _ (same_number _ _ _ _ (turned_rows d.tran a two) (rows c one)) (both _ _ _ _ (columns_columns b c three one) (both _ _ _ _ (same_number _ _ _ _ (turned_columns d.tran a two) (rows b three)) (matrix_mask_same mask c one masked)))
-  fitting (call.ReduceRows w mask accum monoid a d) same masked =
-      let one = first (object.Vector w) (object.Matrix a ∷ []) same in let two = first (object.Matrix a) [] (next (object.Vector w) (object.Matrix a ∷ []) same) in
-      both _ _ _ _ (same_number _ _ _ _ (turned_rows d.tran a two) (size w one)) (vector_mask_same mask w one masked)
-  fitting _ same masked = refl
+  fitting c same masked = any_fitting (operation_of c) (if_any (named c)) same masked
 
   refusal_same : (c : Call) → SameOn s t (objects_read c) → refused_by_shapes s c ≡ refused_by_shapes t c
   refusal_same c same =

@@ -4,4 +4,5 @@ pub mod Laws
 pub mod Slice
 pub mod SliceFor
 pub mod Steps
+pub mod Targets
 pub mod Wanted

@@ -21,8 +21,8 @@ use Rattle.grb_core.specs.Monoid.{monoid_domain}
 use Rattle.grb_core.specs.Fold.{fold_of_some}
 use Rattle.grb_core.specs.Entries.{values_at, built_from, VectorEntries}
 use Rattle.grb_sparse.specs.Build.{joined}
-use Rattle.grb_rows.proofs.Places.{holds, passes}
-use Rattle.grb_rows.proofs.Ends.{all_lower}
+use Rattle.grb_lists.proofs.Places.{holds, passes}
+use Rattle.grb_lists.proofs.Ends.{all_lower}
 use Rattle.grb_sparse.proofs.Inside.{All-put_values}
 use Rattle.grb_sparse.proofs.Building.{added_at_end, found_after, after_next, joined-of, found-built_from, is_sorted-built_from, built_from-unique, values_at-stable}
 

@@ -10,8 +10,8 @@ use Rattle.grb_core.specs.declared.monoid.Monoid.{Monoid}
 use Rattle.grb_core.specs.Fold.{fold_of_some}
 use Rattle.grb_core.specs.Entries.{Cell, cell_cmp, cells_of, before_entries, map_on, map_from, values_of, values_at, restricted, built_from, VectorEntries, MatrixEntries}
 use Rattle.grb_rows.specs.Cells.{cell_of, code_of, decoded, coded_entries}
-use Rattle.grb_rows.proofs.CellCodes.{cell_cmp-cell_of, put-decoded, restricted-decoded}
-use Rattle.grb_rows.proofs.CellLists.{decoded-coded}
+use Rattle.grb_lists.proofs.CellCodes.{cell_cmp-cell_of, put-decoded, restricted-decoded}
+use Rattle.grb_lists.proofs.CellLists.{decoded-coded}
 
 map_from-decoded : (es : VectorEntries) → map_from cell_cmp (decoded es) ≡ decoded (map_from nat_cmp es)
 map_from-decoded [] = refl

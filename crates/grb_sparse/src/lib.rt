@@ -5,6 +5,7 @@
 //! Nothing here knows of masks, operations over several objects, stores, calls or threads.
 #![tactic(auto)]
 
+mod arrays;
 mod iter;
 mod made;
 mod matrix;

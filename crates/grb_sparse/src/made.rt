@@ -14,7 +14,7 @@ use std::alloc::{AllocError, Global};
 
 impl SparseVector {
     /// The vector of these entries, assembled. Takes no memory, and gives back what no entry takes.
-    fn from_row(alloc: Global, size: u64, mut row: FlatRows) -> SparseVector
+    pub(crate) fn from_row(alloc: Global, size: u64, mut row: FlatRows) -> SparseVector
         requires whole { IsVector (record { domain = row.domain; size = size; entries = row.entries }) }
         ensures { result ≡ settled_vector row.domain size row.entries }
     {

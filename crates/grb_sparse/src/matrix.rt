@@ -293,6 +293,22 @@ impl SparseMatrix {
         Ok(())
     }
 
+    /// Stores the entries of the other matrix in place of its own; the dimensions stay. They are shared, as [`SparseMatrix::try_share`]
+    /// shares them. `AllocError` where memory is refused, and then nothing changes.
+    ///
+    /// Source: own.
+    pub fn share_entries(&mut self, other: &SparseMatrix) -> Result<(), AllocError>
+        requires rows { All (λ e. e.0.0 < self.old.matrix.nrows) other.now.matrix.entries }
+        requires columns { All (λ e. e.0.1 < self.old.matrix.ncols) other.now.matrix.entries }
+        requires same_domain { other.now.matrix.domain ≡ self.old.matrix.domain }
+        ensures matrix { OnOk result (self.new.matrix ≡ edited_matrix (λ _. other.now.matrix.entries) self.old.matrix) }
+        ensures assembled { OnOk result (self.new.assembled ≡ other.now.assembled) }
+        ensures err { OnErr result (self.new ≡ self.old) }
+    {
+        self.held = other.held.try_share()?;
+        Ok(())
+    }
+
     /// Merges the pending tuples and removals with the entries, and gives up the reserved places. `AllocError` where memory is
     /// refused, and then nothing changes. With n entries and p changes it takes time `O(n + p log p)`. Where nothing waits it does
     /// none of this and takes no memory.

@@ -305,6 +305,21 @@ impl SparseVector {
         Ok(())
     }
 
+    /// Stores the entries of the other vector in place of its own; the size stays. They are shared, as [`SparseVector::try_share`] shares
+    /// them. `AllocError` where memory is refused, and then nothing changes.
+    ///
+    /// Source: own.
+    pub fn share_entries(&mut self, other: &SparseVector) -> Result<(), AllocError>
+        requires in_range { All (λ e. e.0 < self.old.vector.size) other.now.vector.entries }
+        requires same_domain { other.now.vector.domain ≡ self.old.vector.domain }
+        ensures vector { OnOk result (self.new.vector ≡ edited_vector (λ _. other.now.vector.entries) self.old.vector) }
+        ensures assembled { OnOk result (self.new.assembled ≡ other.now.assembled) }
+        ensures err { OnErr result (self.new ≡ self.old) }
+    {
+        self.held = other.held.try_share()?;
+        Ok(())
+    }
+
     /// Merges the pending tuples and removals with the entries, and gives up the reserved places. `AllocError` where memory is
     /// refused, and then nothing changes. With n entries and p changes it takes time `O(n + p log p)`. Where nothing waits it does
     /// none of this and takes no memory.

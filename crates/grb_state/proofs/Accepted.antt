@@ -19,8 +19,9 @@ use Rattle.grb_call.specs.declared.ids.Object.TheVariants as object
 use Rattle.grb_call.specs.Kinds.{class_of}
 use Rattle.grb_call.specs.Output.{output_of, matrix_after, vector_after, matrix_left, vector_left}
 use Rattle.grb_call.specs.Refused.{is_cell_of, is_index_of}
-use Rattle.grb_call.specs.Store.{Store, empty_store, shapes_of, matrix_at, vector_at, put_matrix, put_vector}
-use Rattle.grb_call.specs.After.{refused, changed, output_changed}
+use Rattle.grb_call.specs.Store.{Store, empty_store, shapes_of, matrix_at, vector_at}
+use Rattle.grb_call.specs.After.{refused, changed}
+use Rattle.grb_call.proofs.Changed.{changed_matrix, changed_vector}
 use Rattle.grb_call.proofs.Passed.{HasPassed, has_passed, list_all-true, recursion-weaker, cell-inside, matrix_given, index-inside, vector_given}
 use Rattle.grb_state.specs.Fits.{FitsMatrix, FitsVector, ends_matrix, ends_vector}
 use Rattle.grb_state.specs.Places.{left_of}
@@ -99,20 +100,6 @@ module _ (s : Store) (v : VectorId) (x : Vector) (at : vector_at s v ≡ Some x)
 
 pub fits_vector : (s : Store) (v : VectorId) (c : Call) → output_of c ≡ Some (object.Vector v) → class_of c ≡ Edits → refused s c ≡ None → IfSome (vector_at s v) (FitsVector c)
 fits_vector s v c is edits accepted = if_some (FitsVector c) (vector_at s v) (λ x at. fits_vector_at s v x at c is edits accepted)
-
--- the store that a call leaves which changes one object
-changed_output : (s : Store) (c : Call) (o : Object) → output_of c ≡ Some o → changed s c ≡ output_changed s c (Some o)
-changed_output s (call.NewMatrix domain nrows ncols) o is = cc
-changed_output s (call.NewVector domain size) o is = cc
-changed_output s (call.DupMatrix a) o is = cc
-changed_output s (call.DupVector v) o is = cc
-changed_output s c o is = ap (output_changed s c) is
-
-pub changed_matrix : (s : Store) (a : MatrixId) (c : Call) → output_of c ≡ Some (object.Matrix a) → changed s c ≡ put_matrix s a (matrix_left s c (matrix_at s a))
-changed_matrix s a c is = changed_output s c (object.Matrix a) is
-
-pub changed_vector : (s : Store) (v : VectorId) (c : Call) → output_of c ≡ Some (object.Vector v) → changed s c ≡ put_vector s v (vector_left s c (vector_at s v))
-changed_vector s v c is = changed_output s c (object.Vector v) is
 
 -- what a call that edits leaves of its output, it leaves in each store
 matrix_after_alone : (s t : Store) (c : Call) (m : Matrix) → class_of c ≡ Edits → matrix_after s c m ≡ matrix_after t c m

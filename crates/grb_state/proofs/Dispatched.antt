@@ -1,5 +1,7 @@
 -- What an operation leaves of its output, by the call that it is.
-use Rattle.std.proofs.Common.{◌≡◌, false, true, List, sym, ap, subst, ◌∙◌, Option, Some, None, is_some}
+use Rattle.std.proofs.Common.{◌≡◌, false, true, List, ◌++◌, sym, ap, subst, ◌∙◌, Option, Some, None, is_some}
+use Rattle.std.specs.List.{list_all}
+use Rattle.std.proofs.lemmas.Bool.{and_parts}
 use Rattle.grb_core.specs.Contents.{Matrix, Vector}
 use Rattle.grb_sparse.specs.Matrix.{SparseMatrixView}
 use Rattle.grb_sparse.specs.Vector.{SparseVectorView}
@@ -11,14 +13,16 @@ use Rattle.grb_call.specs.declared.ids.VectorId.{VectorId}
 use Rattle.grb_call.specs.declared.ids.Object.{Object}
 use Rattle.grb_call.specs.declared.ids.Object.TheVariants as object
 use Rattle.grb_call.specs.Kinds.{class_of, enters}
+use Rattle.grb_call.specs.Operands.{masks}
 use Rattle.grb_call.specs.Output.{output_of, matrix_left, vector_left}
-use Rattle.grb_call.specs.Shapes.{object_at}
-use Rattle.grb_call.specs.Store.{Store, matrix_at, vector_at}
+use Rattle.grb_call.specs.Shapes.{is_live, object_at}
+use Rattle.grb_call.specs.Store.{Store, shapes_of, matrix_at, vector_at, matrix_shape, vector_shape}
 use Rattle.grb_call.specs.After.{changed, refused}
+use Rattle.grb_call.proofs.Outputs.{output-first}
+use Rattle.grb_call.proofs.Passed.{has_passed}
 use Rattle.grb_state.specs.Operation.{AreAssembled}
-use Rattle.grb_state.specs.State.{stored}
-use Rattle.grb_state.proofs.Lent.{add_matrix-tests, mult_matrix-tests, matrix_output-there, add_vector-tests, mult_vector-tests, vector_output-there}
-use Rattle.grb_state.proofs.LentProducts.{mxm_output-there, mxv_output-there, vxm_output-there, rows_output-there}
+use Rattle.grb_state.specs.State.{stored, stored_matrix, stored_vector}
+use Rattle.grb_state.proofs.Lent.{held}
 
 -- a call that reads changes nothing
 pub changed_reads : (s : Store) (c : Call) → enters c ≡ false → changed s c ≡ s
@@ -59,30 +63,18 @@ module _ (ms : List (Option SparseMatrixView)) (vs : List (Option SparseVectorVi
         let same : w ≡ out = cc in
         is_call (make out) (e ∙ ap make same)
 
-  matrix_there : (c out : MatrixId) → ◌≡◌ {A = Option Object} (Some (object.Matrix c)) (Some (object.Matrix out)) → is_some (object_at ms c.0) ≡ true → is_some (object_at ms out.0) ≡ true
-  matrix_there c out output there = let same : c ≡ out = cc in subst (λ (x : MatrixId). is_some (object_at ms x.0) ≡ true) same there
-
-  vector_there : (w out : VectorId) → ◌≡◌ {A = Option Object} (Some (object.Vector w)) (Some (object.Vector out)) → is_some (object_at vs w.0) ≡ true → is_some (object_at vs out.0) ≡ true
-  vector_there w out output there = let same : w ≡ out = cc in subst (λ (x : VectorId). is_some (object_at vs x.0) ≡ true) same there
+  -- the output of a call that is not refused is live
+  output_live : (called : Call) (o : Object) → output_of called ≡ Some o → refused (stored ms vs) called ≡ None → is_live (shapes_of (stored ms vs)) o ≡ true
+  output_live called o output accepted =
+      let first = output-first called o output in
+      (and_parts _ _ (subst (λ (os : List Object). list_all (is_live (shapes_of (stored ms vs))) (os ++ masks called) ≡ true) first.1 (has_passed (stored ms vs) called accepted).initialized)).0
 
   -- the output of an operation is there
   pub held_output_matrix : (out : MatrixId) (called : Call) → class_of called ≡ Operates → output_of called ≡ Some (object.Matrix out) → refused (stored ms vs) called ≡ None → is_some (object_at ms out.0) ≡ true
-  held_output_matrix out (call.EwiseAddMatrix c mask accum op a b d) operation output accepted =
-      matrix_there c out output (matrix_output-there ms vs c mask accum op a b (add_matrix-tests (stored ms vs) c mask accum op a b d accepted))
-  held_output_matrix out (call.EwiseMultMatrix c mask accum op a b d) operation output accepted =
-      matrix_there c out output (matrix_output-there ms vs c mask accum op a b (mult_matrix-tests (stored ms vs) c mask accum op a b d accepted))
-  held_output_matrix out (call.Mxm c mask accum semiring a b d) operation output accepted = matrix_there c out output (mxm_output-there ms vs c mask accum semiring a b d accepted)
-  held_output_matrix out _ operation output accepted = cc
+  held_output_matrix out called operation output accepted = held stored_matrix matrix_shape ms out.0 (output_live called (object.Matrix out) output accepted)
 
   pub held_output_vector : (out : VectorId) (called : Call) → class_of called ≡ Operates → output_of called ≡ Some (object.Vector out) → refused (stored ms vs) called ≡ None → is_some (object_at vs out.0) ≡ true
-  held_output_vector out (call.EwiseAddVector w mask accum op u v d) operation output accepted =
-      vector_there w out output (vector_output-there ms vs w mask accum op u v (add_vector-tests (stored ms vs) w mask accum op u v d accepted))
-  held_output_vector out (call.EwiseMultVector w mask accum op u v d) operation output accepted =
-      vector_there w out output (vector_output-there ms vs w mask accum op u v (mult_vector-tests (stored ms vs) w mask accum op u v d accepted))
-  held_output_vector out (call.Mxv w mask accum semiring a u d) operation output accepted = vector_there w out output (mxv_output-there ms vs w mask accum semiring a u d accepted)
-  held_output_vector out (call.Vxm w mask accum semiring u a d) operation output accepted = vector_there w out output (vxm_output-there ms vs w mask accum semiring u a d accepted)
-  held_output_vector out (call.ReduceRows w mask accum monoid a d) operation output accepted = vector_there w out output (rows_output-there ms vs w mask accum monoid a d accepted)
-  held_output_vector out _ operation output accepted = cc
+  held_output_vector out called operation output accepted = held stored_vector vector_shape vs out.0 (output_live called (object.Vector out) output accepted)
 
 -- what the one leaves of its output, the other does
 module _ (s : Store) (called other : Call) (e : called ≡ other) where

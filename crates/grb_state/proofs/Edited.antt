@@ -19,9 +19,10 @@ use Rattle.grb_state.specs.Places.{contents_at, left_of}
 use Rattle.grb_state.specs.declared.shared_content.SharedContent.{SharedContent}
 use Rattle.grb_state.specs.declared.shared_content.SharedContent.TheVariants as shared
 use Rattle.grb_state.specs.SharedContent.{IsAt, MayEdit, is_free}
+use Rattle.grb_call.proofs.Changed.{changed_matrix, changed_vector}
 use Rattle.grb_call.proofs.ObjectLists.{object_at-set_other}
 use Rattle.grb_state.proofs.ByNumber.{set_at}
-use Rattle.grb_state.proofs.Accepted.{changed_matrix, changed_vector, fits_matrix_at, fits_vector_at, matrix_left_alone, vector_left_alone}
+use Rattle.grb_state.proofs.Accepted.{fits_matrix_at, fits_vector_at, matrix_left_alone, vector_left_alone}
 
 -- one place more, with nothing there
 pub object_at-more : {X Y : Type 0} (f : X → Y) (xs : List (Option X)) (n : ℕ) → object_at (contents_at f (xs ++ None ∷ [])) n ≡ object_at (contents_at f xs) n

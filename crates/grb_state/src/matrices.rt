@@ -52,7 +52,7 @@ impl StoredObject for SparseMatrix {
                 Ok(())
             }
             Call::ResizeMatrix { nrows, ncols, .. } => self.resize(*nrows, *ncols),
-            Call::BuildMatrix { tuples, dup, .. } => self.build(tuples.as_slice(), *dup),
+            Call::BuildMatrix { tuples, dup, .. } => tuples.build(self, *dup),
             _ => unreachable!(),
         }
     }

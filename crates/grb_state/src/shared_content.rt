@@ -13,8 +13,7 @@ ghost use Rattle.grb_state.specs.SharedContent.{HoldSame, IsAt, MayEdit, count_o
 use crate::places::{assemble_shared, change_shared};
 use crate::shared::SharedObject;
 use crate::stored_object::StoredObject;
-use grb_call::{Call, Class};
-use grb_core::Value;
+use grb_call::{Call, Class, MatrixTuples, VectorTuples};
 use grb_sparse::{SparseMatrix, SparseVector};
 use std::alloc::{AllocError, Global};
 use std::sync::Arc;
@@ -29,35 +28,19 @@ pub enum SharedContent {
     Vector(SharedObject<SparseVector>),
 }
 
-/// Whether all these places are within the dimensions.
-fn are_cells(tuples: &[(u64, u64, Value)], nrows: u64, ncols: u64) -> bool
-    ensures { result ≡ list_all (λ e. nat_lt e.0 nrows && nat_lt e.1 ncols) tuples.now }
-{
-    tuples
-        .iter()
-        .all(|tuple| tuple.0 < nrows && tuple.1 < ncols)
-}
-
-/// Whether all these places are below the size.
-fn are_indices(tuples: &[(u64, Value)], size: u64) -> bool
-    ensures { result ≡ list_all (λ e. nat_lt e.0 size) tuples.now }
-{
-    tuples.iter().all(|tuple| tuple.0 < size)
-}
-
 /// Whether the matrix cannot be built of these tuples: it stores an entry, or one of them is outside.
-fn refuses_cells(matrix: &SparseMatrix, tuples: &[(u64, u64, Value)]) -> bool
+fn refuses_cells(matrix: &SparseMatrix, tuples: &MatrixTuples) -> bool
     ensures { result ≡ not (nvals_of matrix.now.matrix.entries == 0) || not (list_all (λ e. nat_lt e.0 matrix.now.matrix.nrows && nat_lt e.1 matrix.now.matrix.ncols) tuples.now) }
 {
     let (nrows, ncols) = matrix.dims();
-    matrix.nvals() != 0 || !are_cells(tuples, nrows, ncols)
+    matrix.nvals() != 0 || !tuples.are_within(nrows, ncols)
 }
 
 /// Whether the vector cannot be built of these tuples: it stores an entry, or one of them is outside.
-fn refuses_indices(vector: &SparseVector, tuples: &[(u64, Value)]) -> bool
+fn refuses_indices(vector: &SparseVector, tuples: &VectorTuples) -> bool
     ensures { result ≡ not (nvals_of vector.now.vector.entries == 0) || not (list_all (λ e. nat_lt e.0 vector.now.vector.size) tuples.now) }
 {
-    vector.nvals() != 0 || !are_indices(tuples, vector.dims())
+    vector.nvals() != 0 || !tuples.are_within(vector.dims())
 }
 
 impl SharedContent {
@@ -171,12 +154,12 @@ impl SharedContent {
     {
         match call {
             Call::BuildMatrix { tuples, .. } => match self {
-                SharedContent::Matrix(matrix) => refuses_cells(matrix.lent(), tuples.as_slice()),
+                SharedContent::Matrix(matrix) => refuses_cells(matrix.lent(), tuples),
                 SharedContent::Vector(_) => false,
             },
             Call::BuildVector { tuples, .. } => match self {
                 SharedContent::Matrix(_) => false,
-                SharedContent::Vector(vector) => refuses_indices(vector.lent(), tuples.as_slice()),
+                SharedContent::Vector(vector) => refuses_indices(vector.lent(), tuples),
             },
             _ => false,
         }

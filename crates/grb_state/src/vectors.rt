@@ -52,7 +52,7 @@ impl StoredObject for SparseVector {
                 Ok(())
             }
             Call::ResizeVector { size, .. } => self.resize(*size),
-            Call::BuildVector { tuples, dup, .. } => self.build(tuples.as_slice(), *dup),
+            Call::BuildVector { tuples, dup, .. } => tuples.build(self, *dup),
             _ => unreachable!(),
         }
     }

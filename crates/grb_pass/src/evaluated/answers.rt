@@ -8,13 +8,14 @@ ghost use Rattle.grb_call.specs.Store.{shapes_of};
 ghost use Rattle.grb_results.specs.Kept.{AreReady, IsKept, IsSameBut, IsTableOf, ReadsObject};
 ghost use Rattle.grb_results.specs.Results.{IsTable};
 ghost use Rattle.grb_pass.specs.Evaluated.{IsEvaluatedFor, LiesReadyAfter};
-ghost use Rattle.grb_pass.specs.Known.{known};
-ghost use Rattle.grb_pass.specs.Replying.{IsGiven, ReadsStore};
-ghost use Rattle.grb_pass.specs.Settled.{is_materialize, settled_by, waited_for};
+ghost use Rattle.grb_pass.specs.Given.{IsGiven};
+ghost use Rattle.grb_reader.specs.Known.{known};
+ghost use Rattle.grb_reader.specs.Replying.{ReadsStore};
+ghost use Rattle.grb_reader.specs.Settled.{is_materialize, settled_by, waited_for};
 
 use super::Evaluated;
-use crate::reader::Reader;
 use grb_call::{Call, Class, Extent, Object, Reply};
+use grb_reader::Reader;
 use grb_records::Records;
 use std::alloc::AllocError;
 

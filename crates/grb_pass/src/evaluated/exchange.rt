@@ -6,11 +6,11 @@ ghost use Rattle.grb_call.specs.History.{calls_of};
 ghost use Rattle.grb_results.specs.Kept.{IsSameBut, IsTableOf, KeepsAll};
 ghost use Rattle.grb_results.specs.Results.{IsTable};
 ghost use Rattle.grb_pass.specs.Evaluated.{IsEvaluatedFor};
-ghost use Rattle.grb_pass.specs.Known.{known};
+ghost use Rattle.grb_reader.specs.Known.{known};
 
 use super::Evaluated;
-use crate::reader::Reader;
 use grb_call::{Call, Object};
+use grb_reader::Reader;
 use grb_records::Records;
 use grb_slices::CallList;
 use std::alloc::AllocError;

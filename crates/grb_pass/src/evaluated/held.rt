@@ -3,12 +3,12 @@ ghost use Rattle.std.specs.Prelude.{◌≡◌, IfSome, MatchOption};
 ghost use Rattle.grb_call.specs.History.{store_of};
 ghost use Rattle.grb_state.specs.StoredIn.{IsMatrixOf, IsVectorOf};
 ghost use Rattle.grb_pass.specs.Evaluated.{IsEvaluatedFor, LiesReady};
-ghost use Rattle.grb_pass.specs.Known.{known};
-ghost use Rattle.grb_pass.specs.Settled.{MayLackMatrix, MayLackVector};
+ghost use Rattle.grb_reader.specs.Known.{known};
+ghost use Rattle.grb_reader.specs.Settled.{MayLackMatrix, MayLackVector};
 
 use super::Evaluated;
-use crate::reader::Reader;
 use grb_call::{MatrixId, VectorId};
+use grb_reader::Reader;
 use grb_sparse::{SparseMatrix, SparseVector};
 use std::sync::Arc;
 

@@ -8,11 +8,11 @@ ghost use Rattle.grb_state.specs.Live.{live_store};
 ghost use Rattle.grb_rebuild.specs.Rebuilding.{IsNoSuccessor, IsRebuild};
 ghost use Rattle.grb_rebuild.specs.Renumbered.{AreRenumbered};
 ghost use Rattle.grb_pass.specs.Evaluated.{IsAssembled, IsEvaluatedFor};
-ghost use Rattle.grb_pass.specs.Known.{known};
+ghost use Rattle.grb_reader.specs.Known.{known};
 
 use super::Evaluated;
 use super::exchange::DEAR;
-use crate::reader::Reader;
+use grb_reader::Reader;
 use grb_rebuild::{NoSuccessor, Rebuild, Renumbered, rebuild_all, rebuild_live};
 use grb_records::Records;
 use grb_state::State;

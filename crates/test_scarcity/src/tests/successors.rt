@@ -1,5 +1,6 @@
 //! A successor with ever more memory, from none on, each time of a store of its own, until it is not refused. No contract says that memory
-//! is refused, or what the old pass and the new ones answer then.
+//! is refused, or what the old pass and the new ones answer then. And one of a large object, with less memory than its entries take: no
+//! contract says that they are shared.
 ghost use Rattle.std.specs.Prelude.{◌<◌, ◌≤◌, IfOk};
 ghost use Rattle.grb_order.specs.declared.limits.TheConstants.{MOST_PASSES, MOST_ROOM, MOST_SEATS};
 ghost use Rattle.grb_context.specs.Known.{IsPassOf};
@@ -9,9 +10,9 @@ use crate::tests::memory::{STEP, TRIALS, hold_all, leave, leave_ample};
 use crate::tests::same::same;
 use crate::tests::shown::Shown;
 use crate::tests::stores::{Answer, Store, answers_to, make_all, open, with_two};
-use grb_call::{Call, Reply};
+use grb_call::{Call, Reply, VectorId, VectorTuples};
 use grb_context::{Context, NoSuccessor, Pass};
-use grb_core::{Refusal, Value};
+use grb_core::{Domain, Monoid, Refusal, Value};
 use grb_scarcity::{Hoard, SPARE};
 use std::alloc::{AllocError, Global};
 use std::fs::Files;
@@ -78,6 +79,9 @@ const ANSWERS: [Answer; 11] = [
     Ok(Reply::Value(Value::Uint64(6))),
     Err(Refusal::UninitializedObject),
 ];
+
+/// So many entries take three times the memory that is left, and more.
+const MANY: u64 = 20_000;
 
 /// Which numbers a successor has.
 #[derive(Clone, Copy, Debug, PartialEq, Eq)]
@@ -282,4 +286,77 @@ fn a_successor_is_refused_in_turn(rt: HostRuntime) -> Result<(), Fail> {
 #[test]
 fn a_successor_without_freed_numbers_is_refused_in_turn(rt: HostRuntime) -> Result<(), Fail> {
     sweep(&rt, Numbers::Lowest)
+}
+
+/// A vector of many ones.
+fn many(alloc: Global) -> Result<VectorTuples, AllocError> {
+    let mut tuples = Vec::new(alloc);
+    for i in 0..MANY {
+        tuples.push((i, Value::Uint64(1)))?;
+    }
+    VectorTuples::from_vec(tuples)
+}
+
+/// The calls that make a vector of many ones, and the one that counts them.
+fn calls_of_many(alloc: Global) -> Result<(Vec<Call>, Vec<Call>), AllocError> {
+    let v = VectorId(0);
+    let mut made = Vec::new(alloc);
+    made.push(Call::NewVector {
+        domain: Domain::Uint64,
+        size: MANY,
+    })?;
+    made.push(Call::BuildVector {
+        v,
+        tuples: many(alloc)?,
+        dup: Monoid::Plus,
+    })?;
+    let mut counted = Vec::new(alloc);
+    counted.push(Call::NvalsVector { v })?;
+    Ok((made, counted))
+}
+
+/// With less memory than the entries take the successor is made, and counts them.
+fn expect_shared<R: Abort + Files + AllocGlobal>(
+    rt: &R,
+    context: &Context,
+    pass: &mut Pass,
+    counted: &[Call],
+)
+    requires { IsPassOf context.now pass.old }
+{
+    let mut hoard = hold_all(rt, 10);
+    leave_ample(rt, &mut hoard);
+    match succeed(rt, rt.alloc(), context, pass) {
+        Ok(mut next) => {
+            let answers = answers_to(rt, &next.context, &mut next.q, counted);
+            same(
+                rt,
+                answers.as_slice(),
+                &[Ok(Reply::Count(MANY))],
+                "the entries",
+            );
+        }
+        Err(no) => panic!(rt; "no successor: {no:?}"),
+    }
+}
+
+/// Makes the vector and reads it, so that it is evaluated.
+fn make_many<R: Abort + Files + AllocGlobal>(
+    rt: &R,
+    context: &Context,
+    pass: &mut Pass,
+) -> Result<(), AllocError>
+    requires { IsPassOf context.now pass.old }
+{
+    let (made, counted) = calls_of_many(rt.alloc())?;
+    make_all(rt, context, pass, &made);
+    make_all(rt, context, pass, &counted);
+    expect_shared(rt, context, pass, &counted);
+    Ok(())
+}
+
+#[test]
+fn a_successor_copies_no_entry(rt: HostRuntime) -> Result<(), AllocError> {
+    let mut store = open(&rt, rt.alloc(), ROOM);
+    make_many(&rt, &store.context, &mut store.p)
 }

@@ -1,5 +1,5 @@
-//! Records that two threads put. A contract lets a record not be taken, or not be shown; that each is, with threads at work, is seen here.
-//! No script names a record.
+//! Records that two threads put, and tokens of them. A contract lets a record not be taken, or not be shown; that each is, with threads at
+//! work, is seen here. No script names a record.
 use crate::tests::same::same;
 use grb_call::{Call, VectorId};
 use grb_core::{Refusal, Value};
@@ -64,5 +64,23 @@ fn two_threads_put_each_in_its_row_and_both_are_shown_all(rt: HostRuntime) -> Re
     same(&rt, (a, b), (50, 50), "records put by each");
     let (a, b) = join(&rt, || shown_as_put(&records), || shown_as_put(&records));
     same(&rt, (a, b), (100, 100), "records shown to each");
+    Ok(())
+}
+
+#[test]
+fn tokens_of_one_record_are_the_same_and_of_two_with_one_call_are_not(
+    rt: HostRuntime,
+) -> Result<(), Fail> {
+    let records = Records::open(rt.alloc(), 2, 2)?;
+    let mut put = records.put(0, 0, set(7)).expect(&rt, "a first record");
+    let mut next = records.put(0, 1, set(7)).expect(&rt, "one next to it");
+    let mut other = records.put(1, 0, set(7)).expect(&rt, "one of another");
+    let (_, mut shown) = records.show(0, 0).expect(&rt, "the first, shown");
+    let is_same = records.same(&mut put, &mut shown);
+    same(&rt, is_same, true, "the token put and the token shown");
+    let is_same = records.same(&mut put, &mut next);
+    same(&rt, is_same, false, "two records in one row");
+    let is_same = records.same(&mut put, &mut other);
+    same(&rt, is_same, false, "two first records, of two rows");
     Ok(())
 }

@@ -1,6 +1,6 @@
 use Rattle.std.proofs.Common.{get_or, Err}
 use Rattle.std.proofs.lemmas.List.Sorted.{searched}
-use Rattle.grb_rows.proofs.FlatLists.{not_there}
+use Rattle.grb_lists.proofs.FlatLists.{not_there}
 use Rattle.grb_ewise.proofs.ranks.place_of.Goals as goal
 
 pub returns-in-Err-clause-absent : goal.returns-in-Err-clause-absent

@@ -1,7 +1,7 @@
 use Rattle.std.proofs.Common.{rules, List, ◌≡◌, ◌≤◌, ◌+◌, ◌<◌, ℕ, [], ◌∷◌, ◌++◌, length, drop, ap, subst, ◌∙◌, arith, get_or}
 use Rattle.std.proofs.lemmas.List.{length-drop}
 use Rattle.grb_kernels.specs.Typed.{entries_of}
-use Rattle.grb_rows.specs.Cells.{decoded}
+use Rattle.grb_lists.specs.Cells.{decoded}
 use Rattle.grb_ewise.proofs.RowEntries.{holds}
 use Rattle.grb_ewise.proofs.MatrixRows.{rows_from-all}
 use Rattle.grb_ewise.proofs.RowMerges.{turn, stands, one_goes_on, at_one, filled, filling_begins, filling_ends, fit-dropped, merged_in_order, parted}

@@ -2,7 +2,7 @@ use Rattle.std.proofs.Common.{◌≡◌, ◌+◌, ◌≤◌, ◌-◌, length}
 use Rattle.std.specs.Vec.{vec_len, vec_capacity}
 use Rattle.grb_core.specs.Entries.{cell_cmp}
 use Rattle.grb_core.specs.Written.{pointwise}
-use Rattle.grb_rows.specs.Cells.{decoded}
+use Rattle.grb_lists.specs.Cells.{decoded}
 use Rattle.grb_ewise.proofs.RowMerges.{IsFilling}
 use Rattle.grb_ewise.proofs.rows.fill_rows.Given as goal
 

@@ -1,6 +1,6 @@
 use Rattle.std.proofs.Common.{refl, sym}
 use Rattle.grb_core.specs.Entries.{cells_of}
-use Rattle.grb_rows.proofs.Places.{holds}
+use Rattle.grb_lists.proofs.Places.{holds}
 use Rattle.grb_market.proofs.EntryMaps.{written_out-general, unless_not}
 use Rattle.grb_market.proofs.SideLemmas.{written_out-sides}
 use Rattle.grb_market.proofs.reader.written_out.Goals as goal

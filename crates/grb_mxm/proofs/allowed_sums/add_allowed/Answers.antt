@@ -9,10 +9,10 @@ use Rattle.grb_core.specs.Monoid.{monoid_op}
 use Rattle.grb_core.specs.Written.{either_value, both_values}
 use Rattle.grb_kernels.specs.Typed.{entries_of, entries_from, first_entries}
 use Rattle.grb_kernels.proofs.Lists.{from-read, first-read}
-use Rattle.grb_products.specs.Open.{marked_at}
-use Rattle.grb_mxm.specs.Bits.{allowed_of, summed_of}
-use Rattle.grb_mxm.proofs.RowSums.{all_and, below_rest, rest_ordered}
-use Rattle.grb_mxm.proofs.MaskedSums.{allowed_step}
+use Rattle.grb_semirings.specs.Open.{marked_at}
+use Rattle.grb_mxm.specs.AllowedSums.{allowed_of, summed_of}
+use Rattle.grb_sums.proofs.SummedRow.{all_and, below_rest, rest_ordered}
+use Rattle.grb_sums.proofs.Adding.{allowed_step}
 use Rattle.grb_mxm.proofs.allowed_sums.add_allowed.Goals as goal
 
 pub row-preserved : goal.row-preserved

@@ -8,8 +8,9 @@ use Rattle.grb_core.specs.Operator.{value_of_op}
 use Rattle.grb_core.specs.Monoid.{monoid_op, identity_of}
 use Rattle.grb_core.specs.Written.{either_value, both_values}
 use Rattle.grb_kernels.specs.Typed.{entries_of, entries_from, first_entries}
-use Rattle.grb_products.specs.Open.{marked_at}
-use Rattle.grb_mxm.specs.Bits.{HoldUnmarked, allowed_of, summed_of}
+use Rattle.grb_semirings.specs.Open.{marked_at}
+use Rattle.grb_sums.specs.Marks.{HoldUnmarked}
+use Rattle.grb_mxm.specs.AllowedSums.{allowed_of, summed_of}
 use Rattle.grb_mxm.proofs.allowed_sums.add_allowed.Given as goal
 
 -- where it is allowed, the sums so far with what is left of the row are all

@@ -4,11 +4,12 @@ use Rattle.std.proofs.lemmas.List.{length-set}
 use Rattle.grb_core.specs.Operator.{value_of_op}
 use Rattle.grb_core.specs.Monoid.{monoid_op, identity_of}
 use Rattle.grb_core.specs.Written.{either_value}
-use Rattle.grb_products.specs.Open.{marked_at}
-use Rattle.grb_products.proofs.Marks.{marked-read, marked-set_same, marked-set_other}
-use Rattle.grb_mxm.specs.Bits.{is_allowed, summed_of, HoldUnmarked}
-use Rattle.grb_mxm.proofs.Cleared.{hold_marked}
-use Rattle.grb_mxm.proofs.RowSums.{here_or_not, first_sum}
+use Rattle.grb_semirings.specs.Open.{marked_at}
+use Rattle.grb_semirings.proofs.Marks.{marked-read, marked-set_same, marked-set_other}
+use Rattle.grb_mxm.specs.AllowedSums.{is_allowed, summed_of}
+use Rattle.grb_sums.specs.Marks.{HoldUnmarked}
+use Rattle.grb_sums.proofs.Cleared.{hold_marked}
+use Rattle.grb_sums.proofs.SummedRow.{here_or_not, first_sum}
 use Rattle.grb_mxm.proofs.States.{length-summed, summed-set, allowed-same, allowed-read}
 use Rattle.grb_mxm.proofs.allowed_sums.add_where.Goals as goal
 

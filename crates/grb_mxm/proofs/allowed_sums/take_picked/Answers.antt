@@ -4,10 +4,12 @@ use Rattle.std.proofs.lemmas.List.{length-set}
 use Rattle.grb_core.specs.Monoid.{identity_of}
 use Rattle.grb_core.specs.Entries.{before_entries}
 use Rattle.grb_kernels.specs.Typed.{kept, first_entries}
-use Rattle.grb_products.specs.Open.{marked_at}
-use Rattle.grb_products.proofs.Marks.{marked-read, marked-set_other}
-use Rattle.grb_mxm.specs.Rows.{name_in, picked}
-use Rattle.grb_mxm.specs.Bits.{allowed_of, summed_of, HoldUnmarked}
+use Rattle.grb_semirings.specs.Open.{marked_at}
+use Rattle.grb_semirings.proofs.Marks.{marked-read, marked-set_other}
+use Rattle.grb_sums.specs.Naming.{name_in}
+use Rattle.grb_mxm.specs.Rows.{picked}
+use Rattle.grb_mxm.specs.AllowedSums.{allowed_of, summed_of}
+use Rattle.grb_sums.specs.Marks.{HoldUnmarked}
 use Rattle.grb_mxm.proofs.MaskedSums.{picked_step, picked_all, left_gone, hold_gone, none_left}
 use Rattle.grb_mxm.proofs.States.{length-allowed, length-summed, allowed-set, summed-set, summed-read, none_summed, no_state, hold_all}
 use Rattle.grb_mxm.proofs.allowed_sums.take_picked.Goals as goal

@@ -1,9 +1,11 @@
 use Rattle.std.proofs.Common.{◌≡◌, ◌<◌, ◌≤◌, ◌++◌, ℕ, length, get_or, true, false, drop}
 use Rattle.grb_core.specs.Monoid.{identity_of}
 use Rattle.grb_kernels.specs.Typed.{first_entries}
-use Rattle.grb_products.specs.Open.{marked_at}
-use Rattle.grb_mxm.specs.Rows.{name_in, picked}
-use Rattle.grb_mxm.specs.Bits.{HoldUnmarked, allowed_of, summed_of}
+use Rattle.grb_semirings.specs.Open.{marked_at}
+use Rattle.grb_sums.specs.Naming.{name_in}
+use Rattle.grb_mxm.specs.Rows.{picked}
+use Rattle.grb_sums.specs.Marks.{HoldUnmarked}
+use Rattle.grb_mxm.specs.AllowedSums.{allowed_of, summed_of}
 use Rattle.grb_mxm.proofs.allowed_sums.take_picked.Given as goal
 
 -- the entries so far, and those of the places that are left, where the sums are as they were and what is still allowed stands

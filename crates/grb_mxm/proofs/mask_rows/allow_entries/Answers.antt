@@ -7,7 +7,7 @@ use Rattle.std.proofs.lemmas.List.{get_or-set_same, get_or-set_other}
 use Rattle.grb_core.specs.Mask.{selects}
 use Rattle.grb_kernels.specs.Typed.{entries_from}
 use Rattle.grb_kernels.proofs.Lists.{from-read, from-all}
-use Rattle.grb_mxm.specs.Bits.{allowed_of, summed_of}
+use Rattle.grb_mxm.specs.AllowedSums.{allowed_of, summed_of}
 use Rattle.grb_mxm.proofs.MaskedSums.{allowed_by}
 use Rattle.grb_mxm.proofs.States.{length-allowed, length-summed, allowed-set, summed-set, none_allowed, none_summed}
 use Rattle.grb_mxm.proofs.mask_rows.allow_entries.Goals as goal

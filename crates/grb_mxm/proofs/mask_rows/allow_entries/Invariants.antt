@@ -3,7 +3,7 @@ use Rattle.std.specs.Ordering.{nat_cmp}
 use Rattle.std.specs.FinMap.{find}
 use Rattle.grb_core.specs.Mask.{selects}
 use Rattle.grb_kernels.specs.Typed.{entries_from}
-use Rattle.grb_mxm.specs.Bits.{allowed_of, summed_of}
+use Rattle.grb_mxm.specs.AllowedSums.{allowed_of, summed_of}
 use Rattle.grb_mxm.proofs.mask_rows.allow_entries.Given as goal
 
 -- those from i on are allowed, as they select

@@ -1,10 +1,10 @@
 use Rattle.std.proofs.Common.{◌≡◌, arith, map}
 use Rattle.grb_core.specs.Entries.{values_of}
 use Rattle.grb_core.specs.Results.{row_of}
-use Rattle.grb_rows.specs.Cells.{decoded}
+use Rattle.grb_lists.specs.Cells.{decoded}
 use Rattle.grb_ewise.proofs.Lent.{lent, lent-same, lent-rising}
 use Rattle.grb_ewise.proofs.RowEntries.{row_in_order}
-use Rattle.grb_mxm.proofs.RowSpans.{columns-long, values-long, row-columns, row-values}
+use Rattle.grb_sums.proofs.RowSpans.{columns-long, values-long, row-columns, row-values}
 use Rattle.grb_mxm.proofs.masked_rows.row_numbered.Goals as goal
 
 pub part-requires-clause-within : goal.part-requires-clause-within

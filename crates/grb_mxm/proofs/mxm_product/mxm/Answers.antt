@@ -6,7 +6,7 @@ use Rattle.grb_core.specs.Contents.{edited_matrix}
 use Rattle.grb_core.specs.Mask.{is_inside}
 use Rattle.grb_core.specs.Results.{turned}
 use Rattle.grb_core.specs.Written.{written}
-use Rattle.grb_rows.specs.Cells.{decoded}
+use Rattle.grb_lists.specs.Cells.{decoded}
 use Rattle.grb_mxm.specs.Rows.{selected_product}
 use Rattle.grb_mxm.proofs.MaskedProduct.{written-bounded}
 use Rattle.grb_mxm.proofs.mxm_product.mxm.Goals as goal

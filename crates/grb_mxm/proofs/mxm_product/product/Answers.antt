@@ -1,6 +1,6 @@
 use Rattle.std.proofs.Common.{ℕ, ap, sym, ◌∙◌}
 use Rattle.grb_core.specs.declared.domain.Domain.TheVariants as domain
-use Rattle.grb_rows.specs.Cells.{decoded}
+use Rattle.grb_lists.specs.Cells.{decoded}
 use Rattle.grb_mxm.proofs.WholeProduct.{product_whole}
 use Rattle.grb_mxm.proofs.mxm_product.product.Goals as goal
 

@@ -1,7 +1,7 @@
 use Rattle.std.proofs.Common.{ℕ, List, ap, sym, ◌∙◌, get_or, take}
 use Rattle.grb_core.specs.Results.{row_of}
 use Rattle.grb_mxm.proofs.Making.{making_begins, made_row, making_ends, same_taken}
-use Rattle.grb_mxm.proofs.Renamed.{holds}
+use Rattle.grb_sums.proofs.Renamed.{holds}
 use Rattle.grb_mxm.proofs.rows.make_rows.Goals as goal
 
 pub rows-init : goal.rows-init

@@ -1,6 +1,6 @@
 use Rattle.std.proofs.Common.{◌≡◌, take}
 use Rattle.std.specs.Prelude.{min}
-use Rattle.grb_rows.specs.Cells.{decoded}
+use Rattle.grb_lists.specs.Cells.{decoded}
 use Rattle.grb_mxm.specs.Rows.{products_count}
 use Rattle.grb_mxm.proofs.whole_rows.products_up_to.Given as goal
 

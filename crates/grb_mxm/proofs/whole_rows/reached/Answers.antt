@@ -4,12 +4,12 @@ use Rattle.std.specs.FinMap.{find}
 use Rattle.std.proofs.lemmas.Bool.{cases_eq}
 use Rattle.std.proofs.lemmas.List.Elements.{recursion_from_All}
 use Rattle.grb_core.specs.Results.{row_of}
-use Rattle.grb_rows.specs.Cells.{decoded}
-use Rattle.grb_mxm.specs.Rows.{name_in}
-use Rattle.grb_mxm.specs.Reach.{IsOutside}
+use Rattle.grb_lists.specs.Cells.{decoded}
+use Rattle.grb_sums.specs.Naming.{name_in}
+use Rattle.grb_sums.specs.Reach.{IsOutside}
 use Rattle.grb_mxm.proofs.Names.{places-rise}
-use Rattle.grb_mxm.proofs.Reach.{find-none}
-use Rattle.grb_mxm.proofs.Renamed.{find-renamed}
+use Rattle.grb_sums.proofs.Reach.{find-none}
+use Rattle.grb_sums.proofs.Renamed.{find-renamed}
 use Rattle.grb_mxm.proofs.whole_rows.reached.Goals as goal
 
 -- outside of more is outside of less

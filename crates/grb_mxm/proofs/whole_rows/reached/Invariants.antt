@@ -3,9 +3,9 @@ use Rattle.std.specs.Prelude.{None}
 use Rattle.std.specs.Ordering.{nat_cmp}
 use Rattle.std.specs.FinMap.{find}
 use Rattle.grb_core.specs.Results.{row_of}
-use Rattle.grb_rows.specs.Cells.{decoded}
-use Rattle.grb_mxm.specs.Rows.{name_in}
-use Rattle.grb_mxm.specs.Reach.{IsOutside}
+use Rattle.grb_lists.specs.Cells.{decoded}
+use Rattle.grb_sums.specs.Naming.{name_in}
+use Rattle.grb_sums.specs.Reach.{IsOutside}
 use Rattle.grb_mxm.proofs.whole_rows.reached.Given as goal
 
 -- the rows so far store nothing outside

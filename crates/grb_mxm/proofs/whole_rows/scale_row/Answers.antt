@@ -7,8 +7,8 @@ use Rattle.grb_core.specs.Operator.{value_of_op}
 use Rattle.grb_core.specs.Entries.{VectorEntries}
 use Rattle.grb_kernels.specs.Typed.{first_entries}
 use Rattle.grb_kernels.proofs.Lists.{first-set_more, first-read, first-all}
-use Rattle.grb_products.specs.ColumnSums.{with_values}
-use Rattle.grb_mxm.specs.Rows.{name_in, renamed}
+use Rattle.grb_sums.specs.ColumnSums.{with_values}
+use Rattle.grb_sums.specs.Naming.{name_in, renamed}
 use Rattle.grb_mxm.proofs.Names.{few-below}
 use Rattle.grb_mxm.proofs.ScaledRow.{scaled_more, all_scaled_more}
 use Rattle.grb_mxm.proofs.whole_rows.scale_row.Goals as goal

@@ -3,8 +3,8 @@ use Rattle.std.specs.List.{AllByRecursion}
 use Rattle.grb_core.specs.Value.{IsValueOf}
 use Rattle.grb_core.specs.Operator.{value_of_op}
 use Rattle.grb_kernels.specs.Typed.{first_entries}
-use Rattle.grb_products.specs.ColumnSums.{with_values}
-use Rattle.grb_mxm.specs.Rows.{name_in, renamed}
+use Rattle.grb_sums.specs.ColumnSums.{with_values}
+use Rattle.grb_sums.specs.Naming.{name_in, renamed}
 use Rattle.grb_mxm.proofs.whole_rows.scale_row.Given as goal
 
 -- the entries so far, and that what is made of them is of the domain

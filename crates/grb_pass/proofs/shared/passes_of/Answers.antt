@@ -4,7 +4,7 @@ use Rattle.grb_order.specs.View.{fresh}
 use Rattle.grb_order.specs.Holding.{Holding, TableId}
 use Rattle.grb_order.specs.Order.{room_of}
 use Rattle.grb_call.specs.Statuses.{no_rows}
-use Rattle.grb_pass.specs.Known.{Knowing, none_made, AreNew}
+use Rattle.grb_reader.specs.Known.{Knowing, none_made, AreNew}
 use Rattle.grb_pass.proofs.Opening.{next_seat, fresh_at, new_at, new_more, all_opened, none_left}
 use Rattle.grb_pass.proofs.shared.passes_of.Goals as goal
 

@@ -13,8 +13,8 @@ use Rattle.grb_slices.specs.SliceFor.{IsSliceFor}
 use Rattle.grb_slices.specs.Wanted.{Marks, is_wanted}
 use Rattle.grb_slices.proofs.Walked.{or_nothing}
 use Rattle.grb_slices.proofs.Wants.{is_same_object-self}
-use Rattle.grb_replay.specs.Targets.{WalkedCalls}
-use Rattle.grb_replay.proofs.NextTarget.{walked_all}
+use Rattle.grb_slices.specs.Targets.{WalkedCalls}
+use Rattle.grb_slices.proofs.NextTarget.{walked_all}
 use Rattle.grb_replay.proofs.Valued.{not_there, length_all, slice_is, length_none}
 use Rattle.grb_replay.proofs.value.value_of.Goals as goal
 

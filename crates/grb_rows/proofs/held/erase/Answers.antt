@@ -4,11 +4,11 @@ use Rattle.std.proofs.lemmas.Bool.{cases_Bool}
 use Rattle.std.specs.Ordering.{nat_cmp}
 use Rattle.std.specs.FinMap.{find, is_sorted}
 use Rattle.grb_rows.specs.Pending.{Change}
-use Rattle.grb_rows.specs.Stored.{RowView}
+use Rattle.grb_lists.specs.Stored.{RowView}
 use Rattle.grb_rows.specs.Held.{stored, IsLaid}
 use Rattle.grb_rows.specs.Layers.{IsPlaced}
 use Rattle.grb_rows.proofs.LaidOut.{find-pushed, laid-pushed, find-same, stands-over, nothing_there}
-use Rattle.grb_rows.proofs.Places.{holds}
+use Rattle.grb_lists.proofs.Places.{holds}
 use Rattle.grb_rows.proofs.Layered.{StandsAt, stands_found, some_found, placed-pushed}
 use Rattle.grb_rows.proofs.held.erase.Goals as goal
 

@@ -2,9 +2,9 @@ use Rattle.std.proofs.Common.{◌∙◌, ap, sym, Some, None}
 use Rattle.std.specs.Prelude.{is_some}
 use Rattle.std.specs.Ordering.{nat_cmp}
 use Rattle.std.specs.FinMap.{find}
-use Rattle.grb_rows.specs.Stored.{RowView}
+use Rattle.grb_lists.specs.Stored.{RowView}
 use Rattle.grb_rows.proofs.LaidOut.{find-pushed, laid-pushed, stands-over}
-use Rattle.grb_rows.proofs.Places.{holds}
+use Rattle.grb_lists.proofs.Places.{holds}
 use Rattle.grb_rows.proofs.Layered.{StandsAt, stands_nowhere, placed-pushed}
 use Rattle.grb_rows.proofs.held.store.Goals as goal
 

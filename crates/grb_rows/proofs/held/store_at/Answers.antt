@@ -3,11 +3,11 @@ use Rattle.std.specs.Prelude.{is_some}
 use Rattle.std.specs.Ordering.{nat_cmp}
 use Rattle.std.specs.FinMap.{find}
 use Rattle.grb_rows.specs.Pending.{Change, over}
-use Rattle.grb_rows.specs.Stored.{RowView}
+use Rattle.grb_lists.specs.Stored.{RowView}
 use Rattle.grb_rows.specs.Held.{stored, IsLaid}
 use Rattle.grb_rows.specs.Layers.{IsPlaced}
 use Rattle.grb_rows.proofs.LaidOut.{stands-stored, find-written, laid-written, find-pushed, laid-pushed, stands-over}
-use Rattle.grb_rows.proofs.Places.{holds}
+use Rattle.grb_lists.proofs.Places.{holds}
 use Rattle.grb_rows.proofs.Layered.{StandsAt, stands_at, placed-pushed, placed-written}
 use Rattle.grb_rows.proofs.held.store_at.Goals as goal
 

@@ -4,9 +4,9 @@ use Rattle.grb_core.specs.declared.value.Value.{Value}
 use Rattle.grb_core.specs.declared.value.Value.TheVariants as value
 use Rattle.grb_core.specs.Entries.{VectorEntries}
 use Rattle.grb_core.specs.Contents.{is_cell_in}
-use Rattle.grb_rows.specs.Cells.{cell_of}
-use Rattle.grb_rows.specs.Stored.{RowView}
-use Rattle.grb_rows.proofs.Places.{holds}
+use Rattle.grb_lists.specs.Cells.{cell_of}
+use Rattle.grb_lists.specs.Stored.{RowView}
+use Rattle.grb_lists.proofs.Places.{holds}
 use Rattle.grb_rows.proofs.Kept.{kept-waits, kept-copied, kept-below}
 use Rattle.grb_rows.proofs.merge.keep_within.Goals as goal
 use Rattle.grb_rows.proofs.merge.keep_within.Goals.{then-not-inside+in_ok-keep, else-not-inside}

@@ -2,7 +2,7 @@ use Rattle.std.proofs.Common.{◌≡◌, ◌<◌, ◌≤◌, ◌++◌, ℕ, get_
 use Rattle.std.specs.List.{AllByRecursion}
 use Rattle.grb_core.specs.declared.value.Value.{Value}
 use Rattle.grb_core.specs.Contents.{is_cell_in}
-use Rattle.grb_rows.specs.Cells.{cell_of}
+use Rattle.grb_lists.specs.Cells.{cell_of}
 use Rattle.grb_rows.proofs.Kept.{kept}
 use Rattle.grb_rows.proofs.merge.keep_within.Given as goal
 

@@ -4,7 +4,7 @@ use Rattle.std.specs.List.{AllByRecursion}
 use Rattle.grb_core.specs.declared.value.Value.{Value}
 use Rattle.grb_core.specs.Entries.{VectorEntries}
 use Rattle.grb_rows.specs.Pending.{Change, changed_at}
-use Rattle.grb_rows.proofs.Places.{holds}
+use Rattle.grb_lists.proofs.Places.{holds}
 use Rattle.grb_rows.proofs.Merging.{so_far-all, RowBelow, entry_above, change_above, run_more, change_passed, row_below_passed, changes_below_passed}
 use Rattle.grb_rows.proofs.merge.merged.Goals as goal
 

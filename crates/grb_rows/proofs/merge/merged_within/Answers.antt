@@ -4,10 +4,10 @@ use Rattle.std.specs.List.{AllByRecursion}
 use Rattle.grb_core.specs.declared.value.Value.{Value}
 use Rattle.grb_core.specs.Entries.{VectorEntries, restricted}
 use Rattle.grb_core.specs.Contents.{is_cell_in}
-use Rattle.grb_rows.specs.Cells.{cell_of}
+use Rattle.grb_lists.specs.Cells.{cell_of}
 use Rattle.grb_rows.specs.Pending.{Change, changed_at}
-use Rattle.grb_rows.proofs.Places.{holds}
-use Rattle.grb_rows.proofs.Cut.{all-restricted}
+use Rattle.grb_lists.proofs.Places.{holds}
+use Rattle.grb_lists.proofs.Cut.{all-restricted}
 use Rattle.grb_rows.proofs.Kept.{kept_so_far, restricted_changed}
 use Rattle.grb_rows.proofs.Merging.{so_far, so_far-all, RowBelow, entry_above, change_above, change_passed, row_below_passed, changes_below_passed}
 use Rattle.grb_rows.proofs.merge.merged_within.Goals as goal

@@ -1,5 +1,5 @@
 use Rattle.std.proofs.Common.{◌≡◌, ◌-◌, ◌≤◌, length}
-use Rattle.grb_rows.specs.Cells.{entries_within}
+use Rattle.grb_lists.specs.Cells.{entries_within}
 use Rattle.grb_rows.proofs.Merging.{so_far, RowBelow, ChangesBelow}
 use Rattle.grb_rows.proofs.merge.merged_within.Given as goal
 

@@ -1,6 +1,6 @@
 use Rattle.std.proofs.Common.{◌∙◌, sym, ap}
 use Rattle.grb_rows.specs.Pending.{changed_at}
-use Rattle.grb_rows.proofs.Ends.{put-end, without-end}
+use Rattle.grb_lists.proofs.Ends.{put-end, without-end}
 use Rattle.grb_rows.proofs.merge.store_last.Goals as goal
 
 pub returns-in-Some-clause-entries : goal.returns-in-Some-clause-entries

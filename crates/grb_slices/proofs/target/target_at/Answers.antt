@@ -1,5 +1,5 @@
 use Rattle.std.proofs.Common.{sym, ◌∙◌}
-use Rattle.grb_slices.proofs.Targets.{no_target, its_target}
+use Rattle.grb_slices.proofs.EffectiveTarget.{no_target, its_target}
 use Rattle.grb_slices.proofs.target.target_at.Goals as goal
 
 pub returns-in-Err : goal.returns-in-Err

@@ -5,7 +5,7 @@ use Rattle.grb_core.specs.Value.{value_domain, IsValueOf}
 use Rattle.grb_core.specs.Operator.{value_of_op}
 use Rattle.grb_core.specs.Monoid.{monoid_domain, monoid_op}
 use Rattle.grb_core.proofs.MonoidLaws.{monoid_laws}
-use Rattle.grb_rows.proofs.Places.{holds}
+use Rattle.grb_lists.proofs.Places.{holds}
 use Rattle.grb_sparse.proofs.Building.{added_at_last}
 use Rattle.grb_sparse.proofs.InOrder.{added_new, all_below, ties, domain_is}
 use Rattle.grb_sparse.proofs.tuples.add.Goals as goal

@@ -1,7 +1,7 @@
 use Rattle.std.proofs.Common.{◌≡◌, ◌∙◌, ap}
 use Rattle.grb_core.specs.Entries.{MatrixEntries, cell_cmp}
 use Rattle.grb_core.specs.Written.{pointwise}
-use Rattle.grb_rows.specs.Cells.{decoded}
+use Rattle.grb_lists.specs.Cells.{decoded}
 use Rattle.grb_ewise.proofs.Made.{matrix_made}
 use Rattle.grb_ewise.proofs.objects.SparseMatrixSparseObject.merged.Goals as goal
 

@@ -1,6 +1,6 @@
 use Rattle.std.proofs.Common.{Bool, ap, sym, ◌∙◌}
 use Rattle.grb_core.specs.declared.value.Value.TheVariants as value
-use Rattle.grb_rows.specs.Cells.{codes_of, decoded}
+use Rattle.grb_lists.specs.Cells.{codes_of, decoded}
 use Rattle.grb_ewise.proofs.Lent.{entries-paired}
 use Rattle.grb_ewise.proofs.RowEntries.{codes_in_order}
 use Rattle.grb_ewise.proofs.stored.BoolStored.keep.Goals as goal

@@ -1,6 +1,6 @@
 use Rattle.std.proofs.Common.{get_or}
 use Rattle.grb_core.specs.Results.{row_of}
-use Rattle.grb_rows.specs.Cells.{decoded}
+use Rattle.grb_lists.specs.Cells.{decoded}
 use Rattle.grb_ewise.proofs.Lent.{lent, lent-same, lent-rising}
 use Rattle.grb_ewise.proofs.RowEntries.{row_in_order}
 use Rattle.grb_ewise.proofs.stored.Stored.row.Goals as goal

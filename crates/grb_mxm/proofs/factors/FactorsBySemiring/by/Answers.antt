@@ -2,7 +2,7 @@ use Rattle.std.proofs.Common.{◌≡◌, ◌<◌, ℕ, List, refl, ap, sym, subs
 use Rattle.std.specs.Prelude.{map, Option, Some, None, IfSome}
 use Rattle.std.specs.List.{Contains}
 use Rattle.std.proofs.lemmas.List.Elements.{recursion_from_All}
-use Rattle.grb_mxm.specs.Rows.{name_in}
+use Rattle.grb_sums.specs.Naming.{name_in}
 use Rattle.grb_mxm.proofs.Names.{own-named}
 use Rattle.grb_mxm.proofs.factors.FactorsBySemiring.by.Goals as goal
 

@@ -4,9 +4,9 @@ use Rattle.std.specs.FinMap.{find}
 use Rattle.std.proofs.lemmas.List.Elements.{recursion_from_All}
 use Rattle.grb_core.specs.Mask.{selects}
 use Rattle.grb_core.specs.Results.{row_of}
-use Rattle.grb_rows.specs.Cells.{decoded}
-use Rattle.grb_mxm.specs.Rows.{name_in}
-use Rattle.grb_mxm.proofs.Renamed.{find-renamed}
+use Rattle.grb_lists.specs.Cells.{decoded}
+use Rattle.grb_sums.specs.Naming.{name_in}
+use Rattle.grb_sums.proofs.Renamed.{find-renamed}
 use Rattle.grb_mxm.proofs.Names.{few-below, names_of_row, places-rise}
 use Rattle.grb_mxm.proofs.MaskedSums.{stands}
 use Rattle.grb_mxm.proofs.mask_rows.MaskRows.allow_typed.Goals as goal

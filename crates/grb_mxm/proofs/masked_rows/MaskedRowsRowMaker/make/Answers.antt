@@ -7,14 +7,15 @@ use Rattle.grb_core.specs.Entries.{VectorEntries, restricted}
 use Rattle.grb_core.specs.Mask.{selects}
 use Rattle.grb_core.specs.Results.{row_of}
 use Rattle.grb_kernels.specs.Typed.{entries_of}
-use Rattle.grb_rows.specs.Cells.{decoded}
+use Rattle.grb_lists.specs.Cells.{decoded}
 use Rattle.grb_ewise.proofs.RowEntries.{row_in_order}
-use Rattle.grb_products.specs.Open.{marked_at}
-use Rattle.grb_mxm.specs.Rows.{name_in, picked, product_row}
-use Rattle.grb_mxm.proofs.Cleared.{none_marked}
+use Rattle.grb_semirings.specs.Open.{marked_at}
+use Rattle.grb_sums.specs.Naming.{name_in}
+use Rattle.grb_mxm.specs.Rows.{picked, product_row}
+use Rattle.grb_sums.proofs.Cleared.{none_marked}
 use Rattle.grb_mxm.proofs.MaskedProduct.{picked_row, row_of-selected}
 use Rattle.grb_mxm.proofs.States.{among_allowed}
-use Rattle.grb_mxm.specs.Bits.{AreSelected, allowed_of, summed_of}
+use Rattle.grb_mxm.specs.AllowedSums.{AreSelected, allowed_of, summed_of}
 use Rattle.grb_mxm.proofs.masked_rows.MaskedRowsRowMaker.make.Goals as goal
 
 pub sum_row-requires-clause-sound : goal.sum_row-requires-clause-sound

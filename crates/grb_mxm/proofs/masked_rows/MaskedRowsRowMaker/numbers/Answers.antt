@@ -1,7 +1,7 @@
 use Rattle.std.proofs.Common.{◌<◌, ◌≡◌, ℕ, List, length, get_or, subst}
 use Rattle.grb_core.specs.Semiring.{SemiringParts}
-use Rattle.grb_rows.specs.Cells.{decoded}
-use Rattle.grb_mxm.proofs.Renamed.{passes}
+use Rattle.grb_lists.specs.Cells.{decoded}
+use Rattle.grb_sums.proofs.Renamed.{passes}
 use Rattle.grb_mxm.proofs.MaskedProduct.{sorted-selected, no_row-selected}
 use Rattle.grb_mxm.proofs.masked_rows.MaskedRowsRowMaker.numbers.Goals as goal
 

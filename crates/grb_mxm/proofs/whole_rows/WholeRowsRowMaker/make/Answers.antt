@@ -11,19 +11,20 @@ use Rattle.grb_core.specs.Semiring.{SemiringParts}
 use Rattle.grb_core.specs.Entries.{VectorEntries}
 use Rattle.grb_core.specs.Results.{row_of}
 use Rattle.grb_kernels.specs.Typed.{entries_of}
-use Rattle.grb_rows.specs.Cells.{decoded}
-use Rattle.grb_products.specs.Open.{marked_at}
-use Rattle.grb_mxm.specs.Open.{marked_from}
-use Rattle.grb_mxm.specs.Rows.{name_in, product_row}
-use Rattle.grb_mxm.specs.Bits.{marks_of, IsCleared, AreOpenSums}
-use Rattle.grb_mxm.proofs.Cleared.{none_marked}
-use Rattle.grb_mxm.proofs.MarksOf.{length-marks_of, none_of_zeros, zeros_are_marks}
+use Rattle.grb_lists.specs.Cells.{decoded}
+use Rattle.grb_semirings.specs.Open.{marked_at}
+use Rattle.grb_sums.specs.Open.{marked_from}
+use Rattle.grb_sums.specs.Naming.{name_in}
+use Rattle.grb_mxm.specs.Rows.{product_row}
+use Rattle.grb_sums.specs.Marks.{marks_of, IsCleared, AreOpenSums}
+use Rattle.grb_sums.proofs.Cleared.{none_marked}
+use Rattle.grb_sums.proofs.MarksOf.{length-marks_of, none_of_zeros, zeros_are_marks}
 use Rattle.grb_mxm.proofs.OpenRow.{open_row}
 use Rattle.grb_mxm.proofs.ProductRows.{row_of-mxm}
-use Rattle.grb_mxm.proofs.Reach.{products-none}
-use Rattle.grb_mxm.proofs.Renamed.{holds}
+use Rattle.grb_sums.proofs.Reach.{products-none}
+use Rattle.grb_sums.proofs.Renamed.{holds}
 use Rattle.grb_mxm.proofs.ScaledRow.{one_entry, scaled_row}
-use Rattle.grb_mxm.proofs.Tops.{no_tops}
+use Rattle.grb_sums.proofs.Tops.{no_tops}
 use Rattle.grb_mxm.proofs.whole_rows.WholeRowsRowMaker.make.Goals as goal
 
 -- where nothing lies open, a row may be summed

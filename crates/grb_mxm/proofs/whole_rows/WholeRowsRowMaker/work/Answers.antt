@@ -2,8 +2,8 @@ use Prim.{search}
 use Rattle.std.proofs.Common.{◌≡◌, ℕ, List, get_or, rules, ap, sym, subst, ◌∙◌}
 use Rattle.std.proofs.Math.ListN.{replicate}
 use Rattle.grb_core.specs.Monoid.{identity_of}
-use Rattle.grb_mxm.specs.Bits.{HoldAll}
-use Rattle.grb_mxm.proofs.Cleared.{hold_all-replicate, replicate-at}
+use Rattle.grb_sums.specs.Marks.{HoldAll}
+use Rattle.grb_sums.proofs.Cleared.{hold_all-replicate, replicate-at}
 use Rattle.grb_mxm.proofs.whole_rows.WholeRowsRowMaker.work.Goals as goal
 
 pub returns : goal.returns

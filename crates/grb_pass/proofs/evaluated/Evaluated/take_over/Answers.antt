@@ -4,8 +4,8 @@ use Rattle.grb_results.specs.Kept.{IsTableOf}
 use Rattle.grb_results.specs.Results.{IsTable}
 use Rattle.grb_results.specs.declared.table.Table.{Table}
 use Rattle.grb_pass.specs.Evaluated.{IsEvaluatedFor}
-use Rattle.grb_pass.specs.Known.{Knowing, known}
-use Rattle.grb_pass.specs.Laws.{Begins}
+use Rattle.grb_reader.specs.Known.{Knowing, known}
+use Rattle.grb_reader.specs.Laws.{Begins}
 use Rattle.grb_pass.proofs.Evaluating.{begins_on, evaluated_kept, ok_holds}
 use Rattle.grb_pass.proofs.evaluated.Evaluated.take_over.Goals as goal
 

@@ -4,7 +4,7 @@ use Rattle.std.specs.Prelude.{Some, slice_get}
 use Rattle.std.proofs.lemmas.List.{map-append}
 use Rattle.grb_call.specs.declared.call.Call.{Call}
 use Rattle.grb_call.specs.History.{calls_of}
-use Rattle.grb_pass.specs.Known.{Knowing, known}
+use Rattle.grb_reader.specs.Known.{Knowing, known}
 use Rattle.grb_pass.proofs.Evaluating.{lent_next}
 use Rattle.grb_pass.proofs.evaluated.exchange.lent_calls.Goals as goal
 

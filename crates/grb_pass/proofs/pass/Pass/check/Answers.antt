@@ -8,9 +8,9 @@ use Rattle.grb_call.specs.Store.{shapes_of}
 use Rattle.grb_call.specs.History.{store_of}
 use Rattle.grb_call.proofs.Checked.{by_shapes-ok}
 use Rattle.grb_call.proofs.KindsChecked.{kind-checked}
-use Rattle.grb_pass.specs.Known.{Knowing, known}
-use Rattle.grb_pass.specs.Reading.{IsChecked}
-use Rattle.grb_pass.proofs.Checking.{checked_err, checked_plain, checked_build}
+use Rattle.grb_reader.specs.Known.{Knowing, known}
+use Rattle.grb_reader.specs.Reading.{IsChecked}
+use Rattle.grb_reader.proofs.Checking.{checked_err, checked_plain, checked_build}
 use Rattle.grb_pass.proofs.pass.Pass.check.Goals as goal
 
 pub returns-in_err-in_bounds-clause-checked : goal.returns-in_err-in_bounds-clause-checked

@@ -1,8 +1,8 @@
 use Prim.{search}
 use Rattle.std.proofs.Common.{rules, subst, arith}
-use Rattle.grb_pass.specs.Cells.{OwnBelow}
-use Rattle.grb_pass.specs.Known.{Knowing}
-use Rattle.grb_pass.proofs.Cells.{fresh_put, own_wider, small_put}
+use Rattle.grb_reader.specs.Cells.{OwnBelow}
+use Rattle.grb_reader.specs.Known.{Knowing}
+use Rattle.grb_reader.proofs.Cells.{fresh_put, own_wider, small_put}
 use Rattle.grb_pass.proofs.pass.Pass.put.Goals as goal
 
 pub returns-clause-put : goal.returns-clause-put

@@ -4,7 +4,7 @@ use Rattle.grb_call.specs.History.{after_all}
 use Rattle.grb_rebuild.specs.Rebuilt.{AreTaken}
 use Rattle.grb_rebuild.proofs.Rebuilding.{rebuild_leaves_the_store}
 use Rattle.grb_rebuild.proofs.Taken.{rebuild_is_taken}
-use Rattle.grb_pass.specs.Known.{Knowing, known}
+use Rattle.grb_reader.specs.Known.{Knowing, known}
 use Rattle.grb_pass.specs.Succeeding.{AreBegun, IsOpened, made_by}
 use Rattle.grb_pass.proofs.Succeeding.{all_begun, are_begun, inserted_first, new_first, new_opened, removed_rest}
 use Rattle.grb_pass.proofs.shared.Shared.begin_all.Goals as goal

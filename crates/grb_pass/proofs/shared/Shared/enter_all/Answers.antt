@@ -3,7 +3,7 @@ use Rattle.grb_call.specs.declared.call.Call.{Call}
 use Rattle.grb_call.specs.Store.{Store}
 use Rattle.grb_call.specs.History.{History, store_of}
 use Rattle.grb_rebuild.specs.Rebuilt.{AreTaken}
-use Rattle.grb_pass.specs.Known.{known}
+use Rattle.grb_reader.specs.Known.{known}
 use Rattle.grb_pass.specs.Succeeding.{made_by}
 use Rattle.grb_pass.proofs.Succeeding.{store_of-push}
 use Rattle.grb_pass.proofs.shared.Shared.enter_all.Goals as goal

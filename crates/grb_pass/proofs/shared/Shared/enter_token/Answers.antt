@@ -11,15 +11,15 @@ use Rattle.grb_call.specs.Refused.{refused_by_shapes}
 use Rattle.grb_call.specs.Store.{shapes_of}
 use Rattle.grb_call.specs.After.{reply_of}
 use Rattle.grb_call.specs.History.{store_of}
-use Rattle.grb_pass.specs.Known.{Knowing, known}
-use Rattle.grb_pass.specs.Learning.{IsReady, IsRefused, Learns}
-use Rattle.grb_pass.specs.Cells.{OwnBelow}
-use Rattle.grb_pass.proofs.Checking.{unrefused_by_shapes}
-use Rattle.grb_pass.proofs.Learnt.{learns_refl, learns_then, pass_push}
-use Rattle.grb_pass.proofs.Answering.{explains_refused, explains_won, known_entered, learns_lost, refused_before}
-use Rattle.grb_pass.proofs.Counted.{counts_then, counts_same, counts_won, counts_lost, lost_again, steps_near, steps_lost}
-use Rattle.grb_pass.proofs.Rising.{tried_none}
-use Rattle.grb_pass.proofs.Cells.{own_learns, own_lost}
+use Rattle.grb_reader.specs.Known.{Knowing, known}
+use Rattle.grb_reader.specs.Learning.{IsReady, IsRefused, Learns}
+use Rattle.grb_reader.specs.Cells.{OwnBelow}
+use Rattle.grb_reader.proofs.Checking.{unrefused_by_shapes}
+use Rattle.grb_reader.proofs.Learnt.{learns_refl, learns_then, pass_push}
+use Rattle.grb_reader.proofs.Answering.{explains_refused, explains_won, known_entered, learns_lost, refused_before}
+use Rattle.grb_reader.proofs.Counted.{counts_then, counts_same, counts_won, counts_lost, lost_again, steps_near, steps_lost}
+use Rattle.grb_reader.proofs.Rising.{tried_none}
+use Rattle.grb_reader.proofs.Cells.{own_learns, own_lost}
 use Rattle.grb_pass.proofs.shared.Shared.enter_token.Goals as goal
 
 pub tries-init : goal.tries-init

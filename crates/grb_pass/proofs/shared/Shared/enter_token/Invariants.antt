@@ -3,11 +3,11 @@ use Rattle.grb_order.specs.declared.limits.TheConstants.{MOST_ROOM}
 use Rattle.grb_order.specs.Order.{room_of}
 use Rattle.grb_records.specs.Token.{IsOf}
 use Rattle.grb_call.specs.Kinds.{is_build}
-use Rattle.grb_pass.specs.Known.{IsPassOf}
-use Rattle.grb_pass.specs.Counting.{Counts}
-use Rattle.grb_pass.specs.Learning.{IsReady, Learns}
-use Rattle.grb_pass.specs.Cells.{OwnBelow}
-use Rattle.grb_pass.proofs.Counted.{AreLost}
+use Rattle.grb_reader.specs.Known.{IsPassOf}
+use Rattle.grb_reader.specs.Counting.{Counts}
+use Rattle.grb_reader.specs.Learning.{IsReady, Learns}
+use Rattle.grb_reader.specs.Cells.{OwnBelow}
+use Rattle.grb_reader.proofs.Counted.{AreLost}
 use Rattle.grb_pass.proofs.shared.Shared.enter_token.Given as goal
 
 abbrev pub invariant-tries : goal.invariant-tries

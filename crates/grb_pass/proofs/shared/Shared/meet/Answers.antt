@@ -1,20 +1,47 @@
-use Prim.{search}
-use Rattle.std.proofs.Common.{◌≡◌, sym, rules, ◌∙◌}
-use Rattle.grb_pass.specs.Known.{none_made}
-use Rattle.grb_pass.proofs.Cells.{state_learns}
+use Rattle.std.proofs.Common.{◌≡◌, ap, sym, subst, ◌∙◌}
+use Rattle.std.specs.List.{All}
+use Rattle.grb_records.specs.Token.{IsOf}
+use Rattle.grb_reader.specs.Known.{Shared, Knowing, none_made}
+use Rattle.grb_reader.specs.Meeting.{Met}
+use Rattle.grb_reader.proofs.Counted.{begun}
+use Rattle.grb_reader.proofs.Meeting.{met_begun}
+use Rattle.grb_pass.proofs.Evaluating.{state_learns}
 use Rattle.grb_pass.proofs.shared.Shared.meet.Goals as goal
 
-pub meet_reader-requires-clause-begun : goal.meet_reader-requires-clause-begun
-meet_reader-requires-clause-begun c = search rules
+pub meet-requires-clause-order : goal.meet-requires-clause-order
+meet-requires-clause-order c = ap (λ (p : Knowing). p.order) (c.pass.view_is ∙ c.begin.ensures.same) ∙ c.requires.pass.order ∙ sym (ap (λ (s : Shared). s.order) c.self.view_is)
 
-pub meet_reader-requires-clause-made : goal.meet_reader-requires-clause-made
-meet_reader-requires-clause-made c = search rules
+pub meet-requires-clause-of : goal.meet-requires-clause-of
+meet-requires-clause-of c =
+    subst (λ (p : Knowing). All (IsOf c.self.inside.records) p.shown) (sym (c.pass.view_is ∙ c.begin.ensures.same))
+    (subst (λ (s : Shared). All (IsOf s.records) c.args.pass.now.shown) (sym c.self.view_is) c.requires.pass.records)
+
+pub meet-requires-clause-order_other : goal.meet-requires-clause-order_other
+meet-requires-clause-order_other c = ap (λ (p : Knowing). p.order) c.other.view_is ∙ c.requires.other.order ∙ sym (ap (λ (s : Shared). s.order) c.self.view_is)
+
+pub meet-requires-clause-of_other : goal.meet-requires-clause-of_other
+meet-requires-clause-of_other c =
+    subst (λ (p : Knowing). All (IsOf c.self.inside.records) p.shown) (sym c.other.view_is)
+    (subst (λ (s : Shared). All (IsOf s.records) c.args.other.now.shown) (sym c.self.view_is) c.requires.other.records)
+
+pub meet-requires-clause-begun : goal.meet-requires-clause-begun
+meet-requires-clause-begun c = ap (λ (p : Knowing). p.steps) (c.pass.view_is ∙ c.begin.ensures.same)
+
+pub meet-requires-clause-made : goal.meet-requires-clause-made
+meet-requires-clause-made c = ap (λ (p : Knowing). p.made) (c.pass.view_is ∙ c.begin.ensures.same)
 
 pub returns-clause-met : goal.returns-clause-met
-returns-clause-met c = search rules
+returns-clause-met c =
+    let p = c.pass.inside.reader in let q = c.other.inside.reader in
+    let now : p ≡ begun c.args.pass.now = c.pass.view_is ∙ c.begin.ensures.same in
+    let told : Met c.args.self.now p c.meet.new.self c.args.other.now c.meet.result =
+    subst (λ (k : Knowing). Met c.args.self.now p c.meet.new.self k c.meet.result) c.other.view_is
+    (subst (λ (s : Shared). Met s p c.meet.new.self q c.meet.result) c.self.view_is c.meet.ensures.met) in
+    met_begun c.args.self.now c.args.pass.now p c.meet.new.self c.args.other.now c.meet.result now told
 
 pub invariant_of-pass : goal.invariant_of-pass
 invariant_of-pass c =
-    let p = c.pass.inside in let new = c.meet_reader.new.reader in let met = c.meet_reader.ensures.met in
-    let order : new.order ≡ p.reader.order = search rules in let begun : p.reader.made ≡ none_made = search rules in
-    state_learns p.reader new p.evaluated p.row.next order met.learns (met.made ∙ sym begun) c.pass.invariant
+    let p = c.pass.inside in let new = c.meet.new.self in let met = c.meet.ensures.met in
+    let begun : p.reader.made ≡ none_made = ap (λ (k : Knowing). k.made) (c.pass.view_is ∙ c.begin.ensures.same) in
+    let was : p.reader.order ≡ c.self.inside.order = ap (λ (k : Knowing). k.order) (c.pass.view_is ∙ c.begin.ensures.same) ∙ c.requires.pass.order ∙ sym (ap (λ (s : Shared). s.order) c.self.view_is) in
+    state_learns p.reader new p.evaluated p.row.next (met.pass.order ∙ sym was) met.learns (met.made ∙ sym begun) c.pass.invariant

@@ -1,6 +1,6 @@
 use Rattle.std.proofs.Common.{ap}
-use Rattle.grb_pass.specs.Known.{Knowing}
-use Rattle.grb_pass.proofs.Learnt.{pass_same}
+use Rattle.grb_reader.specs.Known.{Knowing}
+use Rattle.grb_reader.proofs.Learnt.{pass_same}
 use Rattle.grb_pass.proofs.shared.Shared.prepare.Goals as goal
 
 pub returns-clause-pass : goal.returns-clause-pass

@@ -4,16 +4,16 @@ use Rattle.std.proofs.lemmas.Result.{err_from_is_err_and}
 use Rattle.grb_order.specs.Order.{room_of}
 use Rattle.grb_call.specs.History.{store_of}
 use Rattle.grb_call.proofs.Checked.{by_shapes-ok}
-use Rattle.grb_pass.specs.Known.{Knowing, Making, known}
-use Rattle.grb_pass.specs.Counting.{CountsCall, LooksOnce}
-use Rattle.grb_pass.specs.Explains.{Answer, ExplainsAnswer, IsCaughtUp, ground_of}
-use Rattle.grb_pass.specs.Learning.{IsRefused, IsSteady}
-use Rattle.grb_pass.specs.Settled.{LeavesReady, settled_after}
-use Rattle.grb_pass.proofs.Alike.{counts_alike, steady_alike}
-use Rattle.grb_pass.proofs.Answering.{refused_by_check, explains_refused, explains_evaluated, known_evaluated}
-use Rattle.grb_pass.proofs.Counted.{counts_looked, looks_once}
-use Rattle.grb_pass.proofs.Cells.{state_learns}
-use Rattle.grb_pass.proofs.Learnt.{pass_same}
+use Rattle.grb_reader.specs.Known.{Knowing, Making, known}
+use Rattle.grb_reader.specs.Counting.{CountsCall, LooksOnce}
+use Rattle.grb_reader.specs.Explains.{Answer, ExplainsAnswer, IsCaughtUp, ground_of}
+use Rattle.grb_reader.specs.Learning.{IsRefused, IsSteady}
+use Rattle.grb_reader.specs.Settled.{LeavesReady, settled_after}
+use Rattle.grb_reader.proofs.Alike.{counts_alike, steady_alike}
+use Rattle.grb_reader.proofs.Answering.{refused_by_check, explains_refused, explains_evaluated, known_evaluated}
+use Rattle.grb_reader.proofs.Counted.{counts_looked, looks_once}
+use Rattle.grb_pass.proofs.Evaluating.{state_learns}
+use Rattle.grb_reader.proofs.Learnt.{pass_same}
 use Rattle.grb_pass.proofs.Making.{read_none}
 use Rattle.grb_pass.proofs.Settling.{ready_or, settled_read}
 use Rattle.grb_pass.proofs.shared.Shared.read_at_end.Goals as goal

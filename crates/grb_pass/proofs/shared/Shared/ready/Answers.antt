@@ -5,13 +5,13 @@ use Rattle.std.proofs.lemmas.Result.{err_from_is_err_and}
 use Rattle.grb_core.specs.declared.refusal.Refusal.TheVariants.{OrderFull}
 use Rattle.grb_order.specs.Order.{room_of}
 use Rattle.grb_order.specs.View.{LookedLast}
-use Rattle.grb_pass.specs.declared.learn.End.{End}
-use Rattle.grb_pass.specs.declared.learn.End.TheVariants.{Vacant}
-use Rattle.grb_pass.specs.Known.{Knowing}
-use Rattle.grb_pass.specs.Learning.{Finds, IsRefused}
-use Rattle.grb_pass.proofs.Alike.{IsAtEnd, at_end_after, ready_after, refused_after}
-use Rattle.grb_pass.proofs.Answering.{refused_checked, refused_by_room}
-use Rattle.grb_pass.proofs.Cells.{state_learns}
+use Rattle.grb_reader.specs.declared.learn.End.{End}
+use Rattle.grb_reader.specs.declared.learn.End.TheVariants.{Vacant}
+use Rattle.grb_reader.specs.Known.{Knowing}
+use Rattle.grb_reader.specs.Learning.{Finds, IsRefused}
+use Rattle.grb_reader.proofs.Alike.{IsAtEnd, at_end_after, ready_after, refused_after}
+use Rattle.grb_reader.proofs.Answering.{refused_checked, refused_by_room}
+use Rattle.grb_pass.proofs.Evaluating.{state_learns}
 use Rattle.grb_pass.proofs.shared.Shared.ready.Goals as goal
 
 end_in_err_check : (c : goal.After-from_residual-in_err-check) → IsAtEnd c.args.self.now (room_of c.args.self.now.order) c.args.pass.now c.check.new.self

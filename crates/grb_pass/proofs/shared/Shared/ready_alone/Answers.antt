@@ -1,6 +1,6 @@
 use Rattle.std.proofs.Common.{sym, ap, ◌∙◌}
-use Rattle.grb_pass.specs.Known.{Knowing}
-use Rattle.grb_pass.proofs.Cells.{state_learns}
+use Rattle.grb_reader.specs.Known.{Knowing}
+use Rattle.grb_pass.proofs.Evaluating.{state_learns}
 use Rattle.grb_pass.proofs.shared.Shared.ready_alone.Goals as goal
 
 pub invariant_of-pass : goal.invariant_of-pass

@@ -1,6 +1,6 @@
 use Rattle.std.proofs.Common.{◌≡◌, ℕ, ◌+◌, ◌<◌, length}
 use Rattle.std.specs.Prelude.{Some, slice_get}
-use Rattle.grb_pass.specs.Known.{Knowing, known}
+use Rattle.grb_reader.specs.Known.{Knowing, known}
 use Rattle.grb_pass.specs.Succeeding.{IsOpenedWith}
 use Rattle.grb_pass.proofs.shared.Shared.tell_all.Given as goal
 

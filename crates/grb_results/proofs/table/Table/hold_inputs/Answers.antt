@@ -1,8 +1,8 @@
 use Rattle.std.proofs.Common.{sym, ap, ◌∙◌}
-use Rattle.grb_results.specs.Overwrites.{objects_needed}
+use Rattle.grb_links.specs.Overwrites.{objects_needed}
 use Rattle.grb_results.proofs.BlankResults.{two_inputs_are}
-use Rattle.grb_results.proofs.Links.{needs_inputs}
-use Rattle.grb_results.proofs.Lists.{some_same}
+use Rattle.grb_links.proofs.Links.{needs_inputs}
+use Rattle.grb_links.proofs.Lists.{some_same}
 use Rattle.grb_results.proofs.table.Table.hold_inputs.Goals as goal
 
 pub hold_read-requires-clause-read : goal.hold_read-requires-clause-read

@@ -4,11 +4,12 @@ use Rattle.grb_call.specs.declared.ids.Object.{Object}
 use Rattle.grb_slices.specs.Content.{content_at}
 use Rattle.grb_slices.specs.Slice.{is_among}
 use Rattle.grb_slices.specs.Steps.{AgreeOn}
-use Rattle.grb_results.specs.Overwrites.{forgets}
-use Rattle.grb_results.specs.Results.{contents_after}
-use Rattle.grb_results.proofs.Frame.{agree_none, not_refused, some_result, store_before}
-use Rattle.grb_results.proofs.Links.{needs_all}
-use Rattle.grb_results.proofs.Lists.{some_same}
+use Rattle.grb_links.specs.Overwrites.{forgets}
+use Rattle.grb_links.specs.Learnt.{contents_after}
+use Rattle.grb_links.proofs.Frame.{store_before}
+use Rattle.grb_results.proofs.Frame.{agree_none, not_refused, some_result}
+use Rattle.grb_links.proofs.Links.{needs_all}
+use Rattle.grb_links.proofs.Lists.{some_same}
 use Rattle.grb_results.proofs.Making.{if_ok}
 use Rattle.grb_results.proofs.table.Table.operated_on.Goals as goal
 

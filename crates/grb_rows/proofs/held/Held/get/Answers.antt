@@ -2,7 +2,7 @@ use Rattle.std.proofs.Common.{◌∙◌, ap, sym}
 use Rattle.std.specs.Ordering.{nat_cmp}
 use Rattle.std.specs.FinMap.{find}
 use Rattle.grb_rows.specs.Pending.{over}
-use Rattle.grb_rows.specs.Stored.{RowView}
+use Rattle.grb_lists.specs.Stored.{RowView}
 use Rattle.grb_rows.specs.Held.{HeldView}
 use Rattle.grb_rows.proofs.Changes.{find-changed}
 use Rattle.grb_rows.proofs.held.Held.get.Goals as goal

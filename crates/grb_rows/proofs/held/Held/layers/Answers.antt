@@ -3,7 +3,7 @@ use Rattle.std.specs.Prelude.{All}
 use Rattle.std.specs.List.{IsDistinct}
 use Rattle.std.specs.Map.{keys_of}
 use Rattle.grb_rows.specs.Pending.{Change, IsChangeOf}
-use Rattle.grb_rows.specs.Stored.{RowView}
+use Rattle.grb_lists.specs.Stored.{RowView}
 use Rattle.grb_rows.specs.Layers.{IsChanged}
 use Rattle.grb_rows.proofs.Layered.{apart-distinct, all_last}
 use Rattle.grb_rows.proofs.held.Held.layers.Goals as goal

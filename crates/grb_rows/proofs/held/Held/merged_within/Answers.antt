@@ -2,11 +2,11 @@ use Rattle.std.proofs.Common.{◌∙◌, sym, ap, subst}
 use Rattle.std.proofs.lemmas.Result.{IfOk-weaker}
 use Rattle.std.specs.Prelude.{IfSome}
 use Rattle.std.specs.List.{All}
-use Rattle.grb_rows.specs.Cells.{entries_within}
+use Rattle.grb_lists.specs.Cells.{entries_within}
 use Rattle.grb_rows.specs.Pending.{changed, IsChangeOf}
-use Rattle.grb_rows.specs.Stored.{RowView}
+use Rattle.grb_lists.specs.Stored.{RowView}
 use Rattle.grb_rows.specs.Held.{HeldView}
-use Rattle.grb_rows.proofs.Places.{holds}
+use Rattle.grb_lists.proofs.Places.{holds}
 use Rattle.grb_rows.proofs.Latest.{all_found}
 use Rattle.grb_rows.proofs.LaidOut.{last_at-sorted, same_changes}
 use Rattle.grb_rows.proofs.held.Held.merged_within.Goals as goal

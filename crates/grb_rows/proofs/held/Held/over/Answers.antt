@@ -1,7 +1,7 @@
 use Rattle.std.proofs.Common.{◌∙◌, length, IsTrue, ap, subst}
 use Rattle.std.specs.Ordering.{nat_cmp}
 use Rattle.std.specs.FinMap.{is_sorted}
-use Rattle.grb_rows.specs.Stored.{RowView}
+use Rattle.grb_lists.specs.Stored.{RowView}
 use Rattle.grb_rows.proofs.Holding.{view-fresh, held-fresh}
 use Rattle.grb_rows.proofs.held.Held.over.Goals as goal
 

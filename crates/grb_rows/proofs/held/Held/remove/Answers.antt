@@ -1,7 +1,7 @@
 use Rattle.std.proofs.Common.{◌∙◌, None, length, ap, arith}
 use Rattle.std.specs.Ordering.{nat_cmp}
 use Rattle.grb_core.specs.Entries.{without_entry}
-use Rattle.grb_rows.specs.Stored.{RowView}
+use Rattle.grb_lists.specs.Stored.{RowView}
 use Rattle.grb_rows.specs.Held.{HeldView}
 use Rattle.grb_rows.proofs.Holding.{length-stored_le, entries-changed, held-changed}
 use Rattle.grb_rows.proofs.held.Held.remove.Goals as goal

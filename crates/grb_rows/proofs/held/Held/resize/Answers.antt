@@ -1,8 +1,8 @@
 use Rattle.std.proofs.Common.{◌∙◌, length, sym, ap, refl}
 use Rattle.grb_core.specs.Entries.{restricted}
 use Rattle.grb_core.specs.Contents.{is_cell_in}
-use Rattle.grb_rows.specs.Cells.{cell_of}
-use Rattle.grb_rows.specs.Stored.{RowView}
+use Rattle.grb_lists.specs.Cells.{cell_of}
+use Rattle.grb_lists.specs.Stored.{RowView}
 use Rattle.grb_rows.specs.Held.{HeldView}
 use Rattle.grb_rows.proofs.Holding.{stored-settled, view-fresh, held-fresh}
 use Rattle.grb_rows.proofs.held.Held.resize.Goals as goal

@@ -1,7 +1,7 @@
 use Rattle.std.proofs.Common.{◌∙◌, Some, length, ap, arith}
 use Rattle.std.specs.Ordering.{nat_cmp}
 use Rattle.std.specs.FinMap.{put}
-use Rattle.grb_rows.specs.Stored.{RowView}
+use Rattle.grb_lists.specs.Stored.{RowView}
 use Rattle.grb_rows.specs.Held.{HeldView}
 use Rattle.grb_rows.proofs.Holding.{length-stored_le, entries-changed, held-changed}
 use Rattle.grb_rows.proofs.held.Held.set.Goals as goal

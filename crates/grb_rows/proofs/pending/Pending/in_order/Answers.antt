@@ -5,10 +5,9 @@ use Rattle.std.proofs.lemmas.Bool.Decides.{nat_tests}
 use Rattle.std.proofs.lemmas.List.Sorted.{IsPermutation-map}
 use Rattle.std.proofs.lemmas.Map.Keys.{IsDistinct-IsPermutation}
 use Rattle.grb_rows.specs.Pending.{Change, PendingView, last_at}
-use Rattle.grb_rows.proofs.Places.{both_if_ok, holds, passes}
-use Rattle.grb_rows.proofs.Ends.{last_at-stable}
+use Rattle.grb_lists.proofs.Places.{both_if_ok, holds, passes}
 use Rattle.grb_rows.proofs.LaidOut.{last_at-sorted}
-use Rattle.grb_rows.proofs.Latest.{is_sorted-distinct}
+use Rattle.grb_rows.proofs.Latest.{is_sorted-distinct, last_at-stable}
 use Rattle.grb_rows.proofs.pending.Pending.in_order.Goals as goal
 
 flip : (x y : ℕ) → nat_eq x y ≡ nat_eq y x

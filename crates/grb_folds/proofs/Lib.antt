@@ -1,0 +1,3 @@
+pub mod ChangedTotals
+pub mod Spans
+pub mod Windows

@@ -1,0 +1,7 @@
+pub mod Blank
+pub mod Few
+pub mod Frame
+pub mod Grown
+pub mod Links
+pub mod Lists
+pub mod Overwritten

@@ -1,0 +1,4 @@
+pub mod Dup
+pub mod Lasts
+pub mod Learnt
+pub mod Overwrites

@@ -1,0 +1,12 @@
+pub mod Appending
+pub mod CellCodes
+pub mod CellLists
+pub mod Cut
+pub mod Ends
+pub mod FlatCells
+pub mod FlatLists
+pub mod OneRow
+pub mod Packing
+pub mod Passed
+pub mod Places
+pub mod RisingCells

@@ -1,0 +1,5 @@
+pub mod Arrays
+pub mod Cells
+pub mod Packed
+pub mod Stored
+pub mod Values

@@ -1,6 +1,0 @@
-use Rattle.std.proofs.Common.{sym}
-use Rattle.grb_products.specs.Numbers.{numbers_below-length}
-use Rattle.grb_products.proofs.column_sums.AllColumnsColumns.count.Goals as goal
-
-pub returns : goal.returns
-returns c = sym (numbers_below-length c.args.self.now.ncols)

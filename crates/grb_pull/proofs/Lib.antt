@@ -1,0 +1,7 @@
+pub mod Asked
+pub mod Full
+pub mod RowLists
+pub mod RowSums
+pub mod WantedPlaces
+pub mod WantedResults
+pub mod WantedRows

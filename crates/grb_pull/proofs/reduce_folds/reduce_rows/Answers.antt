@@ -1,0 +1,20 @@
+use Rattle.std.proofs.Common.{◌≡◌, IfOk, subst}
+use Rattle.std.specs.Option.{option_map}
+use Rattle.std.specs.Ordering.{nat_cmp}
+use Rattle.grb_core.specs.Contents.{edited_vector}
+use Rattle.grb_core.specs.Entries.{VectorEntries}
+use Rattle.grb_core.specs.Mask.{is_inside}
+use Rattle.grb_core.specs.Results.{reduce_rows_of, turned}
+use Rattle.grb_pull.specs.Wanted.{is_wanted}
+use Rattle.grb_pull.proofs.WantedPlaces.{written-made}
+use Rattle.grb_pull.proofs.reduce_folds.reduce_rows.Goals as goal
+
+pub returns-clause-vector : goal.returns-clause-vector
+returns-clause-vector c =
+    let d = c.args.descriptor in
+    let w = c.wanted_of-wanted.result in
+    let inside = is_inside nat_cmp d.structure d.comp (option_map (λ m. m.now.vector.entries) c.args.mask) in
+    let total = reduce_rows_of c.args.monoid (turned d.tran c.args.a.now.matrix.entries) in
+    subst (λ (f : VectorEntries → VectorEntries). IfOk c.write_masked_vector.result (λ made. made.vector ≡ edited_vector f c.args.output.now.vector))
+    (λ i v. written-made inside d.replace c.args.accum v total c.in_ok-computed.computed.vector.entries (is_wanted w.among w.names.now) c.wanted_of-wanted.ensures.covers c.in_ok-computed.ensures.entries i)
+    c.write_masked_vector.ensures.vector

@@ -1,0 +1,2 @@
+pub mod RowSums
+pub mod Wanted

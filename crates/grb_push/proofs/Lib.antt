@@ -1,0 +1,11 @@
+pub mod Bounded
+pub mod ByColumn
+pub mod Columns
+pub mod LoneRows
+pub mod Ordered
+pub mod PushedColumns
+pub mod Pushing
+pub mod RunFolds
+pub mod Searching
+pub mod WholePushes
+pub mod WholeResults

@@ -1,0 +1,17 @@
+use Rattle.std.proofs.Common.{◌<◌, ◌∙◌}
+use Rattle.std.proofs.lemmas.List.Elements.{recursion_from_All}
+use Rattle.grb_sums.specs.ColumnSums.{as_entries}
+use Rattle.grb_lists.specs.Cells.{decoded}
+use Rattle.grb_push.specs.Pushes.{pushed, at_numbers}
+use Rattle.grb_sums.proofs.ColumnFolds.{column_folds-all}
+use Rattle.grb_push.proofs.Pushing.{within-pushed}
+use Rattle.grb_push.proofs.push.sum_all.Goals as goal
+
+pub returns : goal.returns
+returns g c =
+    let f = g.S.Side.makes g.O.Operator.op in
+    let picks = c.args.picks.now in
+    let a = decoded c.args.lists.now.entries in
+    let u = at_numbers c.args.lists.now.rows (as_entries g.T.Scalar.value picks) in
+    c.in_ok-made.ensures
+    ∙ column_folds-all g.M.MonoidOver.monoid c.args.ncols (pushed f u a) (within-pushed (λ j. j < c.args.ncols) f u a (recursion_from_All (λ e. e.0.1 < c.args.ncols) a c.requires.in_range))

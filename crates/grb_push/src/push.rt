@@ -1,0 +1,380 @@
+//! The product of a vector and a matrix by the rows that the vector picks: each is read once and added by column.
+ghost use Rattle.std.specs.Prelude.{◌≡◌, ◌-◌, ◌*◌, ◌<◌, ◌≤◌, ◌^◌, ℕ, true, false, [], length, map, min, slice_index, All, IfOk, IfSome, IsTrue};
+ghost use Rattle.std.specs.FinMap.{is_sorted};
+ghost use Rattle.std.specs.Option.{option_map};
+ghost use Rattle.std.specs.Ordering.{nat_cmp};
+ghost use Rattle.grb_core.specs.declared.value.Value.{Value};
+ghost use Rattle.grb_core.specs.declared.operator.BinaryOp.{BinaryOp};
+ghost use Rattle.grb_core.specs.Value.{IsValueOf};
+ghost use Rattle.grb_core.specs.Operator.{op_domain, value_of_op};
+ghost use Rattle.grb_core.proofs.Made.{op_closed};
+ghost use Rattle.grb_core.specs.Entries.{built_from, cell_cmp, restricted};
+ghost use Rattle.grb_core.specs.Results.{row_of};
+ghost use Rattle.grb_kernels.specs.Typed.{entries_of};
+ghost use Rattle.grb_lists.specs.Cells.{decoded};
+ghost use Rattle.grb_ewise.specs.Ranks.{Rise};
+ghost use Rattle.grb_sums.specs.Bits.{AreMarked};
+ghost use Rattle.grb_sums.specs.ColumnSums.{AreSums, as_entries, column_folds, with_values};
+ghost use Rattle.grb_push.specs.Pushes.{pushed, pushed_of, at_numbers, columns_at, is_among, IsBounded};
+
+use crate::picks::pick_rows;
+use crate::runs::{folds_of, push_row};
+use grb_ewise::{Stored, place_of};
+use grb_kernels::{EntryList, EntrySlice, Operator, Scalar};
+use grb_lists::FlatRows;
+use grb_semirings::{MatrixRows, MonoidOver};
+use grb_sums::{
+    AllColumns, Columns, NamedColumns, OpenSums, Term, add_entries, close_sums, open_sums,
+};
+use std::alloc::{AllocError, Global};
+use std::marker::PhantomData;
+
+/// Which value an operator takes first.
+pub trait Side {
+    /// What an operator makes of a value of the vector and one of the matrix.
+    ghost makes: { BinaryOp → Value → Value → Value };
+
+    /// Makes it, of the vector's value `x` and the matrix's value `y`.
+    fn product<T: Scalar, O: Operator<T>>(x: T, y: T) -> T
+        ensures { T.value result ≡ makes O.op (T.value x) (T.value y) };
+
+    /// Of two values of the operator's domain it is one of that domain.
+    ghost closed: { (op : BinaryOp) (x y : Value) → IsValueOf (op_domain op) x → IsValueOf (op_domain op) y → IsValueOf (op_domain op) (makes op x y) };
+}
+
+/// The vector's value comes first, as in vxm.
+pub struct VectorFirst;
+
+impl Side for VectorFirst {
+    ghost makes = { λ op. λ x. λ y. value_of_op op x y };
+
+    fn product<T: Scalar, O: Operator<T>>(x: T, y: T) -> T {
+        O::apply(x, y)
+    }
+
+    ghost closed = { λ op x y p q. op_closed op x y p q };
+}
+
+/// The matrix's value comes first, as in mxv.
+pub struct MatrixFirst;
+
+impl Side for MatrixFirst {
+    ghost makes = { λ op. λ x. λ y. value_of_op op y x };
+
+    fn product<T: Scalar, O: Operator<T>>(x: T, y: T) -> T {
+        O::apply(y, x)
+    }
+
+    ghost closed = { λ op x y p q. op_closed op y x q p };
+}
+
+/// A value of the vector, of which the products with those of a row are made.
+#[derive(Drop)]
+struct Product<T, O, S> {
+    x: T,
+    of: PhantomData<(O, S)>,
+}
+
+impl<T: Scalar, O: Operator<T>, S: Side> Term<T> for Product<T, O, S> {
+    ghost gives = { λ term. λ y. S.makes O.op (T.value term.x) y };
+
+    fn of(&self, value: T) -> T {
+        S::product::<T, O>(self.x, value)
+    }
+}
+
+/// How many entries the picked rows have; 2^64 - 1, where they are more.
+fn picked_len<T: Stored>(lists: &FlatRows, picks: &[(usize, T)]) -> usize
+    requires within { All (λ p. p.0 < length lists.now.rows) picks.now }
+    ensures { result ≡ min (length (columns_at lists.now.rows picks.now (decoded lists.now.entries))) (2 ^ 64 - 1) }
+{
+    let mut count = 0usize;
+    'rows: for i in 0..picks.len() {
+        let pick = picks[i];
+        count = count.saturating_add(lists.row_columns(pick.0).len());
+    }
+    count
+}
+
+/// A Rust type of which sums lie open: one for each column, where these are few.
+pub(crate) trait Placed {
+    /// How many sums are zeroed, and their marks read, in less time than a product takes to be sorted.
+    ghost places: { ℕ };
+
+    /// Whether a place for each of `ncols` columns is worth its memory: where they are no more than so many times the `count` products.
+    /// Takes no memory.
+    fn is_worth_a_place_each(ncols: u64, count: usize) -> bool
+        requires few { ncols < 2 ^ 32 }
+        ensures short { result ≡ true → ncols ≤ places * count }
+        ensures long { result ≡ false → places * count < ncols };
+}
+
+impl Placed for bool {
+    ghost places = { 128 };
+
+    fn is_worth_a_place_each(ncols: u64, count: usize) -> bool {
+        (ncols + 127) / 128 <= count as u64
+    }
+}
+
+impl Placed for u64 {
+    ghost places = { 32 };
+
+    fn is_worth_a_place_each(ncols: u64, count: usize) -> bool {
+        (ncols + 31) / 32 <= count as u64
+    }
+}
+
+/// Adds the picked rows, each with the products of its pick's value, to sums of which none lies open.
+fn add_rows<T: Stored, M: MonoidOver<T>, O: Operator<T>, S: Side, C: Columns>(
+    columns: &C,
+    lists: &FlatRows,
+    picks: &[(usize, T)],
+    words: &mut [u64],
+    sums: &mut [T],
+)
+    requires domain { lists.now.domain ≡ T.domain }
+    requires within { All (λ p. p.0 < length lists.now.rows) picks.now }
+    requires in_range { All (λ e. e.0.1 < C.below columns.now) (decoded lists.now.entries) }
+    requires marked { AreMarked (length (C.names columns.now)) words.old sums.old }
+    requires none { AreSums T.value M.monoid (C.names columns.now) [] words.old sums.old }
+    ensures marked { AreMarked (length (C.names columns.now)) words.new sums.new }
+    ensures added { AreSums T.value M.monoid (C.names columns.now) (pushed (S.makes O.op) (at_numbers lists.now.rows (as_entries T.value picks.now)) (decoded lists.now.entries)) words.new sums.new }
+{
+    'rows: for i in 0..picks.len() {
+        let pick = picks[i];
+        let term: Product<T, O, S> = Product {
+            x: pick.1,
+            of: PhantomData,
+        };
+        add_entries::<T, M, C, Product<T, O, S>>(
+            columns,
+            &term,
+            lists.row_columns(pick.0),
+            T::of_row(lists, pick.0),
+            words,
+            sums,
+        );
+    }
+}
+
+/// The sums of the picked rows at these columns. Takes memory for as many places as there are columns. `AllocError` where that is refused;
+/// then nothing is made.
+fn sum_rows<T: Stored + Drop, M: MonoidOver<T>, O: Operator<T>, S: Side, C: Columns>(
+    alloc: Global,
+    columns: &C,
+    lists: &FlatRows,
+    picks: &[(usize, T)],
+) -> Result<EntryList<T>, AllocError>
+    requires domain { lists.now.domain ≡ T.domain }
+    requires within { All (λ p. p.0 < length lists.now.rows) picks.now }
+    requires in_range { All (λ e. e.0.1 < C.below columns.now) (decoded lists.now.entries) }
+    ensures { IfOk result (λ made. entries_of T.value made.indices.items made.values.items ≡ column_folds M.monoid (C.names columns.now) (pushed (S.makes O.op) (at_numbers lists.now.rows (as_entries T.value picks.now)) (decoded lists.now.entries))) }
+{
+    let open = open_sums::<T, M>(alloc, columns.count())?;
+    let OpenSums {
+        mut words,
+        mut sums,
+    } = open;
+    add_rows::<T, M, O, S, C>(
+        columns,
+        lists,
+        picks,
+        words.as_mut_slice(),
+        sums.as_mut_slice(),
+    );
+    close_sums(alloc, columns, words.as_slice(), sums.as_slice())
+}
+
+/// The sums of the picked rows, by a place for each of `ncols` columns: no more for each entry of these rows than the type is worth.
+/// `AllocError` where memory is refused; then nothing is made.
+fn sum_all<T: Stored + Placed + Drop, M: MonoidOver<T>, O: Operator<T>, S: Side>(
+    alloc: Global,
+    ncols: u32,
+    lists: &FlatRows,
+    picks: &[(usize, T)],
+) -> Result<EntryList<T>, AllocError>
+    requires domain { lists.now.domain ≡ T.domain }
+    requires within { All (λ p. p.0 < length lists.now.rows) picks.now }
+    requires in_range { All (λ e. e.0.1 < ncols) (decoded lists.now.entries) }
+    requires short { ncols ≤ T.places * length (columns_at lists.now.rows picks.now (decoded lists.now.entries)) }
+    ensures { IfOk result (λ made. entries_of T.value made.indices.items made.values.items ≡ built_from nat_cmp M.monoid (pushed (S.makes O.op) (at_numbers lists.now.rows (as_entries T.value picks.now)) (decoded lists.now.entries))) }
+{
+    let all = AllColumns { ncols };
+    let made = sum_rows::<T, M, O, S, AllColumns>(alloc, &all, lists, picks)?;
+    Ok(made)
+}
+
+/// The products of the picked rows with the values of their picks, row by row, each with its column. Takes memory for `room`, and for more
+/// if they are more. `AllocError` where that is refused; then nothing is made.
+fn picked_products<T: Stored + Drop, O: Operator<T>, S: Side>(
+    alloc: Global,
+    lists: &FlatRows,
+    picks: &[(usize, T)],
+    room: usize,
+) -> Result<Vec<(u32, T)>, AllocError>
+    requires domain { lists.now.domain ≡ T.domain }
+    requires within { All (λ p. p.0 < length lists.now.rows) picks.now }
+    ensures of_domain { IfOk result (λ products. All (λ p. IsValueOf T.domain (T.value p.1)) products.items) }
+    ensures pushed { IfOk result (λ products. as_entries T.value products.items ≡ pushed (S.makes O.op) (at_numbers lists.now.rows (as_entries T.value picks.now)) (decoded lists.now.entries)) }
+{
+    let mut products = Vec::with_capacity(alloc, room)?;
+    'picks: for i in 0..picks.len() {
+        let pick = picks[i];
+        let term: Product<T, O, S> = Product {
+            x: pick.1,
+            of: PhantomData,
+        };
+        let columns = lists.row_columns(pick.0);
+        products.reserve(columns.len())?;
+        push_row(&term, columns, T::of_row(lists, pick.0), &mut products);
+    }
+    Ok(products)
+}
+
+/// The same by the products one after another, sorted by column. The picked rows have `count` entries. `AllocError` where memory is
+/// refused; then nothing is made.
+fn sum_named<T: Stored + Drop, M: MonoidOver<T>, O: Operator<T>, S: Side>(
+    alloc: Global,
+    lists: &FlatRows,
+    picks: &[(usize, T)],
+    count: usize,
+) -> Result<EntryList<T>, AllocError>
+    requires domain { lists.now.domain ≡ T.domain }
+    requires within { All (λ p. p.0 < length lists.now.rows) picks.now }
+    requires in_range { All (λ e. e.0.1 < 2 ^ 32) (decoded lists.now.entries) }
+    ensures { IfOk result (λ made. entries_of T.value made.indices.items made.values.items ≡ built_from nat_cmp M.monoid (pushed (S.makes O.op) (at_numbers lists.now.rows (as_entries T.value picks.now)) (decoded lists.now.entries))) }
+{
+    let mut products = picked_products::<T, O, S>(alloc, lists, picks, count)?;
+    let made = folds_of::<T, M>(alloc, products.as_mut_slice())?;
+    Ok(made)
+}
+
+/// The sums of the picked rows at these columns alone, which rise. `AllocError` where memory is refused; then nothing is made.
+fn sum_bounded<T: Stored + Drop, M: MonoidOver<T>, O: Operator<T>, S: Side>(
+    alloc: Global,
+    names: &[u32],
+    lists: &FlatRows,
+    picks: &[(usize, T)],
+) -> Result<EntryList<T>, AllocError>
+    requires rising { Rise names.now }
+    requires domain { lists.now.domain ≡ T.domain }
+    requires within { All (λ p. p.0 < length lists.now.rows) picks.now }
+    requires in_range { All (λ e. e.0.1 < 2 ^ 32) (decoded lists.now.entries) }
+    ensures { IfOk result (λ made. entries_of T.value made.indices.items made.values.items ≡ restricted (λ j. is_among j names.now) (built_from nat_cmp M.monoid (pushed (S.makes O.op) (at_numbers lists.now.rows (as_entries T.value picks.now)) (decoded lists.now.entries)))) }
+{
+    let named = NamedColumns { names };
+    let made = sum_rows::<T, M, O, S, NamedColumns>(alloc, &named, lists, picks)?;
+    Ok(made)
+}
+
+/// The sums of the picked rows where no place for each column of the matrix is kept: at the columns that bound the result, if they are no
+/// more than the `count` entries of these rows, and else at those of the rows. `AllocError` where memory is refused; then nothing is made.
+fn sum_few<T: Stored + Drop, M: MonoidOver<T>, O: Operator<T>, S: Side>(
+    alloc: Global,
+    bound: Option<&[u32]>,
+    lists: &FlatRows,
+    picks: &[(usize, T)],
+    count: usize,
+) -> Result<EntryList<T>, AllocError>
+    requires rising { IfSome bound (λ names. Rise names.now) }
+    requires domain { lists.now.domain ≡ T.domain }
+    requires within { All (λ p. p.0 < length lists.now.rows) picks.now }
+    requires in_range { All (λ e. e.0.1 < 2 ^ 32) (decoded lists.now.entries) }
+    ensures { IfOk result (λ made. IsBounded (option_map (λ names. names.now) bound.entry) (built_from nat_cmp M.monoid (pushed (S.makes O.op) (at_numbers lists.now.rows (as_entries T.value picks.now)) (decoded lists.now.entries))) (entries_of T.value made.indices.items made.values.items)) }
+{
+    if let Some(names) = bound {
+        if names.len() <= count {
+            let made = sum_bounded::<T, M, O, S>(alloc, names, lists, picks)?;
+            return Ok(made);
+        }
+    }
+    let made = sum_named::<T, M, O, S>(alloc, lists, picks, count)?;
+    Ok(made)
+}
+
+/// Writes to `made` what the term makes of each of these values.
+fn make_each<T: Stored, R: Term<T>>(term: &R, values: &[T], made: &mut [T])
+    requires room { length made.old ≡ length values.now }
+    ensures { map T.value made.new ≡ map (λ v. R.gives term.now (T.value v)) values.now }
+{
+    'values: for i in 0..values.len() {
+        made[i] = term.of(values[i]);
+    }
+}
+
+/// The products of a value with those of one row: its columns rise, so they are copied. Takes memory for these entries alone. `AllocError`
+/// where that is refused; then nothing is made.
+fn multiply_row<T: Stored + Drop, O: Operator<T>, S: Side>(
+    alloc: Global,
+    lists: &FlatRows,
+    place: usize,
+    x: T,
+) -> Result<EntryList<T>, AllocError>
+    requires domain { lists.now.domain ≡ T.domain }
+    requires ordered { IsTrue (is_sorted cell_cmp (decoded lists.now.entries)) }
+    requires within { place < length lists.now.rows }
+    ensures of_domain { IfOk result (λ made. All (λ v. IsValueOf T.domain (T.value v)) made.values.items) }
+    ensures products { IfOk result (λ made. entries_of T.value made.indices.items made.values.items ≡ with_values (S.makes O.op (T.value x)) (row_of (slice_index lists.now.rows place) (decoded lists.now.entries))) }
+{
+    let row = T::row(lists, place);
+    let term: Product<T, O, S> = Product { x, of: PhantomData };
+    let indices = Vec::from_slice(alloc, row.indices)?;
+    let mut values = vec![in alloc; T::any(); row.values.len()]?;
+    make_each(&term, row.values, values.as_mut_slice());
+    T::show(values.as_slice());
+    Ok(EntryList { indices, values })
+}
+
+/// The product of a vector that stores one value: of the row that it picks, if the matrix stores something there. Nothing is listed or
+/// sorted. `AllocError` where memory for the result is refused; then nothing is made.
+fn push_one<T: Stored + Drop, M: MonoidOver<T>, O: Operator<T>, S: Side>(
+    alloc: Global,
+    u: &EntrySlice<T>,
+    lists: &FlatRows,
+) -> Result<EntryList<T>, AllocError>
+    requires one { length u.now.indices.now ≡ 1 }
+    requires domain { lists.now.domain ≡ T.domain }
+    requires ordered { IsTrue (is_sorted cell_cmp (decoded lists.now.entries)) }
+    ensures { IfOk result (λ made. entries_of T.value made.indices.items made.values.items ≡ built_from nat_cmp M.monoid (pushed (S.makes O.op) (entries_of T.value u.now.indices.now u.now.values.now) (decoded lists.now.entries))) }
+{
+    match place_of(lists.rows(), u.indices[0]) {
+        Some(place) => {
+            let made = multiply_row::<T, O, S>(alloc, lists, place, u.values[0])?;
+            Ok(made)
+        }
+        None => Ok(EntryList {
+            indices: Vec::new(alloc),
+            values: Vec::new(alloc),
+        }),
+    }
+}
+
+/// The product of a vector and a matrix by a monoid and an operator as types: at each column the fold of the products where both store
+/// something. Where columns bound it, others may be left out. Time and memory are in proportion to the entries of the vector and of the
+/// rows that it picks; of a vector that stores one value memory is taken for the result alone. `AllocError` where memory is refused; then
+/// nothing is made.
+pub(crate) fn push<T: Stored + Placed + Drop, M: MonoidOver<T>, O: Operator<T>, S: Side>(
+    alloc: Global,
+    bound: Option<&[u32]>,
+    u: &EntrySlice<T>,
+    rows: &MatrixRows<T>,
+) -> Result<EntryList<T>, AllocError>
+    requires rising { IfSome bound (λ names. Rise names.now) }
+    ensures { IfOk result (λ made. IsBounded (option_map (λ names. names.now) bound.entry) (pushed_of M.monoid (S.makes O.op) (entries_of T.value u.now.indices.now u.now.values.now) (decoded rows.now.lists.now.entries)) (entries_of T.value made.indices.items made.values.items)) }
+{
+    let lists = rows.lists;
+    if u.indices.len() == 1 {
+        let made = push_one::<T, M, O, S>(alloc, u, lists)?;
+        return Ok(made);
+    }
+    let picked = pick_rows(alloc, lists, u)?;
+    let picks = picked.as_slice();
+    let count = picked_len(lists, picks);
+    if T::is_worth_a_place_each(rows.ncols, count) {
+        let made = sum_all::<T, M, O, S>(alloc, rows.ncols as u32, lists, picks)?;
+        return Ok(made);
+    }
+    let made = sum_few::<T, M, O, S>(alloc, bound, lists, picks, count)?;
+    Ok(made)
+}

@@ -1,0 +1,13 @@
+pub mod Agreeing
+pub mod Alike
+pub mod Alone
+pub mod Answering
+pub mod Cells
+pub mod Checking
+pub mod Counted
+pub mod Learnt
+pub mod Meeting
+pub mod Owning
+pub mod Readers
+pub mod Rising
+pub mod Spelling

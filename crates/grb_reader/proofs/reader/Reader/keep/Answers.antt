@@ -1,0 +1,11 @@
+use Rattle.std.proofs.Common.{◌≡◌, ap, ◌∙◌}
+use Rattle.grb_order.specs.Order.{room_of}
+use Rattle.grb_call.specs.Status.{with_status}
+use Rattle.grb_reader.specs.Known.{Knowing}
+use Rattle.grb_call.specs.Statuses.{status_at}
+use Rattle.grb_reader.proofs.reader.Reader.keep.Goals as goal
+
+pub returns-clause-statuses : goal.returns-clause-statuses
+returns-clause-statuses c =
+    let room : c.self.inside.statuses.room ≡ room_of c.args.self.now.order = c.self.invariant.room_is ∙ ap (λ (p : Knowing). room_of p.order) c.self.view_is in
+    c.keep.ensures.kept ∙ (λ i. with_status (room i) (c.target_of.ensures i) (c.info_of.ensures i) (status_at (c.self.view_is i).statuses))

@@ -1,0 +1,14 @@
+pub mod BackOff
+pub mod Cells
+pub mod Counting
+pub mod Explains
+pub mod Known
+pub mod Laws
+pub mod Learning
+pub mod Made
+pub mod Meeting
+pub mod Point
+pub mod Putting
+pub mod Reading
+pub mod Replying
+pub mod Settled

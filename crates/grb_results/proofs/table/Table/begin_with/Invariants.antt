@@ -1,0 +1,5 @@
+use Rattle.grb_results.specs.Exchanged.{Begins}
+use Rattle.grb_results.proofs.table.Table.begin_with.Given as goal
+
+abbrev pub invariant-objects : goal.invariant-objects
+invariant-objects l = Begins l.state.store l.initial.self l.self

@@ -1,8 +1,0 @@
-use Rattle.std.proofs.Common.{List}
-use Rattle.grb_call.specs.declared.call.Call.{Call}
-use Rattle.grb_results.specs.Kept.{AreKept}
-use Rattle.grb_results.specs.Results.{IsTable}
-use Rattle.grb_results.proofs.table.Table.give_vectors.Given as goal
-
-abbrev pub invariant-vectors : goal.invariant-vectors
-invariant-vectors l = (cs : List Call) → IsTable cs l.self → AreKept cs l.initial.given.items → AreKept cs l.given.items

@@ -1,0 +1,4 @@
+pub mod Folds
+pub mod Lent
+pub mod Marks
+pub mod Sums

@@ -1,0 +1,12 @@
+use Rattle.std.proofs.Common.{◌≡◌, ◌+◌, List, length, map, drop}
+use Rattle.grb_call.specs.declared.call.Call.{Call}
+use Rattle.grb_call.specs.Store.{Store}
+use Rattle.grb_slices.specs.Targets.{AreTargetsOf}
+use Rattle.grb_slices.proofs.targets.Targets.go_on.Given as goal
+
+abbrev pub invariant-calls : goal.invariant-calls
+invariant-calls l = record {
+  walked : (s : Store) (known : List Call) → AreTargetsOf s l.initial.self known → map (λ c. c.now) l.calls ≡ drop (length l.initial.self.targets) known → AreTargetsOf s l.self known;
+  count : length l.self.targets ≡ length l.initial.self.targets + l.at;
+  room : length l.self.targets + l.self.shapes.room ≡ length l.initial.self.targets + l.initial.self.shapes.room;
+}

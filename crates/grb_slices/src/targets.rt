@@ -1,0 +1,143 @@
+//! Which object each call changes, noted once when the call is learnt.
+ghost use Rattle.std.specs.Prelude.{◌≡◌, ◌+◌, ◌<◌, ◌≤◌, ◌^◌, ◌++◌, ◌∷◌, [], None, length, map, IfOk};
+ghost use Rattle.grb_call.specs.Refused.{refused_by_shapes, shapes_after};
+ghost use Rattle.grb_slices.specs.Content.{effective_target};
+ghost use Rattle.grb_call.specs.Shapes.{is_live};
+ghost use Rattle.grb_call.specs.Store.{empty_store, shapes_of};
+ghost use Rattle.grb_slices.specs.Targets.{WalksOn};
+
+use crate::calls::CallList;
+use crate::target::{target_at, target_of};
+use grb_call::{Call, Object, Shapes};
+use std::alloc::{AllocError, Global};
+use std::marker::Model;
+
+/// The targets of the first calls of a history, each at its place, none for one that is refused there or only reads, and the shapes after
+/// these calls: of one walk over the calls, which goes on where it stopped.
+#[derive(Drop)]
+pub struct Targets {
+    shapes: Shapes,
+    targets: Vec<Option<Object>>,
+}
+
+impl Model for Targets {
+    ghost use Rattle.std.specs.Prelude.{◌+◌, ◌≤◌, length, vec_capacity};
+    ghost use Rattle.grb_slices.specs.Targets.{WalkedCalls};
+
+    ghost Value = { WalkedCalls };
+
+    ghost view = { λ t. record { targets = t.targets.items; shapes = t.shapes } };
+
+    ghost invariant = { λ t. length t.targets.items + t.shapes.room ≤ vec_capacity t.targets };
+}
+
+impl Targets {
+    /// Of no calls, with memory for so many. `AllocError` where memory is refused; then nothing is made.
+    pub fn open(alloc: Global, room: u32) -> Result<Targets, AllocError>
+        ensures targets { IfOk result (λ t. t.targets ≡ []) }
+        ensures shapes { IfOk result (λ t. t.shapes.objects ≡ shapes_of empty_store) }
+        ensures room { IfOk result (λ t. t.shapes.room ≡ room) }
+    {
+        Ok(Targets {
+            targets: Vec::with_capacity(alloc, room as usize)?,
+            shapes: Shapes::open(alloc, room)?,
+        })
+    }
+
+    /// Of no calls yet on objects of these shapes, with memory for so many. `AllocError` where memory is refused; then nothing is made.
+    pub fn of(alloc: Global, shapes: &Shapes, room: u32) -> Result<Targets, AllocError>
+        requires matrices { length shapes.now.objects.matrices + room < 2 ^ 32 }
+        requires vectors { length shapes.now.objects.vectors + room < 2 ^ 32 }
+        ensures targets { IfOk result (λ t. t.targets ≡ []) }
+        ensures shapes { IfOk result (λ t. t.shapes.objects ≡ shapes.now.objects) }
+        ensures room { IfOk result (λ t. t.shapes.room ≡ room) }
+    {
+        let targets = Vec::with_capacity(alloc, room as usize)?;
+        Ok(Targets {
+            targets,
+            shapes: shapes.try_clone(room)?,
+        })
+    }
+
+    /// Takes in the call after those walked over. Takes no memory.
+    pub fn go_over(&mut self, call: &Call)
+        requires { 0 < self.old.shapes.room }
+        ensures targets { self.new.targets ≡ self.old.targets ++ effective_target self.old.shapes.objects call.now ∷ [] }
+        ensures shapes { self.new.shapes.objects ≡ shapes_after self.old.shapes.objects call.now }
+        ensures room { self.new.shapes.room + 1 ≡ self.old.shapes.room }
+    {
+        self.targets.push_reserved(target_at(&self.shapes, call));
+        self.shapes.absorb(call);
+    }
+
+    /// Takes in the call after those walked over, which the shapes after these do not refuse: it is not checked again. Takes no memory.
+    pub fn take_in(&mut self, call: &Call)
+        requires room { 0 < self.old.shapes.room }
+        requires accepted { refused_by_shapes self.old.shapes.objects call.now ≡ None }
+        ensures targets { self.new.targets ≡ self.old.targets ++ effective_target self.old.shapes.objects call.now ∷ [] }
+        ensures shapes { self.new.shapes.objects ≡ shapes_after self.old.shapes.objects call.now }
+        ensures room { self.new.shapes.room + 1 ≡ self.old.shapes.room }
+    {
+        self.targets.push_reserved(target_of(&self.shapes, call));
+        self.shapes.absorb_accepted(call);
+    }
+
+    /// Goes on over these calls, which come after those walked over. Takes no memory.
+    pub fn go_on(&mut self, calls: &[&Call])
+        requires room { length calls.now ≤ self.old.shapes.room }
+        ensures walked { WalksOn self.old (map (λ c. c.now) calls.now) self.new }
+        ensures all { length self.new.targets ≡ length self.old.targets + length calls.now }
+        ensures room { length self.new.targets + self.new.shapes.room ≡ length self.old.targets + self.old.shapes.room }
+    {
+        'calls: for at in 0..calls.len() {
+            self.go_over(calls[at]);
+        }
+    }
+
+    /// The shapes after the calls walked over. Takes no memory.
+    pub fn shapes(&self) -> &Shapes
+        ensures { result.now ≡ self.now.shapes }
+    {
+        &self.shapes
+    }
+
+    /// The target of each call walked over, in turn. Takes no memory.
+    pub fn targets(&self) -> &[Option<Object>]
+        ensures { result.now ≡ self.now.targets }
+    {
+        &self.targets
+    }
+
+    /// Whether the object is there after the calls. Takes no memory.
+    pub fn contains(&self, object: Object) -> bool
+        ensures { result ≡ is_live self.now.shapes.objects object }
+    {
+        match object {
+            Object::Matrix(a) => self.shapes.matrix(a).is_some(),
+            Object::Vector(v) => self.shapes.vector(v).is_some(),
+        }
+    }
+}
+
+/// Calls that are lent together (own).
+#[derive(Drop)]
+pub struct LentCalls<'a, 'b> {
+    /// The calls, in turn.
+    pub calls: &'b [&'a Call],
+}
+
+impl<'a, 'b> CallList<LentCalls<'a, 'b>> for Targets {
+    ghost is_in = { λ s t. Unit {0} };
+
+    ghost calls = { λ s t. map (λ c. c.now) s.calls.now };
+
+    ghost target_list = { λ t. t.targets };
+
+    fn targets(&self) -> &[Option<Object>] {
+        Targets::targets(self)
+    }
+
+    fn call_at<'c>(&mut self, source: &'c LentCalls<'a, 'b>, at: usize) -> &'c Call {
+        source.calls[at]
+    }
+}

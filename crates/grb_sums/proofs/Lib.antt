@@ -1,0 +1,17 @@
+pub mod Adding
+pub mod Cleared
+pub mod ColumnFolds
+pub mod LowestBit
+pub mod MarkCounts
+pub mod MarkedPlaces
+pub mod MarksOf
+pub mod Reach
+pub mod Renamed
+pub mod Rising
+pub mod RowByRow
+pub mod RowSpans
+pub mod SummedRow
+pub mod SumsByColumn
+pub mod Taken
+pub mod Tops
+pub mod WordByWord
