@@ -130,7 +130,9 @@ static void prepare(void)
     end(passes);
 }
 
-/* A load of places that rise is shared, and not dear. One that has to be sorted is: who adopts it builds nothing. */
+/* A load of places that rise is shared, and not dear: it is left to reads, and only the call before it is made,
+ * of which the build had to know that the vector is empty. One that has to be sorted is dear: who adopts it builds
+ * nothing. */
 static void load(void)
 {
     TrB_Pass passes[PASSES] = {TRB_PASS_INIT};
@@ -138,7 +140,7 @@ static void load(void)
     OK(TrB_open(ROOM, passes, PASSES));
     OK(TrB_Vector_new(&passes[0], &u, TrB_UINT64, MANY));
     OK(TrB_Vector_build_UINT64(&passes[0], u, places, ones, MANY, TrB_PLUS));
-    prepares(&passes[0], 0);
+    prepares(&passes[0], 1);
     OK(TrB_Vector_clear(&passes[0], u));
     OK(TrB_Vector_build_UINT64(&passes[0], u, backwards, ones, MANY, TrB_PLUS));
     prepares(&passes[0], 4);
