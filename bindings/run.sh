@@ -258,11 +258,11 @@ link=("$library" "$heap" -lpthread)
 
 check_header
 step 'the version, wherever it stands' ./versions.sh
-for name in first triangles bfs paths threads succeed refusals sharing beside; do run_c "$name"; done
+for name in first triangles bfs paths threads succeed branch refusals builds sharing beside; do run_c "$name"; done
 run_fail
 run_ports
 run_bench
-for name in triangles bfs paths threads succeed messages algorithms; do run_cpp "$name"; done
+for name in triangles bfs paths threads succeed branch messages algorithms; do run_cpp "$name"; done
 refuse_cpp
 build_rust
 for name in first triangles bfs paths threads succeed; do run_rust "$name"; done

@@ -74,12 +74,12 @@ under_valgrind() {
 }
 
 for kind in address,undefined thread; do
-    for name in first triangles bfs paths threads succeed refusals sharing beside; do sanitize_c "$name" "$kind"; done
+    for name in first triangles bfs paths threads succeed branch refusals builds sharing beside; do sanitize_c "$name" "$kind"; done
     sanitize_fail "$kind"
-    for name in triangles bfs paths threads succeed messages algorithms; do sanitize_cpp "$name" "$kind"; done
+    for name in triangles bfs paths threads succeed branch messages algorithms; do sanitize_cpp "$name" "$kind"; done
 done
 
-for name in first triangles bfs paths threads succeed sharing; do
+for name in first triangles bfs paths threads succeed branch sharing; do
     build "c/$name, valgrind" "$CC" -std=c11 -g -O1 -Ic "c/$name.c" "${link[@]}" || continue
     under_valgrind "c/$name" "c/expected/$name.txt" definite,indirect,possible
 done

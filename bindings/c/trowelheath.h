@@ -72,6 +72,8 @@
  *   hundred changes: the others go on from what that leaves. Release a pass that will stand idle, since
  *   it holds what it has evaluated. The history keeps every change, the arrays of builds too, as long as
  *   the store is open. When the room is used up, TrB_succeed opens a store that goes on from there.
+ *   Make an analysis of several calls in a branch, which TrB_branch opens: it reads one moment, its
+ *   temporaries take no room here, and TrB_Matrix_build_from brings a result back by one call.
  *
  * What the caller owes, since nothing checks it
  *
@@ -84,7 +86,8 @@
  *     array either: for a diagonal, copy the rows to columns. A bool in memory is 0 or 1.
  *   - An object is used with passes of its own store, and of those that succeed it. In another store its
  *     number names another object, or none.
- *   - Two stores that are open were opened with two numbers. TrB_open and TrB_succeed see to it.
+ *   - Two stores that are open were opened with two numbers. TrB_open, TrB_succeed and TrB_branch see to
+ *     it.
  *   - malloc, realloc and free are of one allocator.
  *   - No call is made in a signal handler, or in the child of a fork of a process with threads.
  */
@@ -260,11 +263,12 @@ _Static_assert(sizeof(TrB_Pass) == 16 && sizeof(bool) == 1, "the library is for 
 /* The functions of libgrb_c.a as they are. Objects are bare numbers here, a mask of UINT32_MAX is
  * none, and each array has a length of its own: arrays of one call whose lengths differ are refused
  * with TrB_INVALID_VALUE by a build, and the shortest counts for a read of all entries. The typed
- * functions below call them; what they say holds here too. trb_open and trb_succeed take the number of
- * the store that they open, which no other open store of the process may have. */
+ * functions below call them; what they say holds here too. trb_open, trb_succeed and trb_branch take the
+ * number of the store that they open, which no other open store of the process may have. */
 uint32_t trb_version(void);
 int32_t trb_open(uint64_t store, uint32_t room, TrB_Pass *passes, size_t npasses);
 int32_t trb_succeed(uint64_t store, uint32_t room, TrB_Pass *pass, uint64_t *needed, TrB_Pass *passes, size_t npasses);
+int32_t trb_branch(uint64_t store, uint32_t room, TrB_Pass *pass, const uint32_t *matrices, size_t nmatrices, const uint32_t *vectors, size_t nvectors, uint64_t *needed, TrB_Pass *passes, size_t npasses);
 int32_t trb_is_full(TrB_Pass *pass, bool *out);
 void trb_free(TrB_Pass *pass);
 int32_t trb_meet(TrB_Pass *pass, TrB_Pass *other);
@@ -305,6 +309,8 @@ int32_t trb_vector_reduce_uint64(TrB_Pass *pass, uint64_t *out, uint32_t monoid,
 int32_t trb_matrix_reduce_bool(TrB_Pass *pass, bool *out, uint32_t monoid, uint32_t a);
 int32_t trb_vector_reduce_bool(TrB_Pass *pass, bool *out, uint32_t monoid, uint32_t v);
 
+int32_t trb_matrix_build_from(TrB_Pass *pass, uint32_t c, TrB_Pass *other, uint32_t a);
+int32_t trb_vector_build_from(TrB_Pass *pass, uint32_t w, TrB_Pass *other, uint32_t v);
 int32_t trb_matrix_build_uint64(TrB_Pass *pass, uint32_t a, const uint64_t *rows, size_t nrows, const uint64_t *columns, size_t ncolumns, const uint64_t *values, size_t nvalues, uint32_t dup);
 int32_t trb_vector_build_uint64(TrB_Pass *pass, uint32_t v, const uint64_t *indices, size_t nindices, const uint64_t *values, size_t nvalues, uint32_t dup);
 int32_t trb_matrix_build_bool(TrB_Pass *pass, uint32_t a, const uint64_t *rows, size_t nrows, const uint64_t *columns, size_t ncolumns, const bool *values, size_t nvalues, uint32_t dup);
@@ -334,7 +340,7 @@ static inline uint32_t TrB_version(void)
     return trb_version();
 }
 
-/* For TrB_open and TrB_succeed: ends the opening of a store with this number, of which this is the status.
+/* For TrB_open, TrB_succeed and TrB_branch: ends the opening of a store with this number, of which this is the status.
  * Where it was refused, the passes are as before, and the number is given back: after TrB_INVALID_VALUE
  * nothing was done, and else all were none before. */
 static inline TrB_Info trb_end_opening(void **number, int32_t status, TrB_Pass *passes, size_t npasses)
@@ -390,9 +396,9 @@ static inline TrB_Info TrB_is_full(TrB_Pass *pass, bool *full)
  *   stays       The old store: its passes are valid, and are freed by their owner. Objects are shared
  *               with it until one of the two changes one.
  *
- * Where TrB_is_full holds of `pass`, nothing is lost. Called earlier it makes a branch: what is changed
- * here later is not there, and the number of an object that is made here later may mean another object
- * there. `pass`, the old passes and the new ones are different memory:
+ * Where TrB_is_full holds of `pass`, nothing is lost. Called earlier it makes a store beside this one:
+ * what is changed here later is not there, and the number of an object that is made here later may mean
+ * another object there. `pass`, the old passes and the new ones are different memory:
  *
  *     TrB_meet(&old[0], &old[1]);                           // when the thread that had old[1] has ended
  *     info = TrB_succeed(&old[0], &needed, 1000, next, 2);  // room for 1,000 changes, two passes
@@ -411,6 +417,43 @@ static inline TrB_Info TrB_succeed(TrB_Pass *pass, uint64_t *needed, uint32_t ro
         return TrB_OUT_OF_MEMORY;
     }
     int32_t status = trb_succeed((uint64_t)(uintptr_t)number, room, pass, needed, passes, npasses);
+    return trb_end_opening(number, status, passes, npasses);
+}
+
+/* Opens a branch: a store of its own that begins with chosen objects of this one, all of them as `pass`
+ * knows them, at one moment. A read or a wait of `pass` learns the newest changes first. Its passes are
+ * given as by TrB_open, with the same ranges of room and npasses.
+ *
+ *   numbers     matrices[k] has the number k in the branch, and so has vectors[k]; the next object is
+ *               given the next number. One that was freed or never made is not there.
+ *   room        The branch has room for `room` changes. Those that make its objects take none of them.
+ *   stays       This store, and what is made or changed in either is not seen in the other. Objects are
+ *               shared until one of the two changes one. No entry is copied, and of this store only what
+ *               was chosen is evaluated.
+ *
+ *     TrB_Pass own = TRB_PASS_INIT;
+ *     TrB_Matrix there = {0};                               // the graph, in the branch
+ *     info = TrB_branch(&pass, &needed, &graph, 1, NULL, 0, 1000, &own, 1);
+ *     ..                                                    // a search of many calls by `own`
+ *     info = TrB_Vector_build_from(&pass, levels, &own, found);
+ *     TrB_free(&own);                                       // the branch ends with its last pass
+ *
+ * Refused: TrB_INVALID_VALUE where room or npasses is out of its range, or one of `passes` is open;
+ * TrB_INSUFFICIENT_SPACE where no store has room for the changes that make the objects and for `room`
+ * more, and *needed tells how many make the objects. It is not written else. Where it is refused, all of
+ * `passes` are as before, and so is this store. */
+static inline TrB_Info TrB_branch(TrB_Pass *pass, uint64_t *needed, const TrB_Matrix *matrices,
+                                  size_t nmatrices, const TrB_Vector *vectors, size_t nvectors,
+                                  uint32_t room, TrB_Pass *passes, size_t npasses)
+{
+    static const uint32_t none = 0; /* where there is no array */
+    void **number = (void **)malloc(sizeof *number);
+    if (number == NULL) {
+        return TrB_OUT_OF_MEMORY;
+    }
+    int32_t status = trb_branch((uint64_t)(uintptr_t)number, room, pass,
+                                nmatrices == 0 ? &none : &matrices->id, nmatrices,
+                                nvectors == 0 ? &none : &vectors->id, nvectors, needed, passes, npasses);
     return trb_end_opening(number, status, passes, npasses);
 }
 
@@ -742,6 +785,28 @@ static inline TrB_Info TrB_Vector_build_BOOL(TrB_Pass *pass, TrB_Vector w, const
 {
     size_t n = (size_t)nvals;
     return (TrB_Info)trb_vector_build_bool(pass, w.id, indices, n, values, n, (uint32_t)dup);
+}
+
+/* Fills a matrix that stores nothing with all entries that A has now, a matrix of the other pass: of a
+ * branch, as a rule, or of any store. They are shared with A until one of the two is changed, and none
+ * is copied. C may be larger than A. A wait for A by `other`, and a change by `pass`.
+ * Refused: TrB_INVALID_VALUE where the two are one pass; TrB_DOMAIN_MISMATCH where C and A are not of one
+ * domain; TrB_OUTPUT_NOT_EMPTY where C stores an entry; TrB_INDEX_OUT_OF_BOUNDS where an entry of A is
+ * outside of C, and then nothing was stored; as TrB_Matrix_wait where A cannot be made. */
+static inline TrB_Info TrB_Matrix_build_from(TrB_Pass *pass, TrB_Matrix C, TrB_Pass *other, TrB_Matrix A)
+{
+    return pass == other ? TrB_INVALID_VALUE : (TrB_Info)trb_matrix_build_from(pass, C.id, other, A.id);
+}
+
+/* Fills a vector that stores nothing with all entries that u has now, a vector of the other pass: of a
+ * branch, as a rule, or of any store. They are shared with u until one of the two is changed, and none
+ * is copied. w may be larger than u. A wait for u by `other`, and a change by `pass`.
+ * Refused: TrB_INVALID_VALUE where the two are one pass; TrB_DOMAIN_MISMATCH where w and u are not of one
+ * domain; TrB_OUTPUT_NOT_EMPTY where w stores an entry; TrB_INDEX_OUT_OF_BOUNDS where an entry of u is
+ * outside of w, and then nothing was stored; as TrB_Vector_wait where u cannot be made. */
+static inline TrB_Info TrB_Vector_build_from(TrB_Pass *pass, TrB_Vector w, TrB_Pass *other, TrB_Vector u)
+{
+    return pass == other ? TrB_INVALID_VALUE : (TrB_Info)trb_vector_build_from(pass, w.id, other, u.id);
 }
 
 /* Writes all entries of A to the front of three arrays, in rising order of row, then column, all as

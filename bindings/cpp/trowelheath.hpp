@@ -144,13 +144,14 @@ public:
     /// The refusal where so many changes make the objects. Takes no memory.
     explicit RoomTooSmall(std::uint64_t needed) noexcept
         : Refusal(Status::insufficient_space,
-                  detail::text("the objects of the successor take %llu changes: give room for these and more",
+                  detail::text("the objects of the new store take %llu changes: give room for these and more",
                                detail::digits(needed))),
           needed_(needed)
     {
     }
 
-    /// How many changes make the objects, which is the least room of a successor.
+    /// How many changes make the objects, which is the least room of a successor. In a branch, room and these have to
+    /// be at most most_room.
     [[nodiscard]] std::uint64_t needed() const noexcept { return needed_; }
 
 private:
@@ -639,6 +640,33 @@ public:
     /// the same there. As TrB_succeed, with room and passes as of Store. Throws RoomTooSmall where the changes
     /// that make the objects need more room.
     [[nodiscard]] Store succeed(std::uint32_t room, std::uint32_t passes);
+
+    /// Opens a branch: a store of its own that begins with these objects, all of them as this pass knows them, at one
+    /// moment. The matrix at place k of its list has the number k there, Matrix<T>(k), and so has the vector at place k
+    /// of its own. As TrB_branch, with room and passes as of Store. Throws RoomTooSmall where no store has room for
+    /// the changes that make the objects and for `room` more.
+    ///
+    ///     Store apart = pass.branch({graph.id()}, {}, 1000, 1);
+    [[nodiscard]] Store branch(const std::vector<std::uint32_t> &matrices, const std::vector<std::uint32_t> &vectors,
+                               std::uint32_t room, std::uint32_t passes);
+
+    /// Fills a matrix that stores nothing with all entries that `a` has now, a matrix of the other pass: of a branch,
+    /// as a rule. They are shared, and none is copied. As TrB_Matrix_build_from.
+    template <typename T>
+    void build_from(Matrix<T> c, Pass &other, Matrix<T> a)
+    {
+        detail::check(TrB_Matrix_build_from(&raw_, TrB_Matrix{c.id()}, &other.raw_, TrB_Matrix{a.id()}),
+                      [&](Status code) { return told(code, {of("c", c)}); });
+    }
+
+    /// Fills a vector that stores nothing with all entries that `u` has now, a vector of the other pass: of a branch,
+    /// as a rule. They are shared, and none is copied. As TrB_Vector_build_from.
+    template <typename T>
+    void build_from(Vector<T> w, Pass &other, Vector<T> u)
+    {
+        detail::check(TrB_Vector_build_from(&raw_, TrB_Vector{w.id()}, &other.raw_, TrB_Vector{u.id()}),
+                      [&](Status code) { return told(code, {of("w", w)}); });
+    }
 
     // ---- Objects ---------------------------------------------------------------------------------------
 
@@ -1541,6 +1569,26 @@ inline Store Pass::succeed(std::uint32_t room, std::uint32_t passes)
         return is_open() ? Store::told_of_opening(code, room, passes) : detail::text("the pass was moved from");
     });
     return next;
+}
+
+inline Store Pass::branch(const std::vector<std::uint32_t> &matrices, const std::vector<std::uint32_t> &vectors,
+                          std::uint32_t room, std::uint32_t passes)
+{
+    static const std::uint32_t none = 0; // where there is no list
+    Store apart;
+    std::uint64_t needed = 0;
+    const std::int32_t status =
+        apart.open(passes, [&](std::uint64_t number, TrB_Pass *opened, std::size_t count) {
+            return trb_branch(number, room, &raw_, matrices.empty() ? &none : matrices.data(), matrices.size(),
+                              vectors.empty() ? &none : vectors.data(), vectors.size(), &needed, opened, count);
+        });
+    if (status == TrB_INSUFFICIENT_SPACE) {
+        throw RoomTooSmall(needed);
+    }
+    detail::check(status, [&](Status code) {
+        return is_open() ? Store::told_of_opening(code, room, passes) : detail::text("the pass was moved from");
+    });
+    return apart;
 }
 
 } // namespace trowelheath

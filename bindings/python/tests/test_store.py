@@ -13,6 +13,7 @@ from trowelheath import (
     InvalidValue,
     Matrix,
     OrderFull,
+    OutputNotEmpty,
     Pass,
     RoomTooSmall,
     Store,
@@ -240,6 +241,62 @@ class Passes(StoreCase):
         for read in reads:
             read()
         self.assertEqual(self.p.facts().room_left, left)
+
+
+class Branching(StoreCase):
+    room = 8
+
+    def branch(self, *objects: Object, room: int = 10, passes: int = 1) -> Store:
+        """A branch by the first pass, which is closed behind the test."""
+        store = self.p.branch(*objects, room=room, passes=passes)
+        self.addCleanup(store.close)
+        return store
+
+    def test_it_keeps_the_moment_of_its_objects(self) -> None:
+        v, other, a = self.p.vector(3), self.p.vector(4, bool), self.p.matrix(2, 2)
+        v[0] = 5
+        a[1, 1] = 7
+        store = self.branch(a, v, passes=2)
+        facts = store.passes[1].facts()
+        self.assertEqual((facts.known, facts.room_left), (4, 10))
+        w, b = v.using(store.main), a.using(store.passes[1])
+        self.assertEqual((w.number, b.number), (0, 0))
+        a[0, 0] = 1
+        w[1] = 6
+        self.assertEqual((w.to_dict(), v.to_dict()), ({0: 5, 1: 6}, {0: 5}))
+        self.assertEqual((b.to_dict(), a.to_dict()), ({(1, 1): 7}, {(0, 0): 1, (1, 1): 7}))
+        with self.assertRaisesRegex(ValueError, "of another store"):
+            other.using(store.main)
+        self.assertEqual(store.main.vector(1).number, 1)
+
+    def test_a_result_comes_back_by_one_call(self) -> None:
+        v, out = self.p.vector(3), self.p.vector(5)
+        v[2] = 5
+        store = self.branch(v)
+        w = v.using(store.main)
+        w[0] = 4
+        left = self.p.facts().room_left
+        out.build_from(w)
+        self.assertEqual((out.to_dict(), self.p.facts().room_left), ({0: 4, 2: 5}, left - 1))
+        with self.assertRaises(OutputNotEmpty):
+            out.build_from(w)
+        with self.assertRaises(ValueError):
+            out.build_from(v)
+        with self.assertRaises(TypeError):
+            self.p.matrix(1, 1).build_from(v)  # type: ignore[type-var]
+
+    def test_what_it_begins_with(self) -> None:
+        v = self.p.vector(3)
+        with self.assertRaisesRegex(RoomTooSmall, "Give room for the 1 calls"):
+            self.p.branch(v, room=65_536)
+        self.assertEqual(self.branch(room=1).main.facts().room_left, 1)
+        self.assertEqual(self.branch(v, v).main.facts().known, 1)
+        other = Store(room=2)
+        self.addCleanup(other.close)
+        with self.assertRaisesRegex(ValueError, "of another store"):
+            self.p.branch(other.main.vector(1))
+        with self.assertRaises(TypeError):
+            self.p.branch(3)  # type: ignore[arg-type]
 
 
 class Succession(StoreCase):

@@ -35,7 +35,8 @@ pub enum Error {
     /// Arrays are too short for the entries of an object (`GrB_INSUFFICIENT_SPACE`). [`Pass::entries`](crate::Pass::entries) makes longer ones, so
     /// it does not answer this.
     InsufficientSpace,
-    /// The room of a successor is below the number of calls that make the objects, of which so many are needed (`GrB_INSUFFICIENT_SPACE`).
+    /// The room of a successor is below the number of calls that make the objects, of which so many are needed (`GrB_INSUFFICIENT_SPACE`); or
+    /// these and the room of a branch are more than any store takes.
     RoomTooSmall {
         /// The least room of a successor.
         needed: u64,

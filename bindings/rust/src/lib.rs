@@ -65,7 +65,7 @@
 //! # Limits
 //!
 //! - A store takes at most 65,536 calls that change it, in its whole life. A build or an operation is one call. When the store is full,
-//!   reads go on, and [`Pass::succeed`] opens a store that goes on from there.
+//!   reads go on, and [`Pass::succeed`] opens a store that goes on from there. What an analysis makes in a [branch](Pass::branch) takes none.
 //! - At most 256 passes share it. Calls times passes are at most 1,048,576.
 //! - Values are truth values and whole numbers below 2^64. Sums, differences and products of numbers are modulo 2^64.
 //!
@@ -88,6 +88,7 @@
 #![warn(clippy::undocumented_unsafe_blocks)]
 
 pub mod algorithms;
+mod chosen;
 mod descriptor;
 mod element;
 mod entries;
@@ -105,6 +106,7 @@ mod store;
 mod sys;
 mod vector;
 
+pub use chosen::Chosen;
 pub use descriptor::{Descriptor, Wait};
 pub use element::Element;
 pub use entries::{MatrixEntries, Triples, VectorEntries};

@@ -153,6 +153,11 @@ impl<T: Element> Calls<T, (u64, u64), MatrixEntries<T>> for Matrix<T> {
         )
     }
 
+    fn build_of(self, pass: &mut TrbPass, other: &mut TrbPass, from: Self) -> i32 {
+        // SAFETY: both passes are mutable references, so they are two, and this call alone has them.
+        unsafe { sys::trb_matrix_build_from(pass, self.number, other, from.number) }
+    }
+
     fn tuples(self, pass: &mut TrbPass, entries: &mut MatrixEntries<T>, count: &mut u64) -> i32 {
         let (rows, columns, values) = entries.as_mut_slices();
         // SAFETY: the pass, the three slices and the place of the count are mutable references, and each slice goes with its own length.

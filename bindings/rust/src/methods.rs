@@ -283,6 +283,35 @@ impl Pass {
         })
     }
 
+    /// Fills an object that stores nothing with all entries that an object of the other pass has now: of a branch, as a rule. They are shared
+    /// until one of the two is changed, and none is copied. The other object may be smaller. It is a wait for the one by the other pass, and
+    /// one change.
+    ///
+    /// # Errors
+    ///
+    /// - [`Error::UninitializedObject`]: one of the objects was freed.
+    /// - [`Error::OutputNotEmpty`]: the object stores an entry.
+    /// - [`Error::IndexOutOfBounds`]: an entry of the other is outside of it. Nothing was stored.
+    /// - As of each [change](Pass#changes).
+    ///
+    /// ```no_run
+    /// # use trowelheath::{Error, Pass, Vector};
+    /// # fn publish(pass: &mut Pass, levels: Vector<u64>, own: &mut Pass, found: Vector<u64>) -> Result<(), Error> {
+    /// pass.build_from(levels, own, found)?;
+    /// # Ok(())
+    /// # }
+    /// ```
+    pub fn build_from<O: Object>(
+        &mut self,
+        object: O,
+        other: &mut Pass,
+        from: O,
+    ) -> Result<(), Error> {
+        self.check(object)?;
+        other.check(from)?;
+        done(object.build_of(&mut self.raw, &mut other.raw, from))
+    }
+
     /// Fills an object that stores nothing from entries, `(row, column, value)` of a matrix or `(index, value)` of a vector, in any order.
     /// Those of one place are combined by the monoid `dup`. The entries are collected first, and then it is one build, as
     /// [`build_matrix`](Pass::build_matrix) and [`build_vector`](Pass::build_vector) are.

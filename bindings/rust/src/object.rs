@@ -60,6 +60,7 @@ pub trait Calls<T, I, E>: Sized {
     fn nvals(self, pass: &mut TrbPass, out: &mut u64) -> i32;
     fn reduce(self, pass: &mut TrbPass, out: &mut T, monoid: u32) -> i32;
     fn build(self, pass: &mut TrbPass, entries: &E, dup: u32) -> Result<(), Error>;
+    fn build_of(self, pass: &mut TrbPass, other: &mut TrbPass, from: Self) -> i32;
     fn tuples(self, pass: &mut TrbPass, entries: &mut E, count: &mut u64) -> i32;
     fn ewise_add(self, pass: &mut TrbPass, how: Numbers, op: u32, a: Self, b: Self) -> i32;
     fn ewise_mult(self, pass: &mut TrbPass, how: Numbers, op: u32, a: Self, b: Self) -> i32;

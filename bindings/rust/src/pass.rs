@@ -1,5 +1,6 @@
 //! A pass: one thread's way into a store, and what it tells another.
 
+use crate::chosen::{Before, Chosen};
 use crate::descriptor::Descriptor;
 use crate::error::{done, Error};
 use crate::facts::Facts;
@@ -40,7 +41,7 @@ use std::sync::Arc;
 /// # Objects of other stores
 ///
 /// A handle of another store's object is refused by [`Error::ForeignObject`], whatever the call. Its number would mean another object here.
-/// In the successor of a store, [`inherited`](Pass::inherited) gives the handle of what the object became.
+/// In the successor of a store, and in a branch, [`inherited`](Pass::inherited) gives the handle of what the object became.
 ///
 /// # Not in two threads at once
 ///
@@ -55,8 +56,8 @@ use std::sync::Arc;
 pub struct Pass {
     pub(crate) raw: TrbPass,
     store: Store,
-    // The store that this one succeeds.
-    before: Option<Store>,
+    // What this store goes on from.
+    before: Option<Before>,
     // The call that was refused last.
     pub(crate) refused: Option<Refused>,
     // Its address is the number under which the library knows the store, so it is kept until the pass has ended.
@@ -84,7 +85,7 @@ impl fmt::Debug for Pass {
 
 impl Pass {
     /// A pass that the library has handed out, or none.
-    pub(crate) fn of(raw: TrbPass, store: Store, before: Option<Store>, byte: Arc<u8>) -> Pass {
+    pub(crate) fn of(raw: TrbPass, store: Store, before: Option<Before>, byte: Arc<u8>) -> Pass {
         Pass {
             raw,
             store,
@@ -215,7 +216,8 @@ impl Pass {
     /// was ever given; they take room. The new passes know them, and share what is evaluated of them. No object has a status, and nothing
     /// is settled. This store stays as it is, and ends with its last pass; objects are shared until one of the two changes one.
     ///
-    /// Where [`is_full`](Pass::is_full) holds, nothing is lost. Called earlier it makes a branch: what is changed here later is not there.
+    /// Where [`is_full`](Pass::is_full) holds, nothing is lost. Called earlier it makes a store beside this one: what is changed here later is
+    /// not there. Of some objects alone [`branch`](Pass::branch) makes one.
     ///
     /// # Errors
     ///
@@ -238,7 +240,7 @@ impl Pass {
     /// # }
     /// ```
     pub fn succeed(&mut self, room: u32, passes: usize) -> Result<Vec<Pass>, Error> {
-        let before = Some(self.store);
+        let before = Some(Before::all(self.store));
         Store::open_by(room, passes, before, |number, opened| {
             let mut needed = 0;
             // SAFETY: the pass is borrowed mutably, so this call alone has it; each item of the slice is none yet, and the slice goes with
@@ -260,17 +262,70 @@ impl Pass {
         })
     }
 
-    /// The handle of what an object became in this store, which is the successor of the object's store. An object that was made there after
-    /// this store was opened became none: its handle is that of another object, or of none.
+    /// Opens a branch, and hands out its passes: a store of its own that begins with these objects, all of them as this pass knows them, at
+    /// one moment. Passes are as of [`Store::open`]. `room` is how many calls that change it the branch takes; those that make its objects
+    /// take none of it.
+    ///
+    /// [`inherited`](Pass::inherited) gives the handle of an object there. An object that was freed is not there. What is made or changed in
+    /// either store is not seen in the other, and a branch's objects take no room here: so an analysis of many calls reads one moment, and
+    /// [`build_from`](Pass::build_from) brings a result back by one call. Objects are shared until one of the two stores changes one; no entry
+    /// is copied, and of this store only what was chosen is evaluated. A read or a wait of this pass learns the newest changes first.
     ///
     /// # Errors
     ///
-    /// - [`Error::ForeignObject`]: this store was not opened by a pass of the object's store.
+    /// - [`Error::ForeignObject`]: an object is of another store.
+    /// - [`Error::InvalidValue`]: as of [`Store::open`].
+    /// - [`Error::RoomTooSmall`]: no store has room for the calls that make the objects, and for `room` more.
+    /// - [`Error::OutOfMemory`]: memory was refused.
+    /// - [`Error::Panic`]: the record of a call was not shown. Ask again.
+    pub fn branch(
+        &mut self,
+        chosen: &Chosen,
+        room: u32,
+        passes: usize,
+    ) -> Result<Vec<Pass>, Error> {
+        chosen.check(self.store)?;
+        let before = Some(Before::some(self.store, chosen));
+        let (matrices, vectors) = (chosen.matrices(), chosen.vectors());
+        Store::open_by(room, passes, before, |number, opened| {
+            let mut needed = 0;
+            // SAFETY: the pass is borrowed mutably, so this call alone has it; each item of the slice is none yet, and each slice goes with its
+            // own length; the place of the count is a local variable. No open store has the number.
+            let status = unsafe {
+                sys::trb_branch(
+                    number,
+                    room,
+                    &mut self.raw,
+                    matrices.as_ptr(),
+                    matrices.len(),
+                    vectors.as_ptr(),
+                    vectors.len(),
+                    &mut needed,
+                    opened.as_mut_ptr(),
+                    opened.len(),
+                )
+            };
+            done(status).map_err(|refusal| match refusal {
+                Error::InsufficientSpace => Error::RoomTooSmall { needed },
+                other => other,
+            })
+        })
+    }
+
+    /// The handle of what an object became in this store, which is the successor of the object's store, or a branch of it. An object that
+    /// was made there after a successor was opened became none: its handle is that of another object, or of none.
+    ///
+    /// # Errors
+    ///
+    /// - [`Error::ForeignObject`]: this store was not opened by a pass of the object's store, or is a branch that did not begin with the object.
     pub fn inherited<O: Object>(&self, object: O) -> Result<O, Error> {
-        if Some(object.store()) == self.before {
-            Ok(O::of(self.store, object.number()))
-        } else {
-            Err(Error::ForeignObject)
+        let number = self
+            .before
+            .as_ref()
+            .and_then(|before| before.number_of(object));
+        match number {
+            Some(number) => Ok(O::of(self.store, number)),
+            None => Err(Error::ForeignObject),
         }
     }
 }

@@ -1,5 +1,6 @@
 //! Stores: opening one, and which store a pass or an object is of.
 
+use crate::chosen::Before;
 use crate::error::{done, Error};
 use crate::pass::Pass;
 use crate::sys::{self, TrbPass};
@@ -64,12 +65,12 @@ impl Store {
         })
     }
 
-    /// Has a store opened, which succeeds that of `before`, and hands its passes out. What opens it is given a number that no other open
+    /// Has a store opened, which goes on from `before`, and hands its passes out. What opens it is given a number that no other open
     /// store has, and a place for each pass, which is none yet.
     pub(crate) fn open_by(
         room: u32,
         passes: usize,
-        before: Option<Store>,
+        before: Option<Before>,
         opening: impl FnOnce(u64, &mut [TrbPass]) -> Result<(), Error>,
     ) -> Result<Vec<Pass>, Error> {
         if !is_within_limits(room, passes) {
@@ -93,7 +94,7 @@ impl Store {
         // Where the opening was refused, this ends the passes that were handed out before.
         let passes = opened
             .into_iter()
-            .map(|pass| Pass::of(pass, store, before, Arc::clone(&byte)))
+            .map(|pass| Pass::of(pass, store, before.clone(), Arc::clone(&byte)))
             .collect();
         answer.map(|()| passes)
     }

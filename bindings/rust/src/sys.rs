@@ -73,6 +73,18 @@ extern "C" {
         passes: *mut TrbPass,
         npasses: usize,
     ) -> i32;
+    pub fn trb_branch(
+        store: u64,
+        room: u32,
+        pass: *mut TrbPass,
+        matrices: *const u32,
+        nmatrices: usize,
+        vectors: *const u32,
+        nvectors: usize,
+        needed: *mut u64,
+        passes: *mut TrbPass,
+        npasses: usize,
+    ) -> i32;
     pub fn trb_is_full(pass: *mut TrbPass, out: *mut bool) -> i32;
     pub fn trb_free(pass: *mut TrbPass);
     pub fn trb_meet(pass: *mut TrbPass, other: *mut TrbPass) -> i32;
@@ -119,6 +131,8 @@ extern "C" {
     pub fn trb_matrix_reduce_bool(pass: *mut TrbPass, out: *mut bool, monoid: u32, a: u32) -> i32;
     pub fn trb_vector_reduce_bool(pass: *mut TrbPass, out: *mut bool, monoid: u32, v: u32) -> i32;
 
+    pub fn trb_matrix_build_from(pass: *mut TrbPass, c: u32, other: *mut TrbPass, a: u32) -> i32;
+    pub fn trb_vector_build_from(pass: *mut TrbPass, w: u32, other: *mut TrbPass, v: u32) -> i32;
     pub fn trb_matrix_build_uint64(
         pass: *mut TrbPass,
         a: u32,

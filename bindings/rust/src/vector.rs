@@ -142,6 +142,11 @@ impl<T: Element> Calls<T, u64, VectorEntries<T>> for Vector<T> {
         self.build_from(pass, entries.indices(), entries.values(), dup)
     }
 
+    fn build_of(self, pass: &mut TrbPass, other: &mut TrbPass, from: Self) -> i32 {
+        // SAFETY: both passes are mutable references, so they are two, and this call alone has them.
+        unsafe { sys::trb_vector_build_from(pass, self.number, other, from.number) }
+    }
+
     fn tuples(self, pass: &mut TrbPass, entries: &mut VectorEntries<T>, count: &mut u64) -> i32 {
         let (indices, values) = entries.as_mut_slices();
         // SAFETY: the pass, both slices and the place of the count are mutable references, and each slice goes with its own length.

@@ -46,6 +46,40 @@ fn vector_cells<T: Item>(
     VectorTuples::from_vec(cells)
 }
 
+/// The tuples of these arrays, whose cells do not rise: apart, where each row and each column is below 2^32, and else in a list.
+/// `AllocError` where memory is refused; then nothing is made.
+fn unordered_cells<T: Item>(
+    alloc: Global,
+    rows: &[u64],
+    columns: &[u64],
+    values: &[T],
+) -> Result<MatrixTuples, AllocError>
+    requires rows { length rows.now ≡ length values.now }
+    requires columns { length columns.now ≡ length values.now }
+    ensures { IfOk result (λ tuples. tuples ≡ cells_of_arrays T.value rows.now columns.now values.now) }
+{
+    match T::apart_of(alloc, rows, columns, values)? {
+        Some(list) => Ok(MatrixTuples::from_apart(Arc::new(alloc, list)?)),
+        None => matrix_cells(alloc, rows, columns, values),
+    }
+}
+
+/// The tuples of these arrays, whose indices do not rise: apart, where each index is below 2^32, and else in a list. `AllocError` where
+/// memory is refused; then nothing is made.
+fn unordered_indices<T: Item>(
+    alloc: Global,
+    indices: &[u64],
+    values: &[T],
+) -> Result<VectorTuples, AllocError>
+    requires { length indices.now ≡ length values.now }
+    ensures { IfOk result (λ tuples. tuples ≡ indices_of_arrays T.value indices.now values.now) }
+{
+    match T::row_apart_of(alloc, indices, values)? {
+        Some(list) => Ok(VectorTuples::from_apart(Arc::new(alloc, list)?)),
+        None => vector_cells(alloc, indices, values),
+    }
+}
+
 /// The tuples of these arrays: where each cell comes before the next one, the entries of a matrix, which a build shares; else a list.
 /// `AllocError` where memory is refused; then nothing is made.
 fn matrix_tuples<T: Item>(
@@ -60,7 +94,7 @@ fn matrix_tuples<T: Item>(
 {
     match T::matrix_of(alloc, rows, columns, values)? {
         Some(matrix) => Ok(MatrixTuples::from_matrix(Arc::new(alloc, matrix)?)),
-        None => matrix_cells(alloc, rows, columns, values),
+        None => unordered_cells(alloc, rows, columns, values),
     }
 }
 
@@ -76,7 +110,7 @@ fn vector_tuples<T: Item>(
 {
     match T::vector_of(alloc, indices, values)? {
         Some(vector) => Ok(VectorTuples::from_vector(Arc::new(alloc, vector)?)),
-        None => vector_cells(alloc, indices, values),
+        None => unordered_indices(alloc, indices, values),
     }
 }
 

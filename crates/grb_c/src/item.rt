@@ -1,17 +1,16 @@
 //! The values of one domain as C has them.
-ghost use Rattle.std.specs.Prelude.{◌≡◌, true, length, map, IfOk, IfSome};
+ghost use Rattle.std.specs.Prelude.{◌≡◌, ◌<◌, ◌^◌, true, length, map, All, IfOk, IfSome};
 ghost use Rattle.grb_core.specs.declared.domain.Domain.{Domain};
 ghost use Rattle.grb_core.specs.declared.domain.Domain.TheVariants as domain;
 ghost use Rattle.grb_core.specs.declared.value.Value.{Value};
 ghost use Rattle.grb_core.specs.declared.value.Value.TheVariants as value;
 ghost use Rattle.grb_core.specs.Entries.{values_of};
-ghost use Rattle.grb_sparse.specs.Arrays.{paired};
-ghost use Rattle.grb_core.specs.Entries.{values_of};
-ghost use Rattle.grb_sparse.specs.Arrays.{entries_of_arrays};
+ghost use Rattle.grb_sparse.specs.Arrays.{entries_of_arrays, paired};
+ghost use Rattle.grb_sparse.specs.Matrix.{decoded};
 ghost use Rattle.grb_c.specs.Tuples.{bool_in, number_in};
 
 use grb_core::{Domain, Value};
-use grb_sparse::{FlatRows, SparseMatrix, SparseVector};
+use grb_sparse::{ApartTuples, FlatRows, SparseMatrix, SparseVector};
 use std::alloc::{AllocError, Global};
 
 /// What stands in an array of C for the values of one domain.
@@ -69,6 +68,27 @@ pub(crate) trait Item: Copy {
         requires { length items.now ≡ length indices.now }
         ensures entries { IfOk result (λ made. IfSome made (λ v. v.vector.entries ≡ paired indices.now (map value items.now))) }
         ensures assembled { IfOk result (λ made. IfSome made (λ v. v.assembled ≡ true)) };
+
+    /// The tuples of these arrays, which lie apart, if each row and each column is below 2^32.
+    fn apart_of(
+        alloc: Global,
+        rows: &[u64],
+        columns: &[u64],
+        items: &[Self],
+    ) -> Result<Option<ApartTuples>, AllocError>
+        requires columns { length columns.now ≡ length rows.now }
+        requires items { length items.now ≡ length rows.now }
+        ensures tuples { IfOk result (λ made. IfSome made (λ tuples. decoded tuples ≡ entries_of_arrays rows.now columns.now (map value items.now))) };
+
+    /// The same of indices, if each is below 2^32.
+    fn row_apart_of(
+        alloc: Global,
+        indices: &[u64],
+        items: &[Self],
+    ) -> Result<Option<ApartTuples>, AllocError>
+        requires { length items.now ≡ length indices.now }
+        ensures tuples { IfOk result (λ made. IfSome made (λ tuples. tuples ≡ paired indices.now (map value items.now))) }
+        ensures within { IfOk result (λ made. IfSome made (λ tuples. All (λ i. i < 2 ^ 32) indices.now)) };
 }
 
 impl Item for u64 {
@@ -117,6 +137,23 @@ impl Item for u64 {
     ) -> Result<Option<SparseVector>, AllocError> {
         SparseVector::of_numbers(alloc, indices, items)
     }
+
+    fn apart_of(
+        alloc: Global,
+        rows: &[u64],
+        columns: &[u64],
+        items: &[u64],
+    ) -> Result<Option<ApartTuples>, AllocError> {
+        ApartTuples::of_numbers(alloc, rows, columns, items)
+    }
+
+    fn row_apart_of(
+        alloc: Global,
+        indices: &[u64],
+        items: &[u64],
+    ) -> Result<Option<ApartTuples>, AllocError> {
+        ApartTuples::row_of_numbers(alloc, indices, items)
+    }
 }
 
 impl Item for bool {
@@ -164,5 +201,22 @@ impl Item for bool {
         items: &[bool],
     ) -> Result<Option<SparseVector>, AllocError> {
         SparseVector::of_bools(alloc, indices, items)
+    }
+
+    fn apart_of(
+        alloc: Global,
+        rows: &[u64],
+        columns: &[u64],
+        items: &[bool],
+    ) -> Result<Option<ApartTuples>, AllocError> {
+        ApartTuples::of_bools(alloc, rows, columns, items)
+    }
+
+    fn row_apart_of(
+        alloc: Global,
+        indices: &[u64],
+        items: &[bool],
+    ) -> Result<Option<ApartTuples>, AllocError> {
+        ApartTuples::row_of_bools(alloc, indices, items)
     }
 }

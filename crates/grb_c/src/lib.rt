@@ -1,7 +1,9 @@
 //! The store for programs in C and in other languages that call C.
 #![tactic(auto)]
 
+mod branches;
 mod builds;
+mod built;
 mod codes;
 mod decode;
 mod entries;

@@ -1,17 +1,23 @@
 //! A pass with the context that it is of.
-ghost use Rattle.std.specs.Prelude.{◌≡◌, ◌≤◌, All, IfErr, IfOk, length};
+ghost use Rattle.std.specs.Prelude.{◌≡◌, ◌≤◌, ◌<◌, ◌^◌, All, IfErr, IfOk, length};
 ghost use Rattle.grb_order.specs.Order.{room_of};
+ghost use Rattle.grb_call.specs.declared.call.Call.TheVariants as Call;
+ghost use Rattle.grb_call.specs.declared.descriptor.WaitMode.TheVariants as WaitMode;
 ghost use Rattle.grb_call.specs.History.{store_of};
+ghost use Rattle.grb_context.specs.Chosen.{IsNoBranch, chosen_store, room_beside};
 ghost use Rattle.grb_context.specs.Known.{IsPassOf, known, none_made};
 ghost use Rattle.grb_context.specs.Answered.{Answered};
 ghost use Rattle.grb_context.specs.Meeting.{Met};
 ghost use Rattle.grb_context.specs.Rebuilding.{IsNoSuccessor};
+ghost use Rattle.grb_context.specs.Snapshot.{IsSnapshot};
+ghost use Rattle.grb_context.specs.StoredIn.{IsMatrixOf, IsVectorOf};
 ghost use Rattle.grb_context.specs.Succeeding.{AreBegun};
 ghost use Rattle.grb_c.specs.Opening.{IsWithin};
 
-use grb_call::{Call, Reply};
+use grb_call::{Call, MatrixId, Reply, VectorId};
 use grb_context::{Context, NoSuccessor, Pass};
 use grb_core::Refusal;
+use grb_sparse::{SparseMatrix, SparseVector};
 use std::alloc::Global;
 use std::marker::Model;
 use std::sync::Arc;
@@ -110,6 +116,50 @@ impl Session {
         ensures refused { IfErr result (IsNoSuccessor room (store_of (known self.old.pass))) }
     {
         self.context.succeed(alloc, &mut self.pass, room, passes)
+    }
+
+    /// A context that begins with these objects as the pass knows them, and its passes, as [`Context::branch`] has them.
+    pub fn branch(
+        &mut self,
+        alloc: Global,
+        matrices: &[MatrixId],
+        vectors: &[VectorId],
+        room: u32,
+        passes: u32,
+    ) -> Result<(Context, Vec<Pass>), NoSuccessor>
+        requires within { IsWithin room passes }
+        requires matrices { length matrices.now < 2 ^ 32 }
+        requires vectors { length vectors.now < 2 ^ 32 }
+        ensures context { self.new.context ≡ self.old.context }
+        ensures store { self.new.store ≡ self.old.store }
+        ensures same { self.new.pass ≡ record self.old.pass { made = self.new.pass.made } }
+        ensures room { IfOk result (λ opened. room_of opened.0.order ≡ room_beside (chosen_store (store_of (known self.old.pass)) matrices.now vectors.now) room) }
+        ensures begun { IfOk result (λ opened. AreBegun opened.0 (chosen_store (store_of (known self.old.pass)) matrices.now vectors.now) passes opened.1.items) }
+        ensures ours { IfOk result (λ opened. All (IsPassOf opened.0) opened.1.items) }
+        ensures refused { IfErr result (IsNoBranch room passes (chosen_store (store_of (known self.old.pass)) matrices.now vectors.now)) }
+    {
+        self.context
+            .branch(alloc, &mut self.pass, matrices, vectors, room, passes)
+    }
+
+    /// The matrix as it stands at the point of a wait for it, as [`Context::snapshot_matrix`] hands it out.
+    pub fn snapshot_matrix(&mut self, a: MatrixId) -> Result<Arc<SparseMatrix>, Refusal>
+        ensures context { self.new.context ≡ self.old.context }
+        ensures store { self.new.store ≡ self.old.store }
+        ensures snapshot { IsSnapshot self.old.context self.old.pass self.new.pass (Call.WaitMatrix a WaitMode.Complete) result }
+        ensures matrix { IfOk result (λ matrix. IsMatrixOf (store_of (known self.new.pass)) a matrix.value) }
+    {
+        self.context.snapshot_matrix(&mut self.pass, a)
+    }
+
+    /// The vector as it stands at the point of a wait for it, as [`Context::snapshot_vector`] hands it out.
+    pub fn snapshot_vector(&mut self, v: VectorId) -> Result<Arc<SparseVector>, Refusal>
+        ensures context { self.new.context ≡ self.old.context }
+        ensures store { self.new.store ≡ self.old.store }
+        ensures snapshot { IsSnapshot self.old.context self.old.pass self.new.pass (Call.WaitVector v WaitMode.Complete) result }
+        ensures vector { IfOk result (λ vector. IsVectorOf (store_of (known self.new.pass)) v vector.value) }
+    {
+        self.context.snapshot_vector(&mut self.pass, v)
     }
 
     /// The number of the store.

@@ -19,7 +19,7 @@ use grb_context::NoSuccessor;
 use std::alloc::Global;
 
 /// Why there is no successor, and how many calls are needed, where the room is too small.
-fn put_needed(why: NoSuccessor, needed: &mut u64) -> i32
+pub(crate) fn put_needed(why: NoSuccessor, needed: &mut u64) -> i32
     ensures code { result ≡ no_successor_code why }
     ensures needed { needed.new ≡ needed_out why needed.old }
 {

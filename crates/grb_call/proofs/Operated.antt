@@ -1,5 +1,5 @@
 -- What an operation leaves of its output: it is a matter of what the operation reads, and so it is for each call.
-use Rattle.std.proofs.Common.{◌≡◌, Bool, refl, ap, ◌∙◌, Option, Some, None, IfSome, option_map}
+use Rattle.std.proofs.Common.{◌≡◌, [], refl, ap, ◌∙◌, Option, Some, None, IfSome, option_map}
 use Rattle.std.specs.Option.{option_map_or}
 use Rattle.std.specs.Ordering.{nat_cmp}
 use Rattle.grb_core.specs.declared.operator.BinaryOp.{BinaryOp}
@@ -13,64 +13,76 @@ use Rattle.grb_call.specs.declared.ids.MatrixId.{MatrixId}
 use Rattle.grb_call.specs.declared.ids.VectorId.{VectorId}
 use Rattle.grb_call.specs.declared.ids.Object.{Object}
 use Rattle.grb_call.specs.declared.ids.Object.TheVariants as object
+use Rattle.grb_call.specs.declared.operation.Input.{Input}
+use Rattle.grb_call.specs.declared.operation.Input.TheVariants.{First, Second}
 use Rattle.grb_call.specs.declared.operation.Operation.{Operation}
 use Rattle.grb_call.specs.declared.operation.OperationKind.{OperationKind}
 use Rattle.grb_call.specs.declared.operation.OperationKind.TheVariants.{EwiseAdd, EwiseMult, Product, Rows}
-use Rattle.grb_call.specs.Operation.{operation_of}
-use Rattle.grb_call.specs.Output.{ObjectEntries, output_of, matrix_read, vector_read, matrix_computed, vector_computed, matrix_operated, vector_operated, matrix_made, vector_made}
+use Rattle.grb_call.specs.Operation.{operation_of, turns}
+use Rattle.grb_call.specs.Output.{StoredObjects, entries_of_matrix, entries_of_vector, output_of, matrix_read, vector_read, matrix_input, matrix_computed, vector_computed, matrix_operated, vector_operated, matrix_made, vector_made}
 use Rattle.grb_call.specs.Written.{written_matrix, written_vector}
 use Rattle.grb_call.specs.OperationLaws.{WritesMatrix, WritesVector}
 
--- two stores hold the same entries of an object
-abbrev pub SameEntries : ObjectEntries → ObjectEntries → Object → Type 0
-SameEntries r t (object.Matrix a) = r.matrix a ≡ t.matrix a
-SameEntries r t (object.Vector v) = r.vector v ≡ t.vector v
+-- two stores hold the same object
+abbrev pub SameObject : StoredObjects → StoredObjects → Object → Type 0
+SameObject r t (object.Matrix a) = r.matrix a ≡ t.matrix a
+SameObject r t (object.Vector v) = r.vector v ≡ t.vector v
 
 -- and of each that an operation reads, its output aside
-pub record ReadsSame (r t : ObjectEntries) (o : Operation) : Type 0 where
-  pub first : SameEntries r t o.first
-  pub second : IfSome o.second (SameEntries r t)
-  pub mask : IfSome o.mask (SameEntries r t)
+pub record ReadsSame (r t : StoredObjects) (o : Operation) : Type 0 where
+  pub first : IfSome o.first (SameObject r t)
+  pub second : IfSome o.second (SameObject r t)
+  pub mask : IfSome o.mask (SameObject r t)
 
 two : {X Y Z : Type 0} (f : X → Y → Z) (a b : X) (x y : Y) → a ≡ b → x ≡ y → f a x ≡ f b y
 two f a b x y e g = ap (λ z. f z x) e ∙ ap (f b) g
 
-module _ (r t : ObjectEntries) where
-  pub matrix_computed-same : (kind : OperationKind) (tran : Bool) (first : Object) (second : Option Object) → SameEntries r t first → IfSome second (SameEntries r t) →
-      matrix_computed r kind tran first second ≡ matrix_computed t kind tran first second
-  matrix_computed-same (EwiseAdd op) tran (object.Matrix a) (Some (object.Matrix b)) e g = two (λ x y. Some (ewise_add cell_cmp op (turned tran x) y)) _ _ _ _ e g
-  matrix_computed-same (EwiseMult op) tran (object.Matrix a) (Some (object.Matrix b)) e g = two (λ x y. Some (ewise_mult cell_cmp op (turned tran x) y)) _ _ _ _ e g
-  matrix_computed-same (Product semiring) tran (object.Matrix a) (Some (object.Matrix b)) e g = two (λ x y. Some (mxm_of semiring (turned tran x) y)) _ _ _ _ e g
-  matrix_computed-same _ tran _ _ e g = refl
+module _ (r t : StoredObjects) where
+  -- the entries of an object, and of an input as the descriptor turns it
+  same_m : (a : MatrixId) → SameObject r t (object.Matrix a) → entries_of_matrix r a ≡ entries_of_matrix t a
+  same_m a e = ap (λ (o : Option Matrix). option_map_or (λ m. m.entries) o []) e
 
-  pub vector_computed-same : (kind : OperationKind) (tran : Bool) (first : Object) (second : Option Object) → SameEntries r t first → IfSome second (SameEntries r t) →
-      vector_computed r kind tran first second ≡ vector_computed t kind tran first second
-  vector_computed-same (EwiseAdd op) tran (object.Vector u) (Some (object.Vector v)) e g = two (λ x y. Some (ewise_add nat_cmp op x y)) _ _ _ _ e g
-  vector_computed-same (EwiseMult op) tran (object.Vector u) (Some (object.Vector v)) e g = two (λ x y. Some (ewise_mult nat_cmp op x y)) _ _ _ _ e g
-  vector_computed-same (Product semiring) tran (object.Matrix a) (Some (object.Vector u)) e g = two (λ x y. Some (mxv_of semiring (turned tran x) y)) _ _ _ _ e g
-  vector_computed-same (Product semiring) tran (object.Vector u) (Some (object.Matrix a)) e g = two (λ x y. Some (vxm_of semiring x y)) _ _ _ _ e g
-  vector_computed-same (Rows monoid) tran (object.Matrix a) None e g = ap (λ x. Some (reduce_rows_of monoid (turned tran x))) e
-  vector_computed-same _ tran _ _ e g = refl
+  same_v : (v : VectorId) → SameObject r t (object.Vector v) → entries_of_vector r v ≡ entries_of_vector t v
+  same_v v e = ap (λ (o : Option Vector). option_map_or (λ x. x.entries) o []) e
 
-  matrix_mask-same : (mask : Option Object) → IfSome mask (SameEntries r t) → option_map (matrix_read r) mask ≡ option_map (matrix_read t) mask
+  same_input : (d : Descriptor) (input : Input) (a : MatrixId) → SameObject r t (object.Matrix a) → matrix_input r d input a ≡ matrix_input t d input a
+  same_input d input a e = ap (λ (es : MatrixEntries). turned (turns d input) es) (same_m a e)
+
+  pub matrix_computed-same : (kind : OperationKind) (d : Descriptor) (first second : Option Object) → IfSome first (SameObject r t) → IfSome second (SameObject r t) →
+      matrix_computed r kind d first second ≡ matrix_computed t kind d first second
+  matrix_computed-same (EwiseAdd op) d (Some (object.Matrix a)) (Some (object.Matrix b)) e g = two (λ x y. Some (ewise_add cell_cmp op x y)) _ _ _ _ (same_input d First a e) (same_input d Second b g)
+  matrix_computed-same (EwiseMult op) d (Some (object.Matrix a)) (Some (object.Matrix b)) e g = two (λ x y. Some (ewise_mult cell_cmp op x y)) _ _ _ _ (same_input d First a e) (same_input d Second b g)
+  matrix_computed-same (Product semiring) d (Some (object.Matrix a)) (Some (object.Matrix b)) e g = two (λ x y. Some (mxm_of semiring x y)) _ _ _ _ (same_input d First a e) (same_input d Second b g)
+  matrix_computed-same _ d _ _ e g = refl
+
+  pub vector_computed-same : (kind : OperationKind) (d : Descriptor) (first second : Option Object) → IfSome first (SameObject r t) → IfSome second (SameObject r t) →
+      vector_computed r kind d first second ≡ vector_computed t kind d first second
+  vector_computed-same (EwiseAdd op) d (Some (object.Vector u)) (Some (object.Vector v)) e g = two (λ x y. Some (ewise_add nat_cmp op x y)) _ _ _ _ (same_v u e) (same_v v g)
+  vector_computed-same (EwiseMult op) d (Some (object.Vector u)) (Some (object.Vector v)) e g = two (λ x y. Some (ewise_mult nat_cmp op x y)) _ _ _ _ (same_v u e) (same_v v g)
+  vector_computed-same (Product semiring) d (Some (object.Matrix a)) (Some (object.Vector u)) e g = two (λ x y. Some (mxv_of semiring x y)) _ _ _ _ (same_input d First a e) (same_v u g)
+  vector_computed-same (Product semiring) d (Some (object.Vector u)) (Some (object.Matrix a)) e g = two (λ x y. Some (vxm_of semiring x y)) _ _ _ _ (same_v u e) (same_input d Second a g)
+  vector_computed-same (Rows monoid) d (Some (object.Matrix a)) None e g = ap (λ x. Some (reduce_rows_of monoid x)) (same_input d First a e)
+  vector_computed-same _ d _ _ e g = refl
+
+  matrix_mask-same : (mask : Option Object) → IfSome mask (SameObject r t) → option_map (matrix_read r) mask ≡ option_map (matrix_read t) mask
   matrix_mask-same None e = refl
-  matrix_mask-same (Some (object.Matrix a)) e = ap (λ es. Some es) e
+  matrix_mask-same (Some (object.Matrix a)) e = ap (λ es. Some es) (same_m a e)
   matrix_mask-same (Some (object.Vector v)) e = refl
 
-  vector_mask-same : (mask : Option Object) → IfSome mask (SameEntries r t) → option_map (vector_read r) mask ≡ option_map (vector_read t) mask
+  vector_mask-same : (mask : Option Object) → IfSome mask (SameObject r t) → option_map (vector_read r) mask ≡ option_map (vector_read t) mask
   vector_mask-same None e = refl
   vector_mask-same (Some (object.Matrix a)) e = refl
-  vector_mask-same (Some (object.Vector v)) e = ap (λ es. Some es) e
+  vector_mask-same (Some (object.Vector v)) e = ap (λ es. Some es) (same_v v e)
 
   matrix_operated-same : (o : Operation) (m : Matrix) → ReadsSame r t o → matrix_operated r o m ≡ matrix_operated t o m
   matrix_operated-same o m same =
       two (λ (mask computed : Option MatrixEntries). option_map_or (λ es. written_matrix mask o.accum o.d es m) computed m) _ _ _ _
-      (matrix_mask-same o.mask same.mask) (matrix_computed-same o.kind o.d.tran o.first o.second same.first same.second)
+      (matrix_mask-same o.mask same.mask) (matrix_computed-same o.kind o.d o.first o.second same.first same.second)
 
   vector_operated-same : (o : Operation) (x : Vector) → ReadsSame r t o → vector_operated r o x ≡ vector_operated t o x
   vector_operated-same o x same =
       two (λ (mask computed : Option VectorEntries). option_map_or (λ es. written_vector mask o.accum o.d es x) computed x) _ _ _ _
-      (vector_mask-same o.mask same.mask) (vector_computed-same o.kind o.d.tran o.first o.second same.first same.second)
+      (vector_mask-same o.mask same.mask) (vector_computed-same o.kind o.d o.first o.second same.first same.second)
 
   any_matrix-same : (q : Option Operation) (m : Matrix) → IfSome q (ReadsSame r t) → option_map_or (λ o. matrix_operated r o m) q m ≡ option_map_or (λ o. matrix_operated t o m) q m
   any_matrix-same None m same = refl
@@ -97,17 +109,17 @@ module _ (r t : ObjectEntries) where
   vector_made-same c x same = any_vector-same (operation_of c) x same
 
 -- the mask of a call, as its operation has it
-module _ (r : ObjectEntries) where
-  pub matrix_mask-read : (mask : Option MatrixId) → option_map (matrix_read r) (option_map object.Matrix mask) ≡ option_map r.matrix mask
+module _ (r : StoredObjects) where
+  pub matrix_mask-read : (mask : Option MatrixId) → option_map (matrix_read r) (option_map object.Matrix mask) ≡ option_map (entries_of_matrix r) mask
   matrix_mask-read None = refl
   matrix_mask-read (Some a) = refl
 
-  pub vector_mask-read : (mask : Option VectorId) → option_map (vector_read r) (option_map object.Vector mask) ≡ option_map r.vector mask
+  pub vector_mask-read : (mask : Option VectorId) → option_map (vector_read r) (option_map object.Vector mask) ≡ option_map (entries_of_vector r) mask
   vector_mask-read None = refl
   vector_mask-read (Some v) = refl
 
   module _ (mask : Option MatrixId) (accum : Option BinaryOp) (d : Descriptor) (m : Matrix) where
-    by_matrix_mask : (computed : MatrixEntries) → written_matrix (option_map (matrix_read r) (option_map object.Matrix mask)) accum d computed m ≡ written_matrix (option_map r.matrix mask) accum d computed m
+    by_matrix_mask : (computed : MatrixEntries) → written_matrix (option_map (matrix_read r) (option_map object.Matrix mask)) accum d computed m ≡ written_matrix (option_map (entries_of_matrix r) mask) accum d computed m
     by_matrix_mask computed = ap (λ (p : Option MatrixEntries). written_matrix p accum d computed m) (matrix_mask-read mask)
 
     pub writes_matrix : (c : MatrixId) → WritesMatrix r m c mask accum d
@@ -118,7 +130,7 @@ module _ (r : ObjectEntries) where
     }
 
   module _ (mask : Option VectorId) (accum : Option BinaryOp) (d : Descriptor) (x : Vector) where
-    by_vector_mask : (computed : VectorEntries) → written_vector (option_map (vector_read r) (option_map object.Vector mask)) accum d computed x ≡ written_vector (option_map r.vector mask) accum d computed x
+    by_vector_mask : (computed : VectorEntries) → written_vector (option_map (vector_read r) (option_map object.Vector mask)) accum d computed x ≡ written_vector (option_map (entries_of_vector r) mask) accum d computed x
     by_vector_mask computed = ap (λ (p : Option VectorEntries). written_vector p accum d computed x) (vector_mask-read mask)
 
     pub writes_vector : (w : VectorId) → WritesVector r x w mask accum d

@@ -15,8 +15,8 @@ use Rattle.grb_call.specs.declared.ids.Object.TheVariants as object
 use Rattle.grb_call.specs.Operands.{matrix_mask, vector_mask}
 use Rattle.grb_call.specs.Operation.{accum_domains}
 use Rattle.grb_call.specs.Shapes.{ObjectShapes, MatrixShape, VectorShape, object_at, matrix_shape_at, vector_shape_at, is_live, domain_at, nrows_at, ncols_at, size_at}
-use Rattle.grb_call.specs.Refused.{same_domain, are_of_domain, is_one_domain, same_dims, turned_dims, same_size}
-use Rattle.grb_call.specs.Fits.{matrix_mask_fits, vector_mask_fits, ewise_matrices_fit, ewise_vectors_fit}
+use Rattle.grb_call.specs.Refused.{same_domain, are_of_domain, is_one_domain, turned_dims, same_size}
+use Rattle.grb_call.specs.Fits.{same_dims, matrix_mask_fits, vector_mask_fits, ewise_matrices_fit, ewise_vectors_fit}
 use Rattle.grb_call.specs.Store.{Store, shapes_of, matrix_at, vector_at, matrix_shape, vector_shape}
 use Rattle.grb_call.proofs.ShapesAfter.{object_at-map}
 use Rattle.grb_call.proofs.Passed.{same_domain-true}

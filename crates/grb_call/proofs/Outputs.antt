@@ -7,7 +7,7 @@ use Rattle.grb_call.specs.declared.ids.Object.{Object}
 use Rattle.grb_call.specs.declared.operation.Operation.{Operation}
 use Rattle.grb_call.specs.Kinds.{enters}
 use Rattle.grb_call.specs.Operands.{named, operands}
-use Rattle.grb_call.specs.Operation.{if_any, operation_of, operation_objects}
+use Rattle.grb_call.specs.Operation.{if_any, operation_inputs, operation_of, operation_objects}
 use Rattle.grb_call.specs.Output.{output_of}
 use Rattle.grb_call.specs.Status.{object_of}
 
@@ -16,7 +16,7 @@ some_object o p e = cc
 
 -- the output of an operation, and else what a method names
 first_by : (q : Option Operation) (n : Option Object) (o : Object) → option_or (option_map (λ x. x.output) q) n ≡ Some o → (rest : List Object) × (option_map_or operation_objects q (if_any n) ≡ o ∷ rest)
-first_by (Some x) n o e = (x.first ∷ if_any x.second, ap (λ (p : Object). p ∷ (x.first ∷ if_any x.second)) (some_object x.output o e))
+first_by (Some x) n o e = (operation_inputs x, ap (λ (p : Object). p ∷ operation_inputs x) (some_object x.output o e))
 first_by None (Some p) o e = ([], ap (λ (x : Object). x ∷ []) (some_object p o e))
 first_by None None o e = cc
 

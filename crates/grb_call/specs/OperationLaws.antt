@@ -15,41 +15,41 @@ use Rattle.grb_call.specs.declared.descriptor.Descriptor.{Descriptor}
 use Rattle.grb_call.specs.declared.ids.MatrixId.{MatrixId}
 use Rattle.grb_call.specs.declared.ids.VectorId.{VectorId}
 use Rattle.grb_call.specs.declared.ids.Object.TheVariants as object
-use Rattle.grb_call.specs.Output.{ObjectEntries, output_of, matrix_made, vector_made}
+use Rattle.grb_call.specs.Output.{StoredObjects, entries_of_matrix, entries_of_vector, output_of, matrix_made, vector_made}
 use Rattle.grb_call.specs.Written.{written_matrix, written_vector}
 
 -- what each operation leaves of a matrix into which it writes with this mask, accumulator and descriptor
-pub record WritesMatrix (r : ObjectEntries) (m : Matrix) (c : MatrixId) (mask : Option MatrixId) (accum : Option BinaryOp) (d : Descriptor) : Type 0 where
+pub record WritesMatrix (r : StoredObjects) (m : Matrix) (c : MatrixId) (mask : Option MatrixId) (accum : Option BinaryOp) (d : Descriptor) : Type 0 where
   pub of_ewise_add : (op : BinaryOp) (a b : MatrixId) → matrix_made r (call.EwiseAddMatrix c mask accum op a b d) m
-      ≡ written_matrix (option_map r.matrix mask) accum d (ewise_add cell_cmp op (turned d.tran (r.matrix a)) (r.matrix b)) m
+      ≡ written_matrix (option_map (entries_of_matrix r) mask) accum d (ewise_add cell_cmp op (turned d.tran (entries_of_matrix r a)) (entries_of_matrix r b)) m
   pub of_ewise_mult : (op : BinaryOp) (a b : MatrixId) → matrix_made r (call.EwiseMultMatrix c mask accum op a b d) m
-      ≡ written_matrix (option_map r.matrix mask) accum d (ewise_mult cell_cmp op (turned d.tran (r.matrix a)) (r.matrix b)) m
+      ≡ written_matrix (option_map (entries_of_matrix r) mask) accum d (ewise_mult cell_cmp op (turned d.tran (entries_of_matrix r a)) (entries_of_matrix r b)) m
   pub of_mxm : (semiring : SemiringParts) (a b : MatrixId) → matrix_made r (call.Mxm c mask accum semiring a b d) m
-      ≡ written_matrix (option_map r.matrix mask) accum d (mxm_of semiring (turned d.tran (r.matrix a)) (r.matrix b)) m
+      ≡ written_matrix (option_map (entries_of_matrix r) mask) accum d (mxm_of semiring (turned d.tran (entries_of_matrix r a)) (entries_of_matrix r b)) m
 
 -- the same of a vector
-pub record WritesVector (r : ObjectEntries) (x : Vector) (w : VectorId) (mask : Option VectorId) (accum : Option BinaryOp) (d : Descriptor) : Type 0 where
+pub record WritesVector (r : StoredObjects) (x : Vector) (w : VectorId) (mask : Option VectorId) (accum : Option BinaryOp) (d : Descriptor) : Type 0 where
   pub of_ewise_add : (op : BinaryOp) (u v : VectorId) → vector_made r (call.EwiseAddVector w mask accum op u v d) x
-      ≡ written_vector (option_map r.vector mask) accum d (ewise_add nat_cmp op (r.vector u) (r.vector v)) x
+      ≡ written_vector (option_map (entries_of_vector r) mask) accum d (ewise_add nat_cmp op (entries_of_vector r u) (entries_of_vector r v)) x
   pub of_ewise_mult : (op : BinaryOp) (u v : VectorId) → vector_made r (call.EwiseMultVector w mask accum op u v d) x
-      ≡ written_vector (option_map r.vector mask) accum d (ewise_mult nat_cmp op (r.vector u) (r.vector v)) x
+      ≡ written_vector (option_map (entries_of_vector r) mask) accum d (ewise_mult nat_cmp op (entries_of_vector r u) (entries_of_vector r v)) x
   pub of_mxv : (semiring : SemiringParts) (a : MatrixId) (u : VectorId) → vector_made r (call.Mxv w mask accum semiring a u d) x
-      ≡ written_vector (option_map r.vector mask) accum d (mxv_of semiring (turned d.tran (r.matrix a)) (r.vector u)) x
+      ≡ written_vector (option_map (entries_of_vector r) mask) accum d (mxv_of semiring (turned d.tran (entries_of_matrix r a)) (entries_of_vector r u)) x
   pub of_vxm : (semiring : SemiringParts) (u : VectorId) (a : MatrixId) → vector_made r (call.Vxm w mask accum semiring u a d) x
-      ≡ written_vector (option_map r.vector mask) accum d (vxm_of semiring (r.vector u) (r.matrix a)) x
+      ≡ written_vector (option_map (entries_of_vector r) mask) accum d (vxm_of semiring (entries_of_vector r u) (entries_of_matrix r a)) x
   pub of_reduce_rows : (monoid : Monoid) (a : MatrixId) → vector_made r (call.ReduceRows w mask accum monoid a d) x
-      ≡ written_vector (option_map r.vector mask) accum d (reduce_rows_of monoid (turned d.tran (r.matrix a))) x
+      ≡ written_vector (option_map (entries_of_vector r) mask) accum d (reduce_rows_of monoid (turned d.tran (entries_of_matrix r a))) x
 
 abbrev pub MatricesAreWritten : Type 0
-MatricesAreWritten = (r : ObjectEntries) (m : Matrix) (c : MatrixId) (mask : Option MatrixId) (accum : Option BinaryOp) (d : Descriptor) → WritesMatrix r m c mask accum d
+MatricesAreWritten = (r : StoredObjects) (m : Matrix) (c : MatrixId) (mask : Option MatrixId) (accum : Option BinaryOp) (d : Descriptor) → WritesMatrix r m c mask accum d
 
 abbrev pub VectorsAreWritten : Type 0
-VectorsAreWritten = (r : ObjectEntries) (x : Vector) (w : VectorId) (mask : Option VectorId) (accum : Option BinaryOp) (d : Descriptor) → WritesVector r x w mask accum d
+VectorsAreWritten = (r : StoredObjects) (x : Vector) (w : VectorId) (mask : Option VectorId) (accum : Option BinaryOp) (d : Descriptor) → WritesVector r x w mask accum d
 
 -- a call that changes a vector makes nothing of a matrix
 abbrev pub MatricesStayApart : Type 0
-MatricesStayApart = (r : ObjectEntries) (c : Call) (v : VectorId) (m : Matrix) → output_of c ≡ Some (object.Vector v) → matrix_made r c m ≡ m
+MatricesStayApart = (r : StoredObjects) (c : Call) (v : VectorId) (m : Matrix) → output_of c ≡ Some (object.Vector v) → matrix_made r c m ≡ m
 
 -- and one that changes a matrix nothing of a vector
 abbrev pub VectorsStayApart : Type 0
-VectorsStayApart = (r : ObjectEntries) (c : Call) (a : MatrixId) (x : Vector) → output_of c ≡ Some (object.Matrix a) → vector_made r c x ≡ x
+VectorsStayApart = (r : StoredObjects) (c : Call) (a : MatrixId) (x : Vector) → output_of c ≡ Some (object.Matrix a) → vector_made r c x ≡ x

@@ -1,7 +1,7 @@
 -- believed: The object that a call changes, its output, and what the call makes of it: GraphBLAS C API 2.0, the methods of "Matrix
 -- methods" and "Vector methods", and "Operations". Inputs, mask and old output are those of the store before the call, so that one
 -- object may be all of them.
-use Rattle.std.specs.Prelude.{Bool, [], if◌then◌else◌, Option, Some, None}
+use Rattle.std.specs.Prelude.{[], if◌then◌else◌, Option, Some, None}
 use Rattle.std.specs.Option.{option_map, option_map_or}
 use Rattle.std.specs.Ordering.{nat_cmp}
 use Rattle.std.specs.FinMap.{put}
@@ -10,69 +10,82 @@ use Rattle.grb_core.specs.Results.{ewise_add, ewise_mult, mxv_of, mxm_of, reduce
 use Rattle.grb_core.specs.Contents.{Matrix, Vector, edited_matrix, edited_vector, resized_matrix, resized_vector}
 use Rattle.grb_call.specs.declared.call.Call.{Call}
 use Rattle.grb_call.specs.declared.call.Call.TheVariants as call
+use Rattle.grb_call.specs.declared.descriptor.Descriptor.{Descriptor}
 use Rattle.grb_call.specs.declared.ids.MatrixId.{MatrixId}
 use Rattle.grb_call.specs.declared.ids.VectorId.{VectorId}
 use Rattle.grb_call.specs.declared.ids.Object.{Object}
 use Rattle.grb_call.specs.declared.ids.Object.TheVariants as object
+use Rattle.grb_call.specs.declared.operation.Input.{Input}
+use Rattle.grb_call.specs.declared.operation.Input.TheVariants.{First, Second}
 use Rattle.grb_call.specs.declared.operation.Operation.{Operation}
 use Rattle.grb_call.specs.declared.operation.OperationKind.{OperationKind}
 use Rattle.grb_call.specs.declared.operation.OperationKind.TheVariants.{EwiseAdd, EwiseMult, Product, Rows}
 use Rattle.grb_call.specs.Kinds.{enters}
-use Rattle.grb_call.specs.Operation.{operation_of}
+use Rattle.grb_call.specs.Operation.{operation_of, turns}
 use Rattle.grb_call.specs.Status.{object_of}
-use Rattle.grb_call.specs.Store.{Store, matrix_entries, vector_entries}
+use Rattle.grb_call.specs.Store.{Store, matrix_at, vector_at}
 use Rattle.grb_call.specs.Written.{written_matrix, written_vector}
 
 -- the object that the call changes, of those that were made before it
 abbrev pub output_of : Call → Option Object
 output_of c = if enters c then object_of c else None
 
--- the entries of each object, and none of one that is not there
-pub record ObjectEntries : Type 0 where
-  pub matrix : MatrixId → MatrixEntries
-  pub vector : VectorId → VectorEntries
+-- the objects that a call may read, by number: domain, dimensions and entries of each, None where there is none
+pub record StoredObjects : Type 0 where
+  pub matrix : MatrixId → Option Matrix
+  pub vector : VectorId → Option Vector
 
-abbrev pub entries_in : Store → ObjectEntries
-entries_in s = record { matrix = matrix_entries s; vector = vector_entries s }
+abbrev pub objects_in : Store → StoredObjects
+objects_in s = record { matrix = matrix_at s; vector = vector_at s }
+
+-- the entries of an object, and none of one that is not there
+abbrev pub entries_of_matrix : StoredObjects → MatrixId → MatrixEntries
+entries_of_matrix r a = option_map_or (λ m. m.entries) (r.matrix a) []
+
+abbrev pub entries_of_vector : StoredObjects → VectorId → VectorEntries
+entries_of_vector r v = option_map_or (λ x. x.entries) (r.vector v) []
 
 -- the entries of an object that is a matrix, and of one that is a vector; none of an object of the other sort
-abbrev pub matrix_read : ObjectEntries → Object → MatrixEntries
-matrix_read r (object.Matrix a) = r.matrix a
+abbrev pub matrix_read : StoredObjects → Object → MatrixEntries
+matrix_read r (object.Matrix a) = entries_of_matrix r a
 matrix_read r (object.Vector v) = []
 
-abbrev pub vector_read : ObjectEntries → Object → VectorEntries
+abbrev pub vector_read : StoredObjects → Object → VectorEntries
 vector_read r (object.Matrix a) = []
-vector_read r (object.Vector v) = r.vector v
+vector_read r (object.Vector v) = entries_of_vector r v
 
--- the entries of the matrix that an operation computes of its inputs, of which the descriptor may turn the first; none where it
--- computes a vector
-abbrev pub matrix_computed : ObjectEntries → OperationKind → Bool → Object → Option Object → Option MatrixEntries
-matrix_computed r (EwiseAdd op) tran (object.Matrix a) (Some (object.Matrix b)) = Some (ewise_add cell_cmp op (turned tran (r.matrix a)) (r.matrix b))
-matrix_computed r (EwiseMult op) tran (object.Matrix a) (Some (object.Matrix b)) = Some (ewise_mult cell_cmp op (turned tran (r.matrix a)) (r.matrix b))
-matrix_computed r (Product semiring) tran (object.Matrix a) (Some (object.Matrix b)) = Some (mxm_of semiring (turned tran (r.matrix a)) (r.matrix b))
-matrix_computed r _ tran _ _ = None
+-- the entries of an input that is a matrix, as the descriptor turns it
+abbrev pub matrix_input : StoredObjects → Descriptor → Input → MatrixId → MatrixEntries
+matrix_input r d input a = turned (turns d input) (entries_of_matrix r a)
+
+-- the entries of the matrix that an operation computes of its inputs, as the descriptor turns them; none where it computes a vector
+abbrev pub matrix_computed : StoredObjects → OperationKind → Descriptor → Option Object → Option Object → Option MatrixEntries
+matrix_computed r (EwiseAdd op) d (Some (object.Matrix a)) (Some (object.Matrix b)) = Some (ewise_add cell_cmp op (matrix_input r d First a) (matrix_input r d Second b))
+matrix_computed r (EwiseMult op) d (Some (object.Matrix a)) (Some (object.Matrix b)) = Some (ewise_mult cell_cmp op (matrix_input r d First a) (matrix_input r d Second b))
+matrix_computed r (Product semiring) d (Some (object.Matrix a)) (Some (object.Matrix b)) = Some (mxm_of semiring (matrix_input r d First a) (matrix_input r d Second b))
+matrix_computed r _ d _ _ = None
 
 -- the same of a vector; none where the operation computes a matrix
-abbrev pub vector_computed : ObjectEntries → OperationKind → Bool → Object → Option Object → Option VectorEntries
-vector_computed r (EwiseAdd op) tran (object.Vector u) (Some (object.Vector v)) = Some (ewise_add nat_cmp op (r.vector u) (r.vector v))
-vector_computed r (EwiseMult op) tran (object.Vector u) (Some (object.Vector v)) = Some (ewise_mult nat_cmp op (r.vector u) (r.vector v))
-vector_computed r (Product semiring) tran (object.Matrix a) (Some (object.Vector u)) = Some (mxv_of semiring (turned tran (r.matrix a)) (r.vector u))
-vector_computed r (Product semiring) tran (object.Vector u) (Some (object.Matrix a)) = Some (vxm_of semiring (r.vector u) (r.matrix a))
-vector_computed r (Rows monoid) tran (object.Matrix a) None = Some (reduce_rows_of monoid (turned tran (r.matrix a)))
-vector_computed r _ tran _ _ = None
+abbrev pub vector_computed : StoredObjects → OperationKind → Descriptor → Option Object → Option Object → Option VectorEntries
+vector_computed r (EwiseAdd op) d (Some (object.Vector u)) (Some (object.Vector v)) = Some (ewise_add nat_cmp op (entries_of_vector r u) (entries_of_vector r v))
+vector_computed r (EwiseMult op) d (Some (object.Vector u)) (Some (object.Vector v)) = Some (ewise_mult nat_cmp op (entries_of_vector r u) (entries_of_vector r v))
+vector_computed r (Product semiring) d (Some (object.Matrix a)) (Some (object.Vector u)) = Some (mxv_of semiring (matrix_input r d First a) (entries_of_vector r u))
+vector_computed r (Product semiring) d (Some (object.Vector u)) (Some (object.Matrix a)) = Some (vxm_of semiring (entries_of_vector r u) (matrix_input r d Second a))
+vector_computed r (Rows monoid) d (Some (object.Matrix a)) None = Some (reduce_rows_of monoid (matrix_input r d First a))
+vector_computed r _ d _ _ = None
 
 -- the matrix that an operation leaves of this one: what it computes is written into it, where that is a matrix
-abbrev pub matrix_operated : ObjectEntries → Operation → Matrix → Matrix
+abbrev pub matrix_operated : StoredObjects → Operation → Matrix → Matrix
 matrix_operated r o m =
-    option_map_or (λ computed. written_matrix (option_map (matrix_read r) o.mask) o.accum o.d computed m) (matrix_computed r o.kind o.d.tran o.first o.second) m
+    option_map_or (λ computed. written_matrix (option_map (matrix_read r) o.mask) o.accum o.d computed m) (matrix_computed r o.kind o.d o.first o.second) m
 
 -- the same of a vector
-abbrev pub vector_operated : ObjectEntries → Operation → Vector → Vector
+abbrev pub vector_operated : StoredObjects → Operation → Vector → Vector
 vector_operated r o x =
-    option_map_or (λ computed. written_vector (option_map (vector_read r) o.mask) o.accum o.d computed x) (vector_computed r o.kind o.d.tran o.first o.second) x
+    option_map_or (λ computed. written_vector (option_map (vector_read r) o.mask) o.accum o.d computed x) (vector_computed r o.kind o.d o.first o.second) x
 
--- the matrix that the call makes of the one that it changes and does not end, by the entries of the objects that it reads
-abbrev pub matrix_made : ObjectEntries → Call → Matrix → Matrix
+-- the matrix that the call makes of the one that it changes and does not end, by the objects that it reads
+abbrev pub matrix_made : StoredObjects → Call → Matrix → Matrix
 matrix_made r (call.SetMatrix a i j value) m = edited_matrix (put cell_cmp (i, j) value) m
 matrix_made r (call.RemoveMatrix a i j) m = edited_matrix (without_entry cell_cmp (i, j)) m
 matrix_made r (call.ClearMatrix a) m = edited_matrix (λ _. []) m
@@ -81,7 +94,7 @@ matrix_made r (call.BuildMatrix a tuples dup) m = edited_matrix (λ _. built_fro
 matrix_made r c m = option_map_or (λ o. matrix_operated r o m) (operation_of c) m
 
 -- the same of a vector
-abbrev pub vector_made : ObjectEntries → Call → Vector → Vector
+abbrev pub vector_made : StoredObjects → Call → Vector → Vector
 vector_made r (call.SetVector v i value) x = edited_vector (put nat_cmp i value) x
 vector_made r (call.RemoveVector v i) x = edited_vector (without_entry nat_cmp i) x
 vector_made r (call.ClearVector v) x = edited_vector (λ _. []) x
@@ -91,11 +104,11 @@ vector_made r c x = option_map_or (λ o. vector_operated r o x) (operation_of c)
 
 -- the matrix that the call leaves, in this store, of the one that it changes and does not end
 abbrev pub matrix_after : Store → Call → Matrix → Matrix
-matrix_after s c m = matrix_made (entries_in s) c m
+matrix_after s c m = matrix_made (objects_in s) c m
 
 -- the vector that the call leaves, in this store, of the one that it changes and does not end
 abbrev pub vector_after : Store → Call → Vector → Vector
-vector_after s c x = vector_made (entries_in s) c x
+vector_after s c x = vector_made (objects_in s) c x
 
 -- what is left of the matrix that the call changes: nothing of one that it ends
 abbrev pub matrix_left : Store → Call → Option Matrix → Option Matrix

@@ -1,12 +1,12 @@
 //! Whether the operands of an operation fit together: that its mask is there, one domain, and dimensions.
-ghost use Rattle.std.specs.Prelude.{◌≡◌, ◌∷◌, ◌++◌, Some};
+ghost use Rattle.std.specs.Prelude.{◌≡◌, ◌++◌};
 ghost use Rattle.std.specs.List.{list_all};
-ghost use Rattle.grb_call.specs.Operation.{if_any, operation_objects, kind_domains, accum_domains, operation_domains};
-ghost use Rattle.grb_call.specs.Refused.{same_domain, are_of_domain, is_one_domain, same_dims, same_size, same_shape, mask_fits, ewise_fits, product_fits, rows_fit, operation_fits, turned_dims, turned_ncols, turned_nrows};
+ghost use Rattle.grb_call.specs.Operation.{if_any, operation_inputs, operation_objects, kind_domains, accum_domains, operation_domains};
+ghost use Rattle.grb_call.specs.Refused.{same_domain, are_of_domain, is_one_domain, same_size, dims_at, has_dims, mask_dims, mask_fits, ewise_fits, product_fits, rows_fit, operation_fits, turned_dims, turned_ncols, turned_nrows};
 ghost use Rattle.grb_call.specs.Shapes.{is_live};
 
 use crate::ids::{MatrixId, Object, VectorId};
-use crate::operation::{Operation, OperationKind};
+use crate::operation::{Input, Operation, OperationKind};
 use crate::shapes::Shapes;
 use grb_core::{BinaryOp, Domain};
 
@@ -22,24 +22,24 @@ pub(crate) fn is_operation_live(shapes: &Shapes, operation: &Operation) -> bool
     ensures { result ≡ list_all (is_live shapes.now.objects) (operation_objects operation.now ++ if_any operation.now.mask) }
 {
     shapes.is_live(operation.output)
-        & shapes.is_live(operation.first)
+        & is_live_if_any(shapes, operation.first)
         & is_live_if_any(shapes, operation.second)
         & is_live_if_any(shapes, operation.mask)
 }
 
-/// Whether the object, if it is there, is of the domain.
-fn is_object_of(shapes: &Shapes, domain: Domain, object: Object) -> bool
-    ensures { result ≡ are_of_domain shapes.now.objects domain (if_any (Some object)) }
+/// Whether the object, if there is one and it is there, is of the domain.
+fn is_of_domain_if_any(shapes: &Shapes, domain: Domain, object: Option<Object>) -> bool
+    ensures { result ≡ are_of_domain shapes.now.objects domain (if_any object) }
 {
-    shapes.domain(object).map_or(true, |d| domain == d)
+    object.map_or(true, |o| shapes.domain(o).map_or(true, |d| domain == d))
 }
 
 /// Whether the inputs that are there are of the domain.
-fn are_inputs_of(shapes: &Shapes, domain: Domain, first: Object, second: Option<Object>) -> bool
-    ensures { result ≡ are_of_domain shapes.now.objects domain (first ∷ if_any second) }
+fn are_inputs_of(shapes: &Shapes, domain: Domain, operation: &Operation) -> bool
+    ensures { result ≡ are_of_domain shapes.now.objects domain (operation_inputs operation.now) }
 {
-    is_object_of(shapes, domain, first)
-        & second.map_or(true, |object| is_object_of(shapes, domain, object))
+    is_of_domain_if_any(shapes, domain, operation.first)
+        & is_of_domain_if_any(shapes, domain, operation.second)
 }
 
 /// Whether what an operation computes with is of the domain; of a semiring both its parts.
@@ -68,7 +68,7 @@ pub(crate) fn is_operation_of_one_domain(shapes: &Shapes, operation: &Operation)
 {
     match shapes.domain(operation.output) {
         Some(domain) => {
-            are_inputs_of(shapes, domain, operation.first, operation.second)
+            are_inputs_of(shapes, domain, operation)
                 & computes_in(domain, operation.kind)
                 & accumulates_in(domain, operation.accum)
         }
@@ -76,14 +76,53 @@ pub(crate) fn is_operation_of_one_domain(shapes: &Shapes, operation: &Operation)
     }
 }
 
-/// Whether two matrices have the same dimensions.
-fn same_dims(shapes: &Shapes, a: MatrixId, b: MatrixId) -> bool
-    ensures { result ≡ same_dims shapes.now.objects a b }
-{
-    (shapes.nrows(a) == shapes.nrows(b)) & (shapes.ncols(a) == shapes.ncols(b))
+/// The dimensions of an object.
+#[derive(Clone, Copy, Debug)]
+pub(crate) enum Dims {
+    /// The rows and the columns of a matrix.
+    Matrix(u64, u64),
+    /// The size of a vector.
+    Vector(u64),
 }
 
-/// The rows of a first input, its columns where it is transposed.
+/// The dimensions of the object; 0 where it is not there.
+fn dims_of(shapes: &Shapes, object: Object) -> Dims
+    ensures { result ≡ dims_at shapes.now.objects object }
+{
+    match object {
+        Object::Matrix(a) => Dims::Matrix(shapes.nrows(a), shapes.ncols(a)),
+        Object::Vector(v) => Dims::Vector(shapes.size(v)),
+    }
+}
+
+/// Whether the object is of the sort of these dimensions, and has them.
+fn has_dims(shapes: &Shapes, object: Object, needed: Dims) -> bool
+    ensures { result ≡ has_dims shapes.now.objects object needed }
+{
+    match (object, needed) {
+        (Object::Matrix(a), Dims::Matrix(nrows, ncols)) => {
+            (shapes.nrows(a) == nrows) & (shapes.ncols(a) == ncols)
+        }
+        (Object::Vector(v), Dims::Vector(size)) => shapes.size(v) == size,
+        (Object::Matrix(_), Dims::Vector(_)) | (Object::Vector(_), Dims::Matrix(_, _)) => false,
+    }
+}
+
+/// The dimensions that the mask of the operation is to have: those of its output.
+fn mask_dims(shapes: &Shapes, operation: &Operation) -> Dims
+    ensures { result ≡ mask_dims shapes.now.objects operation.now }
+{
+    dims_of(shapes, operation.output)
+}
+
+/// Whether the mask, if there is one, has these dimensions.
+fn mask_fits(shapes: &Shapes, mask: Option<Object>, needed: Dims) -> bool
+    ensures { result ≡ mask_fits shapes.now.objects mask needed }
+{
+    mask.map_or(true, |m| has_dims(shapes, m, needed))
+}
+
+/// The rows of an input, its columns where it is transposed.
 fn turned_nrows(shapes: &Shapes, tran: bool, a: MatrixId) -> u64
     ensures { result ≡ turned_nrows shapes.now.objects tran a }
 {
@@ -94,7 +133,7 @@ fn turned_nrows(shapes: &Shapes, tran: bool, a: MatrixId) -> u64
     }
 }
 
-/// The columns of a first input, its rows where it is transposed.
+/// The columns of an input, its rows where it is transposed.
 fn turned_ncols(shapes: &Shapes, tran: bool, a: MatrixId) -> u64
     ensures { result ≡ turned_ncols shapes.now.objects tran a }
 {
@@ -120,82 +159,57 @@ fn same_size(shapes: &Shapes, u: VectorId, v: VectorId) -> bool
     shapes.size(u) == shapes.size(v)
 }
 
-/// Whether two objects are of one sort, and of the same dimensions.
-fn same_shape(shapes: &Shapes, first: Object, second: Object) -> bool
-    ensures { result ≡ same_shape shapes.now.objects first second }
+/// Whether the inputs of an element-wise operation, each as the descriptor turns it, have the dimensions of the output, and the mask fits.
+fn ewise_fits(shapes: &Shapes, operation: &Operation, masked: bool) -> bool
+    ensures { result ≡ ewise_fits shapes.now.objects operation.now.d operation.now.output operation.now.first operation.now.second masked }
 {
-    match (first, second) {
-        (Object::Matrix(a), Object::Matrix(b)) => same_dims(shapes, a, b),
-        (Object::Vector(u), Object::Vector(v)) => same_size(shapes, u, v),
-        (Object::Matrix(_), Object::Vector(_)) | (Object::Vector(_), Object::Matrix(_)) => false,
-    }
-}
-
-/// Whether the mask, if there is one, has the dimensions of the output.
-fn mask_fits(shapes: &Shapes, mask: Option<Object>, output: Object) -> bool
-    ensures { result ≡ mask_fits shapes.now.objects mask output }
-{
-    mask.map_or(true, |m| same_shape(shapes, m, output))
-}
-
-/// Whether the inputs of an element-wise operation, the first transposed where the descriptor says so, and its mask have the dimensions of
-/// the output.
-fn ewise_fits(shapes: &Shapes, operation: &Operation) -> bool
-    ensures { result ≡ ewise_fits shapes.now.objects operation.now.d.tran operation.now.mask operation.now.output operation.now.first operation.now.second }
-{
-    let mask = operation.mask;
+    let first = operation.d.turns(Input::First);
+    let second = operation.d.turns(Input::Second);
     match (operation.output, operation.first, operation.second) {
-        (Object::Matrix(c), Object::Matrix(a), Some(Object::Matrix(b))) => {
-            turned_dims(shapes, operation.d.tran, a, c)
-                & same_dims(shapes, b, c)
-                & mask_fits(shapes, mask, Object::Matrix(c))
+        (Object::Matrix(c), Some(Object::Matrix(a)), Some(Object::Matrix(b))) => {
+            turned_dims(shapes, first, a, c) & turned_dims(shapes, second, b, c) & masked
         }
-        (Object::Vector(w), Object::Vector(u), Some(Object::Vector(v))) => {
-            same_size(shapes, u, w)
-                & same_size(shapes, v, w)
-                & mask_fits(shapes, mask, Object::Vector(w))
+        (Object::Vector(w), Some(Object::Vector(u)), Some(Object::Vector(v))) => {
+            same_size(shapes, u, w) & same_size(shapes, v, w) & masked
         }
         _ => false,
     }
 }
 
-/// Whether the dimensions of a product's inputs, the first transposed where the descriptor says so, and of its mask fit together with those
-/// of the output.
-fn product_fits(shapes: &Shapes, operation: &Operation) -> bool
-    ensures { result ≡ product_fits shapes.now.objects operation.now.d.tran operation.now.mask operation.now.output operation.now.first operation.now.second }
+/// Whether the dimensions of a product's inputs, each as the descriptor turns it, fit together with those of the output, and the mask fits.
+fn product_fits(shapes: &Shapes, operation: &Operation, masked: bool) -> bool
+    ensures { result ≡ product_fits shapes.now.objects operation.now.d operation.now.output operation.now.first operation.now.second masked }
 {
-    let tran = operation.d.tran;
-    let mask = operation.mask;
+    let first = operation.d.turns(Input::First);
+    let second = operation.d.turns(Input::Second);
     match (operation.output, operation.first, operation.second) {
-        (Object::Matrix(c), Object::Matrix(a), Some(Object::Matrix(b))) => {
-            (turned_nrows(shapes, tran, a) == shapes.nrows(c))
-                & (shapes.ncols(b) == shapes.ncols(c))
-                & (turned_ncols(shapes, tran, a) == shapes.nrows(b))
-                & mask_fits(shapes, mask, Object::Matrix(c))
+        (Object::Matrix(c), Some(Object::Matrix(a)), Some(Object::Matrix(b))) => {
+            (turned_nrows(shapes, first, a) == shapes.nrows(c))
+                & (turned_ncols(shapes, second, b) == shapes.ncols(c))
+                & (turned_ncols(shapes, first, a) == turned_nrows(shapes, second, b))
+                & masked
         }
-        (Object::Vector(w), Object::Matrix(a), Some(Object::Vector(u))) => {
-            (turned_nrows(shapes, tran, a) == shapes.size(w))
-                & (turned_ncols(shapes, tran, a) == shapes.size(u))
-                & mask_fits(shapes, mask, Object::Vector(w))
+        (Object::Vector(w), Some(Object::Matrix(a)), Some(Object::Vector(u))) => {
+            (turned_nrows(shapes, first, a) == shapes.size(w))
+                & (turned_ncols(shapes, first, a) == shapes.size(u))
+                & masked
         }
-        (Object::Vector(w), Object::Vector(u), Some(Object::Matrix(a))) => {
-            (shapes.ncols(a) == shapes.size(w))
-                & (shapes.nrows(a) == shapes.size(u))
-                & mask_fits(shapes, mask, Object::Vector(w))
+        (Object::Vector(w), Some(Object::Vector(u)), Some(Object::Matrix(a))) => {
+            (turned_ncols(shapes, second, a) == shapes.size(w))
+                & (turned_nrows(shapes, second, a) == shapes.size(u))
+                & masked
         }
         _ => false,
     }
 }
 
-/// Whether a reduction's matrix, transposed where the descriptor says so, has a row for each place of the output, and the mask the output's
-/// size.
-fn rows_fit(shapes: &Shapes, operation: &Operation) -> bool
-    ensures { result ≡ rows_fit shapes.now.objects operation.now.d.tran operation.now.mask operation.now.output operation.now.first operation.now.second }
+/// Whether a reduction's matrix, as the descriptor turns it, has a row for each place of the output, and the mask fits.
+fn rows_fit(shapes: &Shapes, operation: &Operation, masked: bool) -> bool
+    ensures { result ≡ rows_fit shapes.now.objects operation.now.d operation.now.output operation.now.first operation.now.second masked }
 {
     match (operation.output, operation.first, operation.second) {
-        (Object::Vector(w), Object::Matrix(a), None) => {
-            (turned_nrows(shapes, operation.d.tran, a) == shapes.size(w))
-                & mask_fits(shapes, operation.mask, Object::Vector(w))
+        (Object::Vector(w), Some(Object::Matrix(a)), None) => {
+            (turned_nrows(shapes, operation.d.turns(Input::First), a) == shapes.size(w)) & masked
         }
         _ => false,
     }
@@ -205,9 +219,12 @@ fn rows_fit(shapes: &Shapes, operation: &Operation) -> bool
 pub(crate) fn operation_fits(shapes: &Shapes, operation: &Operation) -> bool
     ensures { result ≡ operation_fits shapes.now.objects operation.now }
 {
+    let masked = mask_fits(shapes, operation.mask, mask_dims(shapes, operation));
     match operation.kind {
-        OperationKind::EwiseAdd(_) | OperationKind::EwiseMult(_) => ewise_fits(shapes, operation),
-        OperationKind::Product(_) => product_fits(shapes, operation),
-        OperationKind::Rows(_) => rows_fit(shapes, operation),
+        OperationKind::EwiseAdd(_) | OperationKind::EwiseMult(_) => {
+            ewise_fits(shapes, operation, masked)
+        }
+        OperationKind::Product(_) => product_fits(shapes, operation, masked),
+        OperationKind::Rows(_) => rows_fit(shapes, operation, masked),
     }
 }

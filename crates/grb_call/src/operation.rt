@@ -1,7 +1,7 @@
 //! An operation in one shape, whichever objects it is on.
 ghost use Rattle.std.specs.Prelude.{◌≡◌, IfSome};
 ghost use Rattle.grb_call.specs.Kinds.{class_of};
-ghost use Rattle.grb_call.specs.Operation.{operation_of};
+ghost use Rattle.grb_call.specs.Operation.{operation_of, turns};
 
 use crate::call::Call;
 use crate::class::Class;
@@ -24,6 +24,30 @@ pub enum OperationKind {
     Rows(Monoid),
 }
 
+/// Which input of an operation.
+///
+/// Source: GraphBLAS C API 2.0, "Descriptors", `GrB_INP0` and `GrB_INP1`.
+#[derive(Clone, Copy, Debug, PartialEq, Eq)]
+pub enum Input {
+    /// The first, or the only one.
+    First,
+    /// The second.
+    Second,
+}
+
+impl Descriptor {
+    /// Whether the input is read transposed where it is a matrix: the first where the descriptor says `tran`, the second never. Takes no
+    /// memory.
+    pub fn turns(&self, input: Input) -> bool
+        ensures { result ≡ turns self.now input }
+    {
+        match input {
+            Input::First => self.tran,
+            Input::Second => false,
+        }
+    }
+}
+
 /// An operation: what each of the eight calls that write a result into an output has in common. Which of them it is, the kind and the sorts
 /// of its objects say.
 ///
@@ -36,13 +60,13 @@ pub struct Operation {
     pub mask: Option<Object>,
     /// What combines an old value with a new one; none puts the new one in its place.
     pub accum: Option<BinaryOp>,
-    /// The first input, which the descriptor may turn where it is a matrix.
-    pub first: Object,
-    /// The second input; a reduction has none.
+    /// The first input, if there is one: each of the eight calls has it.
+    pub first: Option<Object>,
+    /// The second input, if there is one: a reduction has none.
     pub second: Option<Object>,
     /// What is computed of the inputs.
     pub kind: OperationKind,
-    /// How the mask and the first input are read, and what becomes of the places that are not selected.
+    /// How the mask and the inputs are read ([`Descriptor::turns`]), and what becomes of the places that are not selected.
     pub d: Descriptor,
 }
 
@@ -86,21 +110,21 @@ impl Call {
         }
     }
 
-    /// The inputs of the operation.
-    fn inputs(&self) -> (Object, Option<Object>)
+    /// The first input of the operation, and the second.
+    fn first_and_second(&self) -> (Option<Object>, Option<Object>)
         requires { class_of self.now ≡ Class.Operates }
         ensures { IfSome (operation_of self.now) (λ o. result ≡ (o.first, o.second)) }
     {
         match self {
             Call::EwiseAddMatrix { a, b, .. }
             | Call::EwiseMultMatrix { a, b, .. }
-            | Call::Mxm { a, b, .. } => (Object::Matrix(*a), Some(Object::Matrix(*b))),
+            | Call::Mxm { a, b, .. } => (Some(Object::Matrix(*a)), Some(Object::Matrix(*b))),
             Call::EwiseAddVector { u, v, .. } | Call::EwiseMultVector { u, v, .. } => {
-                (Object::Vector(*u), Some(Object::Vector(*v)))
+                (Some(Object::Vector(*u)), Some(Object::Vector(*v)))
             }
-            Call::Mxv { a, u, .. } => (Object::Matrix(*a), Some(Object::Vector(*u))),
-            Call::Vxm { u, a, .. } => (Object::Vector(*u), Some(Object::Matrix(*a))),
-            Call::ReduceRows { a, .. } => (Object::Matrix(*a), None),
+            Call::Mxv { a, u, .. } => (Some(Object::Matrix(*a)), Some(Object::Vector(*u))),
+            Call::Vxm { u, a, .. } => (Some(Object::Vector(*u)), Some(Object::Matrix(*a))),
+            Call::ReduceRows { a, .. } => (Some(Object::Matrix(*a)), None),
             _ => unreachable!(),
         }
     }
@@ -131,7 +155,7 @@ impl Call {
             Class::Operates => {
                 let (output, mask) = self.output_and_mask();
                 let (accum, d) = self.accum_and_descriptor();
-                let (first, second) = self.inputs();
+                let (first, second) = self.first_and_second();
                 Some(Operation {
                     output,
                     mask,

@@ -1,6 +1,6 @@
 //! The objects that a call reads.
 ghost use Rattle.std.specs.Prelude.{◌≡◌, ◌++◌};
-ghost use Rattle.grb_call.specs.Operation.{if_any, operation_objects};
+ghost use Rattle.grb_call.specs.Operation.{if_any, operation_inputs, operation_objects};
 ghost use Rattle.grb_call.specs.Operands.{objects_read};
 
 use crate::call::Call;
@@ -26,7 +26,9 @@ fn of_operation(alloc: Global, operation: &Operation) -> SmallVec<Object, 4>
     ensures { result.items ≡ operation_objects operation.now ++ if_any operation.now.mask }
 {
     let mut objects = one(alloc, Some(operation.output));
-    objects.push_reserved(operation.first);
+    if let Some(first) = operation.first {
+        objects.push_reserved(first);
+    }
     if let Some(second) = operation.second {
         objects.push_reserved(second);
     }
@@ -34,6 +36,19 @@ fn of_operation(alloc: Global, operation: &Operation) -> SmallVec<Object, 4>
         objects.push_reserved(mask);
     }
     objects
+}
+
+impl Operation {
+    /// The inputs that are there, the first before the second; an object that is both stands twice. Takes no memory.
+    pub fn inputs(&self, alloc: Global) -> SmallVec<Object, 4>
+        ensures { result.items ≡ operation_inputs self.now }
+    {
+        let mut objects = one(alloc, self.first);
+        if let Some(second) = self.second {
+            objects.push_reserved(second);
+        }
+        objects
+    }
 }
 
 /// The objects that the call reads, its output first: what the output held, the inputs and the mask, four at most; one that it names

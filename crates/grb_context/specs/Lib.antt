@@ -2,6 +2,7 @@ pub mod Full
 pub mod Ran
 pub mod Snapshot
 pub use Rattle.grb_pass.specs.Answered
+pub use Rattle.grb_pass.specs.Chosen
 pub use Rattle.grb_pass.specs.Counting
 pub use Rattle.grb_pass.specs.Explains
 pub use Rattle.grb_pass.specs.Known

@@ -21,12 +21,11 @@ impl Context {
     /// evaluated of the calls, has no status, settled no call, and has counted no step and no call that it made; the one at index k has the
     /// number k. This context and its passes are as before, but for what the pass has evaluated.
     ///
-    /// Where [`Pass::is_at_end`] holds of the pass, nothing is lost by going on. Called earlier it makes a branch: what is entered here
-    /// later is not there.
+    /// Where [`Pass::is_at_end`] holds of the pass, nothing is lost by going on. Called earlier it makes a store beside this one: what is
+    /// entered here later is not there. Of some objects alone [`Context::branch`] makes one.
     ///
-    /// Objects are shared with this context until one of the two changes one; each entry is copied once, as a tuple of the build that makes
-    /// it. `RoomTooSmall` tells how many calls are needed, two at most for each number; then nothing was copied. `OutOfMemory` where memory
-    /// is refused, and `Panic` where a record of the new context is not taken. In each case no context is made (own).
+    /// Objects are shared with this context until one of the two changes one; no entry is copied. `RoomTooSmall` tells how many calls are
+    /// needed, two at most for each number. `OutOfMemory` where memory is refused, and `Panic` where a record of the new context is not taken. In each case no context is made (own).
     pub fn succeed(
         &self,
         alloc: Global,

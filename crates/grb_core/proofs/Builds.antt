@@ -1,25 +1,7 @@
 -- What a build stores, and that it is the sets of its tuples where no place stands twice.
 use Rattle.std.proofs.Common.{◌≡◌, true, false, cond, T, List, [], ◌∷◌, zero, suc, refl, sym, ap, subst, ◌∙◌, arith}
-use Rattle.std.specs.Prelude.{◌≢◌, map, Option, Some, None, is_some, AllPairs}
-use Rattle.std.specs.Option.{option_or}
-use Rattle.std.specs.List.{AllByRecursion}
-use Rattle.std.specs.List.Sorted.{IsPermutation}
-use Rattle.std.specs.declared.cmp.Ordering.{Ordering}
-use Rattle.std.specs.declared.cmp.Ordering.TheVariants.{Less, Equal, Greater}
-use Rattle.std.specs.Ordering.{is_eq, eq_by_cmp}
-use Rattle.std.specs.Cmp.{IsTotalOrder}
-use Rattle.std.specs.FinMap.{find, put, is_sorted, IsAntisymmetric}
-use Rattle.std.specs.FinMap.Entries.{is_sorted-put, find-put, is_some-find}
-use Rattle.std.proofs.lemmas.List.Elements.{recursion_from_All}
+use Rattle.grb_core.proofs.Prelude.{◌≢◌, map, Option, Some, None, is_some, AllPairs, option_or, AllByRecursion, IsPermutation, Ordering, Less, Equal, Greater, is_eq, eq_by_cmp, IsTotalOrder, find, put, is_sorted, IsAntisymmetric, is_sorted-put, find-put, is_some-find, recursion_from_All, Value, Monoid, IsValueOf, value_of_op, monoid_op, monoid_domain, identity_of, fold_of, fold_of_some, restricted, values_of, values_at, set_all, BuildStoresFolds, BuildIsSets, BuildsInAnyOrder}
 use Rattle.std.proofs.lemmas.List.Sorted.{All-permutation, IsPermutation-map, list_any-IsPermutation}
-use Rattle.grb_core.specs.declared.value.Value.{Value}
-use Rattle.grb_core.specs.declared.monoid.Monoid.{Monoid}
-use Rattle.grb_core.specs.Value.{IsValueOf}
-use Rattle.grb_core.specs.Operator.{value_of_op}
-use Rattle.grb_core.specs.Monoid.{monoid_op, monoid_domain, identity_of}
-use Rattle.grb_core.specs.Fold.{fold_of, fold_of_some}
-use Rattle.grb_core.specs.Entries.{restricted, values_of, values_at}
-use Rattle.grb_core.specs.Laws.{set_all, BuildStoresFolds, BuildIsSets, BuildsInAnyOrder}
 use Rattle.grb_core.proofs.MonoidLaws.{monoid_laws}
 use Rattle.grb_core.proofs.Maps.{find-map_on_indices, is_sorted-map_on_indices, same_entries_at}
 use Rattle.grb_core.proofs.Edits.{ties_with_no_other}

@@ -1,19 +1,9 @@
 -- A fold in any grouping and in any order, by the laws of its monoid.
 use Rattle.std.proofs.Common.{◌≡◌, ℕ, zero, suc, ◌<◌, List, [], ◌∷◌, ◌++◌, length, refl, sym, ap, ◌∙◌, arith}
-use Rattle.std.specs.Prelude.{All, swap}
-use Rattle.std.specs.List.{AllByRecursion}
-use Rattle.std.specs.List.Sorted.{IsPermutation}
+use Rattle.grb_core.proofs.Prelude.{All, swap, AllByRecursion, IsPermutation, All-from_recursion, recursion_from_All, Value, Monoid, IsValueOf, value_of_op, monoid_domain, monoid_op, fold_of, FoldsInParts, FoldsInAnyOrder}
 use Rattle.std.proofs.Math.ListN.{get_or, set}
 use Rattle.std.proofs.lemmas.List.{set-get_or}
-use Rattle.std.proofs.lemmas.List.Elements.{All-from_recursion, recursion_from_All}
 use Rattle.std.proofs.lemmas.List.Sorted.{All-permutation, IsPermutation-keeps, IsPermutation-swap}
-use Rattle.grb_core.specs.declared.value.Value.{Value}
-use Rattle.grb_core.specs.declared.monoid.Monoid.{Monoid}
-use Rattle.grb_core.specs.Value.{IsValueOf}
-use Rattle.grb_core.specs.Operator.{value_of_op}
-use Rattle.grb_core.specs.Monoid.{monoid_domain, monoid_op}
-use Rattle.grb_core.specs.Fold.{fold_of}
-use Rattle.grb_core.specs.Laws.{FoldsInParts, FoldsInAnyOrder}
 use Rattle.grb_core.proofs.MonoidLaws.{monoid_laws}
 
 module _ (m : Monoid) where

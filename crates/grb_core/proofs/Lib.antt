@@ -7,6 +7,7 @@ pub mod Gridded
 pub mod Made
 pub mod Maps
 pub mod MonoidLaws
+mod Prelude
 pub mod ResultLaws
 pub mod ResultRows
 pub mod Rows

@@ -1,26 +1,10 @@
 -- What results and written outputs are made of: their places are those of the inputs, and their values of the inputs' domain.
 use Rattle.std.proofs.Common.{ℕ, ◌+◌, ◌-◌, ◌*◌, ◌<◌, ◌^◌, Bool, true, false, cond, List, [], ◌∷◌, ◌++◌, arith, lit<}
-use Rattle.std.specs.Prelude.{⊤, ◌==◌, map, filter, Option, Some, None}
-use Rattle.std.specs.List.{AllByRecursion}
-use Rattle.std.specs.declared.cmp.Ordering.{Ordering}
-use Rattle.std.specs.declared.cmp.Ordering.TheVariants.{Less, Equal, Greater}
-use Rattle.std.specs.Ordering.{nat_cmp, eq_by_cmp}
-use Rattle.std.specs.FinMap.{find, put}
-use Rattle.std.specs.FinMap.Entries.{by_order}
+use Rattle.grb_core.proofs.Prelude.{⊤, ◌==◌, map, filter, Option, Some, None, AllByRecursion, Ordering, Less, Equal, Greater, nat_cmp, eq_by_cmp, find, put, by_order, BinaryOp, Monoid, Value, IsValueOf, op_domain, on_numbers, value_of_op, monoid_domain, fold_of_some, MatrixEntries, before_entries, map_on, map_from, places_of, values_of, either_value, both_values, written_value, pointwise, masked, row_of, column_of, rows_of, columns_of, cells_between}
 use Rattle.std.proofs.lemmas.Nat.{mod_below}
 use Rattle.grb_core.specs.declared.domain.Domain.TheVariants as domain
-use Rattle.grb_core.specs.declared.operator.BinaryOp.{BinaryOp}
 use Rattle.grb_core.specs.declared.operator.BinaryOp.TheVariants as op
-use Rattle.grb_core.specs.declared.monoid.Monoid.{Monoid}
-use Rattle.grb_core.specs.declared.value.Value.{Value}
 use Rattle.grb_core.specs.declared.value.Value.TheVariants as value
-use Rattle.grb_core.specs.Value.{IsValueOf}
-use Rattle.grb_core.specs.Operator.{op_domain, on_numbers, value_of_op}
-use Rattle.grb_core.specs.Monoid.{monoid_domain}
-use Rattle.grb_core.specs.Fold.{fold_of_some}
-use Rattle.grb_core.specs.Entries.{MatrixEntries, before_entries, map_on, map_from, places_of, values_of}
-use Rattle.grb_core.specs.Written.{either_value, both_values, written_value, pointwise, masked}
-use Rattle.grb_core.specs.Results.{row_of, column_of, rows_of, columns_of, cells_between}
 use Rattle.grb_core.proofs.Folds.{fold_of-is}
 
 -- the value, if there is one, has the property
@@ -158,13 +142,7 @@ number_closed op.Minus a b g h = mod_below (a + 2 ^ 64 - b) (2 ^ 64) (lit< tt)
 number_closed op.Min a b g h = omega arith
 number_closed op.Max a b g h = omega arith
 number_closed op.Second a b g h = h
-number_closed op.First a b g h = g
-number_closed op.Lor a b g h = g
-number_closed op.Land a b g h = g
-number_closed op.Lxor a b g h = g
-number_closed op.Lxnor a b g h = g
-number_closed op.FirstBool a b g h = g
-number_closed op.SecondBool a b g h = g
+number_closed _ a b g h = g
 
 pub op_closed : (o : BinaryOp) (a b : Value) → IsValueOf (op_domain o) a → IsValueOf (op_domain o) b → IsValueOf (op_domain o) (value_of_op o a b)
 op_closed o (value.Bool a) (value.Bool b) g h =

@@ -3,15 +3,10 @@ use Rattle.std.proofs.Common.{◌≡◌, ℕ, ◌+◌, ◌-◌, ◌*◌, ◌%◌
 use Rattle.std.proofs.Math.Nat.{add-mod-mod, mod-add-mod, mod-eq_of_lt, mul_assoc, mul_comm}
 use Rattle.std.proofs.lemmas.Nat.{mul-mod_first, mul-mod_second, mod_below}
 use Rattle.grb_core.specs.declared.domain.Domain.TheVariants as domain
-use Rattle.grb_core.specs.declared.value.Value.{Value}
+use Rattle.grb_core.proofs.Prelude.{Value, BinaryOp, Monoid, IsValueOf, on_bools, on_numbers, value_of_op, monoid_domain, monoid_op, identity_of, IsCommutativeMonoid}
 use Rattle.grb_core.specs.declared.value.Value.TheVariants as value
-use Rattle.grb_core.specs.declared.operator.BinaryOp.{BinaryOp}
 use Rattle.grb_core.specs.declared.operator.BinaryOp.TheVariants as op
-use Rattle.grb_core.specs.declared.monoid.Monoid.{Monoid}
 use Rattle.grb_core.specs.declared.monoid.Monoid.TheVariants as monoid
-use Rattle.grb_core.specs.Value.{IsValueOf}
-use Rattle.grb_core.specs.Operator.{on_bools, on_numbers, value_of_op}
-use Rattle.grb_core.specs.Monoid.{monoid_domain, monoid_op, identity_of, IsCommutativeMonoid}
 
 abbrev IsBool : Value → Type 0
 IsBool = IsValueOf domain.Bool

@@ -1,27 +1,10 @@
 -- The laws of results: in either order, and that what is made is in order, within, and of its domain.
 use Rattle.std.proofs.Common.{◌≡◌, ◌<◌, ℕ, Bool, true, false, List, refl, sym, ap, subst, ◌∙◌}
-use Rattle.std.specs.Prelude.{IsTrue, map, Option, Some, None, is_some}
-use Rattle.std.specs.List.{AllByRecursion}
-use Rattle.std.specs.declared.cmp.Ordering.{Ordering}
-use Rattle.std.specs.Ordering.{nat_cmp}
-use Rattle.std.specs.Cmp.{IsTotalOrder, nat_cmp_total}
-use Rattle.std.specs.FinMap.{find, is_sorted, IsAntisymmetric, nat_cmp-IsAntisymmetric}
-use Rattle.std.proofs.lemmas.List.Elements.{All-from_recursion, recursion_from_All}
+use Rattle.grb_core.proofs.Prelude.{IsTrue, map, Option, Some, None, is_some, AllByRecursion, Ordering, nat_cmp, IsTotalOrder, nat_cmp_total, find, is_sorted, IsAntisymmetric, nat_cmp-IsAntisymmetric, All-from_recursion, recursion_from_All, BinaryOp, Value, IsValueOf, op_domain, value_of_op, monoid_domain, fold_of_some, Cell, cell_cmp, VectorEntries, MatrixEntries, map_on, values_of, SemiringParts, either_value, both_values, AccumulatesIn, accumulated, ewise_add, ewise_mult, row_of, column_of, rows_of, columns_of, cells_between, product_of, transposed, mxm_of, Commutes, MonoidsCommute, EwiseInEitherOrder, IsCellBelow, AreEntries, EwiseMakesEntries, WrittenMakesEntries, MxvMakesEntries, MxmMakesEntries, ReduceRowsMakesEntries, ReduceMakesValue}
 use lib.Dec.{T}
 use Rattle.grb_core.specs.declared.domain.Domain.{Domain}
 use Rattle.grb_core.specs.declared.domain.Domain.TheVariants as domain
 use Rattle.grb_core.specs.declared.value.Value.TheVariants as value
-use Rattle.grb_core.specs.declared.operator.BinaryOp.{BinaryOp}
-use Rattle.grb_core.specs.declared.value.Value.{Value}
-use Rattle.grb_core.specs.Value.{IsValueOf}
-use Rattle.grb_core.specs.Operator.{op_domain, value_of_op}
-use Rattle.grb_core.specs.Monoid.{monoid_domain}
-use Rattle.grb_core.specs.Fold.{fold_of_some}
-use Rattle.grb_core.specs.Entries.{Cell, cell_cmp, VectorEntries, MatrixEntries, map_on, values_of}
-use Rattle.grb_core.specs.Semiring.{SemiringParts}
-use Rattle.grb_core.specs.Written.{either_value, both_values, AccumulatesIn, accumulated}
-use Rattle.grb_core.specs.Results.{ewise_add, ewise_mult, row_of, column_of, rows_of, columns_of, cells_between, product_of, transposed, mxm_of}
-use Rattle.grb_core.specs.ResultLaws.{Commutes, MonoidsCommute, EwiseInEitherOrder, IsCellBelow, AreEntries, EwiseMakesEntries, WrittenMakesEntries, MxvMakesEntries, MxmMakesEntries, ReduceRowsMakesEntries, ReduceMakesValue}
 use Rattle.grb_core.proofs.MonoidLaws.{monoid_laws}
 use Rattle.grb_core.proofs.Folds.{fold_of-is}
 use Rattle.grb_core.proofs.Maps.{cell_cmp_total, cell_cmp-IsAntisymmetric, same_entries_at, is_sorted-map_on_indices}

@@ -1,18 +1,10 @@
 -- Worked examples of masks, written outputs and results, computed from the definitions.
 use Rattle.std.proofs.Common.{◌≡◌, ℕ, Bool, true, false, List, [], ◌∷◌, refl}
-use Rattle.std.specs.Prelude.{Option, Some, None, map}
-use Rattle.std.specs.Ordering.{nat_cmp}
-use Rattle.grb_core.specs.declared.operator.BinaryOp.{BinaryOp}
+use Rattle.grb_core.proofs.Prelude.{Option, Some, None, map, nat_cmp, BinaryOp, Monoid, Value, VectorEntries, MatrixEntries, cell_cmp, SemiringParts, written, ewise_add, ewise_mult, mxv_of, mxm_of, reduce_rows_of, reduce_of}
 use Rattle.grb_core.specs.declared.operator.BinaryOp.TheVariants as op
-use Rattle.grb_core.specs.declared.monoid.Monoid.{Monoid}
 use Rattle.grb_core.specs.declared.monoid.Monoid.TheVariants as monoid
-use Rattle.grb_core.specs.declared.value.Value.{Value}
 use Rattle.grb_core.specs.declared.value.Value.TheVariants as value
-use Rattle.grb_core.specs.Entries.{VectorEntries, MatrixEntries, cell_cmp}
-use Rattle.grb_core.specs.Semiring.{SemiringParts}
 use Rattle.grb_core.specs.Mask.{is_inside}
-use Rattle.grb_core.specs.Written.{written}
-use Rattle.grb_core.specs.Results.{ewise_add, ewise_mult, mxv_of, mxm_of, reduce_rows_of, reduce_of}
 
 abbrev u64 : ℕ → Value
 u64 n = value.Uint64 n

@@ -1,19 +1,10 @@
 -- Worked examples, computed from the definitions, and that the premises of the laws can be met.
 use Rattle.std.proofs.Common.{◌≡◌, ℕ, true, false, [], ◌∷◌, refl, arith, lit<}
-use Rattle.std.specs.Prelude.{◌≢◌}
-use Rattle.std.specs.List.Sorted.{IsPermutation}
-use Rattle.std.specs.Ordering.{nat_cmp}
-use Rattle.std.proofs.lemmas.List.Elements.{All-nil, All-cons, All-from_recursion}
+use Rattle.grb_core.proofs.Prelude.{◌≢◌, IsPermutation, nat_cmp, All-nil, All-cons, All-from_recursion, Value, IsValueOf, VectorEntries, cell_cmp, without_entry, built_from, cells_of, resized_vector, fold_of, AreOf, BringValuesOf, HavePlacesApart, set_all}
 use Rattle.std.proofs.lemmas.List.Kept.{AllPairs-cons}
 use Rattle.grb_core.specs.declared.domain.Domain.TheVariants as domain
-use Rattle.grb_core.specs.declared.value.Value.{Value}
 use Rattle.grb_core.specs.declared.value.Value.TheVariants as value
 use Rattle.grb_core.specs.declared.monoid.Monoid.TheVariants as monoid
-use Rattle.grb_core.specs.Value.{IsValueOf}
-use Rattle.grb_core.specs.Entries.{VectorEntries, cell_cmp, without_entry, built_from, cells_of}
-use Rattle.grb_core.specs.Contents.{resized_vector}
-use Rattle.grb_core.specs.Fold.{fold_of}
-use Rattle.grb_core.specs.Laws.{AreOf, BringValuesOf, HavePlacesApart, set_all}
 
 abbrev u64 : ℕ → Value
 u64 n = value.Uint64 n

@@ -2,6 +2,8 @@ pub mod Alone
 pub mod Alike
 pub mod Columns
 pub mod Counting
+pub mod Cutting
+pub mod Inside
 pub mod Lent
 pub mod Made
 pub mod Whole

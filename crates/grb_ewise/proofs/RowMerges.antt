@@ -7,7 +7,7 @@ use Rattle.grb_core.proofs.Written.{is_sorted-pointwise}
 use Rattle.grb_ewise.proofs.RowEntries.{passes}
 use Rattle.std.specs.Ordering.{nat_cmp}
 use Rattle.std.proofs.lemmas.Bool.{cases_eq, cases_lt}
-use Rattle.std.proofs.lemmas.List.{length_push, length-append, length-drop, drop_all, get_or-drop, get_or_append_left, take-append-drop, take-append-le, take_all}
+use Rattle.std.proofs.lemmas.List.{length_push, length-append, length-drop, length-take-le, drop_all, drop-take, get_or-drop, get_or-take, get_or_append_left, take-append-drop, take-append-le, take-take, take_all}
 use Rattle.std.proofs.Math.Seq.{get_or-append_seam}
 use Rattle.grb_core.specs.declared.value.Value.{Value}
 use Rattle.grb_core.specs.Entries.{VectorEntries, MatrixEntries, cell_cmp}
@@ -271,15 +271,21 @@ filling_ends tv f none a b ra rb rows starts columns values total i j held past 
     ∙ ap (λ (m : MatrixEntries). written ++ m) (sym (ap (λ (m : MatrixEntries). pointwise cell_cmp f m (rows_from b (drop j rb))) no_a ∙ ap (pointwise cell_cmp f []) no_b))
     ∙ held.so_far
 
--- a list that begins with another one
-pub parted : {A : Type 0} (xs ys : List A) (k : ℕ) → take k ys ≡ xs → ys ≡ xs ++ drop k ys
-parted {A} xs ys k e = sym (take-append-drop k ys) ∙ ap (λ (s : List A). s ++ drop k ys) e
+-- of a list that begins as another one, the first k and n more
+pub written_at : {A : Type 0} (k n : ℕ) (xs ys : List A) → take k ys ≡ take k xs → take (k + n) ys ≡ take k xs ++ take n (drop k ys)
+written_at {A} k n xs ys e =
+    sym (take-append-drop k (take (k + n) ys))
+    ∙ ap (λ (s : List A). s ++ drop k (take (k + n) ys)) (take-take k (k + n) ys (omega arith) ∙ e)
+    ∙ ap (λ (s : List A). take k xs ++ s) (drop-take k n ys)
 
-pub fit-dropped : (ys : List ℕ) (k : ℕ) → k ≤ length ys → ((n : ℕ) → n < length ys → get_or ys n 0 < 4294967296) → (n : ℕ) → n < length (drop k ys) → get_or (drop k ys) n 0 < 4294967296
-fit-dropped ys k h fit n l =
-    let rest = length-drop k ys in
-    subst (λ v. v < 4294967296) (sym (get_or-drop k ys n 0)) (fit (k + n) (omega (arith, h, l, rest)))
+pub length-written : {A : Type 0} (k n : ℕ) (ys : List A) → k + n ≤ length ys → length (take n (drop k ys)) ≡ n
+length-written k n ys h = let rest = length-drop k ys in length-take-le n (drop k ys) (omega (arith, h, rest))
 
--- of a list that was lent as a slice, the first n are those of the slice
-pub of_lent : {A : Type 0} (n l : ℕ) (xs ys : List A) → length xs ≡ l → take n (take l (xs ++ ys)) ≡ take n xs
-of_lent n l xs ys e = ap (take n) (take-append-le l xs ys (omega (arith, e)) ∙ take_all l xs (omega (arith, e)))
+pub fit-written : (k n : ℕ) (ys : List ℕ) → k + n ≤ length ys → ((m : ℕ) → m < length ys → get_or ys m 0 < 4294967296) → (m : ℕ) → m < length (take n (drop k ys)) → get_or (take n (drop k ys)) m 0 < 4294967296
+fit-written k n ys h fit m l =
+    let long = length-written k n ys h in
+    subst (λ v. v < 4294967296) (sym (get_or-take n (drop k ys) m 0 (omega (arith, l, long)) ∙ get_or-drop k ys m 0)) (fit (k + m) (omega (arith, h, l, long)))
+
+-- a list that was lent whole as a slice is that slice
+pub lent_whole : {A : Type 0} (l : ℕ) (xs ys : List A) → length xs ≡ l → take l (xs ++ ys) ≡ xs
+lent_whole l xs ys e = take-append-le l xs ys (omega (arith, e)) ∙ take_all l xs (omega (arith, e))

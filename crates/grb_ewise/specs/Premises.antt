@@ -1,10 +1,14 @@
 -- believed: What an operation asks of the objects that it is lent (own): no change waits in any of them, all are of the domain of the
 -- output, the mask aside, and their dimensions fit.
-use Rattle.std.specs.Prelude.{◌≡◌, ℕ, Bool, true, if◌then◌else◌, Option, IfSome}
+use Rattle.std.specs.Prelude.{◌≡◌, ℕ, Bool, true, if◌then◌else◌, List, All, Option, IfSome}
 use Rattle.std.specs.Borrow.{Bor}
+use Rattle.std.specs.declared.cmp.Ordering.{Ordering}
 use Rattle.grb_core.specs.declared.domain.Domain.{Domain}
 use Rattle.grb_core.specs.declared.operator.BinaryOp.{BinaryOp}
+use Rattle.grb_core.specs.declared.value.Value.{Value}
+use Rattle.grb_core.specs.Mask.{is_inside}
 use Rattle.grb_core.specs.Written.{AccumulatesIn}
+use Rattle.grb_call.specs.declared.descriptor.Descriptor.{Descriptor}
 use Rattle.grb_sparse.specs.Matrix.{SparseMatrixView}
 use Rattle.grb_sparse.specs.Vector.{SparseVectorView}
 
@@ -34,3 +38,8 @@ pub record IsVectorInput (of : Domain) (size : ℕ) (v : SparseVectorView) : Typ
   pub assembled : v.assembled ≡ true
   pub domain : v.vector.domain ≡ of
   pub same_size : v.vector.size ≡ size
+
+module _ {Place : Type 0} (R : Place → Place → Ordering) where
+  -- each of these entries is inside of what the mask stores, if there is one, as the descriptor reads it
+  abbrev pub LieInside : Option (List (Place × Value)) → Descriptor → List (Place × Value) → Type 0
+  LieInside mask d entries = All (λ e. is_inside R d.structure d.comp mask e.0 ≡ true) entries

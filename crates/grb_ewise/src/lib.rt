@@ -9,6 +9,7 @@
 #![tactic(auto)]
 
 mod ewise;
+mod marks;
 mod objects;
 mod pairing;
 mod ranks;
@@ -22,4 +23,6 @@ pub use ewise::{ewise_add_matrix, ewise_add_vector, ewise_mult_matrix, ewise_mul
 pub use ranks::{distinct, is_worth_opening, place_of, ranks_of};
 pub use stored::{Stored, keep_bools, keep_numbers};
 pub use transposing::transposed;
-pub use writing::{write_masked_matrix, write_masked_vector};
+pub use writing::{
+    write_inside_matrix, write_inside_vector, write_masked_matrix, write_masked_vector,
+};

@@ -142,7 +142,7 @@ impl SparseObject for SparseMatrix {
         b: &SparseMatrix,
     ) -> Result<SparseMatrix, AllocError> {
         let (nrows, ncols) = a.dims();
-        let lists = merge_rows::<T, U, R>(alloc, rule, &lend_rows(a), &lend_rows(b))?;
+        let lists = merge_rows::<T, U, R>(alloc, rule, ncols, &lend_rows(a), &lend_rows(b))?;
         Ok(SparseMatrix::from_lists(alloc, nrows, ncols, lists))
     }
 

@@ -10,8 +10,10 @@ ghost use Rattle.grb_core.specs.Results.{row_of};
 ghost use Rattle.grb_kernels.specs.Merging.{most_of};
 ghost use Rattle.grb_kernels.specs.Typed.{entries_of};
 ghost use Rattle.grb_lists.specs.Cells.{decoded, IsFlat};
+ghost use Rattle.grb_ewise.specs.Marks.{AreClear};
 ghost use Rattle.grb_ewise.specs.Rows.{flat_entries};
 
+use crate::marks::{Laid, is_cut, lay_common, marks_for};
 use crate::stored::Stored;
 use crate::typed_rows::TypedRows;
 use grb_kernels::{EntrySlice, Rule, merge, most_entries};
@@ -99,30 +101,96 @@ fn merge_row<T: Stored, U: Stored, R: Rule<T, U>>(
     )
 }
 
-/// Puts what the rule makes of two rows after the columns and values so far, and answers how many entries that is. The lists are made
-/// longer by as many as it may be, and then cut. `AllocError` where memory is refused; then more may stand in them than so far.
+/// How many places are made ahead, where there is room for them.
+const AHEAD: usize = 4096;
+
+/// Makes two lists at least so long, where they are shorter: then by some 4,096 places more at once, if there is room for these.
+/// `AllocError` where memory is refused; then one of them may be longer than before.
+pub(crate) fn lengthen<T: Stored>(
+    columns: &mut Vec<u32>,
+    values: &mut Vec<T>,
+    len: usize,
+) -> Result<(), AllocError>
+    requires same { length columns.old.items ≡ length values.old.items }
+    ensures same { OnOk result (length values.new.items ≡ length columns.new.items) }
+    ensures long { OnOk result (len ≤ length columns.new.items) }
+    ensures columns_before { OnOk result (take (length columns.old.items) columns.new.items ≡ columns.old.items) }
+    ensures values_before { OnOk result (take (length columns.old.items) values.new.items ≡ values.old.items) }
+{
+    if len <= columns.len() {
+        return Ok(());
+    }
+    let ahead = len.max(columns.capacity().min(len.saturating_add(AHEAD)));
+    columns.resize(ahead, 0)?;
+    values.resize(ahead, T::any())?;
+    Ok(())
+}
+
+/// Writes what the rule makes of two rows after the first `k` columns and values, and answers how many entries that is. The lists are made
+/// longer, where they have no places for as many as it may be. `AllocError` where memory is refused.
+fn write_row<T: Stored, U: Stored, R: Rule<T, U>>(
+    rule: &R,
+    x: &EntrySlice<T>,
+    y: &EntrySlice<U>,
+    columns: &mut Vec<u32>,
+    values: &mut Vec<T>,
+    k: usize,
+) -> Result<usize, AllocError>
+    requires same { length columns.old.items ≡ length values.old.items }
+    requires within { k ≤ length columns.old.items }
+    ensures same { OnOk result (length values.new.items ≡ length columns.new.items) }
+    ensures columns_before { OnOk result (take k columns.new.items ≡ take k columns.old.items) }
+    ensures values_before { OnOk result (take k values.new.items ≡ take k values.old.items) }
+    ensures within { IfOk result (λ count. k + count ≤ length columns.new.items) }
+    ensures entries { IfOk result (λ count. entries_of T.value (take count (drop k columns.new.items)) (take count (drop k values.new.items)) ≡ pointwise nat_cmp (R.gives rule.now) (entries_of T.value x.now.indices.now x.now.values.now) (entries_of U.value y.now.indices.now y.now.values.now)) }
+    ensures fit { OnOk result ((n : ℕ) → n < length columns.new.items → slice_index columns.new.items n < 2 ^ 32) }
+{
+    let most = most_entries::<T, U, R>(rule, x.indices.len(), y.indices.len());
+    lengthen(columns, values, k.saturating_add(most))?;
+    let (open_columns, open_values) = (columns.as_mut_slice(), values.as_mut_slice());
+    let count = merge_row(rule, x, y, open_columns, open_values, k);
+    Ok(count)
+}
+
+/// Writes what the rule makes of two rows after the first `k` columns and values, as `write_row` does, and answers how many entries that is.
+/// A row that is cut (`is_cut`) is laid first, without its entries at other columns than those of the second row: for that no order of two
+/// columns is guessed. `AllocError` where memory is refused; then the lists may be longer than before.
+///
+/// - `marks`: one for each column, or none; none is set, before and after.
+/// - `laid`: lists for a row that is cut, of one length. What stands in them is any.
 fn append_row<T: Stored, U: Stored, R: Rule<T, U>>(
     rule: &R,
     x: &EntrySlice<T>,
     y: &EntrySlice<U>,
     columns: &mut Vec<u32>,
     values: &mut Vec<T>,
+    k: usize,
+    marks: &mut [bool],
+    laid: &mut Laid<T>,
 ) -> Result<usize, AllocError>
     requires same { length columns.old.items ≡ length values.old.items }
-    ensures columns_before { OnOk result (take (length columns.old.items) columns.new.items ≡ columns.old.items) }
-    ensures values_before { OnOk result (take (length columns.old.items) values.new.items ≡ values.old.items) }
-    ensures columns_long { IfOk result (λ count. length columns.new.items ≡ length columns.old.items + count) }
-    ensures values_long { IfOk result (λ count. length values.new.items ≡ length columns.old.items + count) }
-    ensures entries { OnOk result (entries_of T.value (drop (length columns.old.items) columns.new.items) (drop (length columns.old.items) values.new.items) ≡ pointwise nat_cmp (R.gives rule.now) (entries_of T.value x.now.indices.now x.now.values.now) (entries_of U.value y.now.indices.now y.now.values.now)) }
-    ensures fit { (n : ℕ) → n < length columns.new.items → slice_index columns.new.items n < 2 ^ 32 }
+    requires within { k ≤ length columns.old.items }
+    requires clear { AreClear marks.old }
+    requires laid { length laid.old.columns.items ≡ length laid.old.values.items }
+    ensures same { OnOk result (length values.new.items ≡ length columns.new.items) }
+    ensures columns_before { OnOk result (take k columns.new.items ≡ take k columns.old.items) }
+    ensures values_before { OnOk result (take k values.new.items ≡ take k values.old.items) }
+    ensures within { IfOk result (λ count. k + count ≤ length columns.new.items) }
+    ensures entries { IfOk result (λ count. entries_of T.value (take count (drop k columns.new.items)) (take count (drop k values.new.items)) ≡ pointwise nat_cmp (R.gives rule.now) (entries_of T.value x.now.indices.now x.now.values.now) (entries_of U.value y.now.indices.now y.now.values.now)) }
+    ensures fit { OnOk result ((n : ℕ) → n < length columns.new.items → slice_index columns.new.items n < 2 ^ 32) }
+    ensures clear { AreClear marks.new }
+    ensures laid { OnOk result (length laid.new.columns.items ≡ length laid.new.values.items) }
 {
-    let k = columns.len();
-    let most = most_entries::<T, U, R>(rule, x.indices.len(), y.indices.len());
-    columns.resize(k.saturating_add(most), 0)?;
-    values.resize(k.saturating_add(most), T::any())?;
-    let count = merge_row(rule, x, y, columns.as_mut_slice(), values.as_mut_slice(), k);
-    columns.truncate(k + count);
-    values.truncate(k + count);
+    if is_cut(rule, x, y, &*marks, &*laid) {
+        let n = lay_common(x, y, marks, laid)?;
+        let cut = EntrySlice {
+            indices: &laid.columns[..n],
+            values: &laid.values[..n],
+        };
+        let count = write_row(rule, &cut, y, columns, values, k)?;
+        return Ok(count);
+    }
+    let count = write_row(rule, x, y, columns, values, k)?;
     Ok(count)
 }
 
@@ -146,7 +214,7 @@ fn push_row(rows: &mut Vec<u32>, starts: &mut Vec<usize>, row: u32, start: usize
 }
 
 /// Puts what the rule makes of two matrices into empty lists, row by row: each row by the two cursors over the rows of both. `AllocError`
-/// where memory is refused; then a part may stand in the lists.
+/// where memory is refused; then a part may stand in the lists. `marks` and `laid` are as in `append_row`.
 fn fill_rows<T: Stored, U: Stored, R: Rule<T, U>>(
     rule: &R,
     a: &TypedRows<T>,
@@ -155,11 +223,15 @@ fn fill_rows<T: Stored, U: Stored, R: Rule<T, U>>(
     starts: &mut Vec<usize>,
     columns: &mut Vec<u32>,
     values: &mut Vec<T>,
+    marks: &mut [bool],
+    laid: &mut Laid<T>,
 ) -> Result<(), AllocError>
     requires no_rows { rows.old.items ≡ [] }
     requires no_starts { starts.old.items ≡ [] }
     requires no_columns { columns.old.items ≡ [] }
     requires no_values { values.old.items ≡ [] }
+    requires clear { AreClear marks.old }
+    requires laid { length laid.old.columns.items ≡ length laid.old.values.items }
     requires rows_room { length a.now.lists.now.rows + length b.now.lists.now.rows ≤ vec_capacity rows.old }
     requires starts_room { length a.now.lists.now.rows + length b.now.lists.now.rows ≤ vec_capacity starts.old }
     ensures flat { OnOk result (IsFlat rows.new.items starts.new.items columns.new.items) }
@@ -172,25 +244,33 @@ fn fill_rows<T: Stored, U: Stored, R: Rule<T, U>>(
     let total = rows_a.len() + rows_b.len();
     let mut i = 0;
     let mut j = 0;
+    // How many entries there are so far; the lists may be longer.
+    let mut k = 0;
     'merging: while i + j < total {
         let p = number_at(rows_a, i);
         let q = number_at(rows_b, j);
         let (x, next_i) = take_row::<T>(&*a, i, is_upto(p, q));
         let (y, next_j) = take_row::<U>(&*b, j, is_upto(q, p));
-        let start = columns.len();
-        let count = append_row(rule, &x, &y, columns, values)?;
-        push_row(rows, starts, lower(p, q), start, count);
+        let count = append_row(rule, &x, &y, columns, values, k, marks, laid)?;
+        push_row(rows, starts, lower(p, q), k, count);
         i = next_i;
         j = next_j;
+        k += count;
     }
+    columns.truncate(k);
+    values.truncate(k);
     Ok(())
 }
 
 /// The map that the rule makes of two matrices. Memory is reserved for as many entries as it has at most and as many rows as both have;
-/// what is not written of it is not touched. `AllocError` where that is refused; then nothing is made.
+/// of what is not written of it no more than some 4,096 places are touched. Where rows may be cut, memory is taken for marks of columns and
+/// for a row too. `AllocError` where any is refused; then nothing is made.
+///
+/// - `ncols`: how many columns the matrices have. Rows are cut only at columns below that.
 pub(crate) fn merge_rows<T: Stored + Drop, U: Stored, R: Rule<T, U>>(
     alloc: Global,
     rule: &R,
+    ncols: u64,
     a: &TypedRows<T>,
     b: &TypedRows<U>,
 ) -> Result<FlatRows, AllocError>
@@ -205,6 +285,15 @@ pub(crate) fn merge_rows<T: Stored + Drop, U: Stored, R: Rule<T, U>>(
     let mut starts = Vec::with_capacity(alloc, rows_room)?;
     let mut columns = Vec::with_capacity(alloc, room)?;
     let mut values = Vec::with_capacity(alloc, room)?;
+    let keeps = rule.keeps_left() || rule.keeps_right();
+    let entries = a.lists.len().saturating_add(b.lists.len());
+    let mut marks = marks_for(alloc, keeps, ncols, a.lists.columns(), entries)?;
+    let mut laid = Laid {
+        columns: Vec::new(alloc),
+        values: Vec::new(alloc),
+        tried: 0,
+        left: 0,
+    };
     fill_rows(
         rule,
         a,
@@ -213,6 +302,8 @@ pub(crate) fn merge_rows<T: Stored + Drop, U: Stored, R: Rule<T, U>>(
         &mut starts,
         &mut columns,
         &mut values,
+        marks.as_mut_slice(),
+        &mut laid,
     )?;
     T::show(values.as_slice());
     Ok(T::keep(rows, starts, columns, values))

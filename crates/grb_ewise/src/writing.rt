@@ -1,13 +1,14 @@
 //! How what was computed goes into an object: the accumulator, and then the mask with replace.
-ghost use Rattle.std.specs.Prelude.{◌≡◌, not, true, false, Some, None, IfSome, IfOk};
+ghost use Rattle.std.specs.Prelude.{◌≡◌, not, true, false, [], if◌then◌else◌, Some, None, IfSome, IfOk};
+ghost use Rattle.std.specs.Ordering.{nat_cmp};
 ghost use Rattle.std.specs.Option.{option_map, option_or};
 ghost use Rattle.grb_core.specs.Operator.{op_domain, value_of_op};
-ghost use Rattle.grb_core.specs.Mask.{is_inside};
-ghost use Rattle.grb_core.specs.Written.{AccumulatesIn, accumulated, either_value, pointwise, masked, written};
+ghost use Rattle.grb_core.specs.Entries.{cell_cmp};
+ghost use Rattle.grb_core.specs.Written.{AccumulatesIn, accumulated, either_value, pointwise};
 ghost use Rattle.grb_call.specs.Written.{written_by};
 ghost use Rattle.grb_kernels.specs.Masked.{by_mask};
 ghost use Rattle.grb_ewise.specs.Objects.{AreAlike, IsLike};
-ghost use Rattle.grb_ewise.specs.Premises.{IsMatrixInput, IsMatrixOutput, IsVectorInput, IsVectorOutput};
+ghost use Rattle.grb_ewise.specs.Premises.{IsMatrixInput, IsMatrixOutput, IsVectorInput, IsVectorOutput, LieInside};
 ghost use Rattle.grb_ewise.specs.Written.{written_into_matrix, written_into_vector};
 
 use crate::objects::SparseObject;
@@ -28,6 +29,8 @@ struct Output<'a, O: SparseObject> {
     accum: Option<BinaryOp>,
     /// How the mask is read, whether what lies outside of it is removed.
     descriptor: Descriptor,
+    /// Whether what was computed is known to lie inside of the mask.
+    inside: bool,
 }
 
 /// What a mask selects of an object, or what it does not, as the rule says. Of an object that stores nothing that is nothing, whatever
@@ -102,16 +105,33 @@ fn inside_of<O: SparseObject>(output: &Output<O>, mask: &O, made: &O) -> Result<
     select(output.alloc, keep_inside, made, mask)
 }
 
-/// The new output by a mask: inside it what `made` has, outside what the old output has, or with replace nothing. `AllocError` where memory
-/// is refused; then nothing is made.
-fn write_by_mask<O: SparseObject>(output: &Output<O>, mask: &O, made: &O) -> Result<O, AllocError>
-    requires mask { AreAlike (O.contents output.now.old.now) (O.contents mask.now) }
-    requires made { AreAlike (O.contents output.now.old.now) (O.contents made.now) }
-    requires domain { (O.contents made.now).domain ≡ (O.contents output.now.old.now).domain }
-    ensures { IfOk result (λ new. IsLike (O.contents output.now.old.now) (masked O.order (is_inside O.order output.now.descriptor.structure output.now.descriptor.comp (Some (O.contents mask.now).entries)) output.now.descriptor.replace (O.contents output.now.old.now).entries (O.contents made.now).entries) (O.contents new)) }
+/// What the mask lets in of what was computed: that itself, where it is known to lie inside. `AllocError` where memory is refused; then
+/// `computed` is dropped.
+fn enter<O: SparseObject>(output: &Output<O>, mask: &O, computed: O) -> Result<O, AllocError>
+    requires alike { AreAlike (O.contents computed) (O.contents mask.now) }
+    requires known { output.now.inside ≡ true → LieInside O.order (Some (O.contents mask.now).entries) output.now.descriptor (O.contents computed).entries }
+    ensures { IfOk result (λ new. IsLike (O.contents computed) (pointwise O.order (by_mask output.now.descriptor.structure (not output.now.descriptor.comp)) (O.contents computed).entries (O.contents mask.now).entries) (O.contents new)) }
 {
+    // What was computed is in order, as every object is.
+    computed.stores();
+    if output.inside {
+        return Ok(computed);
+    }
+    let new = inside_of(output, mask, &computed)?;
+    Ok(new)
+}
+
+/// What goes inside of the mask, and outside of it what the old output has; with replace that is nothing. `AllocError` where memory is
+/// refused; then `inside` is dropped.
+fn with_outside<O: SparseObject>(output: &Output<O>, mask: &O, inside: O) -> Result<O, AllocError>
+    requires mask { AreAlike (O.contents output.now.old.now) (O.contents mask.now) }
+    requires inside { AreAlike (O.contents output.now.old.now) (O.contents inside) }
+    requires domain { (O.contents inside).domain ≡ (O.contents output.now.old.now).domain }
+    ensures { IfOk result (λ new. IsLike (O.contents output.now.old.now) (pointwise O.order option_or (O.contents inside).entries (if output.now.descriptor.replace then [] else pointwise O.order (by_mask output.now.descriptor.structure output.now.descriptor.comp) (O.contents output.now.old.now).entries (O.contents mask.now).entries)) (O.contents new)) }
+{
+    // What goes inside is in order, as every object is.
+    inside.stores();
     let descriptor = output.descriptor;
-    let inside = inside_of(output, mask, made)?;
     if descriptor.replace {
         return Ok(inside);
     }
@@ -124,42 +144,53 @@ fn write_by_mask<O: SparseObject>(output: &Output<O>, mask: &O, made: &O) -> Res
     Ok(both)
 }
 
-/// The new output by the accumulator, where what lies outside of the mask stays: what is inside of the result alone goes into the old
-/// output, which is read once. `AllocError` where memory is refused; then nothing is made.
-fn accumulate_inside<O: SparseObject>(
+/// The new output by the accumulator and then by a mask. Without replace what lies outside of the mask stays: what is inside of the result
+/// alone goes into the old output, which is read once. `AllocError` where memory is refused; then `computed` is dropped.
+fn accumulate_by_mask<O: SparseObject>(
     output: &Output<O>,
     op: BinaryOp,
     mask: &O,
-    computed: &O,
+    computed: O,
 ) -> Result<O, AllocError>
     requires op_domain { op_domain op ≡ (O.contents output.now.old.now).domain }
     requires mask { AreAlike (O.contents output.now.old.now) (O.contents mask.now) }
-    requires computed { AreAlike (O.contents output.now.old.now) (O.contents computed.now) }
-    requires domain { (O.contents computed.now).domain ≡ (O.contents output.now.old.now).domain }
-    ensures { IfOk result (λ new. IsLike (O.contents output.now.old.now) (written O.order (is_inside O.order output.now.descriptor.structure output.now.descriptor.comp (Some (O.contents mask.now).entries)) false (Some op) (O.contents output.now.old.now).entries (O.contents computed.now).entries) (O.contents new)) }
+    requires computed { AreAlike (O.contents output.now.old.now) (O.contents computed) }
+    requires domain { (O.contents computed).domain ≡ (O.contents output.now.old.now).domain }
+    requires known { output.now.inside ≡ true → LieInside O.order (Some (O.contents mask.now).entries) output.now.descriptor (O.contents computed).entries }
+    ensures { IfOk result (λ new. IsLike (O.contents output.now.old.now) (written_by O.order (Some (O.contents mask.now).entries) (Some op) output.now.descriptor (O.contents output.now.old.now).entries (O.contents computed).entries) (O.contents new)) }
 {
-    let inside = inside_of(output, mask, computed)?;
+    if output.descriptor.replace {
+        let made = combine(output, op, computed)?;
+        let replaced = inside_of(output, mask, &made)?;
+        return Ok(replaced);
+    }
+    let inside = enter(output, mask, computed)?;
     let new = combine(output, op, inside)?;
     Ok(new)
 }
 
-/// The new output by the accumulator and then by a mask. `AllocError` where memory is refused; then `computed` is dropped, and the old
-/// output is as before.
-fn write_inside<O: SparseObject>(output: &Output<O>, mask: &O, computed: O) -> Result<O, AllocError>
+/// The new output by the accumulator, if there is one, and then by a mask. `AllocError` where memory is refused; then `computed` is
+/// dropped, and the old output is as before.
+fn write_by_mask<O: SparseObject>(
+    output: &Output<O>,
+    mask: &O,
+    computed: O,
+) -> Result<O, AllocError>
     requires accum { AccumulatesIn (O.contents output.now.old.now).domain output.now.accum }
     requires mask { AreAlike (O.contents output.now.old.now) (O.contents mask.now) }
     requires computed { AreAlike (O.contents output.now.old.now) (O.contents computed) }
     requires domain { (O.contents computed).domain ≡ (O.contents output.now.old.now).domain }
+    requires known { output.now.inside ≡ true → LieInside O.order (Some (O.contents mask.now).entries) output.now.descriptor (O.contents computed).entries }
     ensures { IfOk result (λ new. IsLike (O.contents output.now.old.now) (written_by O.order (Some (O.contents mask.now).entries) output.now.accum output.now.descriptor (O.contents output.now.old.now).entries (O.contents computed).entries) (O.contents new)) }
 {
     match output.accum {
-        None => write_by_mask(output, mask, &computed),
+        None => {
+            let inside = enter(output, mask, computed)?;
+            let new = with_outside(output, mask, inside)?;
+            Ok(new)
+        }
         Some(op) => {
-            if !output.descriptor.replace {
-                return accumulate_inside(output, op, mask, &computed);
-            }
-            let made = combine(output, op, computed)?;
-            let new = write_by_mask(output, mask, &made)?;
+            let new = accumulate_by_mask(output, op, mask, computed)?;
             Ok(new)
         }
     }
@@ -204,7 +235,7 @@ fn write_unmasked<O: SparseObject>(output: &Output<O>, computed: O) -> Result<O,
     Ok(same)
 }
 
-/// The new output of an operation that computed `computed`. `AllocError` where memory is refused; then nothing is made.
+/// The new output of an operation that computed `computed`. `AllocError` where memory is refused; then `computed` is dropped.
 fn write<O: SparseObject>(
     output: &Output<O>,
     mask: Option<&O>,
@@ -214,11 +245,12 @@ fn write<O: SparseObject>(
     requires mask { IfSome mask (λ m. AreAlike (O.contents output.now.old.now) (O.contents m.now)) }
     requires computed { AreAlike (O.contents output.now.old.now) (O.contents computed) }
     requires domain { (O.contents computed).domain ≡ (O.contents output.now.old.now).domain }
+    requires known { output.now.inside ≡ true → LieInside O.order (option_map (λ m. (O.contents m.now).entries) mask) output.now.descriptor (O.contents computed).entries }
     ensures { IfOk result (λ new. IsLike (O.contents output.now.old.now) (written_by O.order (option_map (λ m. (O.contents m.now).entries) mask.entry) output.now.accum output.now.descriptor (O.contents output.now.old.now).entries (O.contents computed).entries) (O.contents new)) }
 {
     match mask {
         None => write_unmasked(output, computed),
-        Some(mask) => write_inside(output, mask, computed),
+        Some(mask) => write_by_mask(output, mask, computed),
     }
 }
 
@@ -256,6 +288,46 @@ pub fn write_masked_vector(
         old: output,
         accum,
         descriptor,
+        inside: false,
+    };
+    let new = write(&output, mask, computed)?;
+    Ok(new)
+}
+
+/// The same where all that was computed lies inside of the mask: it is not masked again. `AllocError` where memory is refused; then nothing
+/// is made, and `output` is as before.
+///
+/// - `output`: the old output, which is read.
+/// - `mask`: which indices may be written, read as `descriptor` says; `None` for all, or with `comp` for none.
+/// - `accum`: combines the old value and the computed one where both are there; `None` for the computed one alone.
+/// - `descriptor`: how the mask is read, whether what lies outside of it is removed.
+/// - `computed`: what the operation made, nothing of it outside of the mask; it is dropped where memory is refused.
+///
+/// All are of one domain, the mask aside, and of one size. Without an accumulator the answer is `computed` itself, where there is no mask,
+/// the descriptor says `replace`, or `output` stores nothing. Else time and memory are in proportion to the stored entries of the three.
+///
+/// Source: GraphBLAS C API 2.0, as `write_masked_vector`.
+pub fn write_inside_vector(
+    alloc: Global,
+    output: &SparseVector,
+    mask: Option<&SparseVector>,
+    accum: Option<BinaryOp>,
+    descriptor: Descriptor,
+    computed: SparseVector,
+) -> Result<SparseVector, AllocError>
+    requires output { IsVectorOutput output.now mask accum }
+    requires computed { IsVectorInput output.now.vector.domain output.now.vector.size computed }
+    requires inside { LieInside nat_cmp (option_map (λ m. m.now.vector.entries) mask) descriptor computed.vector.entries }
+    ensures vector { IfOk result (λ made. made.vector ≡ written_into_vector output.now mask.entry accum descriptor
+        computed.vector.entries) }
+    ensures assembled { IfOk result (λ made. made.assembled ≡ true) }
+{
+    let output = Output {
+        alloc,
+        old: output,
+        accum,
+        descriptor,
+        inside: true,
     };
     let new = write(&output, mask, computed)?;
     Ok(new)
@@ -295,6 +367,47 @@ pub fn write_masked_matrix(
         old: output,
         accum,
         descriptor,
+        inside: false,
+    };
+    let new = write(&output, mask, computed)?;
+    Ok(new)
+}
+
+/// The same where all that was computed lies inside of the mask: it is not masked again. `AllocError` where memory is refused; then nothing
+/// is made, and `output` is as before.
+///
+/// - `output`: the old output, which is read.
+/// - `mask`: which cells may be written, read as `descriptor` says; `None` for all, or with `comp` for none.
+/// - `accum`: combines the old value and the computed one where both are there; `None` for the computed one alone.
+/// - `descriptor`: how the mask is read, whether what lies outside of it is removed.
+/// - `computed`: what the operation made, nothing of it outside of the mask; it is dropped where memory is refused.
+///
+/// All are of one domain, the mask aside, and of the same dimensions. Without an accumulator the answer is `computed` itself, where there
+/// is no mask, the descriptor says `replace`, or `output` stores nothing. Else time and memory are in proportion to the stored entries of
+/// the three.
+///
+/// Source: GraphBLAS C API 2.0, as `write_masked_matrix`.
+pub fn write_inside_matrix(
+    alloc: Global,
+    output: &SparseMatrix,
+    mask: Option<&SparseMatrix>,
+    accum: Option<BinaryOp>,
+    descriptor: Descriptor,
+    computed: SparseMatrix,
+) -> Result<SparseMatrix, AllocError>
+    requires output { IsMatrixOutput output.now mask accum }
+    requires computed { IsMatrixInput false output.now.matrix.domain output.now.matrix.nrows output.now.matrix.ncols computed }
+    requires inside { LieInside cell_cmp (option_map (λ m. m.now.matrix.entries) mask) descriptor computed.matrix.entries }
+    ensures matrix { IfOk result (λ made. made.matrix ≡ written_into_matrix output.now mask.entry accum descriptor
+        computed.matrix.entries) }
+    ensures assembled { IfOk result (λ made. made.assembled ≡ true) }
+{
+    let output = Output {
+        alloc,
+        old: output,
+        accum,
+        descriptor,
+        inside: true,
     };
     let new = write(&output, mask, computed)?;
     Ok(new)

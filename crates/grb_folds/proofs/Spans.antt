@@ -2,8 +2,9 @@
 use Rattle.std.proofs.Common.{◌≡◌, ℕ, zero, suc, ◌+◌, ◌-◌, ◌<◌, ◌≤◌, Bool, true, false, cond, List, [], ◌∷◌, ◌++◌, length, take, drop, get_or, refl, sym, ap, subst, ◌∙◌, arith}
 use Rattle.std.specs.Prelude.{All, map, Some}
 use Rattle.std.specs.List.{AllByRecursion}
-use Rattle.std.proofs.lemmas.List.{map-append, drop-take, length-map}
+use Rattle.std.proofs.lemmas.List.{map-append, drop-take, length-map, take_all}
 use Rattle.std.proofs.lemmas.List.Elements.{recursion_from_All}
+use Rattle.grb_core.specs.declared.domain.Domain.{Domain}
 use Rattle.grb_core.specs.declared.value.Value.{Value}
 use Rattle.grb_core.specs.declared.monoid.Monoid.{Monoid}
 use Rattle.grb_core.specs.Entries.{values_of}
@@ -13,6 +14,7 @@ use Rattle.grb_core.specs.Value.{IsValueOf}
 use Rattle.grb_core.specs.Operator.{value_of_op}
 use Rattle.grb_core.specs.Monoid.{monoid_op, monoid_domain, identity_of}
 use Rattle.grb_core.specs.Fold.{fold_of, fold_of_some}
+use Rattle.grb_core.proofs.Folds.{fold_of-is}
 use Rattle.grb_core.proofs.Made.{all-map}
 use Rattle.grb_semirings.proofs.Folds.{IsFolding, folded_parts, fold_of-one}
 
@@ -98,14 +100,37 @@ module _ (m : Monoid) {V : Type 0} (value : V → Value) (vs : List V) where
       subst (λ us. IsFolding m us sum) (sym (map-append value (drop s (take k vs)) (drop k (take e vs))) ∙ ap (map value) (span-join vs s k e l r))
       (folded_parts m (map value (drop s (take k vs))) (map value (drop k (take e vs))) a b sum g h made)
 
-  module _ (d_is : All (λ x. IsValueOf (monoid_domain m) (value x)) vs) where
+  module _ {d : Domain} (same : monoid_domain m ≡ d) (shown : All (λ x. IsValueOf d (value x)) vs) where
+    all_is : All (λ x. IsValueOf (monoid_domain m) (value x)) vs
+    all_is = subst (λ (k : Domain). All (λ x. IsValueOf k (value x)) vs) (sym same) shown
+
     -- what a fold is, as a sum
     pub span_of : (s e : ℕ) (sum : Value) → sum ≡ fold_of m (map value (drop s (take e vs))) → IsSpan s e sum
     span_of s e sum is = record {
       is_sum = is;
       of_domain = all-map (IsValueOf (monoid_domain m)) value (drop s (take e vs))
-          (all_dropped (λ x. IsValueOf (monoid_domain m) (value x)) s (take e vs) (all_taken (λ x. IsValueOf (monoid_domain m) (value x)) e vs (recursion_from_All (λ x. IsValueOf (monoid_domain m) (value x)) vs d_is)));
+          (all_dropped (λ x. IsValueOf (monoid_domain m) (value x)) s (take e vs) (all_taken (λ x. IsValueOf (monoid_domain m) (value x)) e vs (recursion_from_All (λ x. IsValueOf (monoid_domain m) (value x)) vs all_is)));
     }
+
+    -- two parts of w values, one after the other
+    pub two_spans : (at w e : ℕ) (a b sum : Value) → (at + w) + w ≡ e → a ≡ fold_of m (map value (drop at (take (at + w) vs)))
+        → b ≡ fold_of m (map value (drop (at + w) (take ((at + w) + w) vs))) → sum ≡ value_of_op (monoid_op m) a b → IsSpan at e sum
+    two_spans at w e a b sum all p q made =
+        join_spans at (at + w) e a b sum (omega arith) (omega (arith, all)) (span_of at (at + w) a p)
+        (subst (λ k. IsSpan (at + w) k b) all (span_of (at + w) ((at + w) + w) b q)) made
+
+    -- a sum so far that no value changes
+    pub span_ends : (s k e : ℕ) (sum : Value) → s ≤ k → k ≤ e → IsSpan s k sum → ((v : Value) → IsValueOf (monoid_domain m) v → value_of_op (monoid_op m) sum v ≡ sum)
+        → sum ≡ fold_of m (map value (drop s (take e vs)))
+    span_ends s k e sum l r h stays =
+        let rest = fold_of m (map value (drop k (take e vs))) in
+        let of_rest = (span_of k e rest refl).of_domain in
+        sym (stays rest (fold_of-is m (map value (drop k (take e vs))) of_rest))
+        ∙ (join_spans s k e sum rest (value_of_op (monoid_op m) sum rest) l r h (span_of k e rest refl) refl).is_sum
+
+    -- all values, as a part of them
+    pub whole_span : (sum : Value) → IsSpan 0 (length vs) sum → sum ≡ fold_of m (map value vs)
+    whole_span sum h = h.is_sum ∙ ap (λ us. fold_of m (map value us)) (take_all (length vs) vs (omega arith))
 
     -- a part of w values that is taken or not, and the rest
     pub part_and_rest : (at end w : ℕ) (taken : Bool) (part rest given sum : Value) → at ≤ end → (taken ≡ true → at + w ≤ end)

@@ -27,7 +27,40 @@ pub fn fold_values<T: Stored + Folded, M: MonoidOver<T>>(values: &[T]) -> T
         sum = M::add(sum, fold_block::<T, M>(&values[at..at + BLOCK]));
         at += BLOCK;
     }
-    M::add(sum, fold_each::<T, M>(&values[at..]))
+    M::add(sum, fold_fours::<T, M>(values, at, values.len()))
+}
+
+/// The values from one place up to another combined, four at a time, so that a sum waits once for four of them. Those after a terminal sum
+/// are not read.
+fn fold_fours<T: Stored, M: MonoidOver<T>>(values: &[T], start: usize, end: usize) -> T
+    requires order { start ≤ end }
+    requires within { end ≤ length values.now }
+    ensures { T.value result ≡ fold_of M.monoid (map T.value (drop start (take end values.now))) }
+{
+    T::show(values);
+    let mut sum = M::identity();
+    let mut at = start;
+    'fours: while 4 <= end - at {
+        if M::is_terminal(sum) {
+            return sum;
+        }
+        sum = M::add(sum, fold_4::<T, M>(values, at));
+        at += 4;
+    }
+    M::add(sum, fold_each::<T, M>(values, at, end))
+}
+
+/// The values from one place up to another, combined by a monoid as a type; its identity, where there are none. Fast where they are few, if
+/// as many are folded again and again.
+pub fn fold_row<T: Stored + Folded, M: MonoidOver<T>>(values: &[T], start: usize, end: usize) -> T
+    requires order { start ≤ end }
+    requires within { end ≤ length values.now }
+    ensures { T.value result ≡ fold_of M.monoid (map T.value (drop start (take end values.now))) }
+{
+    if end - start < BLOCK {
+        return fold_fours::<T, M>(values, start, end);
+    }
+    fold_values::<T, M>(&values[start..end])
 }
 
 /// How many values past the end of a part may be read, since parts of it are folded whole.
@@ -43,7 +76,7 @@ pub fn fold_part<T: Stored + Folded, M: MonoidOver<T>>(values: &[T], start: usiz
     if (end - start < BLOCK) & (REACH <= values.len() - end) {
         return fold_few::<T, M>(values, start, end);
     }
-    fold_values::<T, M>(&values[start..end])
+    fold_row::<T, M>(values, start, end)
 }
 
 /// The same, where values past the end can be read.
@@ -179,17 +212,18 @@ fn fold_quarters<T: Stored, M: MonoidOver<T>>(
     M::add(M::add(sums.0, sums.1), M::add(sums.2, sums.3))
 }
 
-/// Values combined one after the other. Those after a terminal one are not read.
-fn fold_each<T: Stored, M: MonoidOver<T>>(values: &[T]) -> T
-    ensures { T.value result ≡ fold_of M.monoid (map T.value values.now) }
+/// The values from one place up to another combined, one after the other.
+fn fold_each<T: Stored, M: MonoidOver<T>>(values: &[T], start: usize, end: usize) -> T
+    requires order { start ≤ end }
+    requires within { end ≤ length values.now }
+    ensures { T.value result ≡ fold_of M.monoid (map T.value (drop start (take end values.now))) }
 {
     let mut sum = M::identity();
-    'values: for x in values {
-        let value = x.read();
-        if M::is_terminal(value) {
-            return value;
-        }
+    let mut at = start;
+    'values: while at < end {
+        let value = values[at].read();
         sum = M::add(sum, value);
+        at += 1;
     }
     sum
 }

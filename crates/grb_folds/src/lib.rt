@@ -8,5 +8,5 @@ mod changed;
 mod folding;
 mod reduce_totals;
 
-pub use folding::{fold_part, fold_values};
+pub use folding::{fold_part, fold_row};
 pub use reduce_totals::{reduce_matrix, reduce_vector};

@@ -1,11 +1,10 @@
 -- What is entered after a store that was made anew is entered after the calls that left it.
-use Rattle.std.proofs.Common.{◌≡◌, ℕ, List, [], ◌∷◌, ◌++◌, map, refl, sym, ap, ◌∙◌, append_assoc, append-nil}
+use Rattle.std.proofs.Common.{◌≡◌, List, [], ◌∷◌, ◌++◌, refl, sym, ap, ◌∙◌, append_assoc, append-nil}
 use Rattle.grb_call.specs.declared.call.Call.{Call}
 use Rattle.grb_call.specs.Store.{Store, empty_store}
-use Rattle.grb_call.specs.History.{Entry, History, calls_of, after_all, store_of}
+use Rattle.grb_call.specs.History.{History, calls_of, after_all, store_of}
 use Rattle.grb_call.proofs.Runs.{after_all-append}
-use Rattle.grb_context.specs.Known.{Shared, Knowing, known}
-use Rattle.grb_context.specs.Succeeding.{BeginsWith}
+use Rattle.grb_context.specs.Known.{known}
 use Rattle.grb_generations.specs.Lossless.{Later, AreChained, last_of, all_entered}
 
 calls_of-append : (g h : History) → calls_of (g ++ h) ≡ calls_of g ++ calls_of h

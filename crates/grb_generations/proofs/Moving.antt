@@ -24,7 +24,7 @@ stays_on old mid new s t = subst (λ (x : Seated). new ≡ record x { pass = rec
 pub moves_on : (old mid new : Seated) → Stays old mid → Moves mid new → Moves old new
 moves_on old mid new s m =
     let r : Moves (record old { pass = record old.pass { made = mid.pass.made } }) new = subst (λ (x : Seated). Moves x new) s m in
-    record { end = r.end; later = r.later; number = r.number; goes_on = r.goes_on; chain = r.chain }
+    record { end = r.end; later = r.later; number = r.number; goes_on = r.goes_on; chain = r.chain; room = r.room }
 
 pub came_along : (b : Bool) (old new : Seated) → (b ≡ true → Moves old new) → (b ≡ false → new ≡ old) → Comes old new
 came_along true old new m s = moved (m refl)

@@ -1,5 +1,5 @@
 -- believed: What a contract sees of a member of a chain of stores, and what stands behind its move to a later generation (own).
-use Rattle.std.specs.Prelude.{◌≡◌, ℕ, ◌<◌, false, [], length}
+use Rattle.std.specs.Prelude.{◌≡◌, ℕ, ◌<◌, false, List, [], length, Some, slice_get}
 use Rattle.grb_order.specs.Order.{room_of}
 use Rattle.grb_call.specs.declared.call.Call.{Call}
 use Rattle.grb_call.specs.History.{store_of}
@@ -33,24 +33,38 @@ pub record GoesOn (context : Shared) (p : Knowing) : Type 0 where
   pub at_end : IsAtEnd last
   pub begins : BeginsWith context (store_of (known last)) p.view.number p
 
--- a member of this chain that sits in the first generation and knows no call
-pub record IsNewMember (chain : Chain) (m : Seated) : Type 0 where
+-- a member of this chain that sits in the first generation, with the pass of this number of this store, and knows no call
+pub record IsNewMember (chain : Chain) (context : Shared) (number : ℕ) (m : Seated) : Type 0 where
   pub chain_is : m.chain ≡ chain
+  pub context_is : m.context ≡ context
+  pub number_is : m.pass.view.number ≡ number
   pub generation : m.generation ≡ 0
   pub none : known m.pass ≡ []
+
+-- the first members of this chain, by their numbers, all of which share this store
+pub record AreNewMembers (chain : Chain) (context : Shared) (opened : List Seated) (upto : ℕ) : Type 0 where
+  pub count : length opened ≡ upto
+  pub each : (number : ℕ) (m : Seated) → slice_get opened number ≡ Some m → IsNewMember chain context number m
+
+-- all members of a new chain: they share one store, which takes as many calls as each generation
+pub record ShareTheFirst (chain : Chain) (opened : List Seated) : Type 0 where
+  pub context : Shared
+  pub room_is : room_of context.order ≡ chain.room
+  pub members : AreNewMembers chain context opened chain.members
 
 -- a member that did not move: it is as before, but for how many calls its pass has made to evaluate
 abbrev pub Stays : Seated → Seated → Type 0
 Stays old new = new ≡ record old { pass = record old.pass { made = new.pass.made } }
 
 -- A member that moved: its generation was full and it knew all of that; it has the pass of its number in a later generation, which goes on
--- where one ends
+-- where one ends and takes as many calls as each
 pub record Moves (old new : Seated) : Type 0 where
   pub end : IsAtEnd old.pass
   pub later : old.generation < new.generation
   pub number : new.pass.view.number ≡ old.pass.view.number
   pub goes_on : GoesOn new.context new.pass
   pub chain : new.chain ≡ old.chain
+  pub room : room_of new.context.order ≡ new.chain.room
 
 -- a member that sits where it sat
 pub record IsThere (old new : Seated) : Type 0 where

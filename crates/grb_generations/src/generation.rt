@@ -1,5 +1,6 @@
 //! A generation that goes on where the one before ends: a seat in it for each member, until that member takes it.
 ghost use Rattle.std.specs.Prelude.{◌≡◌, All};
+ghost use Rattle.grb_order.specs.Order.{room_of};
 ghost use Rattle.grb_generations.specs.Seated.{GoesOn};
 
 use grb_context::{Context, Pass};
@@ -23,6 +24,15 @@ impl Model for Seat {
     ghost view = { λ s. record { context = s.context.value; pass = s.pass; generation = s.generation } };
 
     ghost invariant = { λ s. GoesOn s.context.value s.pass };
+}
+
+impl Seat {
+    /// How many calls its store takes. Takes no memory.
+    pub(crate) fn room(&self) -> u64
+        ensures { result ≡ room_of self.now.context.order }
+    {
+        u64::from(self.pass.room_left()) + u64::from(self.pass.words())
+    }
 }
 
 /// A seat that has this pass.

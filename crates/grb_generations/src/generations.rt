@@ -1,8 +1,9 @@
 //! What the members of a chain of stores share.
-ghost use Rattle.std.specs.Prelude.{◌≡◌, ◌<◌, ◌≤◌, ◌*◌, [], length, All, IfOk, IfSome};
+ghost use Rattle.std.specs.Prelude.{◌≡◌, ◌<◌, ◌≤◌, ◌*◌, ◌+◌, [], length, All, IfOk, IfSome};
+ghost use Rattle.grb_order.specs.Order.{room_of};
 ghost use Rattle.grb_order.specs.declared.limits.TheConstants.{MOST_PASSES, MOST_ROOM, MOST_SEATS};
-ghost use Rattle.grb_context.specs.Known.{IsPassOf, known};
-ghost use Rattle.grb_generations.specs.Seated.{GoesOn, IsNewMember};
+ghost use Rattle.grb_context.specs.Known.{AreNew, IsPassOf};
+ghost use Rattle.grb_generations.specs.Seated.{AreNewMembers, GoesOn, ShareTheFirst};
 
 use crate::generation::{Generation, Seat};
 use crate::latest::Latest;
@@ -39,8 +40,8 @@ impl Model for Generations {
     ghost invariant = { λ g. IsChain g.room g.members };
 }
 
-/// A member for each of the passes, all of which know no call of the first generation. `AllocError` where memory is refused; then the
-/// passes are dropped.
+/// A member for each of the passes, by their numbers, all of which share this context and know no call of it. `AllocError` where memory is
+/// refused; then the passes are dropped.
 fn members_of(
     alloc: Global,
     generations: &Arc<Generations>,
@@ -48,9 +49,9 @@ fn members_of(
     passes: Vec<Pass>,
 ) -> Result<Vec<Member>, AllocError>
     requires ours { All (IsPassOf context.now.value) passes.items }
-    requires none { All (λ p. known p ≡ []) passes.items }
+    requires new { AreNew context.now.value.order (length passes.items) passes.items (length passes.items) }
     ensures count { IfOk result (λ members. length members.items ≡ length passes.items) }
-    ensures members { IfOk result (λ members. All (IsNewMember generations.now.value) members.items) }
+    ensures members { IfOk result (λ members. AreNewMembers generations.now.value context.now.value members.items (length members.items)) }
 {
     let mut members = Vec::with_capacity(alloc, passes.len())?;
     'passes: for pass in passes {
@@ -78,7 +79,7 @@ impl Generations {
         requires seats { room * members ≤ MOST_SEATS }
         ensures chain { IfOk result (λ opened. opened.0.value ≡ record { room = room; members = members }) }
         ensures count { IfOk result (λ opened. length opened.1.items ≡ members) }
-        ensures members { IfOk result (λ opened. All (IsNewMember opened.0.value) opened.1.items) }
+        ensures members { IfOk result (λ opened. ShareTheFirst opened.0.value opened.1.items) }
     {
         let (context, passes) = Context::open(alloc, room, members)?;
         let context = Arc::new(alloc, context)?;
@@ -104,7 +105,9 @@ impl Generations {
     /// The seat of the member of this number in the latest generation, if that is a later one than this. None too where the place of the
     /// latest is being changed, at each of so many looks. Takes no memory.
     pub(crate) fn seat_after(&self, generation: u64, number: u32) -> Option<Seat>
-        ensures { IfSome result (λ seat. (generation < seat.generation) × (seat.pass.view.number ≡ number)) }
+        ensures later { IfSome result (λ seat. generation < seat.generation) }
+        ensures number { IfSome result (λ seat. seat.pass.view.number ≡ number) }
+        ensures room { IfSome result (λ seat. room_of seat.context.order ≡ self.now.room) }
     {
         if self.latest.number() == generation {
             return None;
@@ -114,7 +117,7 @@ impl Generations {
         if seat.generation <= generation {
             return None;
         }
-        if seat.pass.number() != number {
+        if seat.pass.number() != number || seat.room() != u64::from(self.room) {
             return None;
         }
         Some(seat)
@@ -166,7 +169,8 @@ impl Generations {
         context: Context,
         passes: Vec<Pass>,
     ) -> Result<(), AllocError>
-        requires { All (GoesOn context) passes.items }
+        requires passes { All (GoesOn context) passes.items }
+        requires room { room_of context.order ≡ self.now.room }
     {
         let context = Arc::new(self.alloc, context)?;
         let generation = Generation::open(self.alloc, number, &context, passes)?;

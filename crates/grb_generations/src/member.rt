@@ -1,5 +1,6 @@
 //! A member: one thread's seat in a chain of stores.
 ghost use Rattle.std.specs.Prelude.{◌≡◌, ◌<◌, ◌≤◌, ◌-◌, ◌⊎◌, Ok, true, false, All, IfErr, IfOk, MatchOption, OnErr};
+ghost use Rattle.grb_order.specs.Order.{room_of};
 ghost use Rattle.grb_call.specs.History.{store_of};
 ghost use Rattle.grb_context.specs.Known.{IsPassOf, known};
 ghost use Rattle.grb_context.specs.Explains.{is_entered};
@@ -224,6 +225,7 @@ impl Member {
         requires end { IsAtEnd self.old.pass }
         requires later { self.old.generation < seat.generation }
         requires number { seat.pass.view.number ≡ self.old.pass.view.number }
+        requires room { room_of seat.context.order ≡ self.old.chain.room }
         ensures { Moves self.old self.new }
     {
         let Seat {
@@ -318,6 +320,7 @@ impl Member {
     fn succeed(&mut self) -> Result<(Context, Vec<Pass>), NoSuccessor>
         requires end { IsAtEnd self.old.pass }
         ensures stays { Stays self.old self.new }
+        ensures room { IfOk result (λ next. room_of next.0.order ≡ self.old.chain.room) }
         ensures begun { IfOk result (λ next. AreBegun next.0 (store_of (known self.old.pass)) self.old.chain.members next.1.items) }
         ensures goes_on { IfOk result (λ next. All (GoesOn next.0) next.1.items) }
         ensures refused { IfErr result (IsNoSuccessor (self.old.chain.room - 1) (store_of (known self.old.pass))) }

@@ -1,6 +1,7 @@
 -- A call that needs nothing of what its output stored makes the same where that stores nothing.
 use Rattle.std.proofs.Common.{◌≡◌, ◌≢◌, ℕ, Bool, true, false, not, ◌&&◌, ◌||◌, if◌then◌else◌, [], ◌∷◌, ◌++◌, refl, sym, ap, subst, ◌∙◌, Option, Some, None, is_some}
 use Rattle.std.specs.Option.{option_map, option_map_or}
+use Rattle.std.proofs.lemmas.Bool.{not-true}
 use Rattle.grb_core.specs.declared.domain.Domain.{Domain}
 use Rattle.grb_core.specs.declared.operator.BinaryOp.{BinaryOp}
 use Rattle.grb_core.specs.declared.refusal.Refusal.{Refusal}
@@ -15,7 +16,7 @@ use Rattle.grb_call.specs.declared.ids.Object.TheVariants as object
 use Rattle.grb_call.specs.declared.operation.Operation.{Operation}
 use Rattle.grb_call.specs.After.{after}
 use Rattle.grb_call.specs.Operands.{named, objects_read}
-use Rattle.grb_call.specs.Operation.{if_any, operation_objects, operation_of}
+use Rattle.grb_call.specs.Operation.{if_any, operation_inputs, operation_objects, operation_of}
 use Rattle.grb_call.specs.Output.{output_of}
 use Rattle.grb_call.specs.Refused.{refused_by_shapes, reshaped}
 use Rattle.grb_call.specs.Shapes.{MatrixShape, VectorShape, ObjectShapes, matrix_shape_at, vector_shape_at}
@@ -198,11 +199,11 @@ plain_masked None accum comp e = refl
 plain_masked (Some m) accum comp e = cc
 
 reads_by : (q : Option Operation) (p : Operation) (x : Option Object) → q ≡ Some p → p.mask ≡ None →
-    option_map_or operation_objects q (if_any x) ++ option_map_or (λ o. if_any o.mask) q [] ≡ (p.output ∷ option_map_or (λ o. o.first ∷ if_any o.second) q []) ++ []
+    option_map_or operation_objects q (if_any x) ++ option_map_or (λ o. if_any o.mask) q [] ≡ (p.output ∷ option_map_or operation_inputs q []) ++ []
 reads_by q p x e none =
     ap (λ (y : Option Operation). option_map_or operation_objects y (if_any x) ++ option_map_or (λ o. if_any o.mask) y []) e
-    ∙ (ap (λ (m : Option Object). (p.output ∷ p.first ∷ if_any p.second) ++ if_any m) none
-    ∙ ap (λ (y : Option Operation). (p.output ∷ option_map_or (λ o. o.first ∷ if_any o.second) y []) ++ []) (sym e))
+    ∙ (ap (λ (m : Option Object). (p.output ∷ operation_inputs p) ++ if_any m) none
+    ∙ ap (λ (y : Option Operation). (p.output ∷ option_map_or operation_inputs y []) ++ []) (sym e))
 
 pub both_true : (a b : Bool) → (a && b) ≡ true → (a ≡ true) × (b ≡ true)
 both_true true true e = (refl, refl)
@@ -228,20 +229,16 @@ no_clear (call.ClearMatrix a) p e = cc
 no_clear (call.ClearVector v) p e = cc
 no_clear _ p e = refl
 
-false_of : (b : Bool) → not b ≡ true → b ≡ false
-false_of true e = cc
-false_of false e = refl
-
 pub anew : (c : Call) (p : Operation) (o : Object) → operation_of c ≡ Some p → forgets c ≡ true → output_of c ≡ Some o → IsAnew c o
 anew c p o e needs_none output =
     let clear = no_clear c p e in
     let here : p.output ≡ o = some_same p.output o (sym (output_is c p e) ∙ output) in
-    let both : (is_plain p.mask p.accum p.d.comp && not (is_among (p.first ∷ if_any p.second) p.output)) ≡ true =
+    let both : (is_plain p.mask p.accum p.d.comp && not (is_among (operation_inputs p) p.output)) ≡ true =
     sym (ap (λ (b : Bool). b || option_map_or is_anew (operation_of c) false) clear ∙ ap (λ (y : Option Operation). option_map_or is_anew y false) e) ∙ needs_none in
-    let parts = both_true (is_plain p.mask p.accum p.d.comp) (not (is_among (p.first ∷ if_any p.second) p.output)) both in
-    let beside : is_among (p.first ∷ if_any p.second) p.output ≡ false = false_of (is_among (p.first ∷ if_any p.second) p.output) parts.1 in
+    let parts = both_true (is_plain p.mask p.accum p.d.comp) (not (is_among (operation_inputs p) p.output)) both in
+    let beside : is_among (operation_inputs p) p.output ≡ false = not-true (is_among (operation_inputs p) p.output) parts.1 in
     record {
       reads = reads_by (operation_of c) p (named c) e (plain_masked p.mask p.accum p.d.comp parts.0) ∙ (end_none (p.output ∷ inputs_of c) ∙ ap (λ (x : Object). x ∷ inputs_of c) here);
       over = overwrites_is c clear ∙ over_by (operation_of c) p e parts.0;
-      apart = ap (λ (y : Option Operation). is_among (option_map_or (λ o. o.first ∷ if_any o.second) y []) o) e ∙ (ap (is_among (p.first ∷ if_any p.second)) (sym here) ∙ beside);
+      apart = ap (λ (y : Option Operation). is_among (option_map_or operation_inputs y []) o) e ∙ (ap (is_among (operation_inputs p)) (sym here) ∙ beside);
     }

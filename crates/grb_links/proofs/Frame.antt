@@ -1,32 +1,29 @@
 -- What an object holds after some of the calls: it changes at calls whose target it is, and nowhere else.
 use Rattle.std.proofs.Common.{◌≡◌, ◌≢◌, ℕ, zero, suc, ◌+◌, ◌-◌, ◌<◌, ◌≤◌, Bool, true, false, if◌then◌else◌, List, [], ◌∷◌, ◌++◌, length, take, get_or, refl, sym, ap, subst, ◌∙◌, Option, Some, None, is_some, arith}
 use Rattle.std.specs.Prelude.{slice_get}
-use Rattle.std.specs.Prelude.{not}
 use Rattle.std.specs.Option.{option_map_or}
 use Rattle.std.proofs.lemmas.List.{length_push}
+use Rattle.std.proofs.lemmas.Option.{slice_get-get_or}
 use Rattle.grb_call.specs.declared.call.Call.{Call}
 use Rattle.grb_call.specs.declared.ids.Object.{Object}
 use Rattle.grb_call.specs.declared.ids.Object.TheVariants as object
-use Rattle.grb_call.specs.Shapes.{ObjectShapes, is_live}
-use Rattle.grb_slices.proofs.Live.{live_by}
-use Rattle.grb_core.specs.declared.refusal.Refusal.{Refusal}
-use Rattle.grb_call.specs.Refused.{has_valid_values, is_initialized, refused_by_shapes, shapes_after}
+use Rattle.grb_call.specs.Shapes.{ObjectShapes}
+use Rattle.grb_call.specs.Refused.{refused_by_shapes, shapes_after}
 use Rattle.grb_call.specs.Status.{is_same_object}
 use Rattle.grb_call.specs.Store.{Store, empty_store, shapes_of}
 use Rattle.grb_call.specs.After.{after}
 use Rattle.grb_call.specs.History.{after_all}
 use Rattle.grb_call.proofs.Runs.{after_all-append}
 use Rattle.grb_call.proofs.ShapesAfter.{shapes_of-after}
-use Rattle.grb_slices.specs.Content.{Content, content_at, target_of, effective_target, outcome}
+use Rattle.grb_slices.specs.Content.{content_at, target_of, effective_target, outcome}
 use Rattle.grb_slices.proofs.Effects.{own, other, effective}
 use Rattle.grb_slices.proofs.Wants.{is_same_object-self, is_same_object-true}
 use Rattle.grb_links.specs.declared.learnt.Learnt.{Learnt}
 use Rattle.grb_links.specs.declared.node.Node.{Node}
-use Rattle.grb_links.specs.declared.shape.Shape.{Shape}
 use Rattle.grb_links.specs.Lasts.{AreLinks, last_of, last_with}
 use Rattle.grb_links.specs.Learnt.{AreOneHistory, AreSince, IsLearnt, IsNode, IsSince, contents_after, target_in}
 use Rattle.grb_links.specs.Overwrites.{objects_needed, shape_needed, shape_noted}
-use Rattle.grb_links.proofs.Lists.{AtPush, Before, Last, get_take, get_there, pushed_at, some_same, take_suc, within_of}
+use Rattle.grb_links.proofs.Lists.{AtPush, Before, Last, get_take, pushed_at, some_same, take_suc, within_of}
 
 -- the store before the call at a place
 abbrev pub store_before : List Call → ℕ → Store
@@ -142,18 +139,6 @@ module _ (cs : List Call) (old new : Learnt) (c : Call) (node : Node) (was : IsL
     since = λ o. subst (λ (j : ℕ). IsSince cs j o (last_of new.lasts o)) (sym count) (subst (λ (m : ℕ). IsSince cs (suc n) o m) (sym (lasts o ∙ ap (λ (m : ℕ). last_with node.target m (last_of old.lasts) o) one_more)) (since_by o node.target refl));
   }
 
--- nothing more is learnt
-pub learnt_still : (cs : List Call) (old new : Learnt) → new.nodes.items ≡ old.nodes.items → new.shapes_noted.items ≡ old.shapes_noted.items → new.shapes.objects ≡ old.shapes.objects → ((o : Object) → last_of new.lasts o ≡ last_of old.lasts o) →
-    IsLearnt cs old → IsLearnt cs new
-learnt_still cs old new nodes noted shapes lasts was =
-    let count : length new.nodes.items ≡ length old.nodes.items = ap length nodes in
-    record {
-      within = let w = was.within in omega (arith, count, w);
-      shapes_are = shapes ∙ (was.shapes_are ∙ ap (λ (j : ℕ). shapes_of (store_before cs j)) (sym count));
-      nodes_are = λ k node e. subst (λ (ss : List Shape). IsNode cs ss k node) (sym noted) (was.nodes_are k node (sym (ap (λ (xs : List Node). slice_get xs k) nodes) ∙ e));
-      since = λ o. subst (λ (j : ℕ). IsSince cs j o (last_of new.lasts o)) (sym count) (subst (λ (m : ℕ). IsSince cs (length old.nodes.items) o m) (sym (lasts o)) (was.since o));
-    }
-
 -- a link of a call leads to an earlier call, which has a target
 pub since_at : (cs : List Call) (k : ℕ) (os : List Object) (ms : List ℕ) (j m : ℕ) → AreSince cs k os ms → slice_get ms j ≡ Some (suc m) → (o : Object) × IsSince cs k o (suc m)
 since_at cs k [] [] j m since e = cc
@@ -176,7 +161,7 @@ since_long cs k (o ∷ os) [] since = absurd since
 since_long cs k (o ∷ os) (m ∷ ms) since = let rest : length os ≤ length ms = since_long cs k os ms since.1 in omega (arith, rest)
 
 pub link_there : (ms : List ℕ) (k d : ℕ) → k < length ms → get_or ms k d ≢ 0 → slice_get ms k ≡ Some (suc (get_or ms k d - 1))
-link_there ms k d near some = let whole : get_or ms k d ≡ suc (get_or ms k d - 1) = omega (arith, some) in get_there ms k d near ∙ ap (λ (n : ℕ). Some n) whole
+link_there ms k d near some = let whole : get_or ms k d ≡ suc (get_or ms k d - 1) = omega (arith, some) in slice_get-get_or ms k d near ∙ ap (λ (n : ℕ). Some n) whole
 
 pub there : (cs : List Call) (k : ℕ) → k < length cs → (c : Call) × (slice_get cs k ≡ Some c)
 there [] k h = absurd (omega arith)
@@ -195,15 +180,6 @@ pub the_target : (q : Option Object) → is_some q ≡ true → (o : Object) × 
 the_target None e = cc
 the_target (Some o) e = (o, refl)
 
--- a call that shapes accept brings valid values
-values_by : (a b : Bool) (x y : Refusal) (rest : Option Refusal) → (if not a then Some x else (if not b then Some y else rest)) ≡ None → b ≡ true
-values_by true true x y rest e = refl
-values_by true false x y rest e = cc
-values_by false b x y rest e = cc
-
-pub valid_values : (u : ObjectShapes) (c : Call) → refused_by_shapes u c ≡ None → has_valid_values c ≡ true
-valid_values u c accepted = values_by (is_initialized u c) (has_valid_values c) _ _ _ accepted
-
 -- an object that is not there
 first_none : (o : Object) → content_at empty_store o ≡ None
 first_none (object.Matrix a) = refl
@@ -211,13 +187,6 @@ first_none (object.Vector v) = refl
 
 pub none_since : (cs : List Call) (n : ℕ) (o : Object) (m : ℕ) → IsSince cs n o m → m ≡ 0 → contents_after cs n o ≡ None
 none_since cs n o m since e = since.same ∙ (ap (λ (j : ℕ). contents_after cs j o) e ∙ first_none o)
-
-pub none_there : (s : Store) (o : Object) → is_live (shapes_of s) o ≡ false → content_at s o ≡ None
-none_there s o dead = by (content_at s o) (sym (live_by s o) ∙ dead)
-  where
-    by : (x : Option Content) → is_some x ≡ false → x ≡ None
-    by (Some x) e = cc
-    by None e = refl
 
 pub take_all : (cs : List Call) (n : ℕ) → n ≡ length cs → take n cs ≡ cs
 take_all [] zero e = refl

@@ -1,5 +1,4 @@
 pub mod Blank
-pub mod Few
 pub mod Frame
 pub mod Grown
 pub mod Links

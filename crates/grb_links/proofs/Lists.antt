@@ -1,5 +1,5 @@
 -- Lists: what stands at a place of one that grew, or of its front.
-use Rattle.std.proofs.Common.{◌≡◌, ℕ, zero, suc, ◌<◌, List, [], ◌∷◌, ◌++◌, length, take, get_or, refl, sym, ap, Option, Some, arith}
+use Rattle.std.proofs.Common.{◌≡◌, ℕ, zero, suc, ◌<◌, List, [], ◌∷◌, ◌++◌, length, take, refl, sym, ap, Option, Some, arith}
 use Rattle.std.specs.Prelude.{slice_get}
 
 module _ {X : Type 0} where
@@ -35,11 +35,6 @@ module _ {X : Type 0} where
   get_take [] k = refl
   get_take (x ∷ xs) zero = refl
   get_take (x ∷ xs) (suc k) = get_take xs k
-
-  pub get_there : (xs : List X) (k : ℕ) (d : X) → k < length xs → slice_get xs k ≡ Some (get_or xs k d)
-  get_there [] k d h = absurd (omega (arith, h))
-  get_there (x ∷ xs) zero d h = refl
-  get_there (x ∷ xs) (suc k) d h = get_there xs k d (omega (arith, h))
 
   pub end_none : (xs : List X) → xs ++ [] ≡ xs
   end_none [] = refl

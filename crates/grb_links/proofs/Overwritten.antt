@@ -1,6 +1,6 @@
 -- What a call leaves that overwrites its output, whatever that stored.
 use Rattle.std.proofs.Common.{◌≡◌, ℕ, Bool, true, false, List, [], ◌∷◌, refl, sym, ap, ◌∙◌, Option, Some, None}
-use Rattle.std.specs.Option.{option_map}
+use Rattle.std.specs.Option.{option_map, option_map_or}
 use Rattle.std.specs.declared.cmp.Ordering.{Ordering}
 use Rattle.std.specs.Ordering.{nat_cmp}
 use Rattle.std.specs.Cmp.{IsTotalOrder, nat_cmp_total}
@@ -22,9 +22,9 @@ use Rattle.grb_call.specs.declared.ids.MatrixId.{MatrixId}
 use Rattle.grb_call.specs.declared.ids.VectorId.{VectorId}
 use Rattle.grb_call.specs.declared.ids.Object.{Object}
 use Rattle.grb_call.specs.declared.ids.Object.TheVariants as object
-use Rattle.grb_call.specs.Output.{output_of, matrix_read, vector_read}
+use Rattle.grb_call.specs.Output.{entries_of_matrix, entries_of_vector, output_of, matrix_read, vector_read}
 use Rattle.grb_call.specs.Written.{written_matrix, written_vector}
-use Rattle.grb_slices.specs.Content.{Content, MatrixContent, VectorContent, Contents, content_made, entries_held, filled_matrix, filled_vector, held_by_matrix, held_by_vector, outcome}
+use Rattle.grb_slices.specs.Content.{Content, MatrixContent, VectorContent, Contents, content_made, filled_matrix, filled_vector, matrix_held, objects_held, outcome, vector_held}
 use Rattle.grb_slices.specs.Slice.{is_among}
 use Rattle.grb_slices.specs.Steps.{AgreeOn}
 use Rattle.grb_slices.proofs.Wants.{among_first, among_next}
@@ -69,7 +69,7 @@ module _ (r t : Contents) where
   agree_next o os agree p wanted = agree p (among_next p o os wanted)
 
   wrote_m : (mask : Option Object) (accum : Option BinaryOp) (d : Descriptor) → is_plain mask accum d.comp ≡ true → (x y : MatrixEntries) → x ≡ y → (m n : Matrix) →
-      (m.domain ≡ n.domain) × (m.nrows ≡ n.nrows) × (m.ncols ≡ n.ncols) → written_matrix (option_map (matrix_read (entries_held r)) mask) accum d x m ≡ written_matrix (option_map (matrix_read (entries_held t)) mask) accum d y n
+      (m.domain ≡ n.domain) × (m.nrows ≡ n.nrows) × (m.ncols ≡ n.ncols) → written_matrix (option_map (matrix_read (objects_held r)) mask) accum d x m ≡ written_matrix (option_map (matrix_read (objects_held t)) mask) accum d y n
   wrote_m None None d plain x y e m n shape =
       same_matrix m.domain n.domain m.nrows n.nrows m.ncols n.ncols _ _ shape.0 shape.1 shape.2
       (written_over cell_cmp cell_cmp_total cell_cmp-IsAntisymmetric (is_inside cell_cmp d.structure d.comp None) (all_inside_m d.structure d.comp None refl (no_comp Object d.comp plain)) d.replace m.entries n.entries x
@@ -78,7 +78,7 @@ module _ (r t : Contents) where
   wrote_m None (Some op) d plain x y e m n shape = cc
 
   wrote_v : (mask : Option Object) (accum : Option BinaryOp) (d : Descriptor) → is_plain mask accum d.comp ≡ true → (x y : VectorEntries) → x ≡ y → (m n : Vector) →
-      (m.domain ≡ n.domain) × (m.size ≡ n.size) → written_vector (option_map (vector_read (entries_held r)) mask) accum d x m ≡ written_vector (option_map (vector_read (entries_held t)) mask) accum d y n
+      (m.domain ≡ n.domain) × (m.size ≡ n.size) → written_vector (option_map (vector_read (objects_held r)) mask) accum d x m ≡ written_vector (option_map (vector_read (objects_held t)) mask) accum d y n
   wrote_v None None d plain x y e m n shape =
       same_vector m.domain n.domain m.size n.size _ _ shape.0 shape.1
       (written_over nat_cmp nat_cmp_total nat_cmp-IsAntisymmetric (is_inside nat_cmp d.structure d.comp None) (all_inside_v d.structure d.comp None refl (no_comp Object d.comp plain)) d.replace m.entries n.entries x
@@ -114,11 +114,11 @@ module _ (r t : Contents) where
   of_vector c v None None shape makes = refl
 
   -- the inputs hold the same
-  one_m : (a : MatrixId) (os : List Object) → AgreeOn (is_among (object.Matrix a ∷ os)) r t → (entries_held r).matrix a ≡ (entries_held t).matrix a
-  one_m a os agree = ap held_by_matrix (agree_first (object.Matrix a) os agree)
+  one_m : (a : MatrixId) (os : List Object) → AgreeOn (is_among (object.Matrix a ∷ os)) r t → entries_of_matrix (objects_held r) a ≡ entries_of_matrix (objects_held t) a
+  one_m a os agree = ap (λ (p : Option Content). option_map_or (λ m. m.entries) (matrix_held p) []) (agree_first (object.Matrix a) os agree)
 
-  one_v : (v : VectorId) (os : List Object) → AgreeOn (is_among (object.Vector v ∷ os)) r t → (entries_held r).vector v ≡ (entries_held t).vector v
-  one_v v os agree = ap held_by_vector (agree_first (object.Vector v) os agree)
+  one_v : (v : VectorId) (os : List Object) → AgreeOn (is_among (object.Vector v ∷ os)) r t → entries_of_vector (objects_held r) v ≡ entries_of_vector (objects_held t) v
+  one_v v os agree = ap (λ (p : Option Content). option_map_or (λ x. x.entries) (vector_held p) []) (agree_first (object.Vector v) os agree)
 
   two : {X Y Z : Type 0} (f : X → Y → Z) (a b : X) (x y : Y) → a ≡ b → x ≡ y → f a x ≡ f b y
   two f a b x y e g = ap (λ z. f z x) e ∙ ap (f b) g

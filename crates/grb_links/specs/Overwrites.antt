@@ -1,5 +1,5 @@
 -- believed: Which calls leave nothing of what their output stored (own): GraphBLAS C API 2.0, "Masks" and "Descriptors".
-use Rattle.std.specs.Prelude.{◌≡◌, ℕ, zero, suc, Bool, true, false, ◌&&◌, ◌||◌, not, if◌then◌else◌, List, [], ◌∷◌, slice_get, Option, Some, None}
+use Rattle.std.specs.Prelude.{◌≡◌, ℕ, zero, suc, Bool, true, false, ◌&&◌, ◌||◌, not, if◌then◌else◌, List, [], slice_get, Option, Some, None}
 use Rattle.std.specs.Option.{option_map, option_map_or}
 use Rattle.grb_core.specs.declared.operator.BinaryOp.{BinaryOp}
 use Rattle.grb_call.specs.declared.call.Call.{Call}
@@ -9,7 +9,7 @@ use Rattle.grb_call.specs.declared.operation.Operation.{Operation}
 use Rattle.grb_call.specs.Operands.{objects_read}
 use Rattle.grb_call.specs.Shapes.{ObjectShapes, matrix_shape_at, vector_shape_at}
 use Rattle.grb_call.specs.declared.ids.Object.TheVariants as object
-use Rattle.grb_call.specs.Operation.{if_any, operation_of}
+use Rattle.grb_call.specs.Operation.{operation_inputs, operation_of}
 use Rattle.grb_call.specs.Output.{output_of}
 use Rattle.grb_slices.specs.Content.{Content, MatrixContent, VectorContent, Contents, outcome}
 use Rattle.grb_slices.specs.Slice.{is_among}
@@ -30,7 +30,7 @@ overwrites c = option_map_or (λ o. is_plain o.mask o.accum o.d.comp) (operation
 
 -- the inputs of an operation
 abbrev pub inputs_of : Call → List Object
-inputs_of c = option_map_or (λ o. o.first ∷ if_any o.second) (operation_of c) []
+inputs_of c = option_map_or operation_inputs (operation_of c) []
 
 -- both are there with one domain and one size, or none is
 abbrev pub HaveOneShape : Object → Option Content → Option Content → Type 0
@@ -50,7 +50,7 @@ is_clear _ = false
 
 -- the operation leaves nothing of what its output stored, which is none of its inputs
 abbrev pub is_anew : Operation → Bool
-is_anew o = is_plain o.mask o.accum o.d.comp && not (is_among (o.first ∷ if_any o.second) o.output)
+is_anew o = is_plain o.mask o.accum o.d.comp && not (is_among (operation_inputs o) o.output)
 
 -- the call needs nothing of what its output stored
 abbrev pub forgets : Call → Bool

@@ -127,14 +127,11 @@ impl Lasts {
     }
 
     /// After how many calls each of the call's inputs was last changed, where it is an operation.
-    fn links_of_inputs(&self, call: &Call) -> [u32; 4]
+    fn links_of_inputs(&self, alloc: Global, call: &Call) -> [u32; 4]
         ensures { AreLinks (last_of self.now) (inputs_of call.now) result }
     {
         match call.operation() {
-            Some(operation) => match operation.second {
-                Some(second) => [self.last_of(operation.first), self.last_of(second), 0, 0],
-                None => [self.last_of(operation.first), 0, 0, 0],
-            },
+            Some(operation) => self.links_to(operation.inputs(alloc).as_slice()),
             None => [0, 0, 0, 0],
         }
     }
@@ -159,7 +156,7 @@ impl Lasts {
         ensures { AreLinks (last_of self.now) (objects_needed call.now) result }
     {
         if forgets(call) {
-            return self.links_of_inputs(call);
+            return self.links_of_inputs(alloc, call);
         }
         self.links_of_all(alloc, call)
     }

@@ -1,6 +1,6 @@
 //! Which calls need nothing of what their output stored.
-ghost use Rattle.std.specs.Prelude.{◌≡◌, ◌∷◌};
-ghost use Rattle.grb_call.specs.Operation.{if_any};
+ghost use Rattle.std.specs.Prelude.{◌≡◌};
+ghost use Rattle.grb_call.specs.Operation.{if_any, operation_inputs};
 ghost use Rattle.grb_call.specs.Status.{is_same_object};
 ghost use Rattle.grb_slices.specs.Slice.{is_among};
 ghost use Rattle.grb_links.specs.Overwrites.{forgets, is_anew, is_clear, is_plain};
@@ -43,17 +43,24 @@ fn is_plain(operation: &Operation) -> bool
     }
 }
 
-/// Whether the output is one of the inputs.
-fn is_input(operation: &Operation) -> bool
-    ensures { result ≡ is_among (operation.now.first ∷ if_any operation.now.second) operation.now.output }
+/// Whether the object is the other, if there is one.
+fn is_that(object: Object, other: Option<Object>) -> bool
+    ensures { result ≡ is_among (if_any other) object }
 {
-    if is_same(operation.output, operation.first) {
-        return true;
-    }
-    match operation.second {
-        Some(second) => is_same(operation.output, second),
+    match other {
+        Some(other) => is_same(object, other),
         None => false,
     }
+}
+
+/// Whether the output is one of the inputs.
+fn is_input(operation: &Operation) -> bool
+    ensures { result ≡ is_among (operation_inputs operation.now) operation.now.output }
+{
+    if is_that(operation.output, operation.first) {
+        return true;
+    }
+    is_that(operation.output, operation.second)
 }
 
 /// Whether the operation leaves nothing of what its output stored, which is none of its inputs.

@@ -11,7 +11,7 @@ ghost use Rattle.grb_core.specs.Results.{row_of};
 ghost use Rattle.grb_lists.specs.Cells.{row_at, codes_of, decoded, entries_within, in_row, IsFlat};
 ghost use Rattle.grb_lists.specs.Stored.{row_entries, started_at, IsCellAt, IsInRow};
 
-use crate::values::{self, Values};
+use crate::values::{self, Values, shrink_list};
 use grb_core::{Domain, Value};
 use std::alloc::{AllocError, Global};
 use std::marker::Model;
@@ -199,14 +199,15 @@ impl FlatRows {
         self.values.push_reserved(value);
     }
 
-    /// Gives back the memory that no entry takes.
+    /// Gives back the memory that no entry takes, of each list that has room for more than an eighth of what it holds. A list that has less
+    /// stays as it lies: to cut it gains little, and when it is dropped its memory serves the next that is made with the same room.
     pub fn shrink(&mut self)
         ensures entries { self.new.entries ≡ self.old.entries }
         ensures domain { self.new.domain ≡ self.old.domain }
     {
-        self.rows.shrink_to_fit();
-        self.starts.shrink_to_fit();
-        self.columns.shrink_to_fit();
+        shrink_list(&mut self.rows);
+        shrink_list(&mut self.starts);
+        shrink_list(&mut self.columns);
         self.values.shrink();
     }
 

@@ -6,6 +6,7 @@
 //! threads.
 #![tactic(auto)]
 
+mod apart;
 mod arrays;
 mod flat;
 mod made;
@@ -14,6 +15,7 @@ mod runs;
 mod seek;
 mod values;
 
+pub use apart::{ApartTuples, SortedPlaces};
 pub use arrays::{dims_of_rising, size_of_rising};
 pub use flat::{FlatRows, code};
 pub use seek::next_place;

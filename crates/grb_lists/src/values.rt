@@ -29,6 +29,17 @@ fn number_of(value: Value) -> u64
     }
 }
 
+/// Gives back the memory of a list that no element takes, where it is for more than an eighth of those that it has. Where that is refused,
+/// the list keeps it.
+pub(crate) fn shrink_list<T>(list: &mut Vec<T>)
+    ensures { list.new.items ≡ list.old.items }
+{
+    let free = list.capacity() - list.len();
+    if free > list.len() / 8 {
+        list.shrink_to_fit();
+    }
+}
+
 /// A list of its own with the same elements, copied whole. `AllocError` where memory is refused; then nothing is made.
 pub fn copied<T: Copy>(alloc: Global, list: &[T]) -> Result<Vec<T>, AllocError>
     ensures { IfOk result (λ copy. copy.items ≡ list.now) }
@@ -199,14 +210,14 @@ impl Values {
         }
     }
 
-    /// Gives back the memory that no value takes.
+    /// Gives back the memory that no value takes, as `shrink_list` does.
     pub(crate) fn shrink(&mut self)
         ensures list { values_list self.new ≡ values_list self.old }
         ensures domain { values_domain self.new ≡ values_domain self.old }
     {
         match self {
-            Values::Bool(bools) => bools.shrink_to_fit(),
-            Values::Uint64(numbers) => numbers.shrink_to_fit(),
+            Values::Bool(bools) => shrink_list(bools),
+            Values::Uint64(numbers) => shrink_list(numbers),
         }
     }
 

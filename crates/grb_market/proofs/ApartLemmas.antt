@@ -1,25 +1,11 @@
 -- Entries at places apart: in a list as it stands, in order, and as a map.
 use Rattle.std.proofs.Common.{not, ◌≡◌, ℕ, suc, ◌+◌, ◌<◌, ◌≤◌, length, get_or, eqb, ltb, arith, Bool, true, false, ◌||◌, cond, List, [], ◌∷◌, ◌++◌, map, Option, Some, None, is_some, refl, sym, ap, subst, ◌∙◌, append_assoc, append-nil, length-append}
-use Rattle.std.specs.declared.cmp.Ordering.{Ordering}
-use Rattle.std.specs.declared.cmp.Ordering.TheVariants.{Less, Equal, Greater}
-use Rattle.std.specs.Prelude.{◌&&◌, filter}
+use Rattle.grb_market.proofs.Prelude.{Ordering, Less, Equal, Greater, ◌&&◌, find, is_sorted, below_all, eq_by_cmp, is_eq, is_lt, ordering_then, ordering_reverse, nat_tests, filter_agree, T, put, take_all, take_more, at_drop_more, map-append, length-map, Value, Cell, cell_cmp, cells_of, MatrixEntries, map_from, values_of, restricted, values_at, holds, cell_cmp_total, below-trans, find-map_from, find-tied_below, is_sorted-map_from, comes_before, has_place, count_apart, are_apart}
+use Rattle.std.specs.Prelude.{filter}
 use Rattle.std.specs.List.Sorted.{IsSortedByKey, IsStableByKey, ties}
-use Rattle.std.specs.FinMap.{find, is_sorted}
-use Rattle.std.specs.FinMap.Entries.{below_all}
-use Rattle.std.specs.Ordering.{eq_by_cmp, is_eq, is_lt, ordering_then, ordering_reverse}
-use Rattle.std.proofs.lemmas.Bool.Decides.{nat_tests}
-use Rattle.std.proofs.lemmas.List.Elements.{filter_agree}
-use lib.Dec.{T}
 use native.Mathlib.Numerals.{unary_clauses}
-use Rattle.std.specs.FinMap.{put}
 use Rattle.std.proofs.Common.{take, drop}
-use Rattle.std.proofs.lemmas.List.{take_all, take_more, at_drop_more, map-append, length-map}
-use Rattle.grb_core.specs.declared.value.Value.{Value}
 use Rattle.grb_core.specs.declared.value.Value.TheVariants as value
-use Rattle.grb_core.specs.Entries.{Cell, cell_cmp, cells_of, MatrixEntries, map_from, values_of, restricted, values_at}
-use Rattle.grb_lists.proofs.Places.{holds}
-use Rattle.grb_core.proofs.Maps.{cell_cmp_total, below-trans, find-map_from, find-tied_below, is_sorted-map_from}
-use Rattle.grb_market.specs.Gathered.{comes_before, has_place, count_apart, are_apart}
 use Rattle.grb_market.proofs.EntryMaps.{same_map, tied_cells, same_cell, same_place, map_from-push, is_some-map_from}
 
 -- at no place stand two

@@ -1,49 +1,20 @@
 -- The canonical text of a matrix, in its parts, and that it spells the matrix.
 use Rattle.std.proofs.Common.{◌≡◌, ◌≢◌, ℕ, suc, ◌+◌, ◌-◌, ◌*◌, ◌^◌, ◌<◌, ◌≤◌, eqb, not, cond, Bool, true, false, if◌then◌else◌, List, [], ◌∷◌, ◌++◌, length, get_or, map, filter, decimal, Option, Some, None, refl, sym, ap, subst, ◌∙◌, append_assoc, append-nil, length-append, arith}
 use Rattle.std.specs.Prelude.{All, ◌||◌}
-use Rattle.std.specs.List.{flat_map, list_all, list_any, slice_split, AllZip, AllByRecursion}
-use Rattle.std.specs.Option.{option_map, option_and_then}
-use Rattle.std.specs.Str.Parse.{digits_value}
-use Rattle.std.specs.declared.cmp.Ordering.{Ordering}
-use Rattle.std.specs.declared.cmp.Ordering.TheVariants.{Less, Equal, Greater}
-use Rattle.std.specs.Ordering.{nat_cmp, ordering_then}
-use Rattle.std.specs.FinMap.{is_sorted}
-use lib.Dec.{T}
-use Rattle.std.proofs.lemmas.Bool.Decides.{nat_tests}
+use Rattle.grb_market.proofs.Prelude.{flat_map, list_all, list_any, slice_split, AllZip, AllByRecursion, option_map, option_and_then, digits_value, Ordering, Less, Equal, Greater, nat_cmp, ordering_then, is_sorted, T, nat_tests, get_or_default, get_or-append-add, length-map, All-nil, All-cons, All-head, All-tail, All-append, slice_split_at, slice_split_none, length-slice_split, Domain, Value, Cell, cell_cmp, MatrixEntries, Matrix, IsDimension, cell_cmp_total, holds, below_at, first, second, Size, ended, lines_from, lines_of, is_comment, Number, is_blank, is_digit, words_of, begins_blank, ends_blank, number_of, numeral_of, numbers_from, head, head_of, SpellsEntry, HasNumbers, IsStated, value_stated, numbers_stated, first_line, spaced, size_text, entry_text, line_text, canonical, canonical_lines, entry_lines, is_false, CanonicalTextsSpell, CanonicalTextsAreReadBack}
 use Rattle.std.proofs.lemmas.Fmt.{digits_decimal, decimal_is_IsNumeral, decimal_nonempty}
-use Rattle.std.proofs.lemmas.Str.Parse.{IsNumeralModel, numerals_by_value}
-use Rattle.std.proofs.Common.{rules}
-use Rattle.std.proofs.lemmas.List.{get_or_default, get_or-append-add, length-map}
-use Rattle.std.proofs.lemmas.List.Elements.{All-nil, All-cons, All-head, All-tail, All-append}
 use Rattle.std.proofs.lemmas.List.Kept.{AllPairs-cons}
-use Rattle.std.proofs.lemmas.List.Splits.{slice_split_at, slice_split_none, length-slice_split}
 use Rattle.std.proofs.lemmas.List.Folds.{flat_map-map}
-use Rattle.grb_core.specs.declared.domain.Domain.{Domain}
 use Rattle.grb_core.specs.declared.domain.Domain.TheVariants as domain
-use Rattle.grb_core.specs.declared.value.Value.{Value}
 use Rattle.grb_core.specs.declared.value.Value.TheVariants as value
 use Rattle.grb_core.specs.Value.{IsValueOf}
-use Rattle.grb_core.specs.Entries.{Cell, cell_cmp, MatrixEntries}
-use Rattle.grb_core.specs.Contents.{Matrix, IsDimension}
 use Rattle.grb_core.proofs.Dimensions.{dimension-fits}
 use Rattle.grb_core.specs.Laws.{HavePlacesApart}
-use Rattle.grb_core.proofs.Maps.{cell_cmp_total}
-use Rattle.grb_lists.proofs.Places.{holds, below_at, first, second}
-use Rattle.grb_market.specs.declared.head.Size.{Size}
-use Rattle.grb_market.specs.Line.{ended, lines_from, lines_of, is_comment}
-use Rattle.grb_market.specs.Numbers.{Number, is_blank, is_digit, words_of, begins_blank, ends_blank, number_of, numeral_of, numbers_from}
-use Rattle.grb_market.specs.Reading.{head, head_of}
-use Rattle.grb_market.specs.Spells.{SpellsEntry, HasNumbers, IsStated, value_stated, numbers_stated}
-use Rattle.grb_market.specs.Canonical.{first_line, spaced, size_text, entry_text, line_text, canonical, canonical_lines, entry_lines, is_false}
-use Rattle.grb_market.specs.Laws.{CanonicalTextsSpell, CanonicalTextsAreReadBack}
 use Rattle.grb_market.proofs.EntryMaps.{map_from-sorted, same_cell}
 use Rattle.grb_market.proofs.ListLemmas.{ends_blank-last}
 use Rattle.grb_market.proofs.NextLineLemmas.{lines_from-more}
-use Rattle.grb_market.proofs.NumberLemmas.{digit_at, number_of-fits}
+use Rattle.grb_market.proofs.NumberLemmas.{numerals, digit_at, number_of-fits}
 use Rattle.grb_market.proofs.SpellsLemmas.{spell_at_most_one}
-
-own : IsNumeralModel (λ ds. list_all is_digit ds ≡ true) (digits_value 10)
-own = numerals_by_value (λ ds. list_all is_digit ds ≡ true) (search rules)
 
 pub canonical-parts : (m : Matrix) (text : List ℕ) (es : List (Cell × Value)) → text ≡ line_text (first_line m.domain) ++ line_text (size_text m) → es ≡ m.entries → text ++ entry_lines es ≡ canonical m
 canonical-parts m text es t e =
@@ -55,7 +26,7 @@ canonical-parts m text es t e =
 
 module _ (n : ℕ) (fits : n < 2 ^ 64) where
   pub decimal_digits : list_all is_digit (decimal n) ≡ true
-  decimal_digits = digits_decimal own n fits
+  decimal_digits = digits_decimal numerals n fits
 
   pub decimal_value : digits_value 10 (decimal n) ≡ n
   decimal_value = (decimal_is_IsNumeral n fits).1

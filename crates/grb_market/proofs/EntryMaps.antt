@@ -1,21 +1,8 @@
 -- Lists of entries, the maps that they make, and the entries on the other side of the diagonal.
 use Rattle.std.proofs.Common.{not, ◌≡◌, ◌≢◌, Bool, true, false, ◌||◌, if◌then◌else◌, cond, List, [], ◌∷◌, ◌++◌, map, Option, Some, None, is_some, refl, sym, ap, ◌∙◌}
-use Rattle.std.specs.declared.cmp.Ordering.{Ordering}
-use Rattle.std.specs.declared.cmp.Ordering.TheVariants.{Less, Equal, Greater}
+use Rattle.grb_market.proofs.Prelude.{Ordering, Less, Equal, Greater, option_or, list_any, find, put, is_sorted, by_order, find-put, is_sorted-put, same_entries, eq_by_cmp, is_eq, match_ordering, ordering_reverse, T, Value, Cell, cell_cmp, MatrixEntries, map_from, not-true, passes, cell_cmp_total, cell_cmp-IsAntisymmetric, find-append_maps, find-map_from, is_sorted-map_from, Head, mirrored, written_out}
 use Rattle.std.specs.BTreeMap.{insert_entry}
-use Rattle.std.specs.Option.{option_or}
-use Rattle.std.specs.List.{list_any}
-use Rattle.std.specs.FinMap.{find, put, is_sorted}
-use Rattle.std.specs.FinMap.Entries.{by_order, find-put, is_sorted-put, same_entries}
-use Rattle.std.specs.Ordering.{eq_by_cmp, is_eq, match_ordering, ordering_reverse}
-use lib.Dec.{T}
-use Rattle.grb_core.specs.declared.value.Value.{Value}
-use Rattle.grb_core.specs.Entries.{Cell, cell_cmp, MatrixEntries, map_from}
 use Rattle.std.specs.Prelude.{IsTrue}
-use Rattle.grb_lists.proofs.Places.{passes}
-use Rattle.grb_core.proofs.Maps.{cell_cmp_total, cell_cmp-IsAntisymmetric, find-append_maps, find-map_from, is_sorted-map_from}
-use Rattle.grb_market.specs.declared.head.Head.{Head}
-use Rattle.grb_market.specs.Spells.{mirrored, written_out}
 
 -- std's insertion into a tree is that of a finite map
 pub insert_entry-put : {K X : Type 0} (R : K → K → Ordering) (k : K) (v : X) (es : List (K × X)) → insert_entry R es k v ≡ put R k v es
@@ -132,17 +119,9 @@ written_out-map_from h es = by h.is_symmetric
     by true = map_from-both es
     by false = map_from-sorted (map_from cell_cmp es) (is_sorted-map_from cell_cmp cell_cmp_total es)
 
-when_not : (b : Bool) → not b ≡ true → b ≡ false
-when_not true h = cc
-when_not false h = refl
-
-pub unless_not : (b : Bool) → not b ≡ false → b ≡ true
-unless_not true h = refl
-unless_not false h = cc
-
 -- a matrix that is not symmetric is as it stands
 pub written_out-general : (h : Head) (es : MatrixEntries) → not h.is_symmetric ≡ true → T (is_sorted cell_cmp es) → es ≡ map_from cell_cmp (written_out h es)
-written_out-general h es g s = sym (ap (λ b. map_from cell_cmp (if b then es ++ map mirrored es else es)) (when_not h.is_symmetric g) ∙ map_from-sorted es s)
+written_out-general h es g s = sym (ap (λ b. map_from cell_cmp (if b then es ++ map mirrored es else es)) (not-true h.is_symmetric g) ∙ map_from-sorted es s)
 
 pub sorted-map_from : (es : MatrixEntries) → IsTrue (is_sorted cell_cmp (map_from cell_cmp es))
 sorted-map_from es = passes _ (is_sorted-map_from cell_cmp cell_cmp_total es)

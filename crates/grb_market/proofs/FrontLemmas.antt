@@ -1,27 +1,16 @@
 -- The numbers of a line are read one behind another.
 use Rattle.std.proofs.Common.{◌≡◌, ◌≢◌, ℕ, ◌<◌, eqb, not, cond, Bool, true, false, if◌then◌else◌, List, [], ◌∷◌, ◌++◌, length, filter, Option, Some, None, refl, sym, ap, ◌∙◌, append-nil, length-append, arith}
-use Rattle.std.specs.Prelude.{◌||◌, ◌&&◌}
-use Rattle.std.specs.List.{list_all, slice_split, onto_first}
-use Rattle.std.specs.Option.{option_map, option_and_then}
-use Rattle.std.proofs.lemmas.Bool.Decides.{nat_tests}
-use Rattle.grb_market.specs.Numbers.{is_digit, is_blank, words_of, begins_blank, ends_blank, Number, number_of, numeral_of, numbers_from, numbers_of}
-use Rattle.grb_market.specs.Front.{begins_digit, behind, before, has_number, IsNumberFront, IsBlankFront}
+use Rattle.grb_market.proofs.Prelude.{◌&&◌, list_all, slice_split, onto_first, option_map, option_and_then, nat_tests, is_digit, is_blank, words_of, begins_blank, ends_blank, Number, number_of, numeral_of, numbers_from, numbers_of, begins_digit, behind, before, has_number, IsNumberFront, IsBlankFront, and_parts, Head, Size, size_with, size_of, entry_with, entry_of}
+use Rattle.std.specs.Prelude.{◌||◌}
 use Rattle.std.specs.Prelude.{Err}
 use Rattle.grb_core.specs.declared.domain.Domain.TheVariants as domain
 use Rattle.grb_market.specs.declared.fault.FaultKind.TheVariants as kind
-use Rattle.grb_market.specs.declared.head.Head.{Head}
-use Rattle.grb_market.specs.declared.head.Size.{Size}
-use Rattle.grb_market.specs.Reading.{size_with, size_of, entry_with, entry_of}
 use Rattle.grb_market.proofs.CanonicalLemmas.{ends_blank-append}
 
 abbrev keep : List (List ℕ) → List (List ℕ)
 keep words = filter (λ word. not (eqb (length word) 0)) words
 
-both : (a b : Bool) → (a && b) ≡ true → (a ≡ true) × (b ≡ true)
-both true b h = (refl, h)
-both false b h = cc
-
-digit_no_blank : (b : ℕ) → is_digit b ≡ true → is_blank b ≡ false
+pub digit_no_blank : (b : ℕ) → is_digit b ≡ true → is_blank b ≡ false
 digit_no_blank b h = grind (arith, nat_tests)
 
 -- the parts of a text, of which the first is there
@@ -43,7 +32,7 @@ parts (b ∷ text) = parts_by b text (is_blank b) refl (parts text)
 digits_onto : (ds rest word : List ℕ) (words : List (List ℕ)) → list_all is_digit ds ≡ true → slice_split is_blank rest ≡ word ∷ words → slice_split is_blank (ds ++ rest) ≡ (ds ++ word) ∷ words
 digits_onto [] rest word words a e = e
 digits_onto (d ∷ ds) rest word words a e =
-    let p = both (is_digit d) (list_all is_digit ds) a in
+    let p = and_parts (is_digit d) (list_all is_digit ds) a in
     ap (λ t. cond t ([] ∷ slice_split is_blank (ds ++ rest)) (onto_first d (slice_split is_blank (ds ++ rest)))) (digit_no_blank d p.0) ∙ ap (onto_first d) (digits_onto ds rest word words p.1 e)
 
 keep_long : (d : ℕ) (w : List ℕ) (ws : List (List ℕ)) → keep ((d ∷ w) ∷ ws) ≡ (d ∷ w) ∷ keep ws
@@ -75,8 +64,8 @@ numbers_stuck word words a =
 -- no blank ends a text of digits
 digits_end : (ds : List ℕ) → list_all is_digit ds ≡ true → ends_blank ds ≡ false
 digits_end [] a = refl
-digits_end (d ∷ []) a = digit_no_blank d (both (is_digit d) true a).0
-digits_end (d ∷ e ∷ ds) a = digits_end (e ∷ ds) (both (is_digit d) (list_all is_digit (e ∷ ds)) a).1
+digits_end (d ∷ []) a = digit_no_blank d (and_parts (is_digit d) true a).0
+digits_end (d ∷ e ∷ ds) a = digits_end (e ∷ ds) (and_parts (is_digit d) (list_all is_digit (e ∷ ds)) a).1
 
 if_none : (b : Bool) → ◌≡◌ {A = Option (List Number)} (if b then None else None) None
 if_none true = refl
@@ -127,7 +116,7 @@ first_front line rest n p = by p.digits p.long p.all p.are
     by : (ds : List ℕ) → 0 < length ds → list_all is_digit ds ≡ true → line ≡ ds ++ rest → numbers_of line ≡ before n (behind rest)
     by [] l a e = absurd (omega arith)
     by (d ∷ ds) l a e =
-        let first : begins_blank line ≡ false = ap begins_blank e ∙ digit_no_blank d (both (is_digit d) (list_all is_digit ds) a).0 in
+        let first : begins_blank line ≡ false = ap begins_blank e ∙ digit_no_blank d (and_parts (is_digit d) (list_all is_digit ds) a).0 in
         ap (λ b. if b || ends_blank line then None else numbers_from (words_of line)) first ∙ behind_front line rest n p
 
 -- a text that begins with neither a digit nor a blank has no number
@@ -157,14 +146,14 @@ words_blank b bytes h = ap (λ t. keep (cond t ([] ∷ slice_split is_blank byte
 behind_blanks : (bl rest : List ℕ) → list_all is_blank bl ≡ true → 0 < length rest → behind (bl ++ rest) ≡ behind rest
 behind_blanks [] rest a l = refl
 behind_blanks (b ∷ bl) rest a l =
-    let p = both (is_blank b) (list_all is_blank bl) a in
+    let p = and_parts (is_blank b) (list_all is_blank bl) a in
     (λ j. if ends_front b (bl ++ rest) (omega (arith, length-append bl rest)) j then None else numbers_from (words_blank b (bl ++ rest) p.0 j)) ∙ behind_blanks bl rest p.1 l
 
 blanks_alone : (bl : List ℕ) → list_all is_blank bl ≡ true → has_number (behind bl) ≡ false
 blanks_alone [] a = refl
-blanks_alone (b ∷ []) a = ap (λ t. has_number (if t then None else numbers_from (words_of (b ∷ [])))) (both (is_blank b) true a).0
+blanks_alone (b ∷ []) a = ap (λ t. has_number (if t then None else numbers_from (words_of (b ∷ [])))) (and_parts (is_blank b) true a).0
 blanks_alone (b ∷ c ∷ bl) a =
-    let p = both (is_blank b) (list_all is_blank (c ∷ bl)) a in
+    let p = and_parts (is_blank b) (list_all is_blank (c ∷ bl)) a in
     ap (λ ws. has_number (if ends_blank (c ∷ bl) then None else numbers_from ws)) (words_blank b (c ∷ bl) p.0) ∙ blanks_alone (c ∷ bl) p.1
 
 pub next_front : (text mid rest : List ℕ) (n : Number) → IsBlankFront text mid → IsNumberFront mid n rest → behind text ≡ before n (behind rest)
@@ -210,14 +199,6 @@ more_left c (d ∷ rest) e = by (more_left d rest) (is_blank c) refl
 
 -- how many numbers a line has
 module _ (line : List ℕ) where
-  pub two_end : (rest : List ℕ) (i j : Number) → numbers_of line ≡ before i (before j (behind rest)) → length rest ≡ 0 → numbers_of line ≡ Some (i ∷ j ∷ [])
-  two_end [] i j e l = e
-  two_end (c ∷ rest) i j e l = absurd (omega arith)
-
-  pub three_end : (rest : List ℕ) (i j k : Number) → numbers_of line ≡ before i (before j (before k (behind rest))) → length rest ≡ 0 → numbers_of line ≡ Some (i ∷ j ∷ k ∷ [])
-  three_end [] i j k e l = e
-  three_end (c ∷ rest) i j k e l = absurd (omega arith)
-
   two_by : (o : Option (List Number)) (i j x y : Number) → o ≢ Some [] → before i (before j o) ≢ Some (x ∷ y ∷ [])
   two_by None i j x y h e = cc
   two_by (Some []) i j x y h e = h refl
@@ -246,19 +227,11 @@ module _ (line : List ℕ) where
   one_by (Some []) h i x y ns e = cc
   one_by (Some (n ∷ ms)) h i x y ns e = cc
 
-  short_by : (o : Option (List Number)) → has_number o ≡ false → (i j x y z : Number) → before i (before j o) ≢ Some (x ∷ y ∷ z ∷ [])
-  short_by None h i j x y z e = cc
-  short_by (Some []) h i j x y z e = cc
-  short_by (Some (n ∷ ms)) h i j x y z e = cc
-
   pub none_of_two : has_number (numbers_of line) ≡ false → (x y : Number) (ns : List Number) → numbers_of line ≢ Some (x ∷ y ∷ ns)
   none_of_two h x y ns e = none_by (numbers_of line) h x (y ∷ ns) e
 
   pub one_of_two : (rest : List ℕ) (i : Number) → numbers_of line ≡ before i (behind rest) → has_number (behind rest) ≡ false → (x y : Number) (ns : List Number) → numbers_of line ≢ Some (x ∷ y ∷ ns)
   one_of_two rest i e h x y ns f = one_by (behind rest) h i x y ns (sym e ∙ f)
-
-  pub two_of_three : (rest : List ℕ) (i j : Number) → numbers_of line ≡ before i (before j (behind rest)) → has_number (behind rest) ≡ false → (x y z : Number) → numbers_of line ≢ Some (x ∷ y ∷ z ∷ [])
-  two_of_three rest i j e h x y z f = short_by (behind rest) h i j x y z (sym e ∙ f)
 
 -- what a line with other numbers is not
 size_short : (h : Head) (o : Option (List Number)) → ((i j k : Number) → o ≢ Some (i ∷ j ∷ k ∷ [])) → size_with h o ≡ Err kind.SizeLine

@@ -1,6 +1,7 @@
 pub mod ListLemmas
 pub mod EntryMaps
 pub mod ApartLemmas
+pub mod Prelude
 pub mod ReadingLemmas
 pub mod MarketLemmas
 pub mod SpellsLemmas

@@ -1,6 +1,6 @@
 -- Numbers in front of those to come, and the last byte of a line.
 use Rattle.std.proofs.Common.{◌≡◌, ℕ, suc, zero, List, [], ◌∷◌, length, get_or, refl, arith}
-use Rattle.grb_market.specs.Numbers.{is_blank, ends_blank}
+use Rattle.grb_market.proofs.Prelude.{is_blank, ends_blank}
 
 -- the last byte decides
 pub ends_blank-last : (bs : List ℕ) (k : ℕ) → suc k ≡ length bs → is_blank (get_or bs k 0) ≡ ends_blank bs

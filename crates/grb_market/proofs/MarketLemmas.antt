@@ -1,25 +1,8 @@
 -- The first fault and the matrix of a text, line by line.
 use Rattle.std.proofs.Common.{◌≡◌, ℕ, ◌+◌, ◌<◌, ◌≤◌, ltb, eqb, not, map, Bool, true, false, if◌then◌else◌, List, [], ◌∷◌, ◌++◌, length, Option, Some, None, Ok, Err, refl, sym, ap, subst, ◌∙◌, append_assoc, append-nil, length-append, arith}
-use Rattle.std.specs.declared.result.Result.{Result}
-use Rattle.std.specs.Option.{option_map, option_map_or, option_to_list}
-use Rattle.std.specs.Result.{result_ok, result_err}
-use Rattle.std.proofs.lemmas.Bool.Decides.{nat_tests}
-use Rattle.grb_core.specs.declared.value.Value.{Value}
-use Rattle.grb_core.specs.Entries.{Cell, cell_cmp, MatrixEntries, map_from}
-use Rattle.grb_market.specs.declared.fault.FaultKind.{FaultKind}
-use Rattle.grb_market.specs.declared.fault.FaultKind.TheVariants.{UnendedLine, Header, TooFew, Repeated, TooMany}
+use Rattle.grb_market.proofs.Prelude.{Result, option_map, option_map_or, option_to_list, result_ok, result_err, nat_tests, Value, Cell, cell_cmp, MatrixEntries, map_from, FaultKind, UnendedLine, Header, TooFew, Repeated, TooMany, Head, Size, Line, ended, unended, lines_of, is_comment, head_of, size_of, entry_of, Stage, AtHeader, AtSize, AtEntry, Lost, behind_comments, stage_behind_size, stage_behind_header, stage_with, stage_of, entries_on, repeated, bytes_fault, missing_at, fault_at, first_fault, market_fault, length-map, map-append, has_place, count_apart, are_apart, AreSpelled, wrong_at, IsAtEnd, AreGathered, AreAllGathered, Stands, StandsBehind, IsRead}
 use Rattle.grb_market.specs.declared.fault.MarketFault.{MarketFault}
-use Rattle.grb_market.specs.declared.fault.ReadError.{ReadError}
-use Rattle.grb_market.specs.declared.fault.ReadError.TheVariants as read
-use Rattle.grb_market.specs.declared.head.Head.{Head}
-use Rattle.grb_market.specs.declared.head.Size.{Size}
-use Rattle.grb_market.specs.Line.{Line, ended, unended, lines_of, is_comment}
-use Rattle.grb_market.specs.Reading.{head_of, size_of, entry_of}
-use Rattle.grb_market.specs.Fault.{Stage, AtHeader, AtSize, AtEntry, Lost, behind_comments, stage_behind_size, stage_behind_header, stage_with, stage_of, entries_on, repeated, bytes_fault, missing_at, fault_at, first_fault, market_fault, IsWhyLineUnread, IsWhyUnread}
-use Rattle.std.proofs.lemmas.List.{length-map, map-append}
-use Rattle.grb_market.specs.Gathered.{has_place, count_apart, are_apart, AreSpelled, wrong_at, IsAtEnd, AreGathered, AreAllGathered}
 use Rattle.grb_market.proofs.ApartLemmas.{apart_all, apart_fewer}
-use Rattle.grb_market.specs.Stands.{Stands, StandsBehind, IsRead}
 
 -- what one line more leaves to be read
 abbrev pub advanced : Stage → List ℕ → Stage
@@ -55,11 +38,6 @@ stage_of-push (first ∷ more) bytes = behind_first more bytes (head_of first.by
 -- before the first line
 pub at_start : (text : List ℕ) → Stands text AtHeader 1 text
 at_start text = record { before = []; whole = refl; fault = refl; behind = refl }
-
--- the lines of an empty text
-pub lines_of-nothing : (rest : List ℕ) → length rest ≡ 0 → lines_of rest ≡ []
-lines_of-nothing [] h = refl
-lines_of-nothing (b ∷ rest) h = absurd (omega arith)
 
 module _ (text : List ℕ) (stage : Stage) (number : ℕ) (rest : List ℕ) (now : Stands text stage number rest) where
   -- the line here is faulty
@@ -307,11 +285,6 @@ module _ (h : Head) (s : Size) where
       let two = q.front.count in
       same_lines p.front.lines q.front.lines es fs p.left q.left (lines_of p.rest) (lines_of q.rest) w v (sym p.front.whole ∙ q.front.whole) p.front.spelled q.front.spelled (omega (arith, one, two)) p.is_wrong p.ends q.is_wrong q.ends
 
-  -- none yet
-  pub gathered_none : (behind : List ℕ) (es : MatrixEntries) → es ≡ [] → AreGathered h s behind es s.count behind
-  gathered_none behind [] none = record { lines = []; whole = refl; spelled = tt; count = omega arith; short = omega arith }
-  gathered_none behind (e ∷ es) none = cc
-
   spelled-push : (lines : List (List ℕ)) (es : MatrixEntries) (line : List ℕ) (e : Cell × Value) → AreSpelled h s lines es → entry_of h s line ≡ Ok e → AreSpelled h s (lines ++ line ∷ []) (es ++ e ∷ [])
   spelled-push [] [] line e p is = (is, tt)
   spelled-push [] (f ∷ es) line e p is = absurd p
@@ -340,10 +313,6 @@ next_head text bytes after h are is =
     subst (λ st. Stands text st 2 after) (ap (stage_with []) is)
     (next text AtHeader 1 text (at_start text) bytes after are (ap (λ o. option_map_or (λ _. None) o (Some Header)) is))
 
-pub head_fault : (text bytes : List ℕ) (more : List Line) → lines_of text ≡ ended bytes ∷ more → None ≡ head_of bytes → market_fault text ≡ Some (fault_at 1 Header)
-head_fault text bytes more are none =
-    fault_here text AtHeader 1 text (at_start text) bytes more Header are (ap (λ o. option_map_or (λ _. None) o (Some Header)) (sym none))
-
 module _ (text : List ℕ) (h : Head) (number : ℕ) (rest : List ℕ) (now : Stands text (AtSize h) number rest) (bytes after : List ℕ) (are : lines_of rest ≡ ended bytes ∷ lines_of after) where
   -- a comment
   pub next_comment : is_comment bytes ≡ true → Stands text (AtSize h) (number + 1) after
@@ -356,16 +325,6 @@ module _ (text : List ℕ) (h : Head) (number : ℕ) (rest : List ℕ) (now : St
   next_size s c is =
       subst (λ st. Stands text st (number + 1) after) (λ j. if c j then AtSize h else stage_behind_size h [] (is j))
       (next text (AtSize h) number rest now bytes after are (λ j. if c j then None else result_err (is j)))
-
-  -- its fault
-  pub size_fault : is_comment bytes ≡ false → (kind : FaultKind) → result_err (size_of h bytes) ≡ Some kind → market_fault text ≡ Some (fault_at number kind)
-  size_fault c kind is =
-      fault_here text (AtSize h) number rest now bytes (lines_of after) kind are (ap (λ b. if b then None else result_err (size_of h bytes)) c ∙ is)
-
--- a line that is not read is why the text is not read
-pub line_unread : (text : List ℕ) (number : ℕ) (found : Option FaultKind) (e : ReadError) → ((kind : FaultKind) → found ≡ Some kind → market_fault text ≡ Some (fault_at number kind)) → IsWhyLineUnread number found e → IsWhyUnread text e
-line_unread text number found (read.Fault f) w h = w f.kind h.1 ∙ (λ j. Some (record { line = sym h.0 j; kind = f.kind }))
-line_unread text number found read.OutOfMemory w h = tt
 
 -- the entries are reached
 abbrev pub is_at_entries : Stage → Bool

@@ -1,11 +1,8 @@
 -- The first line of a text.
 use Rattle.std.proofs.Common.{◌≡◌, ℕ, ◌+◌, ◌<◌, eqb, false, List, [], ◌∷◌, ◌++◌, length, take, drop, get_or, Some, None, refl, sym, ap, ◌∙◌, arith, suc, add-one, drop-cons, if◌then◌else◌}
 use Rattle.std.specs.List.{All}
-use Rattle.std.proofs.lemmas.Bool.{false_from_ne_true, eqb-true, ne_eqb}
-use Rattle.std.proofs.lemmas.List.{take-append-drop, length-take, get_or-take, get_or_default}
-use Rattle.std.proofs.lemmas.List.Splits.{slice_split_at, slice_split_none, length-slice_split}
+use Rattle.grb_market.proofs.Prelude.{false_from_ne_true, eqb-true, ne_eqb, take-append-drop, length-take, get_or-take, get_or_default, slice_split_at, slice_split_none, length-slice_split, ended, unended, lines_from, lines_of}
 use Rattle.memchr.specs.Find.{IsFirstByte, is_byte}
-use Rattle.grb_market.specs.Line.{ended, unended, lines_from, lines_of}
 
 pub lines_from-more : (piece : List ℕ) (pieces : List (List ℕ)) → 0 < length pieces → lines_from (piece ∷ pieces) ≡ ended piece ∷ lines_from pieces
 lines_from-more piece [] h = absurd (omega arith)

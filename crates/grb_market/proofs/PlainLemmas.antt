@@ -1,35 +1,14 @@
 -- A line of numbers with one space between them.
-use Rattle.std.proofs.Common.{◌≡◌, ℕ, ◌<◌, eqb, Bool, true, false, List, [], ◌∷◌, ◌++◌, length, Some, refl, sym, ap, ◌∙◌, append_assoc, append-nil, length-append, arith}
-use Rattle.std.specs.Prelude.{All, ◌&&◌}
-use Rattle.std.specs.List.{list_all}
-use Rattle.std.proofs.lemmas.Bool.Decides.{nat_tests}
-use Rattle.std.proofs.lemmas.List.Elements.{All-nil, All-cons, All-append}
-use Rattle.std.proofs.lemmas.List.Splits.{slice_split_at, length-slice_split}
-use Rattle.std.specs.declared.result.Result.{Result}
+use Rattle.std.proofs.Common.{◌≡◌, ℕ, ◌<◌, eqb, true, false, List, [], ◌∷◌, ◌++◌, length, Some, refl, sym, ap, ◌∙◌, append_assoc, append-nil, length-append, arith}
+use Rattle.grb_market.proofs.Prelude.{list_all, nat_tests, All-nil, All-cons, All-append, slice_split_at, length-slice_split, Result, and_parts, Value, Cell, FaultKind, Head, Size, entry_from, entry_with, IsEntryLine, lines_from, lines_of, is_digit, begins_blank, Number, numbers_of, before, IsNumberFront, IsBlankFront, IsNumberBefore, IsNumberLine}
+use Rattle.std.specs.Prelude.{All}
 use Rattle.grb_core.specs.declared.domain.Domain.TheVariants as domain
-use Rattle.grb_core.specs.declared.value.Value.{Value}
 use Rattle.grb_core.specs.declared.value.Value.TheVariants as value
-use Rattle.grb_core.specs.Entries.{Cell}
-use Rattle.grb_market.specs.declared.fault.FaultKind.{FaultKind}
-use Rattle.grb_market.specs.declared.head.Head.{Head}
-use Rattle.grb_market.specs.declared.head.Size.{Size}
-use Rattle.grb_market.specs.Reading.{entry_from, entry_with}
-use Rattle.grb_market.specs.Gathered.{IsEntryLine}
-use Rattle.grb_market.specs.Line.{lines_from, lines_of}
-use Rattle.grb_market.specs.Numbers.{is_digit, is_blank, begins_blank, Number, numbers_of}
-use Rattle.grb_market.specs.Front.{before, IsNumberFront, IsBlankFront, IsNumberBefore, IsNumberLine}
 use Rattle.grb_market.proofs.NextLineLemmas.{lines_from-more}
-use Rattle.grb_market.proofs.FrontLemmas.{first_front, next_front}
-
-both : (a b : Bool) → (a && b) ≡ true → (a ≡ true) × (b ≡ true)
-both true b h = (refl, h)
-both false b h = cc
+use Rattle.grb_market.proofs.FrontLemmas.{digit_no_blank, first_front, next_front}
 
 no_end : (b : ℕ) → is_digit b ≡ true → eqb b 10 ≡ false
 no_end b h = grind (arith, nat_tests)
-
-no_blank : (b : ℕ) → is_digit b ≡ true → is_blank b ≡ false
-no_blank b h = grind (arith, nat_tests)
 
 abbrev InLine : List ℕ → Type 0
 InLine line = All (λ b. eqb b 10 ≡ false) line
@@ -37,14 +16,14 @@ InLine line = All (λ b. eqb b 10 ≡ false) line
 digits_in_line : (ds : List ℕ) → list_all is_digit ds ≡ true → InLine ds
 digits_in_line [] a = All-nil (λ b. eqb b 10 ≡ false)
 digits_in_line (d ∷ ds) a =
-    let p = both (is_digit d) (list_all is_digit ds) a in All-cons (λ b. eqb b 10 ≡ false) d ds (no_end d p.0) (digits_in_line ds p.1)
+    let p = and_parts (is_digit d) (list_all is_digit ds) a in All-cons (λ b. eqb b 10 ≡ false) d ds (no_end d p.0) (digits_in_line ds p.1)
 
 before_blank : (ds rest : List ℕ) → InLine ds → InLine rest → InLine (ds ++ 32 ∷ rest)
 before_blank ds rest a b = All-append (λ b. eqb b 10 ≡ false) ds (32 ∷ rest) a (All-cons (λ b. eqb b 10 ≡ false) 32 rest refl b)
 
 digits_front : (ds rest : List ℕ) → 0 < length ds → list_all is_digit ds ≡ true → begins_blank (ds ++ rest) ≡ false
 digits_front [] rest l a = absurd (omega arith)
-digits_front (d ∷ ds) rest l a = no_blank d (both (is_digit d) (list_all is_digit ds) a).0
+digits_front (d ∷ ds) rest l a = digit_no_blank d (and_parts (is_digit d) (list_all is_digit ds) a).0
 
 -- the first line of a text
 line_is : (text line rest : List ℕ) (numbers : List Number) → text ≡ line ++ 10 ∷ rest → InLine line → numbers_of line ≡ Some numbers → IsNumberLine text numbers rest

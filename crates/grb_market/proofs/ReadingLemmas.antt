@@ -1,28 +1,12 @@
 -- A line that is read says what the relation has, and the other way round.
 use Rattle.std.proofs.Common.{◌≡◌, ℕ, ◌+◌, ◌-◌, ◌<◌, ◌≤◌, ltb, leb, eqb, not, map, Bool, true, false, if◌then◌else◌, List, [], ◌∷◌, Option, Some, None, Ok, Err, refl, sym, ap, subst, ◌∙◌, arith}
-use Rattle.std.specs.Prelude.{◌&&◌}
-use Rattle.std.specs.Option.{option_map}
-use Rattle.std.proofs.lemmas.Bool.Decides.{nat_tests}
-use Rattle.grb_core.specs.declared.domain.Domain.{Domain}
+use Rattle.grb_market.proofs.Prelude.{◌&&◌, option_map, nat_tests, and_parts, Domain, Value, Cell, is_dimension, IsDimension, Head, Size, Number, numbers_of, size_from, size_with, size_of, is_in, entry_at, entry_from, entry_with, entry_of, SpellsSize, value_stated, IsStated, SpellsEntry}
 use Rattle.grb_core.specs.declared.domain.Domain.TheVariants as domain
-use Rattle.grb_core.specs.declared.value.Value.{Value}
 use Rattle.grb_core.specs.declared.value.Value.TheVariants as value
-use Rattle.grb_core.specs.Entries.{Cell}
-use Rattle.grb_core.specs.Contents.{is_dimension, IsDimension}
 use Rattle.grb_market.specs.declared.fault.FaultKind.TheVariants as kind
-use Rattle.grb_market.specs.declared.head.Head.{Head}
-use Rattle.grb_market.specs.declared.head.Size.{Size}
-use Rattle.grb_market.specs.Numbers.{Number, numbers_of}
-use Rattle.grb_market.specs.Reading.{size_from, size_with, size_of, is_in, entry_at, entry_from, entry_with, entry_of}
-use Rattle.grb_market.specs.Spells.{SpellsSize, value_stated, IsStated, SpellsEntry}
-
--- both tests pass
-both_pass : (a b : Bool) → (a && b) ≡ true → (a ≡ true) × (b ≡ true)
-both_pass true b h = (refl, h)
-both_pass false b h = cc
 
 within : (most n : ℕ) → is_in most n ≡ true → (1 ≤ n) × (n ≤ most)
-within most n h = let p = both_pass (leb 1 n) (leb n most) h in (grind (arith, nat_tests, p.0), grind (arith, nat_tests, p.1))
+within most n h = let p = and_parts (leb 1 n) (leb n most) h in (grind (arith, nat_tests, p.0), grind (arith, nat_tests, p.1))
 
 is_in-is : (most i : ℕ) → i < most → is_in most (i + 1) ≡ true
 is_in-is most i h = grind (arith, nat_tests)
@@ -55,7 +39,7 @@ module _ (h : Head) where
   size_made r c n s true true d q e = cc
   size_made r c n s true false d q e =
       let same : ◌≡◌ {A = Size} (record { nrows = r; ncols = c; count = n }) s = cc in
-      let p = both_pass (is_dimension r) (is_dimension c) d in
+      let p = and_parts (is_dimension r) (is_dimension c) d in
       subst (SizeFrom r c n) same (refl, refl, refl, p.0, p.1, square_fact r c h.is_symmetric q)
 
   size_numbers : (bytes : List ℕ) (s : Size) (ns : Option (List Number)) → numbers_of bytes ≡ ns → size_with h ns ≡ Ok s → SpellsSize h bytes s
@@ -110,7 +94,7 @@ module _ (h : Head) (s : Size) where
   entry_stands i j v e d true q is = cc
   entry_stands i j v e d false q is =
       let same : ◌≡◌ {A = Cell × Value} ((i - 1, j - 1), v) e = cc in
-      let p = both_pass (is_in s.nrows i) (is_in s.ncols j) d in
+      let p = and_parts (is_in s.nrows i) (is_in s.ncols j) d in
       let row = within s.nrows i p.0 in
       let column = within s.ncols j p.1 in
       let i_is : i ≡ i - 1 + 1 = omega arith in

@@ -1,31 +1,9 @@
 -- A text has no fault exactly where it spells a matrix, and it spells one alone.
 use Rattle.std.proofs.Common.{◌≡◌, ◌≢◌, ℕ, zero, suc, ◌+◌, ◌<◌, ◌≤◌, ltb, map, Bool, true, false, ◌||◌, if◌then◌else◌, List, [], ◌∷◌, ◌++◌, length, get_or, Option, Some, None, Ok, Err, refl, sym, ap, subst, ◌∙◌, append_assoc, append-nil, length-append, arith}
 use Rattle.std.specs.Prelude.{All, IsTrue}
-use Rattle.std.specs.FinMap.{is_sorted}
-use Rattle.std.specs.List.{list_any, AllZip}
-use Rattle.std.specs.Option.{option_map, option_map_or, option_to_list}
-use Rattle.std.specs.Ordering.{eq_by_cmp}
-use Rattle.std.specs.Result.{result_ok, result_err}
-use Rattle.std.specs.declared.result.Result.{Result}
-use Rattle.std.proofs.lemmas.Bool.Decides.{nat_tests}
-use Rattle.std.proofs.Math.Seq.{get_or-append_seam}
-use Rattle.std.proofs.lemmas.List.{map-append, get_or_append_left}
-use Rattle.std.proofs.lemmas.List.Elements.{All-nil, All-cons, All-head, All-tail, All-map}
+use Rattle.grb_market.proofs.Prelude.{is_sorted, list_any, AllZip, option_map, option_map_or, option_to_list, eq_by_cmp, result_ok, result_err, Result, nat_tests, get_or-append_seam, map-append, get_or_append_left, All-nil, All-cons, All-head, All-tail, All-map, Value, Cell, cell_cmp, MatrixEntries, map_from, Matrix, FaultKind, Header, TooFew, TooMany, Repeated, Head, Size, Line, ended, lines_of, is_comment, head_of, size_of, entry_of, Stage, AtHeader, AtSize, AtEntry, Lost, behind_comments, stage_behind_size, stage_behind_header, stage_with, stage_of, entries_on, stands_in, repeated, bytes_fault, line_fault, missing_at, fault_at, first_fault, market_fault, Spells, SpellsEntry, written_out, FaultlessTextsSpell, SpellingTextsAreFaultless, SpellAtMostOne, IsRead}
 use Rattle.std.proofs.lemmas.List.Quantifiers.{all_pairs_push}
-use Rattle.grb_core.specs.declared.value.Value.{Value}
-use Rattle.grb_core.specs.Entries.{Cell, cell_cmp, MatrixEntries, map_from}
-use Rattle.grb_core.specs.Contents.{Matrix}
 use Rattle.grb_core.specs.Laws.{HavePlacesApart}
-use Rattle.grb_market.specs.declared.fault.FaultKind.{FaultKind}
-use Rattle.grb_market.specs.declared.fault.FaultKind.TheVariants.{Header, TooFew, TooMany, Repeated}
-use Rattle.grb_market.specs.declared.head.Head.{Head}
-use Rattle.grb_market.specs.declared.head.Size.{Size}
-use Rattle.grb_market.specs.Line.{Line, ended, lines_of, is_comment}
-use Rattle.grb_market.specs.Reading.{head_of, size_of, entry_of}
-use Rattle.grb_market.specs.Fault.{Stage, AtHeader, AtSize, AtEntry, Lost, behind_comments, stage_behind_size, stage_behind_header, stage_with, stage_of, entries_on, stands_in, repeated, bytes_fault, line_fault, missing_at, fault_at, first_fault, market_fault}
-use Rattle.grb_market.specs.Spells.{Spells, SpellsEntry, written_out}
-use Rattle.grb_market.specs.Laws.{FaultlessTextsSpell, SpellingTextsAreFaultless, SpellAtMostOne}
-use Rattle.grb_market.specs.Stands.{IsRead}
 use Rattle.grb_market.proofs.EntryMaps.{same_place, apart_cells, written_out-map_from, sorted-map_from}
 use Rattle.grb_market.proofs.ReadingLemmas.{size_of-is, spells_size, entry_of-is, spells_entry}
 use Rattle.grb_market.proofs.MarketLemmas.{advanced, stage_of-push, entries_on-push, is_at_entries, leads_to_matrix, none_of_map, none_here}

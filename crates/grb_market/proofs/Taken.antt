@@ -1,9 +1,7 @@
 -- What a sink has taken when it took a little more of some bytes.
 use Rattle.std.proofs.Common.{◌≡◌, ℕ, ◌+◌, ◌-◌, List, ◌++◌, length, take, drop, Option, sym, ap, ◌∙◌, subst}
-use Rattle.std.proofs.Math.Seq.{take-add}
+use Rattle.grb_market.proofs.Prelude.{take-add, take_rest, Appends}
 use Rattle.std.proofs.KnownBytes.{Appends-trans}
-use Rattle.std.proofs.lemmas.List.{take_rest}
-use Rattle.std.specs.Io.KnownBytes.{Appends}
 
 pub take_more : (bytes : List ℕ) (count more : ℕ) → take count bytes ++ take more (take (length bytes - count) (drop count bytes)) ≡ take (count + more) bytes
 take_more bytes count more = ap (λ rest. take count bytes ++ take more rest) (take_rest bytes count) ∙ sym (take-add count more bytes)

@@ -1,26 +1,11 @@
 -- What a text spells is a whole matrix.
 use Rattle.std.proofs.Common.{◌≡◌, ℕ, ◌+◌, ◌^◌, ◌<◌, ltb, map, IsTrue, rules, Bool, true, false, if◌then◌else◌, List, [], ◌∷◌, ◌++◌, Option, Some, None, refl, sym, subst, arith}
 use Rattle.std.specs.Prelude.{All, ◌||◌}
-use Rattle.std.specs.List.{AllZip, list_all}
-use Rattle.std.specs.Option.{option_map, option_and_then}
-use Rattle.std.specs.Str.Parse.{digits_value}
-use lib.Dec.{T}
-use Rattle.std.proofs.lemmas.Bool.Decides.{nat_tests}
-use Rattle.std.proofs.lemmas.List.Elements.{All-nil, All-cons, All-head, All-tail, All-append}
-use Rattle.grb_core.specs.declared.domain.Domain.{Domain}
+use Rattle.grb_market.proofs.Prelude.{AllZip, list_all, option_map, option_and_then, digits_value, T, nat_tests, All-nil, All-cons, All-head, All-tail, All-append, Domain, Value, Cell, cell_cmp, MatrixEntries, map_from, Matrix, IsMatrix, cell_cmp_total, is_sorted-map_from, Head, Size, Number, number_of, numbers_from, numbers_of, is_digit, words_of, begins_blank, ends_blank, Spells, SpellsEntry, IsStated, value_stated, mirrored, written_out, SpellMatrices}
 use Rattle.grb_core.specs.declared.domain.Domain.TheVariants as domain
-use Rattle.grb_core.specs.declared.value.Value.{Value}
 use Rattle.grb_core.specs.declared.value.Value.TheVariants as value
 use Rattle.grb_core.specs.Value.{IsValueOf}
-use Rattle.grb_core.specs.Entries.{Cell, cell_cmp, MatrixEntries, map_from}
-use Rattle.grb_core.specs.Contents.{Matrix, IsMatrix}
-use Rattle.grb_core.proofs.Maps.{cell_cmp_total, is_sorted-map_from}
 use Rattle.grb_sparse.proofs.Inside.{All-put_keys, All-put_values}
-use Rattle.grb_market.specs.declared.head.Head.{Head}
-use Rattle.grb_market.specs.declared.head.Size.{Size}
-use Rattle.grb_market.specs.Numbers.{Number, number_of, numbers_from, numbers_of, is_digit, words_of, begins_blank, ends_blank}
-use Rattle.grb_market.specs.Spells.{Spells, SpellsEntry, IsStated, value_stated, mirrored, written_out}
-use Rattle.grb_market.specs.Laws.{SpellMatrices}
 
 -- a number that is read is below 2^64
 abbrev Small : Number → Type 0

@@ -1,9 +1,7 @@
 -- What a sink has taken of a text that it is given piece by piece.
-use Rattle.std.proofs.Common.{◌≡◌, ℕ, ◌+◌, ◌≤◌, List, [], ◌++◌, length, take, Option, Some, None, refl, sym, ap, subst, ◌∙◌, append_assoc, append-nil, length-append, arith}
+use Rattle.std.proofs.Common.{◌≡◌, ℕ, ◌+◌, ◌≤◌, List, ◌++◌, length, take, Option, sym, ap, subst, ◌∙◌, append_assoc, length-append, arith}
 use Rattle.std.proofs.KnownBytes.{Appends-trans}
-use Rattle.std.proofs.Math.Seq.{take-append-add}
-use Rattle.std.proofs.lemmas.List.{take-append-le, take_all}
-use Rattle.std.specs.Io.KnownBytes.{Appends}
+use Rattle.grb_market.proofs.Prelude.{take-append-add, take-append-le, take_all, Appends}
 use Rattle.grb_market.specs.Sink.{AppendsBeginning}
 use Rattle.grb_market.specs.Written.{AppendsFront, PutFront}
 
@@ -12,13 +10,6 @@ pub record SoFar (before now : Option (List ℕ)) (pending whole : List ℕ) : T
   pub done : List ℕ
   pub taken : Appends before now done
   pub split : whole ≡ done ++ pending
-
-pub nothing : (known : Option (List ℕ)) → Appends known known []
-nothing None = tt
-nothing (Some bytes) = sym (append-nil bytes)
-
-pub SoFar-start : (known : Option (List ℕ)) (whole : List ℕ) → SoFar known known whole whole
-SoFar-start known whole = record { done = []; taken = nothing known; split = refl }
 
 pub SoFar-put : (before mid now : Option (List ℕ)) (a b rest whole : List ℕ) → SoFar before mid (a ++ rest) whole → PutFront mid now a b → SoFar before now (b ++ rest) whole
 SoFar-put before mid now a b rest whole s p = record {
@@ -52,6 +43,3 @@ SoFar-front before now pending whole s = (
   length s.done,
   subst (Appends before now) (sym (take-append-le (length s.done) s.done pending (omega arith) ∙ take_all (length s.done) s.done (omega arith)) ∙ ap (take (length s.done)) (sym s.split)) s.taken,
 )
-
-pub SoFar-end : (before mid now : Option (List ℕ)) (a whole : List ℕ) → SoFar before mid (a ++ []) whole → Appends mid now a → Appends before now whole
-SoFar-end before mid now a whole s p = subst (Appends before now) (ap (λ l. s.done ++ l) (sym (append-nil a)) ∙ sym s.split) (Appends-trans before mid now s.done a s.taken p)

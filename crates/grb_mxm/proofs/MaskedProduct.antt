@@ -1,7 +1,8 @@
 -- A product where a mask selects it: each row, all rows, and the output that is written.
 use Rattle.std.proofs.Common.{◌≡◌, ℕ, zero, suc, ◌<◌, Bool, true, false, cond, List, [], ◌∷◌, refl, sym, ap, subst, ◌∙◌, get_or}
-use Rattle.std.specs.Prelude.{◌&&◌, Option, Some, None, is_some, IsTrue, map}
+use Rattle.std.specs.Prelude.{◌&&◌, Option, Some, None, is_some, IsTrue, All, map}
 use Rattle.std.specs.List.{AllByRecursion}
+use Rattle.std.proofs.lemmas.List.Elements.{All-from_recursion, filter_passes}
 use Rattle.std.specs.declared.cmp.Ordering.{Ordering}
 use Rattle.std.specs.Ordering.{nat_cmp}
 use Rattle.std.specs.Cmp.{nat_cmp_total}
@@ -19,7 +20,9 @@ use Rattle.grb_core.specs.Results.{row_of, column_of, product_of, mxm_of}
 use Rattle.grb_core.proofs.Maps.{cell_cmp_total, cell_cmp-IsAntisymmetric, same_entries_at, find-map_on, is_sorted-map_on}
 use Rattle.grb_core.proofs.Edits.{find-restricted}
 use Rattle.grb_core.proofs.Written.{find-masked, is_sorted-masked, find-accumulated, accumulated_value}
+use Rattle.grb_call.specs.declared.descriptor.Descriptor.{Descriptor}
 use Rattle.grb_kernels.specs.Typed.{kept}
+use Rattle.grb_ewise.specs.Premises.{LieInside}
 use Rattle.grb_ewise.proofs.MatrixRows.{find-row, row-sorted}
 use Rattle.grb_semirings.specs.Open.{marked_at}
 use Rattle.grb_semirings.specs.Products.{products}
@@ -166,8 +169,31 @@ written-selected inside test replace accum c t h =
         ∙ ap (λ w. written_value (inside q) replace (find cell_cmp q c) w) (find-accumulated cell_cmp_total cell_cmp-IsAntisymmetric accum q c u)
 
 -- so a product that a mask bounds is written as the whole one
-pub written-bounded : (s : SemiringParts) (structure comp replace : Bool) (accum : Option BinaryOp) (mask : Option MatrixEntries) (c a b : MatrixEntries)
+written-bounded : (s : SemiringParts) (structure comp replace : Bool) (accum : Option BinaryOp) (mask : Option MatrixEntries) (c a b : MatrixEntries)
     → written cell_cmp (is_inside cell_cmp structure comp mask) replace accum c (selected_product s structure (bounding comp mask) a b) ≡ written cell_cmp (is_inside cell_cmp structure comp mask) replace accum c (mxm_of s a b)
 written-bounded s structure true replace accum mask c a b = refl
 written-bounded s structure false replace accum None c a b = refl
 written-bounded s structure false replace accum (Some m) c a b = written-selected (is_inside cell_cmp structure false (Some m)) (is_selected cell_cmp structure (Some m)) replace accum c (mxm_of s a b) (λ q e. e)
+
+pass : (m : MatrixEntries) → AllByRecursion (λ e. true ≡ true) m
+pass [] = tt
+pass (e ∷ m) = (refl, pass m)
+
+-- and where it is not the complement that is meant, nothing of it is outside
+bounded-inside : (s : SemiringParts) (structure comp : Bool) (mask : Option MatrixEntries) (a b : MatrixEntries) → comp ≡ false
+    → All (λ e. is_inside cell_cmp structure comp mask e.0 ≡ true) (selected_product s structure (bounding comp mask) a b)
+bounded-inside s structure true mask a b e = cc
+bounded-inside s structure false None a b e = All-from_recursion _ _ (pass (mxm_of s a b))
+bounded-inside s structure false (Some m) a b e = filter_passes (λ e. is_selected cell_cmp structure (Some m) e.0) (mxm_of s a b)
+
+-- a product that is bounded by some mask, by the one that bounds it
+module _ (s : SemiringParts) (d : Descriptor) (mask bound : Option MatrixEntries) (a b made : MatrixEntries) (is : made ≡ selected_product s d.structure bound a b) (bounds : bound ≡ bounding d.comp mask) where
+  made_bounded : made ≡ selected_product s d.structure (bounding d.comp mask) a b
+  made_bounded = is ∙ ap (λ m. selected_product s d.structure m a b) bounds
+
+  pub written-made : (accum : Option BinaryOp) (c : MatrixEntries)
+      → written cell_cmp (is_inside cell_cmp d.structure d.comp mask) d.replace accum c made ≡ written cell_cmp (is_inside cell_cmp d.structure d.comp mask) d.replace accum c (mxm_of s a b)
+  written-made accum c = ap (written cell_cmp (is_inside cell_cmp d.structure d.comp mask) d.replace accum c) made_bounded ∙ written-bounded s d.structure d.comp d.replace accum mask c a b
+
+  pub made-inside : d.comp ≡ false → LieInside cell_cmp mask d made
+  made-inside e = subst (λ (m : MatrixEntries). LieInside cell_cmp mask d m) (sym made_bounded) (bounded-inside s d.structure d.comp mask a b e)

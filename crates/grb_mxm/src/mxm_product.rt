@@ -18,7 +18,7 @@ use crate::factors::Factors;
 use crate::rows::MadeRows;
 use grb_call::Descriptor;
 use grb_core::{BinaryOp, Domain, Semiring};
-use grb_ewise::{Stored, transposed, write_masked_matrix};
+use grb_ewise::{Stored, transposed, write_inside_matrix, write_masked_matrix};
 use grb_lists::FlatRows;
 use grb_semirings::{Folded, MatrixRows, by_semiring, lend_matrix};
 use grb_sparse::SparseMatrix;
@@ -185,6 +185,11 @@ pub fn mxm(
     let bound = bounding_lists(mask, descriptor.comp);
     let (structure, tran) = (descriptor.structure, descriptor.tran);
     let computed = turned_product(alloc, semiring, structure, tran, bound, a, b)?;
-    let made = write_masked_matrix(alloc, output, mask, accum, descriptor, computed)?;
+    if descriptor.comp {
+        let masked = write_masked_matrix(alloc, output, mask, accum, descriptor, computed)?;
+        return Ok(masked);
+    }
+    // A product that the mask bounds has nothing outside of it.
+    let made = write_inside_matrix(alloc, output, mask, accum, descriptor, computed)?;
     Ok(made)
 }

@@ -106,8 +106,65 @@ fn list_with_room<U>(alloc: Global, room: usize) -> Vec<U>
     list
 }
 
-/// All rows, one after another. Takes memory to work in, and for the result, where `room` entries are reserved at first. `AllocError` where
-/// memory is refused; then nothing is made.
+/// So many rows are made ahead of all, to tell how many entries there may be.
+const SAMPLED_ROWS: usize = 64;
+
+/// Rows are sampled where they are so many or more, so one in 64 at most is made twice.
+const MANY_ROWS: usize = 4096;
+
+/// How many entries 64 rows have that stand far apart. They are made, and left. The first row is none of them, since it is often the
+/// longest; and each stands one place further on in its part than the one before it, so that they are not all at the edge of a grid.
+fn sampled_entries<T: Stored, R: RowMaker<T>>(
+    maker: &R,
+    work: &mut R::Work,
+    columns: &mut [u32],
+    values: &mut [T],
+) -> usize
+    requires some { 0 < length (R.listed maker.now) }
+    requires ready { R.ready maker.now work.old }
+    requires room { R.most maker.now ≤ length columns.old }
+    requires room_same { length columns.old ≡ length values.old }
+    ensures ready { R.ready maker.now work.new }
+{
+    let rows = maker.numbers().len();
+    let apart = rows / SAMPLED_ROWS + 1;
+    let mut count = 0usize;
+    'sampled: for k in 0..SAMPLED_ROWS {
+        let place = k
+            .saturating_mul(apart)
+            .saturating_add(apart / 2)
+            .min(rows - 1);
+        count = count.saturating_add(maker.make(place, work, columns, values));
+    }
+    count
+}
+
+/// How many entries all rows may have: a sixteenth more than those that are sampled tell, and `most` at most; `most`, where rows are not
+/// many. It bears on memory alone, for lists grow as they are written.
+fn expected_entries<T: Stored, R: RowMaker<T>>(
+    maker: &R,
+    work: &mut R::Work,
+    columns: &mut [u32],
+    values: &mut [T],
+    most: usize,
+) -> usize
+    requires ready { R.ready maker.now work.old }
+    requires room { R.most maker.now ≤ length columns.old }
+    requires room_same { length columns.old ≡ length values.old }
+    ensures ready { R.ready maker.now work.new }
+    ensures most { result ≤ most }
+{
+    let rows = maker.numbers().len();
+    if rows < MANY_ROWS {
+        return most;
+    }
+    let sampled = sampled_entries(maker, work, columns, values);
+    let each = sampled.saturating_add(sampled / 16);
+    each.saturating_mul(rows / SAMPLED_ROWS + 1).min(most)
+}
+
+/// All rows, one after another. Takes memory to work in, and for the result, of which at first as much is reserved as `expected_entries`
+/// tells, for `room` entries at most. `AllocError` where memory is refused; then nothing is made.
 pub(crate) fn make_rows<T: Stored + Drop, R: RowMaker<T>>(
     alloc: Global,
     maker: &R,
@@ -121,13 +178,14 @@ pub(crate) fn make_rows<T: Stored + Drop, R: RowMaker<T>>(
     let mut value_room = vec![in alloc; T::any(); width]?;
     let columns = column_room.as_mut_slice();
     let values = value_room.as_mut_slice();
-    let mut made = MadeRows {
-        rows: Vec::new(alloc),
-        starts: Vec::new(alloc),
-        columns: list_with_room(alloc, room),
-        values: list_with_room(alloc, room),
-    };
     let numbers = maker.numbers();
+    let entries = expected_entries(maker, &mut work, columns, values, room);
+    let mut made = MadeRows {
+        rows: list_with_room(alloc, numbers.len()),
+        starts: list_with_room(alloc, numbers.len()),
+        columns: list_with_room(alloc, entries),
+        values: list_with_room(alloc, entries),
+    };
     'rows: for place in 0..numbers.len() {
         let count = maker.make(place, &mut work, columns, values);
         push_row(

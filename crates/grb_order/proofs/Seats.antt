@@ -1,19 +1,13 @@
 -- What ties the parts of a seat stays so at each step.
-use Rattle.std.proofs.Common.{◌≡◌, ◌≢◌, ℕ, zero, suc, ◌+◌, ◌^◌, ◌<◌, ◌≤◌, List, [], ◌∷◌, ◌++◌, length, get_or, drop, append_assoc, sym, refl, ap, ◌∙◌, subst, arith, length-append}
+use Rattle.std.proofs.Common.{◌≡◌, ℕ, ◌+◌, ◌^◌, ◌<◌, ◌≤◌, List, [], ◌∷◌, ◌++◌, length, get_or, drop, append_assoc, sym, refl, ap, ◌∙◌, subst, arith, length-append}
 use mathlib.Core.Logic.{dite}
-use native.Mathlib.Decide.{ℕ_discrete, dec_le}
-use Rattle.std.specs.Prelude.{Some, slice_get}
+use native.Mathlib.Decide.{dec_le}
 use Rattle.std.specs.List.{All}
-use Rattle.atomic_table.specs.Seated.{TableId}
-use Rattle.grb_order.specs.declared.limits.TheConstants.{MOST_PASSES, MOST_ROOM}
-use Rattle.grb_order.specs.Holding.{Holding}
-use Rattle.grb_order.specs.Order.{AreFresh}
-use Rattle.grb_order.specs.Steps.{seated}
 use Rattle.std.proofs.lemmas.List.{get_or_at, append-nil, drop_all, drop_more, length_push}
 use Rattle.std.proofs.lemmas.List.Prefix.{front_rest}
-use Rattle.std.proofs.lemmas.List.Elements.{All-push, All-nil}
+use Rattle.std.proofs.lemmas.List.Elements.{All-push}
 use Rattle.grb_order.specs.Word.{order_word, IsWord, StartsWith}
-use Rattle.grb_order.specs.View.{fresh, learns, finds_vacant, enters_word, is_told, IsOthers, IsSound, LookedLast}
+use Rattle.grb_order.specs.View.{learns, finds_vacant, enters_word, is_told, IsOthers, IsSound, LookedLast}
 use Rattle.grb_order.specs.Seat.{IsSeatWith}
 use Rattle.grb_order.specs.declared.view.View.{View}
 use Rattle.grb_order.specs.declared.standing.Standing.{Standing}
@@ -95,45 +89,6 @@ module _ (tag size room : ℕ) (words : List ℕ) (capacity : ℕ) (v : Standing
 pub moved : (tag size room room' : ℕ) (words words' : List ℕ) (capacity capacity' : ℕ) (v v' : Standing) → room' ≡ room → words' ≡ words → capacity' ≡ capacity → v' ≡ v → IsSeatWith tag size room words capacity v → IsSeatWith tag size room' words' capacity' v'
 moved tag size room room' words words' capacity capacity' v v' same_room same_words same_capacity same p =
     subst (λ (y : ℕ × List ℕ × ℕ × Standing). IsSeatWith tag size y.0 y.1 y.2 y.3) (λ k. (sym same_room k, sym same_words k, sym same_capacity k, sym same k)) p
-
-get_before : {A : Type 0} (xs : List A) (y : A) (k : ℕ) → k < length xs → slice_get (xs ++ y ∷ []) k ≡ slice_get xs k
-get_before [] y k lt = absurd (omega arith)
-get_before (x ∷ xs) y zero lt = refl
-get_before (x ∷ xs) y (suc k) lt = get_before xs y k (omega arith)
-
-get_last : {A : Type 0} (xs : List A) (y : A) → slice_get (xs ++ y ∷ []) (length xs) ≡ Some y
-get_last [] y = refl
-get_last (x ∷ xs) y = get_last xs y
-
-abbrev fresh_at : TableId → ℕ → ℕ → Holding
-fresh_at order passes number = record { table_id = order; view = fresh number passes }
-
-near_of : (k n m : ℕ) → k < n + 1 → k ≢ n → m ≡ n → k < m
-near_of k n m lt ne e = omega arith
-
-else_of : (k n : ℕ) → k < n + 1 → k ≢ n → k < n
-else_of k n lt ne = omega arith
-
-pub fresh_more : (order : TableId) (passes : ℕ) (seats : List Holding) (upto : ℕ) (p : Holding) → AreFresh order passes seats upto → p ≡ record { table_id = order; view = fresh upto passes } → AreFresh order passes (seats ++ p ∷ []) (upto + 1)
-fresh_more order passes seats upto p are is = record {
-  count = length-append seats (p ∷ []) ∙ ap (λ (n : ℕ). n + 1) are.count;
-  each = λ k lt. dite (ℕ_discrete k upto)
-      (λ (e : k ≡ upto). ap (slice_get (seats ++ p ∷ [])) (e ∙ sym are.count) ∙ get_last seats p ∙ ap Some is ∙ ap (λ (n : ℕ). Some (fresh_at order passes n)) (sym e))
-      (λ (ne : k ≢ upto). get_before seats p k (near_of k upto (length seats) lt ne are.count) ∙ are.each k (else_of k upto lt ne));
-}
-
--- a seat that has just been dealt
-pub seated_fresh : (tag size room capacity passes : ℕ) → tag < passes → passes ≤ MOST_PASSES → size ≡ room → room ≤ MOST_ROOM → room ≤ capacity → IsSeatWith tag size room [] capacity (seated tag passes)
-seated_fresh tag size room capacity passes few most size_is small roomy = record {
-  role = refl;
-  number_is = refl;
-  size_is = size_is;
-  small = small;
-  passes = most;
-  words_are = refl;
-  roomy = roomy;
-  sound = record { number = few; few = omega arith; words = All-nil (IsWord passes); own = refl; looks = All-nil (λ n. n < room) };
-}
 
 under : (m n : ℕ) → ¬ (m ≤ n) → n ≤ m
 under m n more = omega arith

@@ -1,30 +1,13 @@
 -- What a pass has evaluated, as calls are learnt and evaluated.
 use Rattle.std.proofs.Common.{◌≡◌, ℕ, zero, suc, ◌+◌, ◌<◌, ◌≤◌, ◌⊎◌, inl, inr, List, [], ◌∷◌, ◌++◌, length, get_or, take, true, refl, sym, ap, ◌∙◌, subst, arith, length-append}
-use Rattle.std.specs.Prelude.{IfSome, OnOk, is_some, Option, Some, None, Result, Ok, Err, slice_get}
-use Rattle.std.specs.Result.{is_ok}
-use Rattle.std.proofs.lemmas.Option.{slice_get_within, get_or_from_slice_get}
-use Rattle.std.proofs.lemmas.List.{take_more, append-nil, length_push, take-append-le}
+use Rattle.grb_pass.proofs.Prelude.{IfSome, OnOk, Result, Ok, Err, slice_get, is_ok, slice_get_within, get_or_from_slice_get, take_more, append-nil, length_push, take-append-le, room_of, Shown, Call, Object, Entry, History, after_all, calls_of, MatrixShape, ObjectShapes, VectorShape, is_live, object_at, empty_store, shapes_of, KeepsAll, AreOneHistory, IsTable, Table, Knowing, Making, known, spelled, Begins, Enters, Learns, IsEvaluatedFor, IsInStep, IsPassState, IsSettledTable, LiesReady, own_learns, length-calls_of, calls_of-append, spelled_push, spelled_more}
+use Rattle.std.specs.Prelude.{is_some, Option, Some, None}
 use Rattle.grb_order.specs.Word.{order_word, number_of}
-use Rattle.grb_order.specs.Order.{room_of}
-use Rattle.grb_records.specs.Token.{Shown}
-use Rattle.grb_call.specs.declared.call.Call.{Call}
-use Rattle.grb_call.specs.declared.ids.Object.{Object}
-use Rattle.grb_call.specs.History.{Entry, History, after_all, calls_of}
 use Rattle.grb_call.specs.declared.ids.Object.TheVariants as object
-use Rattle.grb_call.specs.Shapes.{MatrixShape, ObjectShapes, VectorShape, is_live, object_at}
-use Rattle.grb_call.specs.Store.{empty_store, shapes_of}
-use Rattle.grb_results.specs.Kept.{IsReady, IsTableOf, KeepsAll}
+use Rattle.grb_results.specs.Kept.{IsReady}
 use Rattle.grb_results.specs.Lasts.{last_of}
-use Rattle.grb_results.specs.Results.{AreOneHistory, IsTable}
 use Rattle.grb_results.specs.declared.Learnt.{Learnt}
-use Rattle.grb_results.specs.declared.table.Table.{Table}
 use Rattle.grb_results.proofs.Grown.{table_on}
-use Rattle.grb_reader.specs.Known.{Knowing, Making, known, spelled}
-use Rattle.grb_reader.specs.Laws.{Begins}
-use Rattle.grb_reader.specs.Learning.{Enters, Learns}
-use Rattle.grb_pass.specs.Evaluated.{IsEvaluatedFor, IsInStep, IsPassState, IsSettledTable, LiesReady}
-use Rattle.grb_reader.proofs.Cells.{own_learns}
-use Rattle.grb_reader.proofs.Spelling.{length-calls_of, calls_of-append, spelled_push, spelled_more}
 
 pub ok_holds : {X E : Type 0} (r : Result X E) (P : Type 0) → is_ok r ≡ true → OnOk r P → P
 ok_holds (Ok x) P ok p = p
@@ -75,26 +58,6 @@ in_step_learns old new t order l made kept = record {
 
 pub state_learns : (old new : Knowing) (e : Table) (next : ℕ) → new.order ≡ old.order → Learns old new → new.made ≡ old.made → IsPassState old e next → IsPassState new e next
 state_learns old new e next order l made is = record { step = in_step_learns old new e order l made is.step; own = own_learns next old new l is.own }
-
--- where as many calls are noted as were made
-pub evaluated_noted : (p : Knowing) (t : Table) (made : Making) → IsEvaluatedFor p t → IsEvaluatedFor (record p { made = made }) t
-evaluated_noted p t made is = record {
-  table = is.table;
-  room_is = is.room_is;
-  settled = λ all. let before : IsSettledTable p t = is.settled all in record { all = before.all; ready = before.ready };
-  within = is.within;
-}
-
-pub in_step_noted : (p q : Knowing) (t : Table) → q ≡ record p { made = record { count = t.made; ready = None } } → IsEvaluatedFor p t → IsInStep q t
-in_step_noted p q t is evaluated =
-    subst (λ (k : Knowing). IsInStep k t) (sym is) (record { evaluated = evaluated_noted p t (record { count = t.made; ready = None }) evaluated; made = refl; ready = tt })
-
--- the table of all known calls, where these are settled
-pub settled_table : (p : Knowing) (t : Table) → IsEvaluatedFor p t → length (known p) ≤ p.settled → length t.learnt.nodes.items ≡ length (calls_of (known p))
-settled_table p t is all = (is.settled all).all ∙ sym (length-calls_of (known p))
-
-pub table_of : (p : Knowing) (t : Table) → IsTable (calls_of (known p)) t → length t.learnt.nodes.items ≡ length (calls_of (known p)) → IsTableOf (calls_of (known p)) t
-table_of p t is all = record { table = is; all = all }
 
 -- a table that was learnt on stays one of a pass
 module _ (p : Knowing) (old new : Table) (is : IsEvaluatedFor p old) where

@@ -1,24 +1,14 @@
 -- Where an object lies that a wait had the changes done of.
 use Rattle.std.proofs.Common.{◌≡◌, ℕ, ◌<◌, ◌≤◌, ◌⊎◌, inl, inr, true, length, is_some, refl, ap, subst, ◌∙◌, arith, Option, Some, None, option_map, List}
-use Rattle.std.specs.Prelude.{IfNone, IfSome, MatchOption}
-use Rattle.grb_call.specs.declared.ids.Object.{Object}
+use Rattle.grb_pass.proofs.Prelude.{IfNone, IfSome, MatchOption, Object, ObjectShapes, is_live, Store, empty_store, matrix_at, shapes_of, vector_at, after_all, calls_of, Call, IsTableOf, Table, IsEvaluatedFor, LiesReady, LiesReadyAfter, Knowing, known, IsLeftReady, length-calls_of}
 use Rattle.grb_call.specs.declared.ids.Object.TheVariants as object
-use Rattle.grb_call.specs.Shapes.{ObjectShapes, is_live}
-use Rattle.grb_call.specs.Store.{Store, empty_store, matrix_at, shapes_of, vector_at}
-use Rattle.grb_call.specs.History.{after_all, calls_of}
-use Rattle.grb_call.specs.declared.call.Call.{Call}
 use Rattle.grb_call.specs.declared.ids.MatrixId.{MatrixId}
 use Rattle.grb_call.specs.declared.ids.VectorId.{VectorId}
 use Rattle.grb_slices.specs.Content.{MatrixContent, VectorContent}
 use Rattle.grb_slices.proofs.Going.{take_all}
 use Rattle.grb_slices.proofs.Live.{live_by}
-use Rattle.grb_results.specs.Kept.{IsReady, IsTableOf}
-use Rattle.grb_results.specs.declared.table.Table.{Table}
-use Rattle.grb_pass.specs.Evaluated.{IsEvaluatedFor, LiesReady, LiesReadyAfter}
-use Rattle.grb_reader.specs.Known.{Knowing, known}
-use Rattle.grb_reader.specs.Settled.{IsLeftReady}
+use Rattle.grb_results.specs.Kept.{IsReady}
 use Rattle.grb_pass.proofs.Evaluating.{le_or_lt}
-use Rattle.grb_reader.proofs.Spelling.{length-calls_of}
 
 -- the table of all known calls
 pub table_here : (p : Knowing) (t : Table) → IsEvaluatedFor p t → length (known p) ≤ length t.learnt.nodes.items → IsTableOf (calls_of (known p)) t
@@ -42,17 +32,6 @@ vector_live s v there = live_by s (object.Vector v) ∙ some_map VectorContent (
 module _ (p : Knowing) (t : Table) (is : IsEvaluatedFor p t) (ready : IfSome p.made.ready (LiesReady t)) where
   left_lies : (o : Object) → IsLeftReady p o → LiesReadyAfter t o (length (known p))
   left_lies o left = subst (λ (x : Option (Object × ℕ)). IfSome x (LiesReady t)) left ready
-
-  -- where not all known calls were learnt, none of this is so
-  pub behind : (o : Object) → length t.learnt.nodes.items < length (known p) → IsLeftReady p o → ⊥
-  behind o less left = let lies = left_lies o left in absurd (omega (arith, less, lies.all))
-
-  pub behind_unsettled : length t.learnt.nodes.items < length (known p) → p.settled < length (known p)
-  behind_unsettled less = by (le_or_lt (length (known p)) p.settled)
-    where
-      by : (length (known p) ≤ p.settled) ⊎ (p.settled < length (known p)) → p.settled < length (known p)
-      by (inl all) = let all_learnt = (is.settled all).all in absurd (omega (arith, less, all_learnt))
-      by (inr few) = few
 
   -- nor where the object does not lie ready
   pub lacks : (o : Object) → (IsReady t o → ⊥) → IsLeftReady p o → ⊥

@@ -2,13 +2,7 @@
 use Rattle.std.proofs.Common.{◌≡◌, ℕ, ◌≤◌, true, false, inl, inr, length, None, Some, sym, ap, subst, ◌∙◌, arith}
 use Rattle.std.specs.Prelude.{Option}
 use Rattle.grb_core.specs.declared.refusal.Refusal.{Refusal}
-use Rattle.grb_call.specs.declared.call.Call.{Call}
-use Rattle.grb_call.specs.Kinds.{enters, is_build, is_size}
-use Rattle.grb_call.specs.Refused.{refused_by_shapes}
-use Rattle.grb_call.specs.Store.{shapes_of}
-use Rattle.grb_call.specs.History.{History, store_of}
-use Rattle.grb_reader.specs.Known.{Knowing, Making, known}
-use Rattle.grb_reader.specs.Made.{MakesNone, ReadsNone}
+use Rattle.grb_pass.proofs.Prelude.{Call, enters, is_build, is_size, refused_by_shapes, shapes_of, History, store_of, Knowing, Making, known, MakesNone, ReadsNone}
 
 -- one that only reads, and was not refused
 pub read_none : (now new : Knowing) (c : Call) (settled : ℕ) → new ≡ record now { settled = new.settled; made = new.made } → now.settled ≡ settled → refused_by_shapes (shapes_of (store_of (known now))) c ≡ None

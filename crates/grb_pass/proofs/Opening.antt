@@ -2,16 +2,9 @@
 use Rattle.std.proofs.Common.{◌≡◌, ◌≢◌, ℕ, zero, suc, ◌+◌, ◌<◌, ◌≤◌, List, [], ◌∷◌, ◌++◌, length, drop, get_or, refl, sym, ap, subst, ◌∙◌, arith}
 use mathlib.Core.Logic.{dite}
 use native.Mathlib.Decide.{ℕ_discrete}
-use Rattle.std.specs.Prelude.{Option, Some, slice_get}
-use Rattle.std.specs.List.{All}
-use Rattle.std.proofs.lemmas.List.{length_push}
+use Rattle.grb_pass.proofs.Prelude.{slice_get, All, length_push, fresh, Holding, TableId, AreFresh, room_of, IsOf, no_rows, Shared, Knowing, none_made, AreNew, HasNoStatus, IsPassOf}
+use Rattle.std.specs.Prelude.{Option, Some}
 use Rattle.std.proofs.lemmas.List.Elements.{All-nil}
-use Rattle.grb_order.specs.View.{fresh}
-use Rattle.grb_order.specs.Holding.{Holding, TableId}
-use Rattle.grb_order.specs.Order.{AreFresh, room_of}
-use Rattle.grb_records.specs.Token.{IsOf}
-use Rattle.grb_call.specs.Statuses.{no_rows}
-use Rattle.grb_reader.specs.Known.{Shared, Knowing, none_made, AreNew, HasNoStatus, IsPassOf}
 use Rattle.grb_call.proofs.StatusRows.{none_at}
 
 get_before : {A : Type 0} (xs : List A) (y : A) (k : ℕ) → k < length xs → slice_get (xs ++ y ∷ []) k ≡ slice_get xs k

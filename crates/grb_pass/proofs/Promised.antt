@@ -1,26 +1,11 @@
 -- All that a call promises follows from what its parts do.
 use Rattle.std.proofs.Common.{◌≡◌, ℕ, ◌≤◌, false, length, Option, ap, sym, subst, ◌∙◌}
 use Rattle.std.specs.Option.{option_or}
-use Rattle.std.specs.Prelude.{OnOk}
-use Rattle.grb_order.specs.Order.{room_of}
-use Rattle.grb_call.specs.declared.call.Call.{Call}
-use Rattle.grb_call.specs.declared.ids.Object.{Object}
-use Rattle.grb_call.specs.Kinds.{enters}
+use Rattle.grb_pass.proofs.Prelude.{OnOk, room_of, Call, Object, enters, Shared, Knowing, known, IsPassOf, Answer, ExplainsAnswer, IsCaughtUp, ground_of, CountsCall, LooksOnce, status_at, IsSteady, MakesNone, statuses_with, LeavesReady, settled_after, with_rest, explains_alike, caught_up_alike, counts_alike, known_alike, memory_explained, explains_begun, counts_begun, pass_same}
 use Rattle.grb_call.specs.Status.{info_of, made_by, object_of, statuses_after, with_status}
-use Rattle.grb_reader.specs.Known.{Shared, Knowing, known, IsPassOf}
-use Rattle.grb_reader.specs.Explains.{Answer, ExplainsAnswer, IsCaughtUp, ground_of}
-use Rattle.grb_reader.specs.Counting.{CountsCall, LooksOnce}
-use Rattle.grb_call.specs.Statuses.{status_at}
-use Rattle.grb_reader.specs.Learning.{IsSteady}
-use Rattle.grb_reader.specs.Made.{MakesNone}
 use Rattle.grb_pass.specs.Answered.{Promise, Answered, promised}
-use Rattle.grb_reader.specs.Replying.{statuses_with}
-use Rattle.grb_reader.specs.Settled.{LeavesReady, settled_after}
-use Rattle.grb_reader.proofs.Alike.{with_rest, explains_alike, caught_up_alike, counts_alike, known_alike}
-use Rattle.grb_reader.proofs.Answering.{memory_explained}
-use Rattle.grb_reader.proofs.Counted.{begun, explains_begun, counts_begun}
+use Rattle.grb_reader.proofs.Counted.{begun}
 use Rattle.grb_reader.proofs.Owning.{own_calls, is_known}
-use Rattle.grb_reader.proofs.Learnt.{pass_same}
 use Rattle.grb_pass.proofs.Settling.{explains_settled}
 
 -- what a call promises, field by field

@@ -1,34 +1,16 @@
 -- The reply to a call that only reads one object.
-use Rattle.std.proofs.Common.{◌≡◌, ℕ, ◌<◌, ◌≤◌, ◌⊎◌, inl, inr, Bool, true, false, if◌then◌else◌, length, refl, sym, ap, subst, ◌∙◌, Some, None}
-use Rattle.std.specs.Prelude.{◌&&◌, IfSome, Result, Ok, Err}
-use Rattle.std.specs.Result.{IsErr}
+use Rattle.std.proofs.Common.{◌≡◌, ℕ, ◌<◌, ◌≤◌, ◌⊎◌, inl, inr, Bool, true, false, if◌then◌else◌, length, sym, ap, subst, ◌∙◌, Some, None}
+use Rattle.grb_pass.proofs.Prelude.{IfSome, Result, Ok, Err, IsErr, same_Some, Call, Object, refused, reply_of, calls_of, store_of, enters, is_size, is_live, Store, shapes_of, IsKept, IsTableOf, ReadsObject, Table, IsEvaluatedFor, LiesReadyAfter, Knowing, known, is_materialize, waited_for}
 use Rattle.std.specs.declared.alloc.AllocError.{AllocError}
-use Rattle.grb_call.specs.declared.call.Call.{Call}
+use Rattle.std.proofs.lemmas.Bool.{and_parts}
 use Rattle.grb_call.specs.declared.call.Call.TheVariants as call
-use Rattle.grb_call.specs.declared.ids.Object.{Object}
 use Rattle.grb_call.specs.declared.reply.Reply.{Reply}
-use Rattle.grb_call.specs.After.{refused, reply_of}
-use Rattle.grb_call.specs.History.{calls_of, store_of}
-use Rattle.grb_call.specs.Kinds.{enters, is_size}
-use Rattle.grb_call.specs.Shapes.{is_live}
 use Rattle.grb_call.specs.Status.{object_of}
-use Rattle.grb_call.specs.Store.{Store, shapes_of}
 use Rattle.grb_call.proofs.Passed.{has_passed}
-use Rattle.grb_results.specs.Kept.{IsKept, IsReady, IsTableOf, ReadsObject}
-use Rattle.grb_results.specs.declared.table.Table.{Table}
-use Rattle.grb_pass.specs.Evaluated.{IsEvaluatedFor, LiesReadyAfter}
-use Rattle.grb_reader.specs.Known.{Knowing, known}
+use Rattle.grb_results.specs.Kept.{IsReady}
 use Rattle.grb_pass.specs.Given.{IsGiven}
-use Rattle.grb_reader.specs.Settled.{is_materialize, waited_for}
 use Rattle.grb_pass.proofs.Evaluating.{le_or_lt}
 use Rattle.grb_pass.proofs.Held.{live_here}
-
-same_some : {X : Type 0} (x y : X) → Some x ≡ Some y → x ≡ y
-same_some x y e = cc
-
-first_of : (a b : Bool) → (a && b) ≡ true → a ≡ true
-first_of true b e = refl
-first_of false b e = cc
 
 -- a call that reads an object and is not refused reads one that is there
 module _ (s : Store) where
@@ -36,14 +18,14 @@ module _ (s : Store) where
   IsThere o = is_live (shapes_of s) o ≡ true
 
   there : (c : Call) (o : Object) → enters c ≡ false → is_size c ≡ false → object_of c ≡ Some o → refused s c ≡ None → IsThere o
-  there (call.GetMatrix a i j) o reads no_size about accepted = subst IsThere (same_some _ o about) (first_of _ _ (has_passed s (call.GetMatrix a i j) accepted).initialized)
-  there (call.GetVector v i) o reads no_size about accepted = subst IsThere (same_some _ o about) (first_of _ _ (has_passed s (call.GetVector v i) accepted).initialized)
-  there (call.NvalsMatrix a) o reads no_size about accepted = subst IsThere (same_some _ o about) (first_of _ _ (has_passed s (call.NvalsMatrix a) accepted).initialized)
-  there (call.NvalsVector v) o reads no_size about accepted = subst IsThere (same_some _ o about) (first_of _ _ (has_passed s (call.NvalsVector v) accepted).initialized)
-  there (call.ReduceMatrix a monoid) o reads no_size about accepted = subst IsThere (same_some _ o about) (first_of _ _ (has_passed s (call.ReduceMatrix a monoid) accepted).initialized)
-  there (call.ReduceVector v monoid) o reads no_size about accepted = subst IsThere (same_some _ o about) (first_of _ _ (has_passed s (call.ReduceVector v monoid) accepted).initialized)
-  there (call.WaitMatrix a mode) o reads no_size about accepted = subst IsThere (same_some _ o about) (first_of _ _ (has_passed s (call.WaitMatrix a mode) accepted).initialized)
-  there (call.WaitVector v mode) o reads no_size about accepted = subst IsThere (same_some _ o about) (first_of _ _ (has_passed s (call.WaitVector v mode) accepted).initialized)
+  there (call.GetMatrix a i j) o reads no_size about accepted = subst IsThere (same_Some _ o about) (and_parts _ _ (has_passed s (call.GetMatrix a i j) accepted).initialized).0
+  there (call.GetVector v i) o reads no_size about accepted = subst IsThere (same_Some _ o about) (and_parts _ _ (has_passed s (call.GetVector v i) accepted).initialized).0
+  there (call.NvalsMatrix a) o reads no_size about accepted = subst IsThere (same_Some _ o about) (and_parts _ _ (has_passed s (call.NvalsMatrix a) accepted).initialized).0
+  there (call.NvalsVector v) o reads no_size about accepted = subst IsThere (same_Some _ o about) (and_parts _ _ (has_passed s (call.NvalsVector v) accepted).initialized).0
+  there (call.ReduceMatrix a monoid) o reads no_size about accepted = subst IsThere (same_Some _ o about) (and_parts _ _ (has_passed s (call.ReduceMatrix a monoid) accepted).initialized).0
+  there (call.ReduceVector v monoid) o reads no_size about accepted = subst IsThere (same_Some _ o about) (and_parts _ _ (has_passed s (call.ReduceVector v monoid) accepted).initialized).0
+  there (call.WaitMatrix a mode) o reads no_size about accepted = subst IsThere (same_Some _ o about) (and_parts _ _ (has_passed s (call.WaitMatrix a mode) accepted).initialized).0
+  there (call.WaitVector v mode) o reads no_size about accepted = subst IsThere (same_Some _ o about) (and_parts _ _ (has_passed s (call.WaitVector v mode) accepted).initialized).0
   there _ o reads no_size about accepted = cc
 
 kept_of : (t : Table) (o : Object) → IsReady t o → IsKept t o

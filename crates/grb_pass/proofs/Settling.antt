@@ -1,23 +1,10 @@
 -- What is settled after a call.
 use Rattle.std.proofs.Common.{◌≡◌, ℕ, ◌+◌, ◌≤◌, Bool, true, false, cond, [], ◌∷◌, ◌++◌, length, refl, sym, ap, ◌∙◌, subst, arith, length-append}
-use Rattle.std.proofs.lemmas.List.{length_push}
-use Rattle.std.specs.Prelude.{IfSome, None, Option, Result, Ok, Err, OnOk, OnErr}
-use Rattle.std.specs.Result.{result_or}
+use Rattle.grb_pass.proofs.Prelude.{length_push, IfSome, Result, Ok, Err, OnOk, OnErr, result_or, OutOfMemory, Call, Object, Entry, History, enters, Knowing, known, Answer, ExplainsAnswer, ExplainsCall, is_entered, is_materialize, settled_after, waited_for, IsLeftReady, LeavesReady}
+use Rattle.std.specs.Prelude.{None, Option}
 use Rattle.std.specs.declared.alloc.AllocError.{AllocError}
-use Rattle.grb_core.specs.declared.refusal.Refusal.TheVariants.{OutOfMemory}
-use Rattle.grb_call.specs.declared.call.Call.{Call}
 use Rattle.grb_call.specs.declared.call.Call.TheVariants as call
-use Rattle.grb_call.specs.declared.descriptor.WaitMode.{WaitMode}
-use Rattle.grb_call.specs.declared.descriptor.WaitMode.TheVariants.{Complete, Materialize}
-use Rattle.grb_call.specs.declared.ids.Object.{Object}
-use Rattle.grb_call.specs.declared.ids.Object.TheVariants as object
 use Rattle.grb_call.specs.declared.reply.Reply.{Reply}
-use Rattle.grb_call.specs.History.{Entry, History}
-use Rattle.grb_call.specs.Kinds.{enters, is_size}
-use Rattle.grb_reader.specs.Known.{Knowing, known}
-use Rattle.grb_reader.specs.Explains.{Answer, ExplainsAnswer, ExplainsCall, is_entered}
-use Rattle.grb_reader.specs.Settled.{is_materialize, settled_after, waited_for, IsLeftReady, LeavesReady}
-use Rattle.grb_state.specs.Settled.{AreAllAssembled, HasWaited, IsSettled}
 
 enters_no_materialize : (c : Call) → enters c ≡ true → is_materialize c ≡ false
 enters_no_materialize (call.WaitMatrix a mode) e = cc
@@ -71,27 +58,11 @@ explains_settled room old new c r is before settled =
       known_after = omega (arith, settled, between.1);
     }
 
-has_waited : (assembled : Object → Bool) (o : Object) (mode : WaitMode) → AreAllAssembled assembled → HasWaited assembled o mode
-has_waited assembled o Complete all = all o
-has_waited assembled o Materialize all = all
-
--- where no change waits in any object, a reading call asks for none to be done
-pub all_settled : (assembled : Object → Bool) (c : Call) → AreAllAssembled assembled → IsSettled assembled c
-all_settled assembled (call.WaitMatrix a mode) all = has_waited assembled (object.Matrix a) mode all
-all_settled assembled (call.WaitVector v mode) all = has_waited assembled (object.Vector v) mode all
-all_settled assembled _ all = tt
-
 -- a call that would be entered waits for no object
 enters_no_wait : (c : Call) → enters c ≡ true → waited_for c ≡ None
 enters_no_wait (call.WaitMatrix a mode) e = cc
 enters_no_wait (call.WaitVector v mode) e = cc
 enters_no_wait _ e = refl
-
--- nor does one for dimensions
-size_no_wait : (c : Call) → is_size c ≡ true → waited_for c ≡ None
-size_no_wait (call.WaitMatrix a mode) e = cc
-size_no_wait (call.WaitVector v mode) e = cc
-size_no_wait _ e = refl
 
 no_wait : (p : Knowing) (c : Call) → waited_for c ≡ None → LeavesReady p c
 no_wait p c none = subst (λ (o : Option Object). IfSome o (IsLeftReady p)) (sym none) tt
@@ -102,9 +73,6 @@ if_ok (Err e) p = tt
 
 pub entered_ready : (p : Knowing) (c : Call) (r : Answer) → enters c ≡ true → OnOk r (LeavesReady p c)
 entered_ready p c r writes = if_ok r (no_wait p c (enters_no_wait c writes))
-
-pub size_ready : (p : Knowing) (c : Call) → is_size c ≡ true → LeavesReady p c
-size_ready p c is = no_wait p c (size_no_wait c is)
 
 -- what holds of an answer that was evaluated holds of the answer
 pub ready_or : (P : Type 0) (r : Result Reply AllocError) → OnOk r P → OnOk (result_or r (Err OutOfMemory)) P

@@ -1,25 +1,11 @@
 -- What the passes of a successor know, call by call.
 use Rattle.std.proofs.Common.{◌≡◌, ℕ, zero, suc, ◌+◌, ◌<◌, List, [], ◌∷◌, ◌++◌, length, refl, sym, ap, subst, ◌∙◌, arith, length-append}
-use Rattle.std.specs.Prelude.{Some, slice_get, slice_set, slice_index_or}
-use Rattle.std.specs.List.{All, insert, remove}
-use Rattle.std.proofs.lemmas.List.{append-nil}
+use Rattle.grb_pass.proofs.Prelude.{slice_get, slice_index_or, All, insert, remove, append-nil, slice_get_within, same_Some, fresh, room_of, IsOf, Call, Store, IsStore, empty_store, after, History, calls_of, after_all, store_of, no_rows, rebuilt, AreNew, IsPassOf, Shared, Knowing, known, none_made, Begins, AreBegun, BeginsWith, IsOpened, IsOpenedWith, calls_of-append}
+use Rattle.std.specs.Prelude.{Some}
 use Rattle.std.proofs.lemmas.List.Elements.{All-cons}
-use Rattle.std.proofs.lemmas.Option.{slice_get_within}
-use Rattle.grb_order.specs.View.{fresh}
-use Rattle.grb_order.specs.Order.{room_of}
-use Rattle.grb_records.specs.Token.{IsOf}
-use Rattle.grb_call.specs.declared.call.Call.{Call}
-use Rattle.grb_call.specs.Store.{Store, IsStore, empty_store}
-use Rattle.grb_call.specs.After.{after}
-use Rattle.grb_call.specs.History.{History, calls_of, after_all, store_of}
-use Rattle.grb_call.specs.Statuses.{no_rows}
 use Rattle.grb_call.proofs.Runs.{after_all-append}
-use Rattle.grb_rebuild.specs.Rebuilt.{rebuilt}
 use Rattle.grb_rebuild.proofs.Rebuilding.{rebuild_leaves_the_store}
-use Rattle.grb_reader.specs.Known.{AreNew, IsPassOf, Shared, Knowing, known, none_made}
-use Rattle.grb_reader.specs.Laws.{Begins}
-use Rattle.grb_pass.specs.Succeeding.{AreBegun, BeginsWith, IsOpened, IsOpenedWith, made_by, begun}
-use Rattle.grb_reader.proofs.Spelling.{calls_of-append}
+use Rattle.grb_pass.specs.Succeeding.{made_by, begun}
 
 -- the store after one more call
 pub store_of-push : (h : History) (n : ℕ) (c : Call) → store_of (h ++ (n, c) ∷ []) ≡ after (store_of h) c
@@ -28,10 +14,6 @@ store_of-push h n c = ap (after_all empty_store) (calls_of-append h ((n, c) ∷ 
 pub calls_of-made_by : (n : ℕ) (cs : List Call) → calls_of (made_by n cs) ≡ cs
 calls_of-made_by n [] = refl
 calls_of-made_by n (c ∷ cs) = ap (λ ds. c ∷ ds) (calls_of-made_by n cs)
-
-pub length-made_by : (n : ℕ) (cs : List Call) → length (made_by n cs) ≡ length cs
-length-made_by n [] = refl
-length-made_by n (c ∷ cs) = ap suc (length-made_by n cs)
 
 pub store_of-made_by : (n : ℕ) (cs : List Call) → store_of (made_by n cs) ≡ after_all empty_store cs
 store_of-made_by n cs = ap (after_all empty_store) (calls_of-made_by n cs)
@@ -64,19 +46,6 @@ pub removed_rest : {X : Type 0} (xs ys : List X) (n : ℕ) → 0 < length xs →
 removed_rest [] ys n some e = absurd (omega arith)
 removed_rest (x ∷ xs) ys n some e = let next : suc n ≡ n + 1 = omega arith in ap (λ zs. slice_get zs n) e ∙ ap (slice_get (x ∷ xs)) next
 
-same_some : {X : Type 0} (x y : X) → Some x ≡ Some y → x ≡ y
-same_some x y e = cc
-
--- what holds of each element holds where one is set of which it holds
-pub each_set : {X : Type 0} (Q : ℕ → X → Type 0) (xs : List X) (i : ℕ) (x : X) → ((n : ℕ) (p : X) → n < i → slice_get xs n ≡ Some p → Q n p) → ((n : ℕ) (p : X) → i < n → slice_get xs n ≡ Some p → Q n p) → Q i x
-    → (n : ℕ) (p : X) → slice_get (slice_set xs i x) n ≡ Some p → Q n p
-each_set Q [] i x below above here n p e = absurd cc
-each_set Q (y ∷ xs) zero x below above here zero p e = subst (Q 0) (same_some x p e) here
-each_set Q (y ∷ xs) zero x below above here (suc n) p e = above (suc n) p (omega arith) e
-each_set Q (y ∷ xs) (suc i) x below above here zero p e = below 0 p (omega arith) e
-each_set Q (y ∷ xs) (suc i) x below above here (suc n) p e =
-    each_set (λ m. Q (suc m)) xs i x (λ m q lt f. below (suc m) q (omega arith) f) (λ m q lt f. above (suc m) q (omega arith) f) here n p e
-
 -- what holds of each element by its index holds of all
 pub each_all : {X : Type 0} (P : X → Type 0) (xs : List X) → ((n : ℕ) (p : X) → slice_get xs n ≡ Some p → P p) → All P xs
 each_all P [] h = λ k d lt. absurd (omega arith)
@@ -91,21 +60,21 @@ pub are_begun : (context : Shared) (s : Store) (passes : ℕ) (first : Knowing) 
     → ((n : ℕ) (p : Knowing) → slice_get others n ≡ Some p → IsOpenedWith context first (n + 1) p) → ((n : ℕ) (p : Knowing) → slice_get others n ≡ Some p → known p ≡ known first) → AreBegun context s passes all
 are_begun context s passes first others all whole is count opened many knows each told = subst (AreBegun context s passes) (sym is) (record { count = omega (arith, count); passes_are = each_all (IsOfMany passes) (first ∷ others) of; each = at }) where
   of : (number : ℕ) (p : Knowing) → slice_get (first ∷ others) number ≡ Some p → IsOfMany passes p
-  of zero p e = subst (IsOfMany passes) (same_some first p e) many
+  of zero p e = subst (IsOfMany passes) (same_Some first p e) many
   of (suc n) p e = (each n p e).passes ∙ many
 
   begins : (number : ℕ) (p : Knowing) → IsOpened context number p → known p ≡ begun s → BeginsWith context s number p
   begins number p fresh same = record { opened = fresh; known_is = same; store_is = ap store_of same ∙ store_of-begun s whole }
 
   at : (number : ℕ) (p : Knowing) → slice_get (first ∷ others) number ≡ Some p → BeginsWith context s number p
-  at zero p e = subst (BeginsWith context s 0) (same_some first p e) (begins 0 first opened knows)
+  at zero p e = subst (BeginsWith context s 0) (same_Some first p e) (begins 0 first opened knows)
   at (suc n) p e = begins (suc n) p (subst (λ (m : ℕ). IsOpened context m p) (omega arith) (each n p e).opened) (told n p e ∙ knows)
 
 -- a pass that was opened
 pub new_opened : (context : Shared) (passes : ℕ) (opened : List Knowing) (n : ℕ) (p : Knowing) → AreNew context.order passes opened passes → slice_get opened n ≡ Some p → IsOpened context n p × (known p ≡ []) × (p.view.passes ≡ passes)
 new_opened context passes opened n p new at =
     let lt : n < passes = omega (arith, slice_get_within opened n p at, new.count) in
-    let is : record { order = context.order; view = fresh n passes; shown = []; steps = 0; statuses = no_rows (room_of context.order); settled = 0; made = none_made } ≡ p = same_some _ p (sym (new.each n lt) ∙ at) in (
+    let is : record { order = context.order; view = fresh n passes; shown = []; steps = 0; statuses = no_rows (room_of context.order); settled = 0; made = none_made } ≡ p = same_Some _ p (sym (new.each n lt) ∙ at) in (
       record {
         pass = record { order = ap (λ (k : Knowing). k.order) (sym is); records = subst (λ (k : Knowing). All (IsOf context.records) k.shown) is (λ k d none. absurd (omega arith)) };
         number_is = ap (λ (k : Knowing). k.view.number) (sym is);

@@ -1,4 +1,5 @@
 pub mod Answered
+pub mod Chosen
 pub mod Evaluated
 pub mod Given
 pub mod Succeeding

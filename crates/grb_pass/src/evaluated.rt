@@ -12,6 +12,7 @@ ghost use Rattle.grb_reader.specs.Known.{known};
 ghost use Rattle.grb_reader.specs.Laws.{Begins};
 
 mod answers;
+mod choosing;
 mod exchange;
 mod held;
 mod succeeding;

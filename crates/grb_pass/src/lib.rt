@@ -7,6 +7,7 @@
 //! loop. Which calls there are is left to the crates below.
 #![tactic(auto)]
 
+mod branch;
 mod enter;
 mod evaluated;
 mod learn;

@@ -1,6 +1,6 @@
 //! A pass: one thread's way into the history, with what it knows, has evaluated and was answered.
 ghost use Rattle.std.specs.Prelude.{◌≡◌, ℕ, ◌<◌, ◌≤◌, ◌+◌, ◌^◌, ◌==◌, ◌⊎◌, false, true, None, Some, length, All, IfOk, IfErr, IfSome, MatchOption, OnErr};
-ghost use Rattle.grb_order.specs.declared.limits.TheConstants.{MOST_ROOM};
+ghost use Rattle.grb_order.specs.declared.limits.TheConstants.{MOST_PASSES, MOST_ROOM};
 ghost use Rattle.grb_order.specs.View.{fresh, LookedLast};
 ghost use Rattle.grb_order.specs.Order.{room_of};
 ghost use Rattle.grb_records.specs.Token.{IsOf};
@@ -15,6 +15,7 @@ ghost use Rattle.grb_state.specs.Live.{live_store};
 ghost use Rattle.grb_state.specs.StoredIn.{IsMatrixOf, IsVectorOf};
 ghost use Rattle.grb_rebuild.specs.Rebuilding.{IsNoSuccessor, IsRebuild};
 ghost use Rattle.grb_rebuild.specs.Renumbered.{AreRenumbered};
+ghost use Rattle.grb_pass.specs.Chosen.{IsNoBranch, MayHaveRoom, chosen_store, room_beside};
 ghost use Rattle.grb_pass.specs.Evaluated.{IsAssembled};
 ghost use Rattle.grb_reader.specs.Known.{known, new_pass, none_made};
 ghost use Rattle.grb_reader.specs.Counting.{Counts};
@@ -274,6 +275,42 @@ impl Pass {
         let rebuild = self
             .evaluated
             .rebuild_live(alloc, records, &mut self.reader, room);
+        self.reader.note_made(self.evaluated.made());
+        rebuild
+    }
+
+    /// The store of these objects, as the pass knows them, with the calls that make it anew and room for so many more, where a history that so
+    /// many passes share may have it. It makes what these objects hold and nothing else.
+    pub(crate) fn rebuild_chosen(
+        &mut self,
+        alloc: Global,
+        records: &Records,
+        matrices: &[MatrixId],
+        vectors: &[VectorId],
+        room: u32,
+        passes: u32,
+    ) -> Result<Rebuild, NoSuccessor>
+        requires records { All (IsOf records.now) self.old.shown }
+        requires matrices { length matrices.now < 2 ^ 32 }
+        requires vectors { length vectors.now < 2 ^ 32 }
+        requires room { room ≤ MOST_ROOM }
+        requires passes { (0 < passes) × (passes ≤ MOST_PASSES) }
+        ensures same { self.new ≡ record self.old { made = self.new.made } }
+        ensures rebuild { IfOk result (λ r. IsRebuild (room_beside r.state.store room) r.calls.items r.state) }
+        ensures fits { IfOk result (λ r. MayHaveRoom (room_beside r.state.store room) passes) }
+        ensures store { IfOk result (λ r. r.state.store ≡ chosen_store (store_of (known self.old)) matrices.now vectors.now) }
+        ensures refused { IfErr result (IsNoBranch room passes (chosen_store (store_of (known self.old)) matrices.now vectors.now)) }
+    {
+        self.evaluated.begin();
+        let rebuild = self.evaluated.rebuild_chosen(
+            alloc,
+            records,
+            &mut self.reader,
+            matrices,
+            vectors,
+            room,
+            passes,
+        );
         self.reader.note_made(self.evaluated.made());
         rebuild
     }

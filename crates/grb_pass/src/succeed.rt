@@ -196,7 +196,7 @@ impl Shared {
     }
 
     /// A new store with room for so many calls and so many passes, which begins with this one.
-    fn begin(
+    pub(crate) fn begin(
         alloc: Global,
         rebuild: Rebuild,
         room: u32,
@@ -222,9 +222,9 @@ impl Shared {
     /// A new store whose history takes `room` calls and which so many passes share: it begins with calls of its first pass that make just
     /// the store that all calls leave which this pass knows. Objects have their numbers, those that were freed stay freed, and the next one
     /// is given the next number. All new passes know these calls and share what is evaluated of them; none has counted a step, or a call
-    /// that it made. The pass evaluates the calls that it knows; nothing else of it or of this store changes. Each entry is copied once.
-    /// `RoomTooSmall` tells how many calls are needed, before any entry was copied; `OutOfMemory` where memory is refused, `Panic` where a
-    /// record of the new store is not taken.
+    /// that it made. The pass evaluates the calls that it knows; nothing else of it or of this store changes. No entry is copied.
+    /// `RoomTooSmall` tells how many calls are needed; `OutOfMemory` where memory is refused, `Panic` where a record of the new store is not
+    /// taken.
     pub fn succeed(
         &self,
         alloc: Global,

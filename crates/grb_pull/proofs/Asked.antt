@@ -77,3 +77,21 @@ none_met m value op y cs vs v e none = empty (products op y (entries_of value cs
     empty : (ps : List Value) → is_filled ps ≡ false → None ≡ fold_of_some m ps
     empty [] h = refl
     empty (p ∷ ps) h = cc
+
+-- a row that meets an entry has a value: its sum, and so has what is made of it
+module _ (m : Monoid) {V : Type 0} (value : V → Value) (op : BinaryOp) (y : ℕ → Option Value) (cs : List ℕ) (vs : List V) (same : length cs ≡ length vs) (met : is_any y cs ≡ true) where
+  pub met_sum : (sum : Value) → IsFolding m (products op y (entries_of value cs vs)) sum → Some sum ≡ fold_of_some m (products op y (entries_of value cs vs))
+  met_sum sum h =
+      asked m value op y cs vs sum (is_filled (products op y (entries_of value cs vs))) true same (summing m (products op y (entries_of value cs vs)) sum h)
+      (λ e. absurd (never e)) (λ e. sym met)
+    where
+      never : true ≡ false → ⊥
+      never e = cc
+
+  pub met_value : (v : Value) (b : Bool) → kept v b ≡ fold_of_some m (products op y (entries_of value cs vs)) → Some v ≡ fold_of_some m (products op y (entries_of value cs vs))
+  met_value v true h = h
+  met_value v false h = absurd (nowhere (products op y (entries_of value cs vs)) h (any_products value op y cs vs same ∙ met))
+    where
+      nowhere : (ps : List Value) → None ≡ fold_of_some m ps → is_filled ps ≡ true → ⊥
+      nowhere [] n f = cc
+      nowhere (p ∷ ps) n f = cc

@@ -1,11 +1,12 @@
 -- A vector that stores a value at each index: its values lie in the order of their indices, none of which is left out.
-use Rattle.std.proofs.Common.{◌≡◌, ℕ, zero, suc, ◌+◌, ◌-◌, ◌<◌, ◌≤◌, List, [], ◌∷◌, length, get_or, refl, sym, ap, ◌∙◌, arith, inl, inr}
-use Rattle.std.specs.Prelude.{All, Some, None, IsTrue, map}
+use Rattle.std.proofs.Common.{◌≡◌, ℕ, zero, suc, ◌+◌, ◌-◌, ◌<◌, ◌≤◌, true, List, [], ◌∷◌, length, get_or, refl, sym, ap, ◌∙◌, arith, inl, inr}
+use Rattle.std.specs.Prelude.{All, Some, None, IsTrue, map, is_some, ◌||◌}
 use Rattle.std.specs.Ordering.{nat_cmp}
 use Rattle.std.specs.FinMap.{is_sorted, find}
 use Rattle.std.proofs.lemmas.Bool.{cases_lt}
 use Rattle.grb_core.specs.declared.value.Value.{Value}
 use Rattle.grb_kernels.specs.Typed.{entries_of}
+use Rattle.grb_semirings.specs.Products.{is_any}
 use Rattle.grb_ewise.specs.Ranks.{Rise}
 use Rattle.grb_sums.specs.Bits.{value_at}
 use Rattle.grb_sums.proofs.Rising.{indices_rise}
@@ -45,6 +46,13 @@ module _ {V : Type 0} (value : V → Value) where
   there [] j h = absurd (omega arith)
   there (v ∷ vs) zero h = (v, refl)
   there (v ∷ vs) (suc j) h = there vs j (omega arith)
+
+  -- a row that has entries meets one
+  pub meets_full : (vs : List V) (cs : List ℕ) → 0 < length cs → All (λ c. c < length vs) cs → is_any (value_at value vs) cs ≡ true
+  meets_full vs [] some below = absurd (omega arith)
+  meets_full vs (c ∷ cs) some below =
+      let inside : c < length vs = below zero 0 (omega arith) in
+      ap (λ o. is_some o || is_any (value_at value vs) cs) (stored-read vs c (there vs c inside).0 inside (there vs c inside).1)
 
   stored-past : (vs : List V) (j : ℕ) → length vs ≤ j → value_at value vs j ≡ None
   stored-past [] j h = refl

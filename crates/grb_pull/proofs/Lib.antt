@@ -5,3 +5,4 @@ pub mod RowSums
 pub mod WantedPlaces
 pub mod WantedResults
 pub mod WantedRows
+pub mod WholeRows

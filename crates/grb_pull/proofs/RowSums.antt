@@ -18,8 +18,8 @@ use Rattle.grb_core.proofs.Folds.{fold_of-append, fold_of-is}
 use Rattle.grb_kernels.specs.Typed.{kept, entries_of}
 use Rattle.grb_kernels.proofs.Lists.{values_of-entries}
 use Rattle.grb_semirings.specs.Products.{list_of, products}
-use Rattle.grb_pull.specs.RowSums.{added, AreSums, or_identity, product_or}
-use Rattle.grb_semirings.proofs.Folds.{IsFolding, folded_more, all_before, all_later}
+use Rattle.grb_pull.specs.RowSums.{added, AreSums, IsRowSum, or_identity, product_or}
+use Rattle.grb_semirings.proofs.Folds.{IsFolding, folded_more, folded_parts, fold_of-one, all_before, all_later}
 use Rattle.grb_folds.proofs.Spans.{nothing_between, span-join, span-one, long_span, some_fold}
 
 entries-append : {V : Type 0} (value : V → Value) (cs ds : List ℕ) (vs ws : List V) → length cs ≡ length vs
@@ -68,6 +68,22 @@ module _ (m : Monoid) {V : Type 0} (value : V → Value) (adds : ℕ × Value �
       subst (λ us. IsFolding m us next)
       (ap (λ us. added value adds cs vs s e ++ us) (ap (λ y. y ∷ []) is ∙ sym (added-one e x w at)) ∙ added-join s e (e + 1) l (omega arith) (omega (arith, w)))
       (folded_more m (added value adds cs vs s e) sum v next h d made)
+
+  -- the sum of no entry, of one, and of those of two parts
+  pub row_sum-none : (s : ℕ) (sum : Value) → sum ≡ identity_of m → IsRowSum m value adds cs vs s s sum
+  row_sum-none s sum is = record { is_sum = is ∙ (none_added s).is_sum; of_domain = (none_added s).of_domain }
+
+  pub row_sum-one : (s : ℕ) (x : V) (v : Value) → s < length cs → x ≡ get_or vs s x → v ≡ adds (get_or cs s 0, value x) → IsValueOf (monoid_domain m) v → IsRowSum m value adds cs vs s (s + 1) v
+  row_sum-one s x v h at is d =
+      let one : v ∷ [] ≡ added value adds cs vs s (s + 1) = ap (λ y. y ∷ []) is ∙ sym (added-one s x h at) in
+      record { is_sum = sym (fold_of-one m v d) ∙ ap (fold_of m) one; of_domain = subst (AllByRecursion (IsValueOf (monoid_domain m))) one (d, tt) }
+
+  pub row_sum-join : (s k e : ℕ) (a b sum : Value) → s ≤ k → k ≤ e → e ≤ length cs → IsRowSum m value adds cs vs s k a → IsRowSum m value adds cs vs k e b
+      → sum ≡ value_of_op (monoid_op m) a b → IsRowSum m value adds cs vs s e sum
+  row_sum-join s k e a b sum l r w g h made =
+      let both = subst (λ us. IsFolding m us sum) (added-join s k e l r w)
+      (folded_parts m (added value adds cs vs s k) (added value adds cs vs k e) a b sum (record { is_sum = g.is_sum; of_domain = g.of_domain }) (record { is_sum = h.is_sum; of_domain = h.of_domain }) made) in
+      record { is_sum = both.is_sum; of_domain = both.of_domain }
 
   -- the first sum is that of none
   pub first_sum : (from : ℕ) (ss : List V) (x : V) → 0 < length ss → value x ≡ identity_of m → AreSums m value adds cs vs from from (set ss 0 x)

@@ -3,11 +3,14 @@ use Rattle.std.proofs.Common.{◌≡◌, ℕ, zero, suc, ◌<◌, ◌≤◌, Boo
 use Rattle.std.specs.Prelude.{◌&&◌, not, map, Option, Some, None, is_some}
 use Rattle.std.specs.Ordering.{nat_cmp, eq_by_cmp}
 use Rattle.std.specs.FinMap.{find}
+use Rattle.std.proofs.lemmas.List.Elements.{All-weaker, filter_passes}
 use Rattle.grb_core.specs.declared.value.Value.{Value}
 use Rattle.grb_core.specs.declared.operator.BinaryOp.{BinaryOp}
-use Rattle.grb_core.specs.Entries.{VectorEntries}
+use Rattle.grb_core.specs.Entries.{VectorEntries, restricted}
 use Rattle.grb_core.specs.Mask.{selects, is_inside}
 use Rattle.grb_core.specs.Written.{written}
+use Rattle.grb_call.specs.declared.descriptor.Descriptor.{Descriptor}
+use Rattle.grb_ewise.specs.Premises.{LieInside}
 use Rattle.grb_ewise.specs.Ranks.{Rise}
 use Rattle.grb_push.specs.Pushes.{is_among, IsBounded}
 use Rattle.grb_pull.specs.Wanted.{is_wanted, IsMade}
@@ -55,14 +58,45 @@ wanted_covers false true m names same plain q e = absurd (never plain)
     never : true ≡ false → ⊥
     never n = cc
 
+-- by a structural mask a row is wanted only there
+pub wanted_inside : (structure comp : Bool) (m : VectorEntries) (names : List ℕ) → names ≡ map (λ e. e.0) m → structure ≡ true
+    → (q : ℕ) → is_wanted (not comp) names q ≡ true → is_inside nat_cmp structure comp (Some m) q ≡ true
+wanted_inside true false m names same plain q e = structure_selects (find nat_cmp q m) ∙ among_places q m ∙ ap (is_among q) (sym same) ∙ e
+wanted_inside true true m names same plain q e = ap not (structure_selects (find nat_cmp q m) ∙ among_places q m ∙ ap (is_among q) (sym same)) ∙ e
+wanted_inside false comp m names same plain q e = cc
+
+-- beside no number stands every row, and among none no row
+pub wanted_none : (among : Bool) (q : ℕ) → is_wanted among [] q ≡ not among
+wanted_none true q = refl
+wanted_none false q = refl
+
+module _ (tran : Bool) (wanted : ℕ → Bool) (total made : VectorEntries) where
+  pub whole_made : tran ≡ true → made ≡ total → IsMade tran wanted total made
+  whole_made t e = subst (λ b. IsMade b wanted total made) (sym t) (inl e)
+
+  pub wanted_made : tran ≡ false → made ≡ restricted wanted total → IsMade tran wanted total made
+  wanted_made t e = subst (λ b. IsMade b wanted total made) (sym t) e
+
 -- a bounded result
-pub bounded_made : (among : Bool) (bound : Option (List ℕ)) (names : List ℕ) (total made : VectorEntries) → bound ≡ cond among (Some names) None → IsBounded bound total made
-    → IsMade (is_wanted among names) total made
-bounded_made true bound names total made is h = subst (λ b. IsBounded b total made) is h
-bounded_made false bound names total made is h = inl (subst (λ b. IsBounded b total made) is h)
+bounded_by : (among : Bool) (bound : Option (List ℕ)) (names : List ℕ) (total made : VectorEntries) → bound ≡ cond among (Some names) None → IsBounded bound total made
+    → IsMade true (is_wanted among names) total made
+bounded_by true bound names total made is h = subst (λ b. IsBounded b total made) is h
+bounded_by false bound names total made is h = inl (subst (λ b. IsBounded b total made) is h)
+
+pub bounded_made : (tran among : Bool) (bound : Option (List ℕ)) (names : List ℕ) (total made : VectorEntries) → tran ≡ true → bound ≡ cond among (Some names) None → IsBounded bound total made
+    → IsMade tran (is_wanted among names) total made
+bounded_made tran among bound names total made t is h = subst (λ b. IsMade b (is_wanted among names) total made) (sym t) (bounded_by among bound names total made is h)
 
 -- what is made is written as the whole result
-pub written-made : (inside : ℕ → Bool) (replace : Bool) (accum : Option BinaryOp) (c total made : VectorEntries) (wanted : ℕ → Bool) → ((q : ℕ) → inside q ≡ true → wanted q ≡ true)
-    → IsMade wanted total made → written nat_cmp inside replace accum c made ≡ written nat_cmp inside replace accum c total
-written-made inside replace accum c total made wanted covers (inl e) = ap (written nat_cmp inside replace accum c) e
-written-made inside replace accum c total made wanted covers (inr e) = ap (written nat_cmp inside replace accum c) e ∙ written-restricted inside replace accum c total wanted covers
+pub written-made : (inside : ℕ → Bool) (replace : Bool) (accum : Option BinaryOp) (c total made : VectorEntries) (tran : Bool) (wanted : ℕ → Bool) → ((q : ℕ) → inside q ≡ true → wanted q ≡ true)
+    → IsMade tran wanted total made → written nat_cmp inside replace accum c made ≡ written nat_cmp inside replace accum c total
+written-made inside replace accum c total made true wanted covers (inl e) = ap (written nat_cmp inside replace accum c) e
+written-made inside replace accum c total made true wanted covers (inr e) = ap (written nat_cmp inside replace accum c) e ∙ written-restricted inside replace accum c total wanted covers
+written-made inside replace accum c total made false wanted covers e = ap (written nat_cmp inside replace accum c) e ∙ written-restricted inside replace accum c total wanted covers
+
+-- and nothing of it lies outside, where only what is inside is wanted
+pub made-inside : (d : Descriptor) (mask : Option VectorEntries) (total made : VectorEntries) (wanted : ℕ → Bool) → ((q : ℕ) → wanted q ≡ true → is_inside nat_cmp d.structure d.comp mask q ≡ true)
+    → IsMade d.tran wanted total made → d.tran ≡ false → LieInside nat_cmp mask d made
+made-inside d mask total made wanted inside h t =
+    subst (λ (m : VectorEntries). LieInside nat_cmp mask d m) (sym (subst (λ b. IsMade b wanted total made) t h))
+    (All-weaker (λ e. wanted e.0 ≡ true) (λ e. is_inside nat_cmp d.structure d.comp mask e.0 ≡ true) (λ e. inside e.0) (restricted wanted total) (filter_passes (λ e. wanted e.0) total))

@@ -20,6 +20,11 @@ pub record AreSums {V : Type 0} (m : Monoid) (value : V → Value) (adds : ℕ �
   pub of_domain : AllByRecursion (IsValueOf (monoid_domain m)) (added value adds cs vs from upto)
   pub are : (j : ℕ) (s : V) → from + j ≤ upto → s ≡ slice_index_or sums j s → value s ≡ fold_of m (added value adds cs vs from (from + j))
 
+-- a value is the sum of what the entries from one place up to another add
+pub record IsRowSum {V : Type 0} (m : Monoid) (value : V → Value) (adds : ℕ × Value → Value) (cs : List ℕ) (vs : List V) (s e : ℕ) (sum : Value) : Type 0 where
+  pub is_sum : sum ≡ fold_of m (added value adds cs vs s e)
+  pub of_domain : AllByRecursion (IsValueOf (monoid_domain m)) (added value adds cs vs s e)
+
 -- a value, or else the one that changes no sum
 abbrev pub or_identity : Monoid → Option Value → Value
 or_identity m None = identity_of m

@@ -9,6 +9,7 @@ mod lookup;
 mod mxv_product;
 mod reduce_folds;
 mod row_products;
+mod row_sums;
 mod rows;
 mod wanted;
 

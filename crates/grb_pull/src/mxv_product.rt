@@ -14,11 +14,11 @@ ghost use Rattle.grb_pull.specs.Wanted.{is_wanted, IsMade};
 
 use crate::lookup::{Few, Full, Lookup, Many, Open, scatter};
 use crate::row_products::RowTimesVector;
-use crate::rows::{made_rows, seem_unlike, summed_rows};
-use crate::wanted::{Wanted, wanted_of};
+use crate::rows::{made_rows, seem_unlike, summed_rows, tells_differences, whole_rows};
+use crate::wanted::{Wanted, wanted_of, write_wanted};
 use grb_call::Descriptor;
 use grb_core::{BinaryOp, Domain, Semiring};
-use grb_ewise::{Stored, is_worth_opening, keep_bools, keep_numbers, write_masked_vector};
+use grb_ewise::{Stored, is_worth_opening, keep_bools, keep_numbers};
 use grb_kernels::{EntryList, EntrySlice, Operator, Scalar};
 use grb_lists::FlatRows;
 use grb_push::{MatrixFirst, pushed_product};
@@ -102,7 +102,15 @@ fn multiply_full<T: Stored + Folded + Drop, M: MonoidOver<T>, O: Operator<T>>(
     ensures { IfOk result (λ made. entries_of T.value made.indices.items made.values.items ≡ restricted (is_wanted wanted.now.among wanted.now.names.now) (mxv_of (record { monoid = M.monoid; op = O.op }) (decoded rows.now.lists.now.entries) (entries_of T.value u.now.indices.now u.now.values.now))) }
 {
     let vector = Full { values: u.values };
-    let made = multiply_each_row::<T, M, O, Full<T>>(alloc, rows.lists, wanted, &vector)?;
+    if tells_differences::<T, M>() && seem_unlike(rows.lists) {
+        let made = multiply_each_row::<T, M, O, Full<T>>(alloc, rows.lists, wanted, &vector)?;
+        return Ok(made);
+    }
+    let rule: RowTimesVector<Full<T>, M, O> = RowTimesVector {
+        vector: &vector,
+        of: PhantomData,
+    };
+    let made = whole_rows(alloc, &rule, rows.lists, wanted)?;
     Ok(made)
 }
 
@@ -200,8 +208,8 @@ fn product(
     }
 }
 
-/// The product of a matrix, transposed or not, and a vector; the matrix's value comes first. Rows that are not wanted may be left out.
-/// `AllocError` where memory is refused; then nothing is made.
+/// The product of a matrix, transposed or not, and a vector; the matrix's value comes first. Rows that are not wanted are left out; with
+/// `tran` they need not be. `AllocError` where memory is refused; then nothing is made.
 fn turned_product(
     alloc: Global,
     semiring: Semiring,
@@ -214,7 +222,7 @@ fn turned_product(
     requires u { IsVectorInput (op_domain semiring.op) u.now.vector.size u.now }
     ensures domain { IfOk result (λ made. made.vector.domain ≡ a.now.matrix.domain) }
     ensures size { IfOk result (λ made. made.vector.size ≡ (if tran then a.now.matrix.ncols else a.now.matrix.nrows)) }
-    ensures entries { IfOk result (λ made. IsMade (is_wanted wanted.now.among wanted.now.names.now) (mxv_of semiring (turned tran a.now.matrix.entries) u.now.vector.entries) made.vector.entries) }
+    ensures entries { IfOk result (λ made. IsMade tran (is_wanted wanted.now.among wanted.now.names.now) (mxv_of semiring (turned tran a.now.matrix.entries) u.now.vector.entries) made.vector.entries) }
     ensures assembled { IfOk result (λ made. made.assembled ≡ true) }
 {
     if tran {
@@ -240,7 +248,8 @@ fn turned_product(
 /// than 8 times the entries of `a` and `u`. Else each entry of `a` costs a binary search in `u`. A `u` that stores a value at each index is
 /// read as it lies. Where the products are numbers that are added up, a row is the difference of two running sums if all rows are made and
 /// their lengths seem unlike: these stand in a work list of 1,025 at most. Rows at which a mask lets nothing be written are not multiplied:
-/// those that it does not store, and with the complement of a structural mask those that it stores.
+/// those that it does not store, and with the complement of a structural mask those that it stores, or of no mask all. By a structural mask
+/// the products are written as they are, and not masked again.
 ///
 /// With `tran` the matrix is the transposed of `a`, whose rows are the columns of `a`. It is not made: time and memory are those of `vxm`.
 ///
@@ -265,5 +274,5 @@ pub fn mxv(
 {
     let wanted = wanted_of(mask, descriptor);
     let computed = turned_product(alloc, semiring, &wanted, a, u, descriptor.tran)?;
-    write_masked_vector(alloc, output, mask, accum, descriptor, computed)
+    write_wanted(alloc, output, mask, accum, descriptor, computed)
 }

@@ -1,8 +1,8 @@
 //! Each row of a matrix, or of its transposed, folded to one value.
-ghost use Rattle.std.specs.Prelude.{◌≡◌, true, refl, if◌then◌else◌, IfOk, All, ◌<◌};
+ghost use Rattle.std.specs.Prelude.{◌≡◌, ◌≤◌, true, refl, if◌then◌else◌, IfOk, All, ◌<◌, length, map, take, drop};
 ghost use Rattle.grb_core.specs.Monoid.{monoid_domain};
 ghost use Rattle.grb_core.specs.Entries.{values_of};
-ghost use Rattle.grb_core.specs.Fold.{fold_of_some};
+ghost use Rattle.grb_core.specs.Fold.{fold_of, fold_of_some};
 ghost use Rattle.grb_core.specs.Written.{written};
 ghost use Rattle.grb_core.specs.Results.{reduce_rows_of, turned};
 ghost use Rattle.grb_kernels.specs.Typed.{entries_of};
@@ -11,12 +11,14 @@ ghost use Rattle.grb_ewise.specs.Written.{written_into_vector};
 ghost use Rattle.grb_lists.specs.Cells.{decoded};
 ghost use Rattle.grb_pull.specs.Wanted.{is_wanted, IsMade};
 
-use crate::rows::{RowRule, SumRule, seem_unlike, summed_rows};
-use crate::wanted::{Wanted, wanted_of};
+use crate::rows::{
+    RowRule, SumRule, WholeRule, seem_unlike, summed_rows, tells_differences, whole_rows,
+};
+use crate::wanted::{Wanted, wanted_of, write_wanted};
 use grb_call::Descriptor;
 use grb_core::{BinaryOp, Domain, Monoid};
-use grb_ewise::{Stored, keep_bools, keep_numbers, write_masked_vector};
-use grb_folds::{fold_part, fold_values};
+use grb_ewise::{Stored, keep_bools, keep_numbers};
+use grb_folds::{fold_part, fold_row};
 use grb_kernels::{EntryList, Scalar};
 use grb_push::fold_columns;
 use grb_semirings::{ByMonoid, Folded, MatrixRows, MonoidOver, lend_matrix};
@@ -24,13 +26,30 @@ use grb_sparse::{SparseMatrix, SparseVector};
 use std::alloc::{AllocError, Global};
 use std::marker::PhantomData;
 
+/// The values of a row combined by a monoid as a type: by parts that are folded whole, where lengths are `unlike`.
+fn fold_values<T: Stored + Folded, M: MonoidOver<T>>(
+    unlike: bool,
+    values: &[T],
+    start: usize,
+    end: usize,
+) -> T
+    requires order { start ≤ end }
+    requires within { end ≤ length values.now }
+    ensures { T.value result ≡ fold_of M.monoid (map T.value (drop start (take end values.now))) }
+{
+    if unlike {
+        return fold_part::<T, M>(values, start, end);
+    }
+    fold_row::<T, M>(values, start, end)
+}
+
 /// The fold of a row.
 #[derive(Drop)]
 struct Sum<M> {
     /// Columns are below this.
     ncols: u64,
-    /// Rows have so few entries that parts of them are folded whole.
-    short: bool,
+    /// Rows are short, and of lengths so unlike that parts of them are folded whole.
+    unlike: bool,
     of: PhantomData<M>,
 }
 
@@ -40,13 +59,16 @@ impl<T: Stored + Folded, M: MonoidOver<T>> RowRule<T> for Sum<M> {
     ghost gives = { λ rule. λ x. fold_of_some M.monoid (values_of x) };
 
     fn row(&self, _columns: &[u32], values: &[T], start: usize, end: usize) -> (T, bool) {
-        if self.short {
-            return (fold_part::<T, M>(values, start, end), true);
-        }
-        (fold_values::<T, M>(&values[start..end]), true)
+        (fold_values::<T, M>(self.unlike, values, start, end), true)
     }
 
     ghost none = { λ rule. refl };
+}
+
+impl<T: Stored + Folded, M: MonoidOver<T>> WholeRule<T> for Sum<M> {
+    fn value(&self, _columns: &[u32], values: &[T], start: usize, end: usize) -> T {
+        fold_values::<T, M>(self.unlike, values, start, end)
+    }
 }
 
 impl<T: Stored + Folded, M: MonoidOver<T>> SumRule<T, M> for Sum<M> {
@@ -76,18 +98,23 @@ fn fold_rows<T: Stored + Folded + Drop, M: MonoidOver<T>>(
     tran: bool,
     rows: &MatrixRows<T>,
 ) -> Result<EntryList<T>, AllocError>
-    ensures { IfOk result (λ made. IsMade (is_wanted wanted.now.among wanted.now.names.now) (reduce_rows_of M.monoid (turned tran (decoded rows.now.lists.now.entries))) (entries_of T.value made.indices.items made.values.items)) }
+    ensures { IfOk result (λ made. IsMade tran (is_wanted wanted.now.among wanted.now.names.now) (reduce_rows_of M.monoid (turned tran (decoded rows.now.lists.now.entries))) (entries_of T.value made.indices.items made.values.items)) }
 {
     if tran {
         let made = fold_columns::<T, M>(alloc, rows)?;
         return Ok(made);
     }
+    let unlike = seem_unlike(rows.lists);
     let rule: Sum<M> = Sum {
         ncols: rows.ncols,
-        short: seem_unlike(rows.lists),
+        unlike,
         of: PhantomData,
     };
-    let made = summed_rows::<T, M, Sum<M>>(alloc, &rule, rows.lists, wanted)?;
+    if unlike && tells_differences::<T, M>() {
+        let made = summed_rows::<T, M, Sum<M>>(alloc, &rule, rows.lists, wanted)?;
+        return Ok(made);
+    }
+    let made = whole_rows(alloc, &rule, rows.lists, wanted)?;
     Ok(made)
 }
 
@@ -103,7 +130,7 @@ struct Rows<'a, T: Scalar> {
 impl<'a, T: Stored + Folded + Drop> ByMonoid<T> for Rows<'a, T> {
     type Output = Result<EntryList<T>, AllocError>;
 
-    ghost Gives = { λ r monoid result. IfOk result (λ made. IsMade (is_wanted r.wanted.now.among r.wanted.now.names.now) (reduce_rows_of monoid (turned r.tran (decoded r.rows.lists.now.entries))) (entries_of T.value made.indices.items made.values.items)) };
+    ghost Gives = { λ r monoid result. IfOk result (λ made. IsMade r.tran (is_wanted r.wanted.now.among r.wanted.now.names.now) (reduce_rows_of monoid (turned r.tran (decoded r.rows.lists.now.entries))) (entries_of T.value made.indices.items made.values.items)) };
 
     /// The folds of the rows, by a monoid as a type. `AllocError` where memory is refused; then nothing is made.
     fn by<M: MonoidOver<T>>(self) -> Result<EntryList<T>, AllocError> {
@@ -121,7 +148,7 @@ fn fold_rows_by<T: Stored + Folded + Drop>(
     rows: MatrixRows<T>,
 ) -> Result<EntryList<T>, AllocError>
     requires monoid_domain { monoid_domain monoid ≡ T.domain }
-    ensures { IfOk result (λ made. IsMade (is_wanted wanted.now.among wanted.now.names.now) (reduce_rows_of monoid (turned tran (decoded rows.entry.lists.now.entries))) (entries_of T.value made.indices.items made.values.items)) }
+    ensures { IfOk result (λ made. IsMade tran (is_wanted wanted.now.among wanted.now.names.now) (reduce_rows_of monoid (turned tran (decoded rows.entry.lists.now.entries))) (entries_of T.value made.indices.items made.values.items)) }
 {
     let made = Rows {
         alloc,
@@ -139,8 +166,8 @@ fn turned_rows(tran: bool, nrows: u64, ncols: u64) -> u64
     if tran { ncols } else { nrows }
 }
 
-/// The folds of the rows of a matrix, which `tran` has read transposed, as a vector; rows that are not wanted may be left out. `AllocError`
-/// where memory is refused; then nothing is made.
+/// The folds of the rows of a matrix, which `tran` has read transposed, as a vector. Rows that are not wanted are left out; with `tran`
+/// they need not be. `AllocError` where memory is refused; then nothing is made.
 fn row_folds(
     alloc: Global,
     monoid: Monoid,
@@ -152,7 +179,7 @@ fn row_folds(
     requires domain { monoid_domain monoid ≡ a.now.matrix.domain }
     ensures domain { IfOk result (λ made. made.vector.domain ≡ a.now.matrix.domain) }
     ensures size { IfOk result (λ made. made.vector.size ≡ (if tran then a.now.matrix.ncols else a.now.matrix.nrows)) }
-    ensures entries { IfOk result (λ made. IsMade (is_wanted wanted.now.among wanted.now.names.now) (reduce_rows_of monoid (turned tran a.now.matrix.entries)) made.vector.entries) }
+    ensures entries { IfOk result (λ made. IsMade tran (is_wanted wanted.now.among wanted.now.names.now) (reduce_rows_of monoid (turned tran a.now.matrix.entries)) made.vector.entries) }
     ensures assembled { IfOk result (λ made. made.assembled ≡ true) }
 {
     let (nrows, ncols) = a.dims();
@@ -182,9 +209,9 @@ fn row_folds(
 ///
 /// All are of one domain, the mask aside, and the output and the mask have one place for each row of `a`; for each column, with `tran`.
 /// Time and memory are in proportion to the stored entries. Rows at which a mask lets nothing be written are not folded. Where numbers are
-/// added up and all rows are made, a row is the difference of two running sums, which stand in a work list of 1,025 at most. With `tran`
-/// they are read once, and there is memory for a sum at each column; where the columns are more than 8 times the entries, at each that
-/// stores something: these are sorted first, and searched for each entry.
+/// added up, a row is the difference of two running sums if all rows are made and their lengths seem unlike: these stand in a work list of
+/// 1,025 at most. With `tran` the entries are read once, and there is memory for a sum at each column; where the columns are more than 8
+/// times the entries, at each that stores something: these are sorted first, and searched for each entry.
 ///
 /// Source: GraphBLAS C API 2.0, "reduce", of a matrix to a vector.
 pub fn reduce_rows(
@@ -206,5 +233,5 @@ pub fn reduce_rows(
 {
     let wanted = wanted_of(mask, descriptor);
     let computed = row_folds(alloc, monoid, &wanted, descriptor.tran, a)?;
-    write_masked_vector(alloc, output, mask, accum, descriptor, computed)
+    write_wanted(alloc, output, mask, accum, descriptor, computed)
 }

@@ -6,8 +6,9 @@ ghost use Rattle.grb_kernels.specs.Typed.{kept, entries_of};
 ghost use Rattle.grb_semirings.specs.Products.{products, is_any};
 ghost use Rattle.grb_pull.specs.RowSums.{product_or};
 
-use crate::lookup::{Lookup, has_any, meets};
-use crate::rows::{RowRule, SumRule};
+use crate::lookup::{Full, Lookup, has_any, meets};
+use crate::row_sums::row_sum;
+use crate::rows::{RowRule, SumRule, WholeRule};
 use grb_ewise::Stored;
 use grb_kernels::{Operator, chosen};
 use grb_semirings::{Folded, MonoidOver};
@@ -106,5 +107,22 @@ impl<'a, T: Stored + Folded, M: MonoidOver<T>, O: Operator<T>, L: Lookup<T>> Sum
 
     fn is_kept(&self, columns: &[u32], _values: &[T], start: usize, end: usize, sum: T) -> bool {
         is_made::<T, M, L>(self.vector, &columns[start..end], sum)
+    }
+}
+
+impl<'a, 'b, T: Stored + Folded, M: MonoidOver<T>, O: Operator<T>> WholeRule<T>
+    for RowTimesVector<'a, Full<'b, T>, M, O> {
+    fn value(&self, columns: &[u32], values: &[T], start: usize, end: usize) -> T {
+        match row_sum::<T, M, RowTimesVector<Full<T>, M, O>>(self, columns, values, start, end) {
+            Some(sum) => sum,
+            None => {
+                let (value, _made) = dot::<T, M, O, Full<T>>(
+                    self.vector,
+                    &columns[start..end],
+                    &values[start..end],
+                );
+                value
+            }
+        }
     }
 }

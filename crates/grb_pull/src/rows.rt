@@ -1,5 +1,5 @@
 //! A value made of each row of a matrix.
-ghost use Rattle.std.specs.Prelude.{◌≡◌, ◌<◌, ◌≤◌, ◌+◌, ℕ, [], cond, true, map, length, take, drop, slice_index, slice_index_or, Option, None, All, IfOk, IsTrue};
+ghost use Rattle.std.specs.Prelude.{◌≡◌, ◌<◌, ◌≤◌, ◌+◌, ℕ, [], cond, true, map, length, take, drop, slice_index, slice_index_or, Option, Some, None, All, IfOk, IsTrue};
 ghost use Rattle.std.specs.List.{AllByRecursion};
 ghost use Rattle.std.specs.Ordering.{nat_cmp};
 ghost use Rattle.std.specs.FinMap.{is_sorted};
@@ -62,6 +62,17 @@ pub(crate) trait SumRule<T: Scalar, M: MonoidOver<T>>: RowRule<T> {
         requires of_domain { AllByRecursion (IsValueOf (monoid_domain M.monoid)) (added T.value (adds self.now) columns.now values.now start end) }
         requires is_sum { T.value sum ≡ fold_of M.monoid (added T.value (adds self.now) columns.now values.now start end) }
         ensures { kept (T.value sum) result ≡ Self.gives self.now (entries_of T.value (drop start (take end columns.now)) (drop start (take end values.now))) };
+}
+
+/// What is made of each row, where each row that has entries has a value.
+pub(crate) trait WholeRule<T: Scalar>: RowRule<T> {
+    /// The value of a row, which stands from one place up to another among all columns and values. The row has entries.
+    fn value(&self, columns: &[u32], values: &[T], start: usize, end: usize) -> T
+        requires same { length columns.now ≡ length values.now }
+        requires some { start < end }
+        requires within { end ≤ length columns.now }
+        requires in_range { All (λ c. c < Self.reads self.now) columns.now }
+        ensures { Some (T.value result) ≡ Self.gives self.now (entries_of T.value (drop start (take end columns.now)) (drop start (take end values.now))) };
 }
 
 /// Where the entries of the `k`th row end: where the next one starts, or else at the end of all.
@@ -156,6 +167,46 @@ pub(crate) fn made_rows<T: Stored + Drop, R: RowRule<T>>(
     );
     indices.truncate(count);
     values.truncate(count);
+    Ok(EntryList { indices, values })
+}
+
+/// Writes the value of each row at its place among those that have entries.
+fn write_values<T: Stored, R: WholeRule<T>>(rule: &R, lists: &FlatRows, results: &mut [T])
+    requires domain { lists.now.domain ≡ T.domain }
+    requires in_range { All (λ e. e.0.1 < R.reads rule.now) (decoded lists.now.entries) }
+    requires room { length results.old ≡ length lists.now.rows }
+    ensures { entries_of T.value lists.now.rows results.new ≡ each_row (R.gives rule.now) (decoded lists.now.entries) }
+{
+    let rows = lists.rows();
+    let starts = lists.starts();
+    let columns = lists.columns();
+    let values = T::of_lists(lists);
+    'rows: for place in 0..rows.len() {
+        let end = end_of(starts, place, columns.len());
+        results[place] = rule.value(columns, values, starts[place], end);
+    }
+}
+
+/// The same as `made_rows`, where each row that has entries has a value: if all rows are wanted, their numbers are copied as they lie, and
+/// each value is written at its place. `AllocError` where memory is refused; then nothing is made.
+pub(crate) fn whole_rows<T: Stored + Drop, R: WholeRule<T>>(
+    alloc: Global,
+    rule: &R,
+    lists: &FlatRows,
+    wanted: &Wanted,
+) -> Result<EntryList<T>, AllocError>
+    requires domain { lists.now.domain ≡ T.domain }
+    requires in_range { All (λ e. e.0.1 < R.reads rule.now) (decoded lists.now.entries) }
+    ensures { IfOk result (λ made. entries_of T.value made.indices.items made.values.items ≡ restricted (is_wanted wanted.now.among wanted.now.names.now) (each_row (R.gives rule.now) (decoded lists.now.entries))) }
+{
+    if !wanted.is_all() {
+        let made = made_rows(alloc, rule, lists, wanted)?;
+        return Ok(made);
+    }
+    let rows = lists.rows();
+    let indices = Vec::from_slice(alloc, rows)?;
+    let mut values = vec![in alloc; T::any(); rows.len()]?;
+    write_values(rule, lists, values.as_mut_slice());
     Ok(EntryList { indices, values })
 }
 
@@ -300,6 +351,11 @@ fn make_summed_rows<T: Stored, M: MonoidOver<T>, R: SumRule<T, M>>(
     k
 }
 
+/// Whether a monoid tells what a sum has beyond a part of it.
+pub(crate) fn tells_differences<T: Scalar, M: MonoidOver<T>>() -> bool {
+    M::difference(M::identity(), M::identity()).is_some()
+}
+
 /// The same as `made_rows`, by differences of sums where all rows are wanted and the monoid tells differences: then the ends of rows cost
 /// little, however unlike their lengths are. Then it takes memory for a work list beside: of one value more than there are entries, and of
 /// 1,025 at most. `AllocError` where memory is refused; then nothing is made.
@@ -313,7 +369,7 @@ pub(crate) fn summed_rows<T: Stored + Drop, M: MonoidOver<T>, R: SumRule<T, M>>(
     requires in_range { All (λ e. e.0.1 < R.reads rule.now) (decoded lists.now.entries) }
     ensures { IfOk result (λ made. entries_of T.value made.indices.items made.values.items ≡ restricted (is_wanted wanted.now.among wanted.now.names.now) (each_row (R.gives rule.now) (decoded lists.now.entries))) }
 {
-    if !wanted.is_all() || M::difference(M::identity(), M::identity()).is_none() {
+    if !wanted.is_all() || !tells_differences::<T, M>() {
         let made = made_rows(alloc, rule, lists, wanted)?;
         return Ok(made);
     }

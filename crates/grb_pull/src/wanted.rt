@@ -1,15 +1,20 @@
-//! Which rows of a result are made, where a mask lets the others be left out.
-ghost use Rattle.std.specs.Prelude.{◌≡◌, ◌<◌, ◌≤◌, ℕ, true, cond, Some, None, length, slice_index, IfSome};
+//! Which rows of a result are made, where a mask lets the others be left out, and how they are written.
+ghost use Rattle.std.specs.Prelude.{◌≡◌, ◌<◌, ◌≤◌, ℕ, true, false, not, cond, Some, None, length, slice_index, IfSome, IfOk};
 ghost use Rattle.std.specs.Ordering.{nat_cmp};
 ghost use Rattle.std.specs.Option.{option_map};
 ghost use Rattle.grb_core.specs.Mask.{is_inside};
+ghost use Rattle.grb_ewise.specs.Premises.{IsVectorInput, IsVectorOutput, LieInside};
 ghost use Rattle.grb_ewise.specs.Ranks.{Rise};
+ghost use Rattle.grb_ewise.specs.Written.{written_into_vector};
 ghost use Rattle.grb_push.specs.Pushes.{is_among};
 ghost use Rattle.grb_pull.specs.Wanted.{is_wanted};
 
 use grb_call::Descriptor;
+use grb_core::BinaryOp;
+use grb_ewise::{write_inside_vector, write_masked_vector};
 use grb_lists::next_place;
 use grb_sparse::SparseVector;
+use std::alloc::{AllocError, Global};
 
 /// Which rows are made: those that stand among some numbers, or all others.
 #[derive(Drop)]
@@ -64,38 +69,63 @@ fn stands_at(names: &[u32], at: usize, number: u32) -> bool
     at < names.len() && names[at] == number
 }
 
-/// The rows at which a mask may let something be written; all rows, where that is not known of any.
+/// The rows at which a mask may let something be written; all rows, where that is not known of any. Of a structural mask, and of none, they
+/// are those that are inside.
 pub(crate) fn wanted_of(mask: Option<&SparseVector>, descriptor: Descriptor) -> Wanted<'_>
     requires mask_assembled { IfSome mask (λ m. m.now.assembled ≡ true) }
     ensures covers { (q : ℕ) → is_inside nat_cmp descriptor.structure descriptor.comp (option_map (λ m. m.now.vector.entries) mask.entry) q ≡ true → is_wanted result.among result.names.now q ≡ true }
+    ensures inside { descriptor.structure ≡ true → (q : ℕ) → is_wanted result.among result.names.now q ≡ true → is_inside nat_cmp descriptor.structure descriptor.comp (option_map (λ m. m.now.vector.entries) mask.entry) q ≡ true }
 {
     match mask {
         Some(mask) => wanted_by(mask, descriptor),
-        None => all_rows(),
+        None => rows_beside_none(descriptor.comp),
     }
 }
 
-/// All rows: those that do not stand among none.
-fn all_rows<'a>() -> Wanted<'a>
-    ensures { (q : ℕ) → is_wanted result.among result.names.now q ≡ true }
+/// The rows that stand among none, which is no row, or all others, which is every row.
+fn rows_beside_none<'a>(among: bool) -> Wanted<'a>
+    ensures { (q : ℕ) → is_wanted result.among result.names.now q ≡ not among }
 {
-    Wanted {
-        names: &[],
-        among: false,
-    }
+    Wanted { names: &[], among }
 }
 
 /// The rows at which a mask may let something be written: those that it stores, or with a structural mask's complement all others. What the
 /// complement of a mask by value lets in is not known without its values, and so it is all rows.
 fn wanted_by(mask: &SparseVector, descriptor: Descriptor) -> Wanted<'_>
     requires assembled { mask.now.assembled ≡ true }
-    ensures { (q : ℕ) → is_inside nat_cmp descriptor.structure descriptor.comp (Some mask.now.vector.entries) q ≡ true → is_wanted result.among result.names.now q ≡ true }
+    ensures covers { (q : ℕ) → is_inside nat_cmp descriptor.structure descriptor.comp (Some mask.now.vector.entries) q ≡ true → is_wanted result.among result.names.now q ≡ true }
+    ensures inside { descriptor.structure ≡ true → (q : ℕ) → is_wanted result.among result.names.now q ≡ true → is_inside nat_cmp descriptor.structure descriptor.comp (Some mask.now.vector.entries) q ≡ true }
 {
     if descriptor.comp & !descriptor.structure {
-        return all_rows();
+        return rows_beside_none(false);
     }
     Wanted {
         names: mask.indices(),
         among: !descriptor.comp,
     }
+}
+
+/// The new output of an operation that computed `computed` at the rows that are wanted. Without `tran`, and by a structural mask, all of it
+/// lies inside, and it is not masked again. `AllocError` where memory is refused; then nothing is made, and `output` is as before.
+pub(crate) fn write_wanted(
+    alloc: Global,
+    output: &SparseVector,
+    mask: Option<&SparseVector>,
+    accum: Option<BinaryOp>,
+    descriptor: Descriptor,
+    computed: SparseVector,
+) -> Result<SparseVector, AllocError>
+    requires output { IsVectorOutput output.now mask accum }
+    requires computed { IsVectorInput output.now.vector.domain output.now.vector.size computed }
+    requires inside { descriptor.structure ≡ true → descriptor.tran ≡ false → LieInside nat_cmp (option_map (λ m. m.now.vector.entries) mask) descriptor computed.vector.entries }
+    ensures vector { IfOk result (λ made. made.vector ≡ written_into_vector output.now mask.entry accum descriptor
+        computed.vector.entries) }
+    ensures assembled { IfOk result (λ made. made.assembled ≡ true) }
+{
+    if descriptor.structure & !descriptor.tran {
+        let made = write_inside_vector(alloc, output, mask, accum, descriptor, computed)?;
+        return Ok(made);
+    }
+    let masked = write_masked_vector(alloc, output, mask, accum, descriptor, computed)?;
+    Ok(masked)
 }

@@ -1,11 +1,13 @@
 pub mod Bounded
 pub mod ByColumn
 pub mod Columns
+pub mod EachRow
 pub mod LoneRows
 pub mod Ordered
 pub mod PushedColumns
 pub mod Pushing
 pub mod RunFolds
 pub mod Searching
+pub mod Unmarked
 pub mod WholePushes
 pub mod WholeResults

@@ -18,6 +18,7 @@ use Rattle.grb_core.proofs.Maps.{find-tied_below, is_sorted-map_on_indices, same
 use Rattle.grb_core.proofs.Written.{find-pointwise, is_sorted-pointwise}
 use Rattle.grb_sums.specs.ColumnSums.{with_values}
 use Rattle.grb_sums.proofs.ColumnFolds.{find-built}
+use Rattle.grb_sums.proofs.SumsByColumn.{values_at-append}
 use Rattle.grb_semirings.specs.Products.{list_of}
 use Rattle.grb_push.specs.Pushes.{pushed, pushed_of}
 use Rattle.grb_push.proofs.Columns.{find-crossed, find-transposed, find-each_column, is_sorted-each_column}
@@ -35,15 +36,6 @@ snd false b p = absurd p
 
 pub holds : (b : Bool) → IsTrue b → T b
 holds b e = subst T (sym e) tt
-
-values_at-append : (q : ℕ) (x y : VectorEntries) → values_at nat_cmp q (x ++ y) ≡ values_at nat_cmp q x ++ values_at nat_cmp q y
-values_at-append q [] y = refl
-values_at-append q (e ∷ x) y =
-    elim (eq_by_cmp nat_cmp q e.0) as (λ b. values_of (cond b (e ∷ restricted (λ l. eq_by_cmp nat_cmp q l) (x ++ y)) (restricted (λ l. eq_by_cmp nat_cmp q l) (x ++ y)))
-    ≡ values_of (cond b (e ∷ restricted (λ l. eq_by_cmp nat_cmp q l) x) (restricted (λ l. eq_by_cmp nat_cmp q l) x)) ++ values_at nat_cmp q y) [
-      | true ↦ ap (λ (vs : List Value). e.1 ∷ vs) (values_at-append q x y)
-      | false ↦ values_at-append q x y
-    ]
 
 map_on-none : (ks : List ℕ) → map_on ks (λ k. None) ≡ []
 map_on-none [] = refl

@@ -7,11 +7,13 @@
 #![tactic(auto)]
 
 mod column_folds;
+mod late;
 mod picks;
 mod push;
 mod runs;
+mod sides;
 mod vxm_product;
 
 pub use column_folds::fold_columns;
-pub use push::{MatrixFirst, Side, VectorFirst};
+pub use sides::{MatrixFirst, Side, VectorFirst};
 pub use vxm_product::{pushed_product, vxm};

@@ -4,10 +4,7 @@ ghost use Rattle.std.specs.FinMap.{is_sorted};
 ghost use Rattle.std.specs.Option.{option_map};
 ghost use Rattle.std.specs.Ordering.{nat_cmp};
 ghost use Rattle.grb_core.specs.declared.value.Value.{Value};
-ghost use Rattle.grb_core.specs.declared.operator.BinaryOp.{BinaryOp};
 ghost use Rattle.grb_core.specs.Value.{IsValueOf};
-ghost use Rattle.grb_core.specs.Operator.{op_domain, value_of_op};
-ghost use Rattle.grb_core.proofs.Made.{op_closed};
 ghost use Rattle.grb_core.specs.Entries.{built_from, cell_cmp, restricted};
 ghost use Rattle.grb_core.specs.Results.{row_of};
 ghost use Rattle.grb_kernels.specs.Typed.{entries_of};
@@ -17,71 +14,19 @@ ghost use Rattle.grb_sums.specs.Bits.{AreMarked};
 ghost use Rattle.grb_sums.specs.ColumnSums.{AreSums, as_entries, column_folds, with_values};
 ghost use Rattle.grb_push.specs.Pushes.{pushed, pushed_of, at_numbers, columns_at, is_among, IsBounded};
 
+use crate::late::{seem_near, sum_unmarked};
 use crate::picks::pick_rows;
 use crate::runs::{folds_of, push_row};
+use crate::sides::{Product, Side};
 use grb_ewise::{Stored, place_of};
 use grb_kernels::{EntryList, EntrySlice, Operator, Scalar};
 use grb_lists::FlatRows;
-use grb_semirings::{MatrixRows, MonoidOver};
+use grb_semirings::{Folded, MatrixRows, MonoidOver};
 use grb_sums::{
     AllColumns, Columns, NamedColumns, OpenSums, Term, add_entries, close_sums, open_sums,
 };
 use std::alloc::{AllocError, Global};
 use std::marker::PhantomData;
-
-/// Which value an operator takes first.
-pub trait Side {
-    /// What an operator makes of a value of the vector and one of the matrix.
-    ghost makes: { BinaryOp → Value → Value → Value };
-
-    /// Makes it, of the vector's value `x` and the matrix's value `y`.
-    fn product<T: Scalar, O: Operator<T>>(x: T, y: T) -> T
-        ensures { T.value result ≡ makes O.op (T.value x) (T.value y) };
-
-    /// Of two values of the operator's domain it is one of that domain.
-    ghost closed: { (op : BinaryOp) (x y : Value) → IsValueOf (op_domain op) x → IsValueOf (op_domain op) y → IsValueOf (op_domain op) (makes op x y) };
-}
-
-/// The vector's value comes first, as in vxm.
-pub struct VectorFirst;
-
-impl Side for VectorFirst {
-    ghost makes = { λ op. λ x. λ y. value_of_op op x y };
-
-    fn product<T: Scalar, O: Operator<T>>(x: T, y: T) -> T {
-        O::apply(x, y)
-    }
-
-    ghost closed = { λ op x y p q. op_closed op x y p q };
-}
-
-/// The matrix's value comes first, as in mxv.
-pub struct MatrixFirst;
-
-impl Side for MatrixFirst {
-    ghost makes = { λ op. λ x. λ y. value_of_op op y x };
-
-    fn product<T: Scalar, O: Operator<T>>(x: T, y: T) -> T {
-        O::apply(y, x)
-    }
-
-    ghost closed = { λ op x y p q. op_closed op y x q p };
-}
-
-/// A value of the vector, of which the products with those of a row are made.
-#[derive(Drop)]
-struct Product<T, O, S> {
-    x: T,
-    of: PhantomData<(O, S)>,
-}
-
-impl<T: Scalar, O: Operator<T>, S: Side> Term<T> for Product<T, O, S> {
-    ghost gives = { λ term. λ y. S.makes O.op (T.value term.x) y };
-
-    fn of(&self, value: T) -> T {
-        S::product::<T, O>(self.x, value)
-    }
-}
 
 /// How many entries the picked rows have; 2^64 - 1, where they are more.
 fn picked_len<T: Stored>(lists: &FlatRows, picks: &[(usize, T)]) -> usize
@@ -350,11 +295,97 @@ fn push_one<T: Stored + Drop, M: MonoidOver<T>, O: Operator<T>, S: Side>(
     }
 }
 
+/// Whether the vector stores a value at each index from 0 up to the last of its own, and no row of the matrix has a greater number: so the
+/// value at the number of a row is the one that picks it.
+fn has_each_row<T: Scalar>(u: &EntrySlice<T>, lists: &FlatRows) -> bool
+    ensures own { result ≡ true → (i : ℕ) → i < length u.now.indices.now → slice_index u.now.indices.now i ≡ i }
+    ensures within { result ≡ true → (k : ℕ) → k < length lists.now.rows → slice_index lists.now.rows k < length u.now.indices.now }
+{
+    let indices = u.indices;
+    let rows = lists.rows();
+    if indices.len() == 0 || rows.len() == 0 {
+        return false;
+    }
+    let last = indices[indices.len() - 1] as usize;
+    let last_row = rows[rows.len() - 1] as usize;
+    if last + 1 != indices.len() || last_row > last {
+        return false;
+    }
+    true
+}
+
+/// Adds each row, with the products of the vector's value at its number, to sums of which none lies open.
+fn add_each_row<T: Stored, M: MonoidOver<T>, O: Operator<T>, S: Side, C: Columns>(
+    columns: &C,
+    lists: &FlatRows,
+    u: &EntrySlice<T>,
+    words: &mut [u64],
+    sums: &mut [T],
+)
+    requires domain { lists.now.domain ≡ T.domain }
+    requires own { (i : ℕ) → i < length u.now.indices.now → slice_index u.now.indices.now i ≡ i }
+    requires within { (k : ℕ) → k < length lists.now.rows → slice_index lists.now.rows k < length u.now.indices.now }
+    requires in_range { All (λ e. e.0.1 < C.below columns.now) (decoded lists.now.entries) }
+    requires marked { AreMarked (length (C.names columns.now)) words.old sums.old }
+    requires none { AreSums T.value M.monoid (C.names columns.now) [] words.old sums.old }
+    ensures marked { AreMarked (length (C.names columns.now)) words.new sums.new }
+    ensures added { AreSums T.value M.monoid (C.names columns.now) (pushed (S.makes O.op) (entries_of T.value u.now.indices.now u.now.values.now) (decoded lists.now.entries)) words.new sums.new }
+{
+    let numbers = lists.rows();
+    let values = u.values;
+    'each: for k in 0..numbers.len() {
+        let at = numbers[k] as usize;
+        let term: Product<T, O, S> = Product {
+            x: values[at],
+            of: PhantomData,
+        };
+        add_entries::<T, M, C, Product<T, O, S>>(
+            columns,
+            &term,
+            lists.row_columns(k),
+            T::of_row(lists, k),
+            words,
+            sums,
+        );
+    }
+}
+
+/// The sums of all rows, of which the vector has one value for each, by a place for each of `ncols` columns: no more for each entry than
+/// the type is worth. No row is searched or listed. Where columns seem to stand near each other they are summed without marks first, and
+/// again with marks where a sum of them is the identity. `AllocError` where memory is refused; then nothing is made.
+fn sum_each_row<T: Stored + Folded + Placed + Drop, M: MonoidOver<T>, O: Operator<T>, S: Side>(
+    alloc: Global,
+    ncols: u32,
+    lists: &FlatRows,
+    u: &EntrySlice<T>,
+) -> Result<EntryList<T>, AllocError>
+    requires domain { lists.now.domain ≡ T.domain }
+    requires own { (i : ℕ) → i < length u.now.indices.now → slice_index u.now.indices.now i ≡ i }
+    requires within { (k : ℕ) → k < length lists.now.rows → slice_index lists.now.rows k < length u.now.indices.now }
+    requires in_range { All (λ e. e.0.1 < ncols) (decoded lists.now.entries) }
+    requires short { ncols ≤ T.places * length lists.now.entries }
+    ensures { IfOk result (λ made. entries_of T.value made.indices.items made.values.items ≡ built_from nat_cmp M.monoid (pushed (S.makes O.op) (entries_of T.value u.now.indices.now u.now.values.now) (decoded lists.now.entries))) }
+{
+    if ncols as usize <= u.indices.len() && seem_near(lists, ncols) {
+        let unmarked = sum_unmarked::<T, M, O, S>(alloc, ncols, lists, u)?;
+        if let Some(found) = unmarked {
+            return Ok(found);
+        }
+    }
+    let all = AllColumns { ncols };
+    let mut open = open_sums::<T, M>(alloc, all.count())?;
+    let words = open.words.as_mut_slice();
+    let sums = open.sums.as_mut_slice();
+    add_each_row::<T, M, O, S, AllColumns>(&all, lists, u, words, sums);
+    let made = close_sums(alloc, &all, words, sums)?;
+    Ok(made)
+}
+
 /// The product of a vector and a matrix by a monoid and an operator as types: at each column the fold of the products where both store
 /// something. Where columns bound it, others may be left out. Time and memory are in proportion to the entries of the vector and of the
-/// rows that it picks; of a vector that stores one value memory is taken for the result alone. `AllocError` where memory is refused; then
-/// nothing is made.
-pub(crate) fn push<T: Stored + Placed + Drop, M: MonoidOver<T>, O: Operator<T>, S: Side>(
+/// rows that it picks; of a vector that stores one value memory is taken for the result alone, and of one that stores a value for each row
+/// no row is listed. `AllocError` where memory is refused; then nothing is made.
+pub(crate) fn push<T: Stored + Folded + Placed + Drop, M: MonoidOver<T>, O: Operator<T>, S: Side>(
     alloc: Global,
     bound: Option<&[u32]>,
     u: &EntrySlice<T>,
@@ -367,6 +398,12 @@ pub(crate) fn push<T: Stored + Placed + Drop, M: MonoidOver<T>, O: Operator<T>, 
     if u.indices.len() == 1 {
         let made = push_one::<T, M, O, S>(alloc, u, lists)?;
         return Ok(made);
+    }
+    if has_each_row(u, lists) {
+        if T::is_worth_a_place_each(rows.ncols, lists.len()) {
+            let made = sum_each_row::<T, M, O, S>(alloc, rows.ncols as u32, lists, u)?;
+            return Ok(made);
+        }
     }
     let picked = pick_rows(alloc, lists, u)?;
     let picks = picked.as_slice();

@@ -15,7 +15,8 @@ ghost use Rattle.grb_lists.specs.Cells.{decoded};
 ghost use Rattle.grb_ewise.specs.Ranks.{Rise};
 ghost use Rattle.grb_push.specs.Pushes.{pushed_of, Covers, IsBounded};
 
-use crate::push::{Placed, Side, VectorFirst, push};
+use crate::push::{Placed, push};
+use crate::sides::{Side, VectorFirst};
 use grb_call::Descriptor;
 use grb_core::{BinaryOp, Domain, Semiring};
 use grb_ewise::{Stored, keep_bools, keep_numbers, write_masked_vector};
@@ -36,7 +37,7 @@ struct Factors<'a, T: Scalar, S> {
     ghost rising: { (names : Bor (List ℕ)) → bound ≡ Some names → Rise names.now },
 }
 
-impl<'a, T: Stored + Placed + Drop, S: Side> BySemiring<T> for Factors<'a, T, S> {
+impl<'a, T: Stored + Folded + Placed + Drop, S: Side> BySemiring<T> for Factors<'a, T, S> {
     type Output = Result<EntryList<T>, AllocError>;
 
     ghost Gives = { λ f semiring result. IfOk result (λ made. IsBounded (option_map (λ names. names.now) f.bound) (pushed_of semiring.monoid (S.makes semiring.op) (entries_of T.value f.u.now.indices.now f.u.now.values.now) (decoded f.rows.lists.now.entries)) (entries_of T.value made.indices.items made.values.items)) };
@@ -134,7 +135,7 @@ pub(crate) fn bound_of(mask: Option<&SparseVector>, descriptor: Descriptor) -> O
 /// is memory: a work array of one place for each column is made only where it is no longer than 32 times the entries of these rows, or of
 /// truth values 128 times. Else the products are sorted by column; or, where the mask's indices are no more than these entries and bound
 /// what is written, each entry costs a binary search among them. Where `u` stores one value its row is copied with the products, and no
-/// work array is made.
+/// work array is made. Where it stores a value at the index of each row no row is searched or listed.
 ///
 /// Source: GraphBLAS C API 2.0, "vxm".
 pub fn vxm(

@@ -1,14 +1,7 @@
 -- Two passes whose words begin one another, and whose records have one call each, know histories that begin one another.
 use Rattle.std.proofs.Common.{◌≡◌, ℕ, zero, suc, ◌≤◌, List, [], ◌∷◌, ◌++◌, length, refl, sym, subst, ◌∙◌, arith, inl, inr}
-use Rattle.std.specs.Prelude.{◌⊎◌}
-use Rattle.std.proofs.lemmas.List.Elements.{Contains-append_left, Contains-append_right, Contains-push}
-use Rattle.grb_order.specs.Word.{number_of, StartsWith}
+use Rattle.grb_reader.proofs.Prelude.{◌⊎◌, Contains-append_left, Contains-append_right, Contains-push, number_of, StartsWith, Shown, IsSameRecord, Call, History, Knowing, known, spelled, AreRecords, Begins, ShareCalls, HistoriesAgree}
 use Rattle.grb_order.specs.Laws.{SeatsAgree}
-use Rattle.grb_records.specs.Token.{Shown, IsSameRecord}
-use Rattle.grb_call.specs.declared.call.Call.{Call}
-use Rattle.grb_call.specs.History.{History}
-use Rattle.grb_reader.specs.Known.{Knowing, known, spelled, AreRecords}
-use Rattle.grb_reader.specs.Laws.{Begins, ShareCalls, HistoriesAgree}
 
 with_entry : (n : ℕ) (c d : Call) → c ≡ d → (g h : History) → Begins g h ⊎ Begins h g → Begins ((n, c) ∷ g) ((n, d) ∷ h) ⊎ Begins ((n, d) ∷ h) ((n, c) ∷ g)
 with_entry n c d is g h (inl b) = inl (b.0, λ i. (n, sym is i) ∷ b.1 i)

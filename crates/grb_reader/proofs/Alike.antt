@@ -1,15 +1,7 @@
 -- What a call explains and counts is a matter of the pass's view and its records: it does not rest on the statuses, nor on what is settled, nor on what was
 -- made.
 use Rattle.std.proofs.Common.{◌≡◌, ℕ, ◌++◌, inl, inr, sym, subst}
-use Rattle.std.specs.Prelude.{Err}
-use Rattle.grb_core.specs.declared.refusal.Refusal.{Refusal}
-use Rattle.grb_call.specs.declared.call.Call.{Call}
-use Rattle.grb_call.specs.History.{History}
-use Rattle.grb_reader.specs.Known.{Shared, Knowing, Making, known, IsKnown, IsPassOf}
-use Rattle.grb_reader.specs.Explains.{Answer, Ground, ByStore, ByRoom, ByMemory, ByRecords, ExplainsAnswer, IsCaughtUp, IsGrounded, ground_of}
-use Rattle.grb_reader.specs.Counting.{Counts, CountsCall}
-use Rattle.grb_reader.specs.Learning.{IsReady, IsRefused, IsSteady, Learns, LooksAtEnd}
-use Rattle.grb_call.specs.Statuses.{StatusRows}
+use Rattle.grb_reader.proofs.Prelude.{Err, Refusal, Call, History, Shared, Knowing, Making, known, IsKnown, IsPassOf, Answer, Ground, ByStore, ByRoom, ByMemory, ByRecords, ExplainsAnswer, IsCaughtUp, IsGrounded, ground_of, Counts, CountsCall, IsReady, IsRefused, IsSteady, Learns, LooksAtEnd, StatusRows}
 
 -- a pass of which nothing else changed
 abbrev pub with_rest : Knowing → StatusRows → ℕ → Making → Knowing

@@ -2,15 +2,7 @@
 -- it knows.
 use Rattle.std.proofs.Common.{◌≡◌, ◌≢◌, ℕ, ◌<◌, ◌≤◌, List, [], ◌∷◌, ◌++◌, length, drop, refl, ap, ◌∙◌, subst, arith}
 use Rattle.std.specs.List.{All}
-use Rattle.std.proofs.lemmas.List.{append-nil, length-drop}
-use Rattle.std.proofs.lemmas.List.Elements.{All-head}
-use Rattle.grb_order.specs.View.{IsOthers}
-use Rattle.grb_order.specs.declared.view.View.{View}
-use Rattle.grb_call.specs.declared.call.Call.{Call}
-use Rattle.grb_call.specs.History.{Entry, History}
-use Rattle.grb_records.specs.Token.{Shown}
-use Rattle.grb_reader.specs.Known.{Shared, Knowing, known, AreRecords, IsOfOthers, IsOfPasses, IsKnown}
-use Rattle.grb_reader.specs.Explains.{Answer, ground_of, history_after, IsGrounded, IsUnshown, ExplainsAnswer}
+use Rattle.grb_reader.proofs.Prelude.{append-nil, length-drop, All-head, IsOthers, View, Call, Entry, History, Shown, Shared, Knowing, known, AreRecords, IsOfOthers, IsOfPasses, IsKnown, Answer, ground_of, history_after, IsGrounded, IsUnshown, ExplainsAnswer}
 use Rattle.grb_reader.proofs.Spelling.{length_spelled}
 
 -- no entry is of another pass than the first, where there is no other

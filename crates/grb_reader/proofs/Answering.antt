@@ -1,35 +1,20 @@
 -- Why an answer is explained.
 use Rattle.std.proofs.Common.{◌≡◌, ◌≢◌, ℕ, ◌+◌, ◌^◌, ◌<◌, ◌≤◌, Bool, true, false, cond, List, [], ◌∷◌, ◌++◌, length, get_or, refl, sym, ap, ◌∙◌, subst, arith, append_assoc, inl, inr}
-use Rattle.std.specs.Prelude.{◌⊎◌, Option, Some, None, Result, Ok, Err, IfOk, OnErr}
+use Rattle.grb_reader.proofs.Prelude.{◌⊎◌, Result, Ok, Err, IfOk, OnErr, option_map_or, append-nil, length_push, get_or_at, All-append, Refusal, order_word, number_of, StartsWith, enters_word, learns, View, Shown, Call, check_of, Store, shapes_of, History, store_of, Knowing, known, spelled, IsOfOthers, IsOfPasses, Answer, Ground, ByStore, ByRoom, ByMemory, ByRecords, ground_of, history_after, IsGrounded, IsOutOfMemory, MayLackMemory, ExplainsAnswer, IsCaughtUp, Learns, Finds, IsReady, IsRefused, IsChecked}
+use Rattle.std.specs.Prelude.{Option, Some, None}
 use Rattle.std.specs.Result.{result_or}
 use Rattle.std.specs.declared.alloc.AllocError.{AllocError}
-use Rattle.std.specs.Option.{option_map_or}
-use Rattle.std.proofs.lemmas.List.{append-nil, length_push, get_or_at}
-use Rattle.std.proofs.lemmas.List.Elements.{All-append}
-use Rattle.grb_core.specs.declared.refusal.Refusal.{Refusal}
 use Rattle.grb_core.specs.declared.refusal.Refusal.TheVariants.{OrderFull, OutOfMemory, Panic}
-use Rattle.grb_order.specs.Word.{order_word, number_of, StartsWith}
-use Rattle.grb_order.specs.View.{enters_word, learns}
-use Rattle.grb_order.specs.declared.view.View.{View}
-use Rattle.grb_records.specs.Token.{Shown}
-use Rattle.grb_call.specs.declared.call.Call.{Call}
 use Rattle.grb_call.specs.declared.checking.Kind.{Kind}
 use Rattle.grb_call.specs.declared.reply.Reply.{Reply}
 use Rattle.grb_call.specs.Kinds.{enters, is_size}
-use Rattle.grb_call.specs.Refused.{check_of}
-use Rattle.grb_call.specs.Store.{Store, shapes_of}
 use Rattle.grb_call.specs.After.{refused, answer, reply_of}
-use Rattle.grb_call.specs.History.{History, store_of}
 use Rattle.grb_call.proofs.ByShapes.{by_check}
 use Rattle.grb_call.proofs.Checked.{answer-err, answer-ok, by_shapes-ok}
 use Rattle.grb_reader.specs.declared.learn.End.{End}
 use Rattle.grb_reader.specs.declared.learn.End.TheVariants.{Vacant, Full}
-use Rattle.grb_reader.specs.Known.{Knowing, known, spelled, IsOfOthers, IsOfPasses}
 use Rattle.grb_reader.specs.Point.{GrewTo, IsAtPoint}
-use Rattle.grb_reader.specs.Explains.{Answer, Ground, ByStore, ByRoom, ByMemory, ByRecords, ground_of, history_after, IsGrounded, IsOutOfMemory, MayLackMemory, ExplainsAnswer, IsCaughtUp}
-use Rattle.grb_reader.specs.Learning.{Learns, Finds, IsReady, IsRefused}
 use Rattle.grb_reader.proofs.Spelling.{spelled_push, spelled_more, length_spelled}
-use Rattle.grb_reader.specs.Reading.{IsChecked}
 use Rattle.grb_reader.proofs.Checking.{reads_no_build, build_no_size, build_no_entry_read, enters_no_size, enters_no_entry_read, unrefused_by_shapes}
 use Rattle.grb_reader.proofs.Readers.{number_of-order_word}
 use Rattle.grb_reader.proofs.Alike.{explains_alike}
@@ -99,10 +84,6 @@ pub refused_by_room : (room : ℕ) (old new : Knowing) (c : Call) → Finds room
 refused_by_room room old new c f writes e =
     let n : length (known new) ≡ length new.view.words = length_known new f.0 in
     record { grounds = record { unrefused = e; enters = writes; full = n ∙ f.1 }; caught_up = n }
-
--- a record was not shown
-pub refused_unshown : (room : ℕ) (old new : Knowing) (c : Call) (r : Refusal) → Finds room old (Err r) new → IsRefused room old new c r
-refused_unshown room old new c r f = subst (IsRefused room old new c) (sym f.0) (record { grounds = inl f.1; caught_up = tt })
 
 -- the call's own record was not put: its cell did not take it, or memory was refused
 pub refused_put : (room : ℕ) (old new : Knowing) (c : Call) (r : Refusal) → (r ≡ Panic) ⊎ (r ≡ OutOfMemory) → enters c ≡ true → IsReady room new c → GrewTo old.view.looks new.view.looks (length new.view.words) → IsRefused room old new c r

@@ -1,15 +1,9 @@
 -- A pass puts each of its records into a further cell of its row.
 use Rattle.std.proofs.Common.{◌≡◌, ℕ, zero, suc, ◌+◌, ◌^◌, ◌<◌, ◌≤◌, List, [], ◌∷◌, ◌++◌, length, refl, sym, subst, arith}
-use Rattle.std.specs.Prelude.{Option, Some, None, Result, Ok, Err, IfOk, OnOk, slice_get}
+use Rattle.grb_reader.proofs.Prelude.{Result, Ok, Err, IfOk, OnOk, slice_get, Refusal, Call, index_of, order_word, StartsWith, learns, View, Shown, Knowing, Learns}
+use Rattle.std.specs.Prelude.{Option, Some, None}
 use Rattle.std.proofs.lemmas.Option.{slice_get_within}
-use Rattle.grb_core.specs.declared.refusal.Refusal.{Refusal}
-use Rattle.grb_call.specs.declared.call.Call.{Call}
-use Rattle.grb_order.specs.Word.{index_of, order_word, StartsWith}
-use Rattle.grb_order.specs.View.{learns}
-use Rattle.grb_order.specs.declared.view.View.{View}
-use Rattle.grb_records.specs.Token.{Shown}
-use Rattle.grb_reader.specs.Known.{Knowing}
-use Rattle.grb_reader.specs.Learning.{Enters, Learns}
+use Rattle.grb_reader.specs.Learning.{Enters}
 use Rattle.grb_reader.specs.Cells.{NameRising, OwnBelow}
 
 get_more : (xs ys : List ℕ) (at word : ℕ) → slice_get xs at ≡ Some word → slice_get (xs ++ ys) at ≡ Some word

@@ -1,27 +1,32 @@
 -- What a check after all known calls found.
-use Rattle.std.proofs.Common.{◌≡◌, ◌==◌, Bool, true, false, cond, ◌&&◌, if◌then◌else◌, [], ◌∷◌, refl, ap, subst, ◌∙◌, inl, inr}
-use Rattle.std.specs.Prelude.{◌⊎◌, not, Option, Some, None, Result, Ok, Err}
-use Rattle.std.specs.Option.{option_or}
-use Rattle.grb_core.specs.declared.refusal.Refusal.{Refusal}
+use Rattle.std.proofs.Common.{◌≡◌, Bool, true, false, cond, ◌&&◌, if◌then◌else◌, [], ◌∷◌, refl, ap, subst, ◌∙◌, inl, inr}
+use Rattle.grb_reader.proofs.Prelude.{◌⊎◌, not, option_map_or, Result, Ok, Err, option_or, Refusal, Call, ObjectShapes, is_live, check_of, is_in_bounds, is_one_domain, refused_by_shapes, Store, shapes_of, ByStore, ground_of, IsBuildChecked, IsChecked, count_call, count_of_output}
+use Rattle.std.specs.Prelude.{Option, Some, None}
+use Rattle.std.specs.List.{list_all}
+use Rattle.grb_core.specs.declared.domain.Domain.{Domain}
 use Rattle.grb_core.specs.declared.refusal.Refusal.TheVariants.{DomainMismatch, IndexOutOfBounds, OutOfMemory, OutputNotEmpty, UninitializedObject}
-use Rattle.grb_call.specs.declared.call.Call.{Call}
 use Rattle.grb_call.specs.declared.call.Call.TheVariants as call
 use Rattle.grb_call.specs.declared.checking.Kind.{Kind}
 use Rattle.grb_call.specs.declared.checking.Kind.TheVariants.{Build, Enters, Reads}
 use Rattle.grb_call.specs.Kinds.{enters, is_build, is_entry_read, is_size}
+use Rattle.grb_call.specs.declared.ids.Object.{Object}
 use Rattle.grb_call.specs.declared.ids.Object.TheVariants as object
+use Rattle.grb_call.specs.Shapes.{domain_at}
+use Rattle.grb_call.specs.Refused.{are_of_domain, same_domain}
 use Rattle.grb_call.specs.declared.reply.Reply.TheVariants as reply
-use Rattle.grb_call.specs.Shapes.{ObjectShapes, is_live}
-use Rattle.grb_call.specs.Refused.{check_of, is_in_bounds, is_one_domain, refused_by_shapes}
-use Rattle.grb_call.specs.Store.{Store, shapes_of}
 use Rattle.grb_call.specs.After.{has_old_entries, refused_build, refused, reply_of}
 use Rattle.grb_call.proofs.ByShapes.{by_check}
 use Rattle.grb_call.proofs.Checked.{refused-err, refused-ok, refused-none, by_shapes-ok}
 use Rattle.grb_call.proofs.KindsChecked.{kind-checked}
-use Rattle.grb_reader.specs.Explains.{ByStore, ground_of}
-use Rattle.grb_slices.proofs.Freed.{alone}
 use Rattle.grb_slices.proofs.Live.{initialized}
-use Rattle.grb_reader.specs.Reading.{IsBuildChecked, IsChecked, count_call, count_of_output}
+
+-- one object is of one domain with nothing else
+alone : (u : ObjectShapes) (o : Object) → is_one_domain u (o ∷ []) [] ≡ true
+alone u o = by (domain_at u o)
+  where
+    by : (d : Option Domain) → option_map_or (λ x. are_of_domain u x [] && list_all (same_domain x) []) d true ≡ true
+    by (Some x) = refl
+    by None = refl
 
 -- a call that only reads is no build, and a build asks for no dimensions and reads no entry
 pub reads_no_build : (c : Call) → enters c ≡ false → is_build c ≡ false
@@ -99,11 +104,6 @@ plain_kind s c kind e (inr is) = (kind-checked s c Reads (e ∙ ap (λ (k : Kind
 pub checked_plain : (s : Store) (c : Call) (kind : Kind) → check_of (shapes_of s) c ≡ Ok kind → (kind ≡ Enters) ⊎ (kind ≡ Reads) → refused s c ≡ None
 checked_plain s c kind e is = refused-none s c kind e (plain_kind (shapes_of s) c kind e is)
 
--- a build that what is stored refuses
-pub build_checked-some : (s : Store) (c : Call) (r : Refusal) → refused_build s c ≡ Some r → IsBuildChecked s c (Err r)
-build_checked-some s c OutOfMemory e = tt
-build_checked-some s c _ e = e
-
 -- a build that shapes do not refuse
 pub checked_build : (s : Store) (c : Call) (in_bounds : Bool) (r : Result (Unit {0}) Refusal) → check_of (shapes_of s) c ≡ Ok (Build in_bounds) → IsBuildChecked s c r → IsChecked s c r
 checked_build s c in_bounds (Ok u) e is = refused-ok s c (Build in_bounds) e ∙ is
@@ -129,12 +129,6 @@ pub count_replied : (s : Store) (c : Call) → is_build c ≡ true → reply_of 
 count_replied s (call.BuildMatrix a tuples dup) build = refl
 count_replied s (call.BuildVector v tuples dup) build = refl
 count_replied s _ build = cc
-
--- whether there are entries, by the count
-pub old_entries : (s : Store) (c : Call) → is_build c ≡ true → has_old_entries s c ≡ not (count_of_output s c == 0)
-old_entries s (call.BuildMatrix a tuples dup) build = refl
-old_entries s (call.BuildVector v tuples dup) build = refl
-old_entries s _ build = cc
 
 -- it is a call that only reads, of no size
 pub count_reads : (c : Call) → is_build c ≡ true → (enters (count_call c) ≡ false) × (is_size (count_call c) ≡ false)

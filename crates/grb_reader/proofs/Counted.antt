@@ -1,18 +1,10 @@
 -- The steps of a call are counted.
 use Rattle.std.proofs.Common.{◌≡◌, ℕ, ◌+◌, ◌^◌, ◌<◌, ◌≤◌, List, [], ◌∷◌, ◌++◌, length, refl, sym, ap, ◌∙◌, subst, arith, length-append}
-use Rattle.std.proofs.lemmas.List.{append-nil, length_push}
-use Rattle.std.proofs.lemmas.List.Elements.{All-nil}
+use Rattle.grb_reader.proofs.Prelude.{append-nil, length_push, All-nil, learns, enters_word, LookedLast, View, Call, steps_of, look_steps, Counts, CountsTries, CountsCall, LooksLast, LooksOnce, LooksRise, others_end, Knowing, known, none_made, Answer, ExplainsAnswer, ground_of, IsReady, Learns, LooksAtEnd}
 use Rattle.grb_order.specs.declared.limits.TheConstants.{MOST_ROOM}
-use Rattle.grb_order.specs.View.{learns, enters_word, LookedLast}
 use Rattle.grb_order.specs.Steps.{Looks}
-use Rattle.grb_order.specs.declared.view.View.{View}
 use Rattle.grb_order.specs.declared.step.Look.{Look}
 use Rattle.grb_order.specs.declared.step.Look.TheVariants.{Next, Vacant, Full}
-use Rattle.grb_call.specs.declared.call.Call.{Call}
-use Rattle.grb_reader.specs.Counting.{steps_of, look_steps, Counts, CountsTries, CountsCall, LooksLast, LooksOnce, LooksRise, others_end}
-use Rattle.grb_reader.specs.Known.{Knowing, known, none_made}
-use Rattle.grb_reader.specs.Explains.{Answer, ExplainsAnswer, ground_of}
-use Rattle.grb_reader.specs.Learning.{IsReady, Learns, LooksAtEnd}
 use Rattle.grb_reader.proofs.Learnt.{grows_refl}
 use Rattle.grb_reader.proofs.Answering.{grounded_before}
 use Rattle.grb_reader.proofs.Rising.{LooksTried, rising_few, rise_looked, rise_won, rise_lost, rise_before, tried_few, tried_again, looks_number, looks_exact, looks_full, looks_unshown, looks_ready}
@@ -30,11 +22,6 @@ counts_look room v Full w l =
 
 pub counts_learns : (v w : View) (word : ℕ) → w ≡ learns v word → 1 + steps_of v ≡ steps_of w
 counts_learns v w word is =
-    let n : length w.words ≡ length v.words + 1 = ap (λ (x : View). length x.words) is ∙ length_push v.words word in
-    let k : length w.looks ≡ length v.looks = ap (λ (x : View). length x.looks) is in omega arith
-
-pub counts_enters : (v w : View) (word : ℕ) → w ≡ enters_word v word → 1 + steps_of v ≡ steps_of w
-counts_enters v w word is =
     let n : length w.words ≡ length v.words + 1 = ap (λ (x : View). length x.words) is ∙ length_push v.words word in
     let k : length w.looks ≡ length v.looks = ap (λ (x : View). length x.looks) is in omega arith
 
@@ -163,10 +150,6 @@ counts_begun room old now new is e =
       few = f.few;
       alone = f.alone;
     }
-
--- the steps of a call that has learnt to the end, and is about to try first
-pub steps_first : (room : ℕ) (old mid : Knowing) → Counts old mid → old.steps ≡ 0 → LooksAtEnd room old mid → length mid.view.words ≤ MOST_ROOM → mid.steps < 2 ^ 28
-steps_first room old mid counts begun looks small = let k : length mid.view.looks ≤ length old.view.looks + 1 = looks_number room old.view.looks (length mid.view.words) mid looks in omega (arith, counts)
 
 -- the steps of a call that is about to try once more
 pub steps_near : (old mid : Knowing) → Learns old mid → Counts old mid → old.steps < 2 ^ 28 → LookedLast old.view → AreLost old mid → length mid.view.words ≤ MOST_ROOM → mid.steps < 2 ^ 29

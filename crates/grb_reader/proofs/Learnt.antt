@@ -1,16 +1,8 @@
 -- One piece of learning after another.
-use Rattle.std.proofs.Common.{◌≡◌, ◌≢◌, ℕ, ◌+◌, ◌-◌, ◌<◌, ◌≤◌, List, [], ◌∷◌, ◌++◌, length, drop, refl, sym, ap, ◌∙◌, subst, arith, append_assoc, length-append}
-use Rattle.std.proofs.lemmas.List.{append-nil, length_push}
+use Rattle.std.proofs.Common.{◌≡◌, ◌≢◌, ℕ, ◌<◌, ◌≤◌, List, [], ◌∷◌, ◌++◌, length, drop, refl, sym, ap, ◌∙◌, subst, arith, append_assoc}
+use Rattle.grb_reader.proofs.Prelude.{append-nil, All-append, All-cons, All-nil, All-push, number_of, StartsWith, learns, finds_vacant, enters_word, is_told, View, Shown, IsOf, Entry, History, Shared, Knowing, known, spelled, IsOfOthers, IsOfPasses, IsPassOf, Learns, IsNextUnshown}
 use Rattle.std.specs.List.{All}
-use Rattle.std.proofs.lemmas.List.Elements.{All-append, All-cons, All-nil, All-push}
-use Rattle.grb_order.specs.Word.{number_of, StartsWith}
-use Rattle.grb_order.specs.View.{learns, finds_vacant, enters_word, is_told}
-use Rattle.grb_order.specs.declared.view.View.{View}
-use Rattle.grb_records.specs.Token.{Shown, IsOf}
-use Rattle.grb_call.specs.History.{Entry, History}
-use Rattle.grb_reader.specs.Known.{Shared, Knowing, known, spelled, IsOfOthers, IsOfPasses, IsPassOf}
 use Rattle.grb_reader.specs.Point.{Grows}
-use Rattle.grb_reader.specs.Learning.{Learns, IsNextUnshown}
 use Rattle.grb_reader.proofs.Spelling.{spelled_push, spelled_more, length_spelled}
 
 starts_refl : (xs : List ℕ) → StartsWith xs xs
@@ -128,11 +120,3 @@ pass_push context p q token order shown one is = record {
 
 pub unshown_few : (p : Knowing) → length p.shown < length p.view.words → length (known p) < length p.view.words
 unshown_few p lt = let same : length (known p) ≡ length p.shown = length_spelled p.view.words p.shown (omega arith) in omega arith
-
--- each lost try leaves less of the order
-pub less_left : (room : ℕ) (mid lost new : Knowing) (word : ℕ) → length mid.view.words < room → lost.view ≡ learns mid.view word → Learns lost new → room - length new.view.words < room - length mid.view.words
-less_left room mid lost new word near is l =
-    let a : length lost.view.words ≡ length (mid.view.words ++ word ∷ []) = ap (λ (v : View). length v.words) is in
-    let b : length (mid.view.words ++ word ∷ []) ≡ length mid.view.words + 1 = length_push mid.view.words word in
-    let c : length new.view.words ≡ length lost.view.words + length l.grown.words.0 = ap length l.grown.words.1 ∙ length-append lost.view.words l.grown.words.0 in
-    omega arith

@@ -8,6 +8,7 @@ pub mod Counted
 pub mod Learnt
 pub mod Meeting
 pub mod Owning
+pub mod Prelude
 pub mod Readers
 pub mod Rising
 pub mod Spelling

@@ -1,16 +1,6 @@
 -- What a meeting leaves follows from what its parts do.
 use Rattle.std.proofs.Common.{◌≡◌, ℕ, zero, suc, Some, ◌+◌, ◌<◌, ◌≤◌, List, [], ◌∷◌, ◌++◌, length, refl, sym, ap, subst, ◌∙◌, arith, length-append}
-use Rattle.grb_order.specs.Word.{number_of, StartsWith}
-use Rattle.grb_records.specs.Token.{Shown, IsSameRecord}
-use Rattle.grb_call.specs.History.{History}
-use Rattle.std.specs.Prelude.{Result}
-use Rattle.grb_core.specs.declared.refusal.Refusal.{Refusal}
-use Rattle.grb_order.specs.View.{is_told}
-use Rattle.grb_order.specs.declared.view.View.{View}
-use Rattle.grb_reader.specs.Known.{Shared, Knowing, known, none_made, spelled, AreRecords, IsPassOf}
-use Rattle.grb_reader.specs.Laws.{Begins}
-use Rattle.grb_reader.specs.Learning.{IsSteady, Learns}
-use Rattle.grb_reader.specs.Meeting.{IsSameRecordAt, SharesCallAt, IsMet, Met}
+use Rattle.grb_reader.proofs.Prelude.{number_of, StartsWith, Shown, IsSameRecord, History, Result, Refusal, is_told, View, Shared, Knowing, known, none_made, spelled, AreRecords, IsPassOf, Begins, IsSteady, Learns, IsSameRecordAt, SharesCallAt, IsMet, Met}
 use Rattle.grb_reader.proofs.Counted.{begun}
 use Rattle.grb_reader.proofs.Learnt.{learns_then, learns_told}
 use Rattle.grb_reader.proofs.Owning.{is_known, own_learns}

@@ -1,18 +1,9 @@
 -- Of its own calls a pass knows just those that it entered.
 use Rattle.std.proofs.Common.{◌≡◌, ◌≢◌, ℕ, ◌<◌, ◌≤◌, Bool, true, false, cond, eqb, List, [], ◌∷◌, ◌++◌, length, refl, sym, ap, subst, ◌∙◌, eq-eqb, ne_eqb}
-use Rattle.std.specs.Prelude.{filter, ◌==◌}
+use Rattle.grb_reader.proofs.Prelude.{filter, append-nil, All-head, All-tail, All-nil, All-cons, number_of, IsWord, room_of, Shown, Call, Entry, History, calls_of, Shared, Knowing, known, spelled, IsOfOthers, IsOfPasses, IsPassOf, IsKnown, calls_by, Answer, ExplainsAnswer, is_entered, entered_calls, IsSteady, Learns}
+use Rattle.std.specs.Prelude.{◌==◌}
 use Rattle.std.specs.List.{All}
-use Rattle.std.proofs.lemmas.List.{append-nil}
-use Rattle.std.proofs.lemmas.List.Elements.{All-head, All-tail, All-nil, All-cons}
-use Rattle.grb_order.specs.Word.{number_of, IsWord}
-use Rattle.grb_order.specs.Order.{room_of}
 use Rattle.grb_order.specs.Holding.{TableId}
-use Rattle.grb_records.specs.Token.{Shown}
-use Rattle.grb_call.specs.declared.call.Call.{Call}
-use Rattle.grb_call.specs.History.{Entry, History, calls_of}
-use Rattle.grb_reader.specs.Known.{Shared, Knowing, known, spelled, IsOfOthers, IsOfPasses, IsPassOf, IsKnown, calls_by}
-use Rattle.grb_reader.specs.Explains.{Answer, ExplainsAnswer, is_entered, entered_calls}
-use Rattle.grb_reader.specs.Learning.{IsSteady, Learns}
 use Rattle.grb_reader.proofs.Spelling.{length_spelled}
 
 pushed : (b : Bool) (e : Entry) (x y : History) (z : List Call) → calls_of x ≡ calls_of y ++ z → calls_of (cond b (e ∷ x) x) ≡ calls_of (cond b (e ∷ y) y) ++ z

@@ -1,31 +1,17 @@
 -- What ties the parts of a reader stays so at each step.
 use Rattle.std.proofs.Common.{◌≡◌, ℕ, ◌+◌, ◌^◌, ◌<◌, ◌≤◌, List, [], ◌∷◌, ◌++◌, length, get_or, drop, refl, sym, ap, ◌∙◌, subst, arith, length-append, Option}
 use Rattle.std.specs.List.{All}
-use Rattle.std.proofs.lemmas.List.{drop_more, drop-append-le, drop_all, length_push, get_or_at}
+use Rattle.grb_reader.proofs.Prelude.{drop_more, drop-append-le, drop_all, length_push, get_or_at, All-push, All-append, All-head, All-tail, All-nil, All-same, number_of, index_of, order_word, learns, finds_vacant, enters_word, is_told, IsOthers, IsSound, View, Shown, Call, ObjectShapes, shapes_after, empty_store, shapes_of, History, calls_of, store_of, StatusRows, Knowing, Making, spelled, IsNextUnshown, IsSteady, IsReaderWith}
 use Rattle.std.proofs.lemmas.Nat.{mod-mul-add}
-use Rattle.std.proofs.lemmas.List.Elements.{All-push, All-append, All-head, All-tail, All-nil, All-same}
-use Rattle.grb_order.specs.Word.{number_of, index_of, order_word, IsWord}
-use Rattle.grb_order.specs.View.{fresh, learns, finds_vacant, enters_word, is_told, IsOthers, IsSound}
 use Rattle.grb_order.specs.Holding.{Holding, TableId}
 use Rattle.grb_order.specs.Steps.{Looks}
-use Rattle.grb_order.specs.declared.view.View.{View}
 use Rattle.grb_order.specs.declared.step.Look.{Look}
 use Rattle.grb_order.specs.declared.step.Look.TheVariants.{Next, Vacant, Full}
-use Rattle.grb_records.specs.Token.{Shown}
-use Rattle.grb_call.specs.declared.call.Call.{Call}
 use Rattle.grb_call.specs.declared.ids.Object.{Object}
-use Rattle.grb_call.specs.Shapes.{ObjectShapes}
-use Rattle.grb_call.specs.Refused.{shapes_after}
-use Rattle.grb_call.specs.Store.{empty_store, shapes_of}
-use Rattle.grb_call.specs.History.{History, calls_of, store_of}
 use Rattle.grb_slices.specs.Content.{effective_target}
 use Rattle.grb_slices.specs.Followed.{targets_of}
 use Rattle.grb_slices.specs.Targets.{WalkedCalls}
 use Rattle.grb_slices.proofs.NextTarget.{targets_push}
-use Rattle.grb_call.specs.Statuses.{StatusRows}
-use Rattle.grb_reader.specs.Known.{Knowing, Making, spelled}
-use Rattle.grb_reader.specs.Learning.{IsNextUnshown, IsSteady}
-use Rattle.grb_reader.specs.Reading.{IsReaderWith}
 use Rattle.grb_reader.proofs.Spelling.{calls_of-append, records_more, records_push, spelled_push, spelled_more, shapes_of-push}
 
 abbrev pub seated : TableId → View → Holding
@@ -156,11 +142,6 @@ module _ (number size : ℕ) (t : TableId) (v : View) (shown : List Shown) (capa
         small = k.small;
       } in
       subst (λ (y : View × List Shown × ℕ). IsReaderWith number size (seated t y.0) y.1 y.2 after) (λ i. (sym won i, sym pushed i, sym same i)) new
-
--- a seat that has learnt no word
-pub sound_fresh : (room : ℕ) (v : View) → v ≡ fresh v.number v.passes → v.number < v.passes → IsSound room v
-sound_fresh room v is number =
-    subst (IsSound room) (sym is) (record { number = number; few = omega arith; words = All-nil (IsWord v.passes); own = refl; looks = All-nil (λ (at : ℕ). at < room) })
 
 -- a seat of the same order
 pub kept_order : (number size : ℕ) (t t' : TableId) (v : View) (shown : List Shown) (capacity : ℕ) (walk : WalkedCalls) → t' ≡ t → IsReaderWith number size (seated t v) shown capacity walk → IsReaderWith number size (seated t' v) shown capacity walk

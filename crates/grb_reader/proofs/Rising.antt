@@ -1,12 +1,6 @@
 -- The looks of a call rise strictly.
 use Rattle.std.proofs.Common.{◌≡◌, ℕ, ◌+◌, ◌<◌, ◌≤◌, List, [], ◌∷◌, ◌++◌, length, inl, inr, refl, sym, ap, ◌∙◌, subst, arith, append_assoc, length-append}
-use Rattle.std.proofs.lemmas.List.{append-nil, length_push}
-use Rattle.grb_order.specs.View.{enters_word}
-use Rattle.grb_order.specs.declared.view.View.{View}
-use Rattle.grb_call.specs.declared.call.Call.{Call}
-use Rattle.grb_reader.specs.Known.{Knowing, known}
-use Rattle.grb_reader.specs.Counting.{AreRising, others_end, LooksLast, LooksRise}
-use Rattle.grb_reader.specs.Learning.{LooksAtEnd, IsReady}
+use Rattle.grb_reader.proofs.Prelude.{append-nil, length_push, enters_word, View, Call, Knowing, known, AreRising, others_end, LooksLast, LooksRise, LooksAtEnd, IsReady}
 use Rattle.grb_reader.proofs.Answering.{length_known}
 
 -- places that rise are no more than those between the bounds

@@ -1,17 +1,10 @@
 -- What the words spell, as words are learnt and records are shown.
 use Rattle.std.proofs.Common.{◌≡◌, ℕ, suc, ◌<◌, ◌≤◌, List, [], ◌∷◌, ◌++◌, length, map, get_or, refl, sym, ap, ◌∙◌, arith}
-use Rattle.std.specs.Prelude.{Some, slice_get}
-use Rattle.std.specs.Option.{option_map}
+use Rattle.grb_reader.proofs.Prelude.{slice_get, option_map, number_of, index_of, Shown, Call, shapes_after, empty_store, shapes_of, Entry, History, calls_of, after_all, store_of, Knowing, known, spelled, AreRecords}
+use Rattle.std.specs.Prelude.{Some}
 use Rattle.std.proofs.lemmas.Option.{slice_get-map, slice_get_read}
-use Rattle.grb_order.specs.Word.{number_of, index_of}
-use Rattle.grb_records.specs.Token.{Shown}
-use Rattle.grb_call.specs.declared.call.Call.{Call}
-use Rattle.grb_call.specs.Refused.{shapes_after}
-use Rattle.grb_call.specs.Store.{empty_store, shapes_of}
-use Rattle.grb_call.specs.History.{Entry, History, calls_of, after_all, store_of}
 use Rattle.grb_call.proofs.Runs.{after_all-append}
 use Rattle.grb_call.proofs.ShapesAfter.{shapes_of-after}
-use Rattle.grb_reader.specs.Known.{Knowing, known, spelled, AreRecords}
 
 pub records_more : (words more : List ℕ) (shown : List Shown) → AreRecords words shown → AreRecords (words ++ more) shown
 records_more words more [] r = tt

@@ -6,12 +6,9 @@ use Rattle.grb_core.specs.declared.domain.Domain.{Domain}
 use Rattle.grb_core.specs.Entries.{MatrixEntries, VectorEntries, nvals_of}
 use Rattle.grb_core.specs.Contents.{Matrix, Vector}
 use Rattle.std.proofs.lemmas.Bool.Decides.{nat_tests}
+use Rattle.std.proofs.lemmas.List.{append-nil}
 use Rattle.grb_call.specs.Shapes.{object_at}
 use Rattle.grb_rebuild.specs.Rebuilt.{matrix_build, vector_build, matrix_calls, matrices_calls, vector_calls, vectors_calls}
-
-append-nil : {X : Type 0} (xs : List X) → xs ++ [] ≡ xs
-append-nil [] = refl
-append-nil (x ∷ xs) = ap (λ t. x ∷ t) (append-nil xs)
 
 more_matrices : (k n : ℕ) (xs : List (Option Matrix)) → n < length xs → matrices_calls k (take (suc n) xs) ≡ matrices_calls k (take n xs) ++ matrix_calls (k + n) (object_at xs n)
 more_matrices k n [] lt = absurd (omega arith)

@@ -8,6 +8,7 @@ use Rattle.std.specs.List.{AllByRecursion, list_all}
 use Rattle.std.specs.FinMap.{nat_cmp-IsAntisymmetric}
 use Rattle.std.proofs.lemmas.List.Elements.{recursion_from_All}
 use Rattle.std.proofs.lemmas.Bool.Decides.{nat_tests}
+use Rattle.std.proofs.lemmas.List.{append-nil}
 use Rattle.grb_core.specs.declared.domain.Domain.{Domain}
 use Rattle.grb_core.specs.declared.domain.Domain.TheVariants as domain
 use Rattle.grb_core.specs.declared.monoid.Monoid.{Monoid}
@@ -32,7 +33,7 @@ use Rattle.grb_call.proofs.ShapesAfter.{object_at-map}
 use Rattle.grb_call.proofs.ObjectLists.{object_at-end, length-push}
 use Rattle.grb_call.proofs.Runs.{after_all-append}
 use Rattle.grb_rebuild.specs.Rebuilt.{monoid_for, matrix_build, matrix_calls, matrices_calls, vector_build, vector_calls, vectors_calls, rebuilt}
-use Rattle.grb_call.proofs.SortedBuilds.{built_from-sorted}
+use Rattle.grb_tuples.proofs.SortedBuilds.{built_from-sorted}
 
 abbrev pub store : List (Option Matrix) → List (Option Vector) → Store
 store ms vs = record { matrices = ms; vectors = vs }
@@ -149,10 +150,6 @@ matrix_made ms vs None h =
 matrix_made ms vs (Some m) h =
     ap (λ s. after_all s (matrix_build (record { 0 = length ms }) m.domain m.entries)) (accepted (store ms vs) (call.NewMatrix m.domain m.nrows m.ncols) (new_matrix (store ms vs) m.domain m.nrows m.ncols h.nrows h.ncols))
     ∙ filled ms vs m.domain m.nrows m.ncols m.entries h
-
-append-nil : {X : Type 0} (xs : List X) → xs ++ [] ≡ xs
-append-nil [] = refl
-append-nil (x ∷ xs) = ap (λ t. x ∷ t) (append-nil xs)
 
 pub matrices_made : (ms : List (Option Matrix)) (vs : List (Option Vector)) (xs : List (Option Matrix)) → AllByRecursion (λ m. IfSome m IsMatrix) xs →
     after_all (store ms vs) (matrices_calls (length ms) xs) ≡ store (ms ++ xs) vs

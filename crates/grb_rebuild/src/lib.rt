@@ -2,8 +2,8 @@
 //!
 //! `rebuild_all` has for a store the calls that leave it, in a history that begins with no object, and the store itself with room for more,
 //! whose objects are shared with the old one: nothing is to be evaluated again. `rebuild_live` does the same for the objects that are
-//! there, with new numbers, and tells which became which. Each entry is copied once, as the tuple of a build. Nothing here knows of passes,
-//! of an order or of records: the caller has the calls entered.
+//! there, with new numbers, and tells which became which. No entry is copied: a build shares its object's. Nothing here knows of passes, of
+//! an order or of records: the caller has the calls entered.
 #![tactic(auto)]
 
 pub mod laws;
@@ -14,3 +14,4 @@ mod store;
 
 pub use rebuild::{NoSuccessor, Rebuild, rebuild_all, rebuild_live};
 pub use renumbered::Renumbered;
+pub use store::needed;

@@ -34,8 +34,8 @@ pub struct Rebuild {
     pub state: State,
 }
 
-/// The calls that make the store anew, and the store with room for as many more as make up `room`; both stores hold the same objects. Each
-/// entry is copied once. `RoomTooSmall` where there are more calls; then nothing was copied. `OutOfMemory` where memory is refused (own).
+/// The calls that make the store anew, and the store with room for as many more as make up `room`; both stores hold the same objects. No
+/// entry is copied. `RoomTooSmall` where there are more calls. `OutOfMemory` where memory is refused (own).
 pub fn rebuild_all(alloc: Global, state: &State, room: u32) -> Result<Rebuild, NoSuccessor>
     requires assembled { AreAllAssembled (is_assembled state.now.matrices state.now.vectors) }
     requires room { room < 2 ^ 31 }

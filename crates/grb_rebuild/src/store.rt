@@ -33,8 +33,8 @@ fn calls_at(is_there: bool, nvals: u64) -> u64
     if is_there && nvals == 0 { 1 } else { 2 }
 }
 
-/// How many calls make the store anew. Takes no memory.
-pub(crate) fn needed(state: &State) -> u64
+/// How many calls make the store anew: two at most for each number. Takes no memory (own).
+pub fn needed(state: &State) -> u64
     ensures calls { result ≡ length (rebuilt state.now.store) }
     ensures numbers { length state.now.store.matrices + length state.now.store.vectors ≤ result }
 {

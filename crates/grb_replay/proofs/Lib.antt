@@ -1,5 +1,4 @@
 mod Begins
-pub mod HeldNow
 mod SameCalls
 mod Taken
 pub mod Valued

@@ -1,9 +1,5 @@
 -- The object after all calls, and which of them were made for it.
-use Rattle.std.proofs.Common.{◌≡◌, is_some, option_map, refl, if◌then◌else◌, Bool, false, true, List, length, sym, ap, ◌∙◌, Option, Some, None, Result, Ok, Err, ℕ}
-use Rattle.std.specs.Option.{option_map_or}
-use Rattle.grb_core.specs.declared.refusal.Refusal.{Refusal}
-use Rattle.grb_call.specs.declared.reply.Reply.{Reply}
-use Rattle.grb_call.specs.After.{answer, refused, reply_of}
+use Rattle.std.proofs.Common.{◌≡◌, is_some, option_map, refl, if◌then◌else◌, Bool, false, true, List, length, sym, ap, ◌∙◌, Option, Some, None, ℕ}
 use Rattle.grb_call.specs.declared.call.Call.{Call}
 use Rattle.grb_call.specs.declared.ids.Object.{Object}
 use Rattle.grb_call.specs.declared.ids.Object.TheVariants as object
@@ -36,12 +32,6 @@ none_of f g None e = refl
 pub not_there : (s : Store) (o : Object) → is_live (shapes_of s) o ≡ false → content_at s o ≡ content_at empty_store o
 not_there s (object.Matrix a) e = none_of matrix_shape MatrixContent (matrix_at s a) (sym (ap is_some (object_at-map matrix_shape s.matrices a.0)) ∙ e)
 not_there s (object.Vector v) e = none_of vector_shape VectorContent (vector_at s v) (sym (ap is_some (object_at-map vector_shape s.vectors v.0)) ∙ e)
-
--- the answer to a call that is not refused is its reply
-pub replied : (s : Store) (c : Call) (r : Reply) → refused s c ≡ None → ◌≡◌ {A = Result Reply Refusal} (Ok r) (answer s c) → r ≡ reply_of s c
-replied s c r accepted is = same_ok r (reply_of s c) (is ∙ ap (λ (p : Option Refusal). option_map_or Err p (Ok (reply_of s c))) accepted) where
-  same_ok : (a b : Reply) → ◌≡◌ {A = Result Reply Refusal} (Ok a) (Ok b) → a ≡ b
-  same_ok a b e = cc
 
 -- a part that holds more
 pub narrowed : (v w : Wants) (whole part : Store) → ((p : Object) → w p ≡ true → v p ≡ true) → Follows v whole part → Follows w whole part

@@ -1,6 +1,7 @@
 pub mod Held
 pub mod Partial
 pub mod Versions
+pub use Rattle.grb_objects.specs.Stored
 pub use Rattle.grb_results.specs.Kept
 pub use Rattle.grb_results.specs.Results
 pub use Rattle.grb_slices.specs.Targets

@@ -1,34 +1,15 @@
 -- The results of calls that need nothing of what their output stored.
 use Rattle.std.proofs.Common.{◌≡◌, ◌<◌, ℕ, Bool, true, if◌then◌else◌, List, [], ◌∷◌, length, sym, ap, subst, refl, ◌∙◌, Option, Some, None, is_some}
-use Rattle.std.specs.Prelude.{slice_get, IfSome}
-use Rattle.std.specs.Option.{option_map, option_map_or}
-use Rattle.grb_call.specs.declared.call.Call.{Call}
+use Rattle.grb_results.proofs.Prelude.{slice_get, IfSome, option_map, option_map_or, Call, Object, objects_read, output_of, refused_by_shapes, ObjectShapes, Store, shapes_of, Content, Contents, content_at, outcome, target_of, is_among, AgreeOn, SharedContent, Table, blank_of, forgets, inputs_of, is_clear, shape_at, shape_noted, shape_of_any, contents_after, target_in, IsBlankAt, IsResult, IsTable, content_of, is_accepted, node_there, store_before, the_target, some_same}
 use Rattle.grb_call.specs.declared.call.Call.TheVariants as call
 use Rattle.grb_call.specs.declared.class.Class.TheVariants.{Operates}
-use Rattle.grb_call.specs.declared.ids.Object.{Object}
 use Rattle.grb_call.specs.declared.operation.Operation.{Operation}
 use Rattle.grb_call.specs.After.{after}
 use Rattle.grb_call.specs.Kinds.{class_of}
-use Rattle.grb_call.specs.Operands.{objects_read}
-use Rattle.grb_call.specs.Operation.{if_any, operation_of}
-use Rattle.grb_call.specs.Output.{output_of}
-use Rattle.grb_call.specs.Refused.{refused_by_shapes}
-use Rattle.grb_call.specs.Shapes.{ObjectShapes}
-use Rattle.grb_call.specs.Store.{Store, shapes_of}
-use Rattle.grb_slices.specs.Content.{Content, Contents, content_at, outcome, target_of}
-use Rattle.grb_slices.specs.Slice.{is_among}
-use Rattle.grb_slices.specs.Steps.{AgreeOn}
-use Rattle.grb_state.specs.declared.shared_content.SharedContent.{SharedContent}
+use Rattle.grb_call.specs.Operation.{operation_inputs, operation_of}
 use Rattle.grb_links.specs.declared.shape.Shape.{Shape}
-use Rattle.grb_results.specs.declared.table.Table.{Table}
-use Rattle.grb_links.specs.Overwrites.{blank_of, forgets, inputs_of, is_clear, shape_at, shape_noted, shape_of_any}
-use Rattle.grb_links.specs.Learnt.{contents_after, target_in}
-use Rattle.grb_results.specs.Results.{IsBlankAt, IsResult, IsTable}
-use Rattle.grb_results.specs.Value.{content_of}
 use Rattle.grb_links.proofs.Blank.{IsAnew, accepts_emptied, anew, clear_is, clear_leaves, clear_of, emptied_there, inputs_else, overwrites_emptied}
-use Rattle.grb_links.proofs.Frame.{is_accepted, node_there, store_before, the_target}
 use Rattle.grb_results.proofs.Frame.{in_nodes, result_is, some_result}
-use Rattle.grb_links.proofs.Lists.{some_same}
 
 the_shape : (q : Option Shape) (w : Content) → option_map blank_of q ≡ Some w → (x : Shape) × (q ≡ Some x) × (blank_of x ≡ w)
 the_shape None w e = cc
@@ -60,14 +41,8 @@ abbrev pub bare : List Call → ℕ → Object → Store
 bare cs k o = after (store_before cs k) (clear_of o)
 
 -- the inputs of a call, by its operation
-inputs_by : (q : Option Operation) (p : Operation) (x : Option Object) → q ≡ Some p → p.second ≡ x → option_map_or (λ o. o.first ∷ if_any o.second) q [] ≡ p.first ∷ if_any x
-inputs_by q p x e second = ap (λ (y : Option Operation). option_map_or (λ o. o.first ∷ if_any o.second) y []) e ∙ ap (λ (y : Option Object). p.first ∷ if_any y) second
-
-pub two_inputs_are : (c : Call) (p : Operation) (b : Object) → operation_of c ≡ Some p → p.second ≡ Some b → p.first ∷ b ∷ [] ≡ inputs_of c
-two_inputs_are c p b e second = sym (inputs_by (operation_of c) p (Some b) e second)
-
-pub one_input_is : (c : Call) (p : Operation) → operation_of c ≡ Some p → p.second ≡ None → p.first ∷ [] ≡ inputs_of c
-one_input_is c p e second = sym (inputs_by (operation_of c) p None e second)
+pub inputs_are : (c : Call) (p : Operation) → operation_of c ≡ Some p → operation_inputs p ≡ inputs_of c
+inputs_are c p e = sym (ap (λ (y : Option Operation). option_map_or operation_inputs y []) e)
 
 module _ (cs : List Call) (t : Table) (is : IsTable cs t) (k : ℕ) (near : k < length t.results.items) (c : Call) (here : slice_get cs k ≡ Some c) (o : Object) (v : SharedContent) where
   shape_found : forgets c ≡ true → output_of c ≡ Some o → IsBlankAt t k v → (x : Shape) × (shape_at (shapes_of (store_before cs k)) o ≡ Some x) × (blank_of x ≡ content_of v)

@@ -1,32 +1,11 @@
 -- Results of calls, by what objects hold after some of the calls.
 use Rattle.std.proofs.Common.{◌≡◌, ◌≢◌, ℕ, zero, suc, ◌+◌, ◌-◌, ◌<◌, ◌≤◌, true, false, List, [], ◌∷◌, ◌++◌, length, take, get_or, append_assoc, refl, sym, ap, subst, ◌∙◌, Option, Some, None, is_some, slice_set, length-set, arith}
-use Rattle.std.specs.Prelude.{slice_get, IfSome}
-use Rattle.std.specs.Option.{option_map}
-use Rattle.grb_call.specs.declared.call.Call.{Call}
-use Rattle.grb_call.specs.declared.ids.Object.{Object}
-use Rattle.grb_call.specs.Operands.{objects_read}
-use Rattle.grb_call.specs.Refused.{refused_by_shapes}
-use Rattle.grb_call.specs.Store.{Store, empty_store, shapes_of}
-use Rattle.grb_call.specs.History.{after_all}
-use Rattle.grb_slices.specs.Content.{Content, Contents, content_at, outcome}
+use Rattle.grb_results.proofs.Prelude.{slice_get, IfSome, option_map, Call, Object, objects_read, refused_by_shapes, Store, empty_store, shapes_of, after_all, Content, Contents, content_at, outcome, Learnt, Table, SharedContent, last_of, is_among, AgreeOn, AreOneHistory, Follows, IsLearnt, contents_after, target_in, AreHeld, AreResults, AreTaken, IsFrom, IsResult, IsTable, LinksTo, MayMake, Mine, Theirs, forgets, objects_needed, IsEdit, content_of, dups_one, edits_one, needs_all, after_these, is_accepted, link_there, made_here, node_there, same_calls, same_target, since_at, since_long, since_of, some_target, store_before, the_target, there, end_none, some_same, take_suc, within_of}
 use Rattle.grb_slices.proofs.Effects.{other}
 use Rattle.grb_slices.proofs.Wants.{among_first, among_next}
-use Rattle.grb_links.specs.declared.learnt.Learnt.{Learnt}
 use Rattle.grb_links.specs.declared.node.Node.{Node}
-use Rattle.grb_results.specs.declared.table.Table.{Table}
-use Rattle.grb_state.specs.declared.shared_content.SharedContent.{SharedContent}
-use Rattle.grb_links.specs.Lasts.{last_of}
-use Rattle.grb_slices.specs.Slice.{is_among}
-use Rattle.grb_slices.specs.Steps.{AgreeOn}
 use Rattle.grb_slices.proofs.Refusals.{same_refusal}
-use Rattle.grb_links.specs.Learnt.{AreOneHistory, Follows, IsLearnt, contents_after, target_in}
-use Rattle.grb_results.specs.Results.{AreHeld, AreResults, AreTaken, IsFrom, IsResult, IsTable, LinksTo, MayMake, Mine, Theirs}
-use Rattle.grb_links.specs.Overwrites.{forgets, objects_needed}
 use Rattle.grb_links.specs.Dup.{is_dup}
-use Rattle.grb_results.specs.Value.{IsEdit, content_of}
-use Rattle.grb_links.proofs.Links.{dups_one, edits_one, needs_all}
-use Rattle.grb_links.proofs.Frame.{after_these, is_accepted, link_there, made_here, node_there, same_calls, same_target, since_at, since_long, since_of, some_target, store_before, the_target, there}
-use Rattle.grb_links.proofs.Lists.{AtPush, Before, Last, end_none, pushed_at, some_same, take_suc, within_of}
 use Rattle.grb_results.proofs.Lists.{AtSet, Here, Other, set_at, take_whole}
 
 -- a result more is kept
@@ -36,14 +15,6 @@ results_put cs rs k v results is j w stands = by (set_at rs k (Some v) j (Some w
     by : AtSet rs k (Some v) j (Some w) → IsResult cs j w
     by (Other f) = results j w f
     by (Here same f) = subst (λ (x : SharedContent). IsResult cs j x) (sym (some_same w v f)) (subst (λ (i : ℕ). IsResult cs i v) (sym same) is)
-
--- one place more, with no result
-pub results_more : (cs : List Call) (rs : List (Option SharedContent)) → AreResults cs rs → AreResults cs (rs ++ None ∷ [])
-results_more cs rs results k v stands = by (pushed_at rs None k (Some v) stands)
-  where
-    by : AtPush rs None k (Some v) → IsResult cs k v
-    by (Before f) = results k v f
-    by (Last n f) = cc
 
 module _ (cs : List Call) (t : Table) (is : IsTable cs t) (k : ℕ) (near : k < length t.results.items) where
   pub in_nodes : k < length t.learnt.nodes.items
@@ -197,10 +168,6 @@ table_taken cs ds old theirs new was other one taken learnt count = record {
         let there = within_of theirs.results.items k (Some w) f in
         let places = was.places in let places_there = other.places in let within = was.learnt.within in let within_there = other.learnt.within in
         result_as cs k v w same (same_result cs ds one k (omega (arith, near, count, places, within)) (omega (arith, there, places_there, within_there)) w (other.results k w f))
-
--- of results taken one after another
-pub taken_none : (mine theirs : List (Option SharedContent)) → AreTaken mine theirs mine
-taken_none mine theirs k v stands = Mine stands
 
 pub taken_more : (first theirs old new : List (Option SharedContent)) → AreTaken first theirs old → AreTaken old theirs new → AreTaken first theirs new
 taken_more first theirs old new was is k v stands = by (is k v stands)

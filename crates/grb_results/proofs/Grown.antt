@@ -1,13 +1,7 @@
 -- A table of the first calls of a list is one of each list that goes on from there.
 use Rattle.std.proofs.Common.{◌≡◌, ◌+◌, ◌<◌, ◌≤◌, List, [], ◌∷◌, ◌++◌, length, sym, Some, arith}
-use Rattle.std.specs.Prelude.{slice_get}
-use Rattle.std.proofs.lemmas.List.{length_push}
-use Rattle.grb_call.specs.declared.call.Call.{Call}
-use Rattle.grb_links.specs.Learnt.{AreOneHistory}
+use Rattle.grb_results.proofs.Prelude.{slice_get, length_push, Call, AreOneHistory, within_of, Table, IsTable}
 use Rattle.grb_links.proofs.Grown.{get_end, learnt_on, take_front}
-use Rattle.grb_links.proofs.Lists.{within_of}
-use Rattle.grb_results.specs.declared.table.Table.{Table}
-use Rattle.grb_results.specs.Results.{IsTable}
 use Rattle.grb_results.proofs.Frame.{same_result}
 
 module _ (cs ds : List Call) (one : AreOneHistory cs ds) where

@@ -1,20 +1,7 @@
 -- Whether the result of the call that last changed an object is kept.
 use Rattle.std.proofs.Common.{◌≡◌, ℕ, ◌+◌, true, false, List, length, sym, ap, subst, ◌∙◌, Option, Some, None, is_some, arith}
-use Rattle.std.specs.Prelude.{slice_get, IfSome, IfNone}
-use Rattle.grb_call.specs.declared.call.Call.{Call}
-use Rattle.grb_call.specs.declared.ids.Object.{Object}
-use Rattle.grb_call.specs.Shapes.{ObjectShapes, is_live}
-use Rattle.grb_call.specs.Store.{shapes_of}
-use Rattle.grb_state.specs.declared.shared_content.SharedContent.{SharedContent}
+use Rattle.grb_results.proofs.Prelude.{slice_get, IfSome, IfNone, Call, Object, ObjectShapes, is_live, shapes_of, SharedContent, Content, content_at, Learnt, Table, IsKept, IsLast, last_of, IsLearnt, contents_after, AreResults, IsTable, none_since, store_before}
 use Rattle.grb_slices.proofs.Live.{live_by}
-use Rattle.grb_slices.specs.Content.{Content, content_at}
-use Rattle.grb_links.specs.declared.learnt.Learnt.{Learnt}
-use Rattle.grb_results.specs.declared.table.Table.{Table}
-use Rattle.grb_results.specs.Kept.{IsKept, IsLast}
-use Rattle.grb_links.specs.Lasts.{last_of}
-use Rattle.grb_links.specs.Learnt.{IsLearnt, contents_after}
-use Rattle.grb_results.specs.Results.{AreResults, IsTable}
-use Rattle.grb_links.proofs.Frame.{none_since, store_before}
 
 -- what is there was once changed
 pub last_there : (cs : List Call) (t : Table) (o : Object) → IsTable cs t → last_of t.learnt.lasts o ≡ 0 → is_live t.learnt.shapes.objects o ≡ true → ⊥

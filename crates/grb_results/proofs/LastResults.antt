@@ -1,29 +1,10 @@
 -- The last results of objects: what they hold, and what is kept of one in which changes were done.
 use Rattle.std.proofs.Common.{◌≡◌, ℕ, zero, suc, ◌-◌, true, List, [], ◌∷◌, length, take, refl, sym, ap, subst, ◌∙◌, Option, Some, None, slice_set, length-set, arith}
-use Rattle.std.specs.Prelude.{slice_get, IfNone}
-use Rattle.std.specs.Option.{option_map}
-use Rattle.grb_sparse.specs.Matrix.{SparseMatrixView}
-use Rattle.grb_sparse.specs.Vector.{SparseVectorView}
-use Rattle.grb_call.specs.declared.call.Call.{Call}
+use Rattle.grb_results.proofs.Prelude.{slice_get, IfNone, option_map, SparseMatrixView, SparseVectorView, Call, Object, after_all, Store, empty_store, Content, content_at, IsAt, MayRead, is_assembled_content, SharedContent, Learnt, Table, IsKept, IsLast, IsReady, ReadsObject, last_of, IsLearnt, IsResult, IsTable, IsSettledAt, content_of, some_same}
 use Rattle.grb_call.specs.declared.ids.MatrixId.{MatrixId}
 use Rattle.grb_call.specs.declared.ids.VectorId.{VectorId}
-use Rattle.grb_call.specs.declared.ids.Object.{Object}
 use Rattle.grb_call.specs.declared.ids.Object.TheVariants as object
-use Rattle.grb_call.specs.History.{after_all}
-use Rattle.grb_call.specs.Store.{Store, empty_store}
-use Rattle.grb_slices.specs.Content.{Content, content_at}
-use Rattle.grb_state.specs.SharedContent.{IsAt, MayRead, is_assembled_content}
-use Rattle.grb_state.specs.declared.shared_content.SharedContent.{SharedContent}
-use Rattle.grb_state.specs.declared.shared_content.SharedContent.TheVariants as shared
-use Rattle.grb_links.specs.declared.learnt.Learnt.{Learnt}
-use Rattle.grb_results.specs.declared.table.Table.{Table}
-use Rattle.grb_results.specs.Kept.{IsKept, IsLast, IsReady, ReadsObject}
-use Rattle.grb_links.specs.Lasts.{last_of}
-use Rattle.grb_links.specs.Learnt.{IsLearnt}
-use Rattle.grb_results.specs.Results.{IsResult, IsTable}
-use Rattle.grb_results.specs.Settling.{IsSettledAt}
-use Rattle.grb_results.specs.Value.{content_of}
-use Rattle.grb_links.proofs.Lists.{some_same}
+use Rattle.grb_objects.specs.declared.shared_content.SharedContent.TheVariants as shared
 use Rattle.grb_results.proofs.Lists.{AtSet, Other, Here, set_at}
 use Rattle.grb_results.proofs.Making.{at_of}
 

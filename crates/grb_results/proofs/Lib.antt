@@ -4,6 +4,7 @@ pub mod Frame
 pub mod Grown
 mod LastKept
 mod LastResults
-mod Lists
+pub mod Lists
 mod Making
-mod Rebuilt
+mod Prelude
+pub mod Rebuilt

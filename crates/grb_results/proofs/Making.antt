@@ -1,35 +1,17 @@
 -- One call on single objects makes its outcome.
 use Rattle.std.proofs.Common.{◌≡◌, ◌≢◌, Bool, true, false, ◌||◌, List, [], ◌∷◌, ◌++◌, refl, sym, ap, subst, ◌∙◌, Option, Some, None, is_some}
-use Rattle.std.specs.Prelude.{Result, Ok, Err, OnOk, IfOk, IfSome}
+use Rattle.grb_results.proofs.Prelude.{Result, Ok, Err, OnOk, IfOk, IfSome, option_map, option_map_or, option_or, Matrix, Vector, Call, Object, objects_read, output_of, refused_by_shapes, ObjectShapes, Store, matrix_at, shapes_of, vector_at, MatrixContent, VectorContent, Contents, content_at, outcome, target_of, is_among, AgreeOn, SharedContent, AreElse, IsAt, IsThere, MayEdit, AreHeld, MayMake, IsEdit, content_of, EditsOne, edits_one, some_same}
 use Rattle.std.specs.List.{list_any}
-use Rattle.std.specs.Option.{option_map, option_map_or, option_or}
 use Rattle.grb_core.specs.declared.refusal.Refusal.{Refusal}
-use Rattle.grb_core.specs.Contents.{Matrix, Vector}
-use Rattle.grb_call.specs.declared.call.Call.{Call}
 use Rattle.grb_call.specs.declared.call.Call.TheVariants as call
 use Rattle.grb_call.specs.declared.class.Class.TheVariants.{Edits, Operates}
-use Rattle.grb_call.specs.declared.ids.Object.{Object}
 use Rattle.grb_call.specs.declared.ids.Object.TheVariants as object
 use Rattle.grb_call.specs.Kinds.{class_of}
-use Rattle.grb_call.specs.Operands.{objects_read}
-use Rattle.grb_call.specs.Output.{output_of}
-use Rattle.grb_call.specs.Refused.{refused_by_shapes}
-use Rattle.grb_call.specs.Shapes.{ObjectShapes}
 use Rattle.grb_call.specs.Status.{is_same_object}
-use Rattle.grb_call.specs.Store.{Store, matrix_at, shapes_of, vector_at}
 use Rattle.grb_call.specs.After.{after, changed, refused, refused_build}
-use Rattle.grb_slices.specs.Content.{MatrixContent, VectorContent, Contents, content_at, outcome, target_of}
-use Rattle.grb_slices.specs.Slice.{is_among}
-use Rattle.grb_slices.specs.Steps.{AgreeOn}
 use Rattle.grb_slices.proofs.Effects.{frame, own}
 use Rattle.grb_slices.proofs.Wants.{is_same_object-self, is_same_object-true}
-use Rattle.grb_state.specs.declared.shared_content.SharedContent.{SharedContent}
-use Rattle.grb_state.specs.declared.shared_content.SharedContent.TheVariants as shared
-use Rattle.grb_state.specs.SharedContent.{AreElse, HoldSame, IsAt, IsThere, MayEdit}
-use Rattle.grb_results.specs.Results.{AreHeld, MayMake}
-use Rattle.grb_results.specs.Value.{IsEdit, content_of}
-use Rattle.grb_links.proofs.Links.{EditsOne, edits_one}
-use Rattle.grb_links.proofs.Lists.{some_same}
+use Rattle.grb_objects.specs.declared.shared_content.SharedContent.TheVariants as shared
 
 -- what an object of a store holds, in both words
 the_matrix : (q : Option Matrix) (m : Matrix) → option_map MatrixContent q ≡ Some (MatrixContent m) → q ≡ Some m
@@ -64,12 +46,6 @@ there_of : (s : Store) (o : Object) (q : Option SharedContent) → IsThere s o q
 there_of s o (Some v) e = sym (of_at s o v e)
 there_of s (object.Matrix a) None e = sym (ap (λ (q : Option Matrix). option_map MatrixContent q) e)
 there_of s (object.Vector v) None e = sym (ap (λ (q : Option Vector). option_map VectorContent q) e)
-
-pub same_held : (x y : SharedContent) → HoldSame x y → content_of y ≡ content_of x
-same_held (shared.Matrix m) (shared.Matrix n) e = ap (λ (q : Matrix). MatrixContent q) (sym e)
-same_held (shared.Vector x) (shared.Vector y) e = ap (λ (q : Vector). VectorContent q) (sym e)
-same_held (shared.Matrix m) (shared.Vector y) e = absurd e
-same_held (shared.Vector x) (shared.Matrix n) e = absurd e
 
 -- what is held twice is the same
 among_none : (p : Object) → is_among [] p ≡ true → ⊥
@@ -193,10 +169,6 @@ module _ (s : Store) (c : Call) (operates : class_of c ≡ Operates) (accepted :
 pub both_ok : {X E : Type 0} (P Q R : Type 0) (r : Result X E) → (P → Q → R) → OnOk r P → OnOk r Q → OnOk r R
 both_ok P Q R (Ok x) f p q = f p q
 both_ok P Q R (Err e) f p q = p
-
-pub on_ok : {X E : Type 0} (P Q : Type 0) (r : Result X E) → (P → Q) → OnOk r P → OnOk r Q
-on_ok P Q (Ok x) f p = f p
-on_ok P Q (Err e) f p = p
 
 pub some_of : {X : Type 0} (P Q : X → Type 0) (q : Option X) → ((x : X) → P x → Q x) → IfSome q P → IfSome q Q
 some_of P Q None f p = tt

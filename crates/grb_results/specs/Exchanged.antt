@@ -9,8 +9,8 @@ use Rattle.grb_call.specs.declared.ids.Object.{Object}
 use Rattle.grb_call.specs.History.{after_all}
 use Rattle.grb_call.specs.Shapes.{object_at}
 use Rattle.grb_call.specs.Store.{Store, empty_store}
-use Rattle.grb_state.specs.State.{stored_matrices, stored_vectors}
-use Rattle.grb_state.specs.declared.shared_content.SharedContent.{SharedContent}
+use Rattle.grb_objects.specs.Stored.{stored_matrices, stored_vectors}
+use Rattle.grb_objects.specs.declared.shared_content.SharedContent.{SharedContent}
 use Rattle.grb_results.specs.declared.table.Table.{Table}
 use Rattle.grb_results.specs.Kept.{IsSameBut, IsTableOf, KeepsAll}
 use Rattle.grb_links.specs.Lasts.{last_of}

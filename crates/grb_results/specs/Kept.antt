@@ -8,8 +8,8 @@ use Rattle.grb_call.specs.Kinds.{enters, is_size}
 use Rattle.grb_call.specs.Shapes.{is_live}
 use Rattle.grb_call.specs.Status.{object_of}
 use Rattle.grb_call.specs.Store.{Store, empty_store}
-use Rattle.grb_state.specs.SharedContent.{is_assembled_content}
-use Rattle.grb_state.specs.declared.shared_content.SharedContent.{SharedContent}
+use Rattle.grb_objects.specs.SharedContent.{is_assembled_content}
+use Rattle.grb_objects.specs.declared.shared_content.SharedContent.{SharedContent}
 use Rattle.grb_results.specs.declared.exchange.Kept.{Kept}
 use Rattle.grb_results.specs.declared.table.Table.{Table}
 use Rattle.grb_links.specs.Lasts.{last_of}
@@ -36,9 +36,13 @@ pub record IsLast (t : Table) (o : Object) (v : SharedContent) : Type 0 where
   pub last : last_of t.learnt.lasts o ≡ suc at
   pub kept : slice_get t.results.items at ≡ Some (Some v)
 
--- so it is of each object that is there
+-- the object lies ready, if it is there
+abbrev pub IsReadyIfThere : Table → Object → Type 0
+IsReadyIfThere t o = is_live t.learnt.shapes.objects o ≡ true → IsReady t o
+
+-- each object that is there lies ready
 abbrev pub AreReady : Table → Type 0
-AreReady t = (o : Object) → is_live t.learnt.shapes.objects o ≡ true → IsReady t o
+AreReady t = (o : Object) → IsReadyIfThere t o
 
 -- the table is of all calls of the list
 pub record IsTableOf (cs : List Call) (t : Table) : Type 0 where

@@ -12,7 +12,7 @@ use Rattle.grb_slices.specs.Slice.{is_among}
 use Rattle.grb_slices.specs.Steps.{AgreeOn}
 use Rattle.grb_links.specs.declared.node.Node.{Node}
 use Rattle.grb_results.specs.declared.table.Table.{Table}
-use Rattle.grb_state.specs.declared.shared_content.SharedContent.{SharedContent}
+use Rattle.grb_objects.specs.declared.shared_content.SharedContent.{SharedContent}
 use Rattle.grb_links.specs.Overwrites.{blank_of, shape_noted}
 use Rattle.grb_results.specs.Value.{content_of}
 

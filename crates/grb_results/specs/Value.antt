@@ -5,9 +5,9 @@ use Rattle.grb_call.specs.declared.call.Call.{Call}
 use Rattle.grb_call.specs.declared.class.Class.TheVariants.{Edits}
 use Rattle.grb_call.specs.Kinds.{class_of}
 use Rattle.grb_slices.specs.Content.{Content, MatrixContent, VectorContent}
-use Rattle.grb_state.specs.declared.shared_content.SharedContent.{SharedContent}
-use Rattle.grb_state.specs.declared.shared_content.SharedContent.TheVariants as shared
-use Rattle.grb_state.specs.SharedContent.{is_free}
+use Rattle.grb_objects.specs.declared.shared_content.SharedContent.{SharedContent}
+use Rattle.grb_objects.specs.declared.shared_content.SharedContent.TheVariants as shared
+use Rattle.grb_objects.specs.SharedContent.{is_free}
 use Rattle.grb_links.specs.Overwrites.{forgets}
 
 abbrev pub content_of : SharedContent → Content

@@ -9,8 +9,8 @@ ghost use Rattle.grb_call.specs.After.{reply_of};
 ghost use Rattle.grb_call.specs.History.{after_all};
 ghost use Rattle.grb_call.specs.Store.{empty_store};
 ghost use Rattle.grb_state.specs.Settled.{settles};
-ghost use Rattle.grb_state.specs.declared.shared_content.SharedContent.{SharedContent};
-ghost use Rattle.grb_state.specs.SharedContent.{is_assembled_content};
+ghost use Rattle.grb_objects.specs.declared.shared_content.SharedContent.{SharedContent};
+ghost use Rattle.grb_objects.specs.SharedContent.{is_assembled_content};
 ghost use Rattle.grb_state.specs.StoredIn.{IsMatrixOf, IsVectorOf};
 ghost use Rattle.grb_results.specs.Kept.{IsKept, IsReady, IsSameBut, IsTableOf, MayReply, ReadsObject};
 ghost use Rattle.grb_results.specs.Results.{IsTable};
@@ -19,8 +19,9 @@ ghost use Rattle.grb_results.specs.Value.{content_of};
 
 use crate::table::Table;
 use grb_call::{Call, MatrixId, Object, Reply, VectorId};
+use grb_objects::SharedContent;
 use grb_sparse::{SparseMatrix, SparseVector};
-use grb_state::SharedContent;
+use grb_state::reply_from;
 use std::alloc::{AllocError, Global};
 use std::sync::Arc;
 
@@ -151,7 +152,7 @@ impl Table {
         ensures { (cs : List Call) → IsTableOf cs self.now → ReadsObject (after_all empty_store cs) object call.now → result ≡ reply_of (after_all empty_store cs) call.now }
     {
         match self.last(object) {
-            Some(content) => content.reply(call),
+            Some(content) => reply_from(content, call),
             None => unreachable!(),
         }
     }

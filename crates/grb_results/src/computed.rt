@@ -12,8 +12,9 @@ use crate::made::{blank, clear, hold, new_object, operated};
 use crate::table::Table;
 use grb_call::{Call, Class, Object, objects_read};
 use grb_links::{forgets, is_clear, is_dup};
+use grb_objects::SharedContent;
 use grb_slices::CallList;
-use grb_state::{Bench, SharedContent};
+use grb_state::Bench;
 use std::alloc::AllocError;
 
 /// The object at this place of the list.
@@ -153,12 +154,10 @@ impl Table {
         ensures { OnOk result (HoldsAlso (contents_after (C.calls source.now calls.now) at) (inputs_of call.now) bench.old bench.new) }
     {
         match call.operation() {
-            Some(operation) => match operation.second {
-                Some(second) => {
-                    self.hold_read(bench, calls, source, &[operation.first, second], at)
-                }
-                None => self.hold_read(bench, calls, source, &[operation.first], at),
-            },
+            Some(operation) => {
+                let read = operation.inputs(self.alloc);
+                self.hold_read(bench, calls, source, read.as_slice(), at)
+            }
             None => Err(AllocError),
         }
     }

@@ -7,7 +7,7 @@ ghost use Rattle.grb_results.specs.Results.{IsTable};
 
 use crate::table::{Table, take_place};
 use grb_links::{clear_all, is_marked};
-use grb_state::SharedContent;
+use grb_objects::SharedContent;
 use std::alloc::AllocError;
 
 /// Drops what is kept at this place, if that is not needed.

@@ -14,8 +14,9 @@ use crate::made::{clear, is_edit};
 use crate::table::Table;
 use grb_call::{Call, Object};
 use grb_links::work_of;
+use grb_objects::SharedContent;
 use grb_slices::CallList;
-use grb_state::{Bench, SharedContent};
+use grb_state::Bench;
 use std::alloc::AllocError;
 
 impl Table {

@@ -2,13 +2,13 @@
 ghost use Rattle.std.specs.Prelude.{◌≡◌, ◌<◌, true, false, List, Some, Option, length, slice_get, IfOk};
 ghost use Rattle.std.specs.Option.{option_map};
 ghost use Rattle.grb_call.specs.declared.call.Call.{Call};
-ghost use Rattle.grb_state.specs.declared.shared_content.SharedContent.{SharedContent};
+ghost use Rattle.grb_objects.specs.declared.shared_content.SharedContent.{SharedContent};
 ghost use Rattle.grb_results.specs.Kept.{AreKept, IsKeptAt, IsSameBut, KeepsAll};
 ghost use Rattle.grb_results.specs.Results.{AreTaken, IsResult, IsTable};
 ghost use Rattle.grb_results.specs.Value.{content_of};
 
 use crate::table::Table;
-use grb_state::SharedContent;
+use grb_objects::SharedContent;
 use std::alloc::{AllocError, Global};
 
 /// What the target of a call held right after it.

@@ -10,15 +10,16 @@ ghost use Rattle.grb_slices.specs.Content.{Contents, content_at, outcome};
 ghost use Rattle.grb_slices.specs.Slice.{is_among};
 ghost use Rattle.grb_slices.specs.Steps.{AgreeOn};
 ghost use Rattle.grb_links.specs.Overwrites.{blank_of};
-ghost use Rattle.grb_state.specs.SharedContent.{is_free};
+ghost use Rattle.grb_objects.specs.SharedContent.{is_free};
 ghost use Rattle.grb_results.specs.Results.{AreHeld, MayMake};
 ghost use Rattle.grb_results.specs.Value.{IsEdit, content_of};
 
 use grb_call::{Call, Class, Object};
 use grb_core::is_dimension;
 use grb_links::{Shape, forgets};
+use grb_objects::SharedContent;
 use grb_sparse::{SparseMatrix, SparseVector};
-use grb_state::{Bench, SharedContent};
+use grb_state::Bench;
 use std::alloc::{AllocError, Global};
 
 /// Whether the call ends an object.

@@ -2,17 +2,20 @@
 ghost use Rattle.std.specs.Prelude.{◌≡◌, ◌<◌, ◌^◌, true, List, length, IfOk, IfSome, IfNone};
 ghost use Rattle.std.specs.Option.{option_map, option_map_or};
 ghost use Rattle.grb_call.specs.declared.call.Call.{Call};
+ghost use Rattle.grb_call.specs.declared.ids.Object.{Object};
 ghost use Rattle.grb_call.specs.History.{after_all};
 ghost use Rattle.grb_call.specs.Store.{empty_store, matrix_at, vector_at};
-ghost use Rattle.grb_state.specs.State.{AreAllAssembledIn, stored_matrix, stored_vector};
+ghost use Rattle.grb_objects.specs.Stored.{stored_matrix, stored_vector};
+ghost use Rattle.grb_state.specs.State.{AreAllAssembledIn};
 ghost use Rattle.grb_results.specs.Exchanged.{AreMatricesOf, AreVectorsOf, Begins, IsLastKept, OfEach};
-ghost use Rattle.grb_results.specs.Kept.{AreReady, IsReady, IsSameBut, IsTableOf, KeepsAll};
+ghost use Rattle.grb_results.specs.Kept.{AreReady, IsReady, IsReadyIfThere, IsSameBut, IsTableOf, KeepsAll};
 ghost use Rattle.grb_results.specs.Results.{IsTable};
 
 use crate::table::Table;
 use grb_call::{MatrixId, Object, VectorId};
+use grb_objects::{SharedContent, SharedObject};
 use grb_sparse::{SparseMatrix, SparseVector};
-use grb_state::{SharedContent, SharedObject, State};
+use grb_state::State;
 use std::alloc::AllocError;
 
 impl Table {
@@ -28,9 +31,13 @@ impl Table {
         self.kept(count as usize - 1)
     }
 
-    /// The matrix for one more holder, if it is there. `AllocError` where 2^63 - 1 hold it.
-    fn shared_matrix(&self, a: MatrixId) -> Result<Option<SharedObject<SparseMatrix>>, AllocError>
-        requires { AreReady self.now }
+    /// The matrix for one more holder, if it is there; then it lies ready. No entry is copied, and no memory is taken. `AllocError` where
+    /// 2^63 - 1 hold it.
+    pub fn shared_matrix(
+        &self,
+        a: MatrixId,
+    ) -> Result<Option<SharedObject<SparseMatrix>>, AllocError>
+        requires { IsReadyIfThere self.now (Object.Matrix a) }
         ensures stored { (cs : List Call) → IsTableOf cs self.now → IfOk result (λ found. option_map stored_matrix found ≡ matrix_at (after_all empty_store cs) a) }
         ensures assembled { IfOk result (λ found. option_map_or (λ m. m.assembled) found true ≡ true) }
     {
@@ -43,9 +50,12 @@ impl Table {
         }
     }
 
-    /// The vector for one more holder, if it is there. `AllocError` where 2^63 - 1 hold it.
-    fn shared_vector(&self, v: VectorId) -> Result<Option<SharedObject<SparseVector>>, AllocError>
-        requires { AreReady self.now }
+    /// The vector for one more holder, if it is there, as [`Table::shared_matrix`] gives a matrix.
+    pub fn shared_vector(
+        &self,
+        v: VectorId,
+    ) -> Result<Option<SharedObject<SparseVector>>, AllocError>
+        requires { IsReadyIfThere self.now (Object.Vector v) }
         ensures stored { (cs : List Call) → IsTableOf cs self.now → IfOk result (λ found. option_map stored_vector found ≡ vector_at (after_all empty_store cs) v) }
         ensures assembled { IfOk result (λ found. option_map_or (λ x. x.assembled) found true ≡ true) }
     {

@@ -9,8 +9,8 @@ use crate::made::{edit, is_edit};
 use crate::table::Table;
 use grb_call::Call;
 use grb_links::{is_short_edit, work_of_edit};
+use grb_objects::SharedContent;
 use grb_slices::CallList;
-use grb_state::SharedContent;
 use std::alloc::AllocError;
 
 impl Table {

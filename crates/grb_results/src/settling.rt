@@ -5,9 +5,8 @@ ghost use Rattle.grb_call.specs.declared.ids.MatrixId.{MatrixId};
 ghost use Rattle.grb_call.specs.declared.ids.Object.{Object};
 ghost use Rattle.grb_call.specs.declared.ids.VectorId.{VectorId};
 ghost use Rattle.grb_call.specs.Shapes.{is_live};
-ghost use Rattle.grb_results.specs.Kept.{AreReady, IsTableOf};
+ghost use Rattle.grb_results.specs.Kept.{AreReady, IsReadyIfThere, IsTableOf};
 ghost use Rattle.grb_results.specs.Results.{IsTable};
-ghost use Rattle.grb_results.specs.Settling.{IsReadyIfThere};
 
 use crate::table::Table;
 use grb_call::{Call, MatrixId, Object, VectorId};
@@ -16,6 +15,13 @@ use grb_state::Bench;
 use std::alloc::AllocError;
 
 impl Table {
+    /// Whether the object is there after the calls learnt. Takes no memory.
+    pub fn is_there(&self, object: Object) -> bool
+        ensures { result ≡ is_live self.now.learnt.shapes.objects object }
+    {
+        self.learnt.contains(object)
+    }
+
     /// Whether the object lies ready, if it is there. Takes no memory.
     fn is_ready_if_there(&self, object: Object) -> bool
         ensures ready { result ≡ true → IsReadyIfThere self.now object }

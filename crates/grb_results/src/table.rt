@@ -1,7 +1,7 @@
 //! Results of calls, by their numbers.
 ghost use Rattle.std.specs.Prelude.{◌≡◌, ◌+◌, ◌<◌, ◌^◌, ◌++◌, ◌∷◌, [], ℕ, false, true, List, Some, None, length, slice_get, slice_set, IfNone, IfOk, IfSome, OnOk, OnErr};
 ghost use Rattle.grb_call.specs.declared.call.Call.{Call};
-ghost use Rattle.grb_state.specs.declared.shared_content.SharedContent.{SharedContent};
+ghost use Rattle.grb_objects.specs.declared.shared_content.SharedContent.{SharedContent};
 ghost use Rattle.grb_call.specs.Store.{empty_store};
 ghost use Rattle.grb_call.specs.History.{after_all};
 ghost use Rattle.grb_slices.specs.Content.{content_at};
@@ -13,7 +13,7 @@ ghost use Rattle.grb_results.specs.Value.{content_of};
 
 use grb_call::{Call, Object};
 use grb_links::{EDIT_WORK, Learnt};
-use grb_state::SharedContent;
+use grb_objects::SharedContent;
 use std::alloc::{AllocError, Global};
 
 /// For some calls of a list what their target held right after them.

@@ -2,6 +2,7 @@ pub mod Base
 pub mod Held
 pub mod Layers
 pub mod Pending
+pub use Rattle.grb_lists.specs.Apart
 pub use Rattle.grb_lists.specs.Arrays
 pub use Rattle.grb_lists.specs.Cells
 pub use Rattle.grb_lists.specs.Packed

@@ -11,6 +11,8 @@ mod layers;
 mod merge;
 mod pending;
 
-pub use grb_lists::{FlatRows, code, dims_of_rising, next_place, packed, size_of_rising};
+pub use grb_lists::{
+    ApartTuples, FlatRows, SortedPlaces, code, dims_of_rising, next_place, packed, size_of_rising,
+};
 pub use held::Held;
 pub use layers::Layers;

@@ -1,16 +1,8 @@
 -- Sections of the one pass of a context: their answers are those of a run.
 use Rattle.std.proofs.Common.{List, [], ◌∷◌, ◌++◌, length, sym, ap, ◌∙◌, subst}
-use Rattle.std.specs.Prelude.{Ok, Err}
-use Rattle.grb_order.specs.Order.{room_of}
-use Rattle.grb_context.specs.Explains.{Answer}
-use Rattle.grb_context.specs.Known.{Shared, known, IsAlone}
-use Rattle.grb_run.specs.Calls.{call_of}
+use Rattle.grb_run.proofs.Prelude.{Ok, Err, room_of, Answer, Shared, known, IsAlone, call_of, Statement, Step, Standing, making, filling, IsSaid, IsFilled, IsDone, IsRun, Stage, IsTold, IsFillTold, IsStepTold, AreTold}
 use Rattle.grb_run.specs.Objects.{made_sort, objects_after}
-use Rattle.grb_script.specs.declared.statement.Statement.{Statement}
-use Rattle.grb_run.specs.declared.loads.Step.{Step}
 use Rattle.grb_run.specs.declared.loads.Step.TheVariants as step
-use Rattle.grb_run.specs.Printed.{Standing, making, filling, IsSaid, IsFilled, IsDone, IsRun}
-use Rattle.grb_run.specs.Sections.{Stage, IsTold, IsFillTold, IsStepTold, AreTold}
 use Rattle.grb_run.proofs.Explained.{explained}
 
 abbrev pub standing : Stage → Standing

@@ -1,12 +1,10 @@
 -- What a parse of the program's command line finds.
 use Rattle.std.proofs.Common.{◌≡◌, ◌∙◌, ◌<◌, ◌≤◌, ap, ℕ, true, false, zero, suc, List, [], ◌∷◌, map, length, is_some, Option, Some, None, refl, sym, subst, inl, inr, arith, codes, slice_index}
-use Rattle.std.specs.List.{All, list_all, slice_index_or}
-use Rattle.std.specs.Prelude.{Err, IsErrAnd, IsSome, Ok, Result, option_map, pos}
-use Rattle.std.specs.Borrow.{Bor}
+use Rattle.grb_run.proofs.Prelude.{list_all, slice_index_or, Err, IsErrAnd, IsSome, Ok, Result, pos, Bor, get_or-map, length-map, MOST_ROOM, faults_of, number_spelled, room_option, script_argument}
+use Rattle.std.specs.List.{All}
+use Rattle.std.specs.Prelude.{option_map}
 use Rattle.std.specs.Str.Parse.{ExplainsUnsignedError, HasUnsignedDigitsIfOk, ParsesUnsigned}
 use Rattle.std.specs.Str.{bytes_eq}
-use Rattle.std.proofs.lemmas.List.{get_or-map, length-map}
-use Rattle.grb_order.specs.declared.limits.TheConstants.{MOST_ROOM}
 use Rattle.clap.specs.Facts.{args_of, unwrap_or_range}
 use Rattle.clap.specs.Built.{IsParsedFrom, IsPlain}
 use Rattle.clap.specs.Lexer.{without_minus}
@@ -28,7 +26,7 @@ use Rattle.clap.proofs.CallerLemmas.{required_has_value}
 use Rattle.clap.proofs.SimpleLemmas.{is_false, is_nil, ready_simple, simple_groups}
 use Rattle.clap.proofs.CallerReads.{signed_reads}
 use Rattle.clap.proofs.WalkLemmas.{both, first_value-rows, one_text-rows}
-use Rattle.grb_run.specs.CommandLine.{command_line, faults_of, number_spelled, room_option, script_argument}
+use Rattle.grb_run.specs.CommandLine.{command_line}
 use Rattle.grb_run.proofs.DefaultReads.{default_reads}
 
 abbrev arguments : List Rule

@@ -3,7 +3,8 @@ use Rattle.std.proofs.Common.{◌≡◌, ℕ, List, [], ◌∷◌, Some, codes, 
 use Rattle.clap.specs.Words.{Text, first_of, matches_of, one_of}
 use Rattle.clap.specs.declared.error.kind.ErrorKind.TheVariants.{ArgumentConflict, DisplayHelp, DisplayVersion, MissingRequiredArgument, UnknownArgument, ValueValidation}
 use Rattle.clap.proofs.OnLiterals.{clap_on_literals}
-use Rattle.grb_run.specs.CommandLine.{command_line, faults_of, number_spelled}
+use Rattle.grb_run.proofs.Prelude.{faults_of, number_spelled}
+use Rattle.grb_run.specs.CommandLine.{command_line}
 
 -- the room and the path that the words give
 Gives : List Text → ℕ → Text → Type 0

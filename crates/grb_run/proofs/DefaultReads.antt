@@ -1,10 +1,9 @@
 -- What a caller of clap reads of an argument that has a default value and takes one value at most.
 use Rattle.std.proofs.Common.{◌≡◌, ◌∙◌, ◌<◌, ◌≤◌, ap, ℕ, Bool, true, false, List, [], ◌∷◌, length, is_some, zero, suc, Option, Some, None, refl, sym, subst, inl, inr, arith}
-use Rattle.std.specs.List.{All, slice_index_or}
-use Rattle.std.specs.Prelude.{find, option_map, slice_get}
+use Rattle.grb_run.proofs.Prelude.{slice_index_or, find, slice_get, Bor, All-get_or}
+use Rattle.std.specs.List.{All}
+use Rattle.std.specs.Prelude.{option_map}
 use Rattle.std.specs.Str.{bytes_eq}
-use Rattle.std.specs.Borrow.{Bor}
-use Rattle.std.proofs.lemmas.List.Elements.{All-get_or}
 use Rattle.std.proofs.lemmas.Slice.Eq.{bytes_eq-Decides}
 use Rattle.clap.specs.Facts.{args_of, groups_of, Entry, EntryPasses, HasIn, HasReading, PassesArg, WantsDefault, least_values, parser_of, parser_of_value}
 use Rattle.clap.specs.Built.{IsAuto, IsParsedFrom, IsPlain, SameRules}

@@ -1,7 +1,7 @@
 -- The one pass of a context learns nothing from others, so its answers are those of a run.
 use Rattle.std.proofs.Common.{inl, inr, ◌≡◌, ℕ, ◌≤◌, ◌==◌, ◌&&◌, Bool, true, false, if◌then◌else◌, [], ◌∷◌, ◌++◌, length, refl, ◌∙◌, subst, arith, eq-eqb}
-use Rattle.std.proofs.lemmas.Grind.{common_steps}
-use Rattle.std.specs.Prelude.{Option, Some, None, is_none, Ok, Err}
+use Rattle.grb_run.proofs.Prelude.{common_steps, is_none, Ok, Err, Shared, Knowing, known, IsAlone, Answer, ground_of, history_after, IsGrounded, IsUnshown, ExplainsAnswer, MayLackMemory, Promise, Answered, room_of, IsAnswer}
+use Rattle.std.specs.Prelude.{Option, Some, None}
 use Rattle.std.specs.Option.{option_map_or}
 use Rattle.grb_core.specs.declared.refusal.Refusal.{Refusal}
 use Rattle.grb_core.specs.declared.refusal.Refusal.TheVariants.{OrderFull, OutOfMemory, Panic}
@@ -10,13 +10,8 @@ use Rattle.grb_call.specs.declared.reply.Reply.{Reply}
 use Rattle.grb_call.specs.Kinds.{enters}
 use Rattle.grb_call.specs.After.{refused}
 use Rattle.grb_call.specs.History.{History, store_of}
-use Rattle.grb_context.specs.Known.{Shared, Knowing, known, IsAlone}
-use Rattle.grb_context.specs.Explains.{Answer, ground_of, history_after, IsGrounded, IsUnshown, ExplainsAnswer, MayLackMemory}
-use Rattle.grb_context.specs.Answered.{Promise, Answered}
 use Rattle.grb_context.proofs.Alone.{grounds-alone, known-alone, shown-alone}
 use Rattle.grb_context.proofs.Promised.{promise}
-use Rattle.grb_order.specs.Order.{room_of}
-use Rattle.grb_run.specs.Printed.{IsAnswer}
 
 refused_anyway : (o : Option Refusal) (e f : Bool) (reply : Reply) (x : Refusal) → Err x ≡ option_map_or Err o (Ok reply) →
     Err x ≡ (if is_none o && e && f then Err OrderFull else option_map_or Err o (Ok reply))

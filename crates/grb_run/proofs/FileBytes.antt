@@ -1,7 +1,7 @@
 -- What a reader gave that was read for one byte more than a limit.
-use Rattle.std.proofs.Common.{◌≡◌, ◌∙◌, ℕ, ◌+◌, ◌≤◌, List, ◌++◌, [], length, take, Option, None, Some, arith, true}
-use Rattle.std.specs.Prelude.{Err, IfSome, Ok, OnOk, Result, is_ok, option_map}
-use Rattle.std.proofs.lemmas.List.{length-take, take_all}
+use Rattle.std.proofs.Common.{◌≡◌, ◌∙◌, ℕ, ◌+◌, ◌≤◌, List, ◌++◌, length, take, Option, None, Some, arith, true, []}
+use Rattle.grb_run.proofs.Prelude.{Err, IfSome, Ok, OnOk, Result, is_ok, length-take, take_all}
+use Rattle.std.specs.Prelude.{option_map}
 
 whole_at_most : (told : Option (List ℕ)) (limit : ℕ) (bytes : List ℕ) → IfSome (option_map (take (limit + 1)) told) (λ xs. bytes ≡ xs)
     → length bytes ≤ limit → IfSome told (λ xs. bytes ≡ xs)

@@ -1,4 +1,5 @@
 mod CommandLineRows
+mod Prelude
 mod PrintedRows
 pub mod AloneRuns
 pub mod CommandLineReads

@@ -1,26 +1,14 @@
 -- Steps of lines, one more at their end, and a load that ends with a fault.
 use Rattle.std.proofs.Common.{◌≡◌, ◌≤◌, ℕ, List, [], ◌∷◌, ◌++◌, length, refl, sym, ap, ◌∙◌, subst, append_assoc, append-nil, arith}
-use Rattle.std.specs.List.{flat_map}
-use Rattle.std.proofs.lemmas.Grind.{flat_map-append}
-use Rattle.std.proofs.lemmas.List.{length_push}
-use Rattle.std.specs.Prelude.{Option, None, Err}
-use Rattle.grb_order.specs.declared.limits.TheConstants.{MOST_SEATS}
+use Rattle.grb_run.proofs.Prelude.{flat_map, flat_map-append, length_push, MOST_SEATS, NumberedCommand, script_fault, RunFault, Step, Files, IsStep, AreSteps, IsReadInto, IsStepFault, StopsWith, IsWhyNotLoaded, AreThreadSteps, Steps, AreScriptSteps, all_of, commands_of, loads_among, steps_with, Loaded, Sections, sections_of, EndsWith, seats_of}
+use Rattle.std.specs.Prelude.{Option, None}
 use Rattle.grb_script.specs.declared.command.Command.{Command}
 use Rattle.grb_script.specs.declared.command.Command.TheVariants as command
-use Rattle.grb_script.specs.declared.command.NumberedCommand.{NumberedCommand}
-use Rattle.grb_script.specs.ScriptFault.{script_fault}
 use Rattle.grb_words.specs.declared.fault.FaultKind.{FaultKind}
-use Rattle.grb_run.specs.declared.fault.RunFault.{RunFault}
 use Rattle.grb_run.specs.declared.fault.RunFault.TheVariants as run
-use Rattle.grb_run.specs.declared.loads.Step.{Step}
 use Rattle.grb_run.specs.declared.source.TheConstants.{MAX_SCRIPT}
-use Rattle.grb_run.specs.Loads.{Files, IsStep, AreSteps, IsReadInto, IsStepFault, StopsWith, IsWhyNotLoaded, AreThreadSteps, Steps, AreScriptSteps, all_of}
-use Rattle.grb_run.specs.SectionSteps.{commands_of, loads_among, steps_with}
 use Rattle.grb_run.proofs.SectionSteps.{commands_of-push, loads_among-append, steps_with-statement, steps_with-load}
-use Rattle.grb_market.specs.declared.loaded.Loaded.{Loaded}
 use Rattle.grb_run.specs.declared.loads.Step.TheVariants as step
-use Rattle.grb_script.specs.Script.{Sections, sections_of}
-use Rattle.grb_run.specs.Run.{EndsWith, seats_of, sink_failures_after}
 use Rattle.grb_run.specs.Source.{IsGiven}
 
 module _ (files : Files) where
@@ -85,17 +73,8 @@ module _ (files : Files) where
   flat_steps (lines ∷ threads) (t ∷ all) are = AreSteps-append lines (flat_map (λ (more : List NumberedCommand). more) threads) t (flat_map (λ (more : List Step). more) all) are.0 (flat_steps threads all are.1)
 
   pub why_not : (commands : List NumberedCommand) (fault : RunFault) → StopsWith files commands fault → IsWhyNotLoaded files commands fault
-  why_not commands (run.Script line kind) stops = stops
-  why_not commands (run.Load line fault) stops = stops
-  why_not commands run.TooManySections stops = stops
-  why_not commands run.CannotReadScript stops = stops
-  why_not commands (run.CannotReadFile line) stops = stops
-  why_not commands run.ScriptTooLong stops = stops
-  why_not commands (run.FileTooLong line) stops = stops
   why_not commands run.OutOfMemory stops = tt
-  why_not commands run.NoThread stops = stops
-  why_not commands run.Panic stops = stops
-  why_not commands run.CannotWrite stops = stops
+  why_not commands _ stops = stops
 
   -- what stops some lines stops those around them too
   stops_more : (fs bs cs : List NumberedCommand) (xs : List Step) (fault : RunFault) → AreSteps files fs xs → StopsWith files bs fault → StopsWith files (fs ++ bs ++ cs) fault
@@ -219,16 +198,3 @@ module _ (files : Files) where
   ends room told text before after given none fits same run.NoThread why = absurd (no_thread_fault why.load.line why.load.command why.stops)
   ends room told text before after given none fits same run.Panic why = absurd (no_panic_fault why.load.line why.load.command why.stops)
   ends room told text before after given none fits same run.CannotWrite why = absurd (no_sink_fault why.load.line why.load.command why.stops)
-
-  pub no_failure : (failures : ℕ) (commands : List NumberedCommand) (fault : RunFault) → IsWhyNotLoaded files commands fault → failures ≡ sink_failures_after failures (Err fault)
-  no_failure failures commands (run.Script line kind) why = refl
-  no_failure failures commands (run.Load line fault) why = refl
-  no_failure failures commands run.TooManySections why = refl
-  no_failure failures commands run.CannotReadScript why = refl
-  no_failure failures commands (run.CannotReadFile line) why = refl
-  no_failure failures commands run.ScriptTooLong why = refl
-  no_failure failures commands (run.FileTooLong line) why = refl
-  no_failure failures commands run.OutOfMemory why = refl
-  no_failure failures commands run.NoThread why = refl
-  no_failure failures commands run.Panic why = refl
-  no_failure failures commands run.CannotWrite why = absurd (no_sink_fault why.load.line why.load.command why.stops)

@@ -1,11 +1,10 @@
 -- The passes of a new context.
 use Rattle.std.proofs.Common.{◌≡◌, ◌<◌, ℕ, List, [], ◌∷◌, refl}
-use Rattle.std.specs.Prelude.{Option, Some, slice_get}
+use Rattle.grb_run.proofs.Prelude.{slice_get, room_of, Knowing, none_made, AreNew}
+use Rattle.std.specs.Prelude.{Option, Some}
 use Rattle.grb_order.specs.Holding.{TableId}
-use Rattle.grb_order.specs.Order.{room_of}
 use Rattle.grb_order.specs.View.{fresh}
 use Rattle.grb_context.specs.Statuses.{no_rows}
-use Rattle.grb_context.specs.Known.{Knowing, none_made, AreNew}
 
 abbrev pub new_pass : TableId → ℕ → Knowing
 new_pass order passes = record { order = order; view = fresh 0 passes; shown = []; steps = 0; statuses = no_rows (room_of order); settled = 0; made = none_made }

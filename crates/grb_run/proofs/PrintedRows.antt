@@ -10,11 +10,9 @@ use Rattle.grb_core.specs.declared.operator.BinaryOp.TheVariants as op
 use Rattle.grb_call.specs.declared.descriptor.Descriptor.{Descriptor}
 use Rattle.grb_script.specs.declared.ewise.Elementwise.{Elementwise}
 use Rattle.grb_script.specs.declared.names.Sort.TheVariants as sort
-use Rattle.grb_script.specs.declared.statement.Statement.{Statement}
+use Rattle.grb_run.proofs.Prelude.{Statement, Loaded, printed}
 use Rattle.grb_script.specs.declared.statement.Statement.TheVariants.{Matrix, Vector, Dup, Free, Nvals, Size, Clear, SetMatrix, SetVector, RemoveVector, GetMatrix, GetVector, ResizeMatrix, BuildVector, EwiseAdd, EwiseMult}
-use Rattle.grb_market.specs.declared.loaded.Loaded.{Loaded}
 use Rattle.grb_run.specs.declared.loads.Step.TheVariants as step
-use Rattle.grb_run.specs.Printed.{printed}
 
 abbrev lines : ℕ → List Statement → List ℕ
 lines room statements = printed room (map step.Statement statements)

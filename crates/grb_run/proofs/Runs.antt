@@ -1,16 +1,11 @@
 -- Runs of steps with all that they ask for.
 use Rattle.std.proofs.Common.{◌≡◌, ℕ, List, [], ◌∷◌, length, refl, ap, ◌∙◌, subst}
-use Rattle.std.proofs.lemmas.List.Elements.{All-head, All-tail}
-use Rattle.std.specs.Prelude.{All, Ok, Err}
+use Rattle.grb_run.proofs.Prelude.{All-head, All-tail, Ok, Err, Answer, call_of, Statement, Step, Standing, standing_after, making, filling, answer_in, statement_done, filled, done, answers_in, IsAnswer, IsSaid, IsFilled, IsDone, IsRun, WasServed}
+use Rattle.std.specs.Prelude.{All}
 use Rattle.grb_core.specs.declared.refusal.Refusal.TheVariants.{OutOfMemory, Panic}
 use Rattle.grb_call.specs.declared.call.Call.{Call}
 use Rattle.grb_call.specs.History.{History}
-use Rattle.grb_context.specs.Explains.{Answer}
-use Rattle.grb_run.specs.Calls.{call_of}
-use Rattle.grb_script.specs.declared.statement.Statement.{Statement}
-use Rattle.grb_run.specs.declared.loads.Step.{Step}
 use Rattle.grb_run.specs.declared.loads.Step.TheVariants as step
-use Rattle.grb_run.specs.Printed.{Standing, standing_after, making, filling, answer_in, statement_done, filled, done, answers_in, IsAnswer, IsSaid, IsFilled, IsDone, IsRun, WasServed}
 
 served : (room : ℕ) (h : History) (c : Call) (a : Answer) → WasServed a → IsAnswer room h c a → a ≡ answer_in room h c
 served room h c (Err OutOfMemory) had is = absurd (had.0 refl)

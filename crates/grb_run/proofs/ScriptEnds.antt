@@ -1,27 +1,13 @@
 -- How a run of a script ends: its sections answered, its threads stopped, or its sink failed.
 use Rattle.std.proofs.Common.{◌≡◌, ℕ, ◌+◌, ◌*◌, ◌<◌, ◌≤◌, List, [], ◌∷◌, ◌++◌, length, refl, sym, ap, ◌∙◌, subst, append-nil, arith}
 use Rattle.std.specs.Prelude.{Option, None}
-use Rattle.std.proofs.lemmas.List.{length-map}
-use Rattle.std.specs.List.{flat_map}
-use Rattle.grb_order.specs.declared.limits.TheConstants.{MOST_SEATS}
+use Rattle.grb_run.proofs.Prelude.{length-map, flat_map, MOST_SEATS, Answer, Shared, Knowing, AreNew, reply_line, room_of, Sections, listed, sections_of, script_fault, RunFault, Step, Files, Steps, AreScriptSteps, EndsWith, WroteBeginning, seats_of, Stage, AreTold, AreAnswers, AreThreadsRun, IsStopOf}
 use Rattle.grb_call.specs.declared.ids.Object.{Object}
-use Rattle.grb_context.specs.Explains.{Answer}
-use Rattle.grb_context.specs.Known.{Shared, Knowing, AreNew}
-use Rattle.grb_run.specs.ReplyLine.{reply_line}
 use Rattle.grb_market.specs.Sink.{AppendsBeginning}
-use Rattle.grb_order.specs.Order.{room_of}
-use Rattle.grb_script.specs.Script.{Sections, listed, sections_of}
 use Rattle.grb_script.specs.declared.script.Script.{Script}
-use Rattle.grb_script.specs.ScriptFault.{script_fault}
-use Rattle.grb_run.specs.declared.fault.RunFault.{RunFault}
 use Rattle.grb_run.specs.declared.fault.RunFault.TheVariants as run
-use Rattle.grb_run.specs.declared.loads.Step.{Step}
 use Rattle.grb_run.specs.declared.source.TheConstants.{MAX_SCRIPT}
-use Rattle.grb_run.specs.Loads.{Files, Steps, AreScriptSteps}
-use Rattle.grb_run.specs.Run.{EndsWith, WroteBeginning, seats_of}
-use Rattle.grb_run.specs.Sections.{Stage, AreTold, AreAnswers}
 use Rattle.grb_run.specs.Source.{IsGiven}
-use Rattle.grb_run.specs.Threads.{AreThreadsRun, IsStopOf}
 use Rattle.grb_run.proofs.ScriptRuns.{run_alone}
 
 -- where there are no thread sections, nothing is run

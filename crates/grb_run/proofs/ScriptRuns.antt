@@ -1,12 +1,6 @@
 -- A script without thread sections runs as one section.
 use Rattle.std.proofs.Common.{◌≡◌, ℕ, ◌+◌, List, [], ◌∷◌, ◌++◌, length, refl, sym, ap, ◌∙◌, subst, append-nil, arith}
-use Rattle.std.specs.List.{flat_map}
-use Rattle.grb_context.specs.Explains.{Answer}
-use Rattle.grb_context.specs.Known.{Shared, Knowing, known, IsAlone, AreNew}
-use Rattle.grb_run.specs.declared.loads.Step.{Step}
-use Rattle.grb_run.specs.Loads.{Steps}
-use Rattle.grb_run.specs.Printed.{IsRun, start}
-use Rattle.grb_run.specs.Sections.{Stage, Answers, in_order, AreTold, AreThreadsTold, MeetsAll, IsScriptRun}
+use Rattle.grb_run.proofs.Prelude.{flat_map, Answer, Shared, Knowing, known, IsAlone, AreNew, Step, Steps, IsRun, start, Stage, Answers, in_order, AreTold, AreThreadsTold, MeetsAll, IsScriptRun}
 use Rattle.grb_run.proofs.AloneRuns.{standing, run_of, AreTold-append}
 use Rattle.grb_run.proofs.OnePass.{new_pass, first_pass}
 

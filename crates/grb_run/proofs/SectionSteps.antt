@@ -1,13 +1,9 @@
 -- The steps of a section, one more at their end.
 use Rattle.std.proofs.Common.{◌≡◌, ℕ, ◌+◌, List, [], ◌∷◌, ◌++◌, length, refl, ap, ◌∙◌, arith}
-use Rattle.std.proofs.lemmas.List.{length-map, map-append}
-use Rattle.grb_market.specs.declared.loaded.Loaded.{Loaded}
+use Rattle.grb_run.proofs.Prelude.{length-map, map-append, Loaded, NumberedCommand, Statement, commands_of, loads_among, steps_with}
 use Rattle.grb_script.specs.declared.command.Command.{Command}
 use Rattle.grb_script.specs.declared.command.Command.TheVariants as command
-use Rattle.grb_script.specs.declared.command.NumberedCommand.{NumberedCommand}
-use Rattle.grb_script.specs.declared.statement.Statement.{Statement}
 use Rattle.grb_run.specs.declared.loads.Step.TheVariants as step
-use Rattle.grb_run.specs.SectionSteps.{commands_of, loads_among, steps_with}
 
 pub commands_of-push : (before : List NumberedCommand) (line : NumberedCommand) → commands_of (before ++ line ∷ []) ≡ commands_of before ++ line.command ∷ []
 commands_of-push before line = map-append (λ (line : NumberedCommand). line.command) before (line ∷ [])
@@ -42,8 +38,3 @@ length-steps_with (command.Load path ∷ more) (m ∷ loads) count = omega (arit
 pub length-section : (lines : List NumberedCommand) (loads : List Loaded) → length loads ≡ loads_among (commands_of lines)
     → length (steps_with (commands_of lines) loads) ≡ length lines
 length-section lines loads count = length-steps_with (commands_of lines) loads count ∙ length-map lines (λ (line : NumberedCommand). line.command)
-
--- the step of a load, which takes the first matrix
-pub steps_with-first : (path : List ℕ) (more : List Command) (loads rest : List Loaded) (m : Loaded) → loads ≡ m ∷ rest
-    → steps_with (command.Load path ∷ more) loads ≡ step.Load m ∷ steps_with more rest
-steps_with-first path more loads rest m are = ap (λ l. steps_with (command.Load path ∷ more) l) are

@@ -1,18 +1,8 @@
 -- Steps that are answered, one behind another.
 use Rattle.std.proofs.Common.{◌≡◌, ℕ, false, List, [], ◌∷◌, ◌++◌, length, refl, sym, ap, ◌∙◌, subst, append_assoc}
-use Rattle.std.specs.Prelude.{Result, Ok, Err, IfOk}
+use Rattle.grb_run.proofs.Prelude.{Result, Ok, Err, IfOk, AllocError, Answered, Answer, Shared, call_of, Loaded, Statement, Step, making, filling, Stage, IsTold, IsFillTold, IsLoadTold, IsStepTold, AreTold}
 use Rattle.std.specs.Result.{is_err}
-use Rattle.std.specs.declared.alloc.AllocError.{AllocError}
-use Rattle.grb_context.specs.Answered.{Answered}
-use Rattle.grb_context.specs.Explains.{Answer}
-use Rattle.grb_context.specs.Known.{Shared}
-use Rattle.grb_run.specs.Calls.{call_of}
 use Rattle.grb_run.specs.Objects.{made_sort, objects_after}
-use Rattle.grb_market.specs.declared.loaded.Loaded.{Loaded}
-use Rattle.grb_script.specs.declared.statement.Statement.{Statement}
-use Rattle.grb_run.specs.declared.loads.Step.{Step}
-use Rattle.grb_run.specs.Printed.{making, filling}
-use Rattle.grb_run.specs.Sections.{Stage, IsTold, IsFillTold, IsLoadTold, IsStepTold, AreTold}
 
 pub none_left : {X : Type 0} (rest : List X) (n : ℕ) → n ≡ length rest → n ≡ 0 → rest ≡ []
 none_left [] n is none = refl

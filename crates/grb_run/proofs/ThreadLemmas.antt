@@ -1,24 +1,13 @@
 -- Thread sections: jobs, what their threads return, and how main's pass gathers it.
-use Rattle.std.proofs.Common.{◌≡◌, ◌≢◌, ℕ, ◌<◌, List, [], ◌∷◌, ◌++◌, length, refl, sym, ap, ◌∙◌, subst, append_assoc, append-nil, arith, suc}
-use Rattle.std.specs.Prelude.{Result, Ok, Err, IfOk, All}
-use Rattle.std.specs.List.{flat_map, slice_index_or, remove}
-use Rattle.std.specs.declared.alloc.AllocError.{AllocError}
-use Rattle.std.proofs.lemmas.List.Elements.{All-nil, All-cons}
+use Rattle.std.proofs.Common.{◌≡◌, ℕ, ◌<◌, List, [], ◌∷◌, ◌++◌, length, refl, sym, ap, ◌∙◌, subst, append_assoc, append-nil, arith, suc}
+use Rattle.grb_run.proofs.Prelude.{Result, Ok, Err, IfOk, flat_map, slice_index_or, remove, AllocError, All-nil, All-cons, Answer, Shared, Knowing, Making, IsPassOf, Step, FinishedSection, Job, Stage, AreTold, AreThreadsTold, MeetsAll, IsJob, AreJobs, IsEnded, AreEnded, AreAsked, IsGathered, AreGathered, AreThreadsRun}
+use Rattle.std.specs.Prelude.{All}
 use Rattle.std.specs.PromisedHandle.{KeepsAt, KeepsEach}
 use Rattle.std.specs.declared.thread.PromisedHandle.{PromisedHandle}
 use Rattle.std.specs.declared.thread.Promise as Promise
 use Rattle.grb_call.specs.declared.ids.Object.{Object}
-use Rattle.grb_context.specs.Explains.{Answer}
-use Rattle.grb_context.specs.Known.{Shared, Knowing, Making, IsPassOf}
 use Rattle.grb_context.specs.Meeting.{Met}
-use Rattle.grb_run.specs.declared.fault.RunFault.{RunFault}
-use Rattle.grb_run.specs.declared.fault.RunFault.TheVariants as run
-use Rattle.grb_run.specs.declared.loads.Step.{Step}
 use Rattle.grb_run.specs.declared.threads.ThreadPromise.{ThreadPromise}
-use Rattle.grb_run.specs.declared.threads.FinishedSection.{FinishedSection}
-use Rattle.grb_run.specs.declared.threads.Job.{Job}
-use Rattle.grb_run.specs.Sections.{Stage, AreTold, AreThreadsTold, MeetsAll}
-use Rattle.grb_run.specs.Threads.{IsJob, AreJobs, IsEnded, AreEnded, AreAsked, IsGathered, AreGathered, AreThreadsRun, IsStop, IsStopOf}
 
 -- the first element, taken out
 pub first_removed : {X : Type 0} (xs rest : List X) (x : X) → 0 < length xs → x ≡ slice_index_or xs 0 x → rest ≡ remove xs 0 → xs ≡ x ∷ rest
@@ -163,17 +152,3 @@ module _ (context : Shared) where
   threads_run main passes threads jobs results before after all are_jobs ended are =
       let it = gathered main passes threads jobs results main.pass before after all are_jobs ended are in
       record { answers = it.0; ended = it.1; told = it.2; meets = it.3; all_are = it.4 }
-
--- where there are thread sections, each reason may be why they did not run to their ends
-pub stop_of : (threads : List (List Step)) (fault : RunFault) → threads ≢ [] → IsStop fault → IsStopOf threads fault
-stop_of threads (run.Script line kind) some is = absurd is
-stop_of threads (run.Load line fault) some is = absurd is
-stop_of threads run.TooManySections some is = absurd is
-stop_of threads run.CannotReadScript some is = absurd is
-stop_of threads (run.CannotReadFile line) some is = absurd is
-stop_of threads run.ScriptTooLong some is = absurd is
-stop_of threads (run.FileTooLong line) some is = absurd is
-stop_of threads run.OutOfMemory some is = tt
-stop_of threads run.NoThread some is = some
-stop_of threads run.Panic some is = some
-stop_of threads run.CannotWrite some is = absurd is

@@ -1,15 +1,8 @@
 -- What a run that wrote its lines shows.
 use Rattle.std.proofs.Common.{◌≡◌, ℕ, List, ◌++◌, subst}
 use Rattle.std.specs.Prelude.{Option}
-use Rattle.std.specs.List.{flat_map}
+use Rattle.grb_run.proofs.Prelude.{flat_map, Answer, reply_line, sections_of, Files, Steps, AreScriptSteps, start, Wrote, AreAnswers, in_order}
 use Rattle.std.specs.Io.KnownBytes.{Appends}
-use Rattle.grb_context.specs.Explains.{Answer}
-use Rattle.grb_run.specs.ReplyLine.{reply_line}
-use Rattle.grb_script.specs.Script.{sections_of}
-use Rattle.grb_run.specs.Loads.{Files, Steps, AreScriptSteps}
-use Rattle.grb_run.specs.Printed.{start}
-use Rattle.grb_run.specs.Run.{Wrote}
-use Rattle.grb_run.specs.Sections.{AreAnswers, in_order}
 use Rattle.grb_run.proofs.Runs.{IsRun-served}
 use Rattle.grb_run.proofs.ScriptRuns.{run_alone}
 

@@ -1,10 +1,8 @@
 -- The first fault of a line is that of the lowest number of those that apply.
 use Rattle.std.proofs.Common.{◌≡◌, ℕ, ◌+◌, ◌≤◌, Bool, true, false, ◌&&◌, ◌||◌, cond, nat_eq, List, ◌∷◌, Option, Some, None, Ok, Err, Result, is_some, refl, sym, ap, subst, ◌∙◌, arith, inl, inr}
 use Rattle.std.specs.Prelude.{not}
-use Rattle.std.specs.List.{list_all}
-use Rattle.std.specs.Option.{option_map, option_map_or, option_to_list}
+use Rattle.grb_script.proofs.Prelude.{list_all, option_map, option_map_or, option_to_list, cases_eq, Line, FaultKind, Version, Form, MatrixForm, VectorForm, DupForm, FreeForm, NvalsForm, SizeForm, ClearForm, RemoveForm, GetForm, ResizeForm, SetForm, BuildForm, EwiseForm, ProductForm, ReduceForm, TotalForm, WaitForm, form_of, load_of, Word, words_of, has_allowed_bytes, is_load, is_section, OptionWords, section_of, Sort, asks_load, asks_statement, loading, Name, sort_of, stands, number_in, same_sort, are_of, are_of_product, build_of, ewise_on, get_at, left_sort, made, mask_is_of, masked, output_sort, product_on, reading, reduction_on, remove_at, resize_to, right_sort, saying, set_at, tran_fits, used, where_found, Scope, line_fault, section_fault, wording_fault, version_by, says_nothing}
 use Rattle.std.specs.Result.{result_err}
-use Rattle.std.proofs.lemmas.Bool.{cases_eq}
 use Rattle.grb_core.specs.declared.operator.BinaryOp.{BinaryOp}
 use Rattle.grb_core.specs.declared.monoid.Monoid.{Monoid}
 use Rattle.grb_core.specs.declared.value.Value.{Value}
@@ -12,8 +10,6 @@ use Rattle.grb_core.specs.Monoid.{monoid_domain}
 use Rattle.grb_core.specs.Operator.{op_domain}
 use Rattle.grb_core.specs.Semiring.{SemiringParts}
 use Rattle.grb_call.specs.Refused.{same_domain}
-use Rattle.grb_market.specs.Line.{Line}
-use Rattle.grb_words.specs.declared.fault.FaultKind.{FaultKind}
 use Rattle.grb_words.specs.declared.fault.FaultKind.TheVariants as kind
 use Rattle.grb_words.specs.declared.indices.Indices.{Indices}
 use Rattle.grb_words.specs.declared.indices.Indices.TheVariants as indices
@@ -21,23 +17,11 @@ use Rattle.grb_words.specs.declared.keyword.Ewise.{Ewise}
 use Rattle.grb_words.specs.declared.keyword.Multiply.{Multiply}
 use Rattle.grb_words.specs.declared.keyword.Multiply.TheVariants as multiply
 use Rattle.grb_words.specs.declared.section.Section.{Section}
-use Rattle.grb_words.specs.declared.version.Version.{Version}
-use Rattle.grb_words.specs.Form.{Form, MatrixForm, VectorForm, DupForm, FreeForm, NvalsForm, SizeForm, ClearForm, RemoveForm, GetForm, ResizeForm, SetForm, BuildForm, EwiseForm, ProductForm, ReduceForm, TotalForm, WaitForm, form_of, load_of}
-use Rattle.grb_words.specs.Line.{Word, words_of, has_allowed_bytes, is_load, is_section}
-use Rattle.grb_words.specs.Options.{OptionWords}
-use Rattle.grb_words.specs.Section.{section_of}
 use Rattle.grb_words.specs.Tuples.{vector_tuples, matrix_tuples}
-use Rattle.grb_script.specs.declared.names.Sort.{Sort}
 use Rattle.grb_script.specs.declared.names.Sort.TheVariants as sort
 use Rattle.grb_script.specs.declared.statement.Statement.{Statement}
 use Rattle.grb_script.specs.declared.statement.Statement.TheVariants as statement
-use Rattle.grb_script.specs.Command.{asks_load, asks_statement, loading}
 use Rattle.grb_script.specs.Faults.{fault_number, IsLowestFault, Sense, Silent, SectionWords, LoadWords, StatementWords, sense_of, is_section_here, has_form, makes_new, uses_known, is_of, sort_by, mask_sorts, are_groups, form_has_sorts, has_sorts, form_has_semiring, has_semiring, used_names, AppliesToLine}
-use Rattle.grb_script.specs.Names.{Name, sort_of, stands, number_in, same_sort}
-use Rattle.grb_script.specs.Reading.{are_of, are_of_product, build_of, ewise_on, get_at, left_sort, made, mask_is_of, masked, output_sort, product_on, reading, reduction_on, remove_at, resize_to, right_sort, saying, set_at, tran_fits, used, where_found}
-use Rattle.grb_script.specs.Scope.{Scope}
-use Rattle.grb_script.specs.ScriptFault.{line_fault, section_fault, wording_fault}
-use Rattle.grb_script.specs.Version.{version_by, says_nothing}
 
 -- the fault of a number
 of_number : ℕ → FaultKind
@@ -46,13 +30,7 @@ of_number n = cond (nat_eq n 1) kind.UnendedLine (cond (nat_eq n 2) kind.BadByte
 of_its_number : (k : FaultKind) → of_number (fault_number k) ≡ k
 unfolding of_number
 of_its_number kind.UnendedLine = refl
-of_its_number kind.BadByte = refl
-of_its_number kind.Section = refl
-of_its_number kind.Statement = refl
-of_its_number kind.NameTaken = refl
-of_its_number kind.UnknownName = refl
-of_its_number kind.WrongKind = refl
-of_its_number kind.Semiring = refl
+of_its_number _ = refl
 
 one_number : (p q : FaultKind) → fault_number p ≡ fault_number q → p ≡ q
 one_number p q e = sym (of_its_number p) ∙ ap of_number e ∙ of_its_number q
@@ -93,13 +71,7 @@ module _ (t : Tests) where
 
   none_behind : IsLowestFault (From 9) None
   none_behind kind.UnendedLine fails = let l = fails.1 in absurd (omega arith)
-  none_behind kind.BadByte fails = let l = fails.1 in absurd (omega arith)
-  none_behind kind.Section fails = let l = fails.1 in absurd (omega arith)
-  none_behind kind.Statement fails = let l = fails.1 in absurd (omega arith)
-  none_behind kind.NameTaken fails = let l = fails.1 in absurd (omega arith)
-  none_behind kind.UnknownName fails = let l = fails.1 in absurd (omega arith)
-  none_behind kind.WrongKind fails = let l = fails.1 in absurd (omega arith)
-  none_behind kind.Semiring fails = let l = fails.1 in absurd (omega arith)
+  none_behind _ fails = let l = fails.1 in absurd (omega arith)
 
   first-from : IsLowestFault (From 1) (first_failed t)
   first-from =
@@ -108,13 +80,7 @@ module _ (t : Tests) where
 
   positive : (k : FaultKind) → 1 ≤ fault_number k
   positive kind.UnendedLine = omega arith
-  positive kind.BadByte = omega arith
-  positive kind.Section = omega arith
-  positive kind.Statement = omega arith
-  positive kind.NameTaken = omega arith
-  positive kind.UnknownName = omega arith
-  positive kind.WrongKind = omega arith
-  positive kind.Semiring = omega arith
+  positive _ = omega arith
 
   first-of : (Applies : FaultKind → Type 0) → ((k : FaultKind) → Applies k → t k ≡ false) → ((k : FaultKind) → t k ≡ false → Applies k)
       → (o : Option FaultKind) → IsLowestFault (From 1) o → IsLowestFault Applies o
@@ -394,13 +360,10 @@ stated (Err k) = refl
 words-first : (version : Version) (here : Scope) (sense : Sense)
     → sense_fault version here sense
     ≡ by_words (is_section_here version here.section sense) (has_form sense) (makes_new here.names sense) (uses_known here.names sense) (has_sorts here.names sense) (has_semiring sense)
-words-first version here Silent = refl
 words-first version here (SectionWords None) = refl
-words-first version here (SectionWords (Some next)) = refl
-words-first version here (LoadWords None) = refl
 words-first version here (LoadWords (Some load)) = loaded (stands here.names load.0) load.1
-words-first version here (StatementWords None) = refl
 words-first version here (StatementWords (Some form)) = stated (saying here.names form) ∙ form-first here.names form
+words-first version here _ = refl
 
 -- words by what they are
 sensed : (version : Version) (here : Scope) (a b c : Bool) (section : Option Section) (load : Option (Word × Word)) (form : Option Form)
@@ -438,23 +401,11 @@ module _ (here : Scope) (line : Line) where
 
   fails : (k : FaultKind) → AppliesToLine here line k → line_tests k ≡ false
   fails kind.UnendedLine is = is
-  fails kind.BadByte is = is
-  fails kind.Section is = is
-  fails kind.Statement is = is
-  fails kind.NameTaken is = is
-  fails kind.UnknownName is = is
-  fails kind.WrongKind is = is
-  fails kind.Semiring is = is
+  fails _ is = is
 
   applies : (k : FaultKind) → line_tests k ≡ false → AppliesToLine here line k
   applies kind.UnendedLine is = is
-  applies kind.BadByte is = is
-  applies kind.Section is = is
-  applies kind.Statement is = is
-  applies kind.NameTaken is = is
-  applies kind.UnknownName is = is
-  applies kind.WrongKind is = is
-  applies kind.Semiring is = is
+  applies _ is = is
 
   worded : wording_fault here words ≡ by_words (is_section_here version here.section sense) (has_form sense) (makes_new here.names sense) (uses_known here.names sense) (has_sorts here.names sense) (has_semiring sense)
   worded =

@@ -1,9 +1,7 @@
 -- What form words have, and what a statement of it leaves of the names.
 use Rattle.std.proofs.Common.{◌≡◌, ◌≢◌, ℕ, ◌-◌, ◌≤◌, Bool, true, false, List, [], ◌∷◌, length, get_or, take, drop, Option, Some, None, Ok, Err, Bor, Result, if◌then◌else◌, refl, sym, ap, ◌∙◌, arith}
-use Rattle.std.proofs.lemmas.List.{take_all}
-use Rattle.std.specs.Option.{option_and_then, option_map, option_map_or, ok_or}
-use Rattle.grb_words.specs.declared.fault.FaultKind.{FaultKind}
-use Rattle.grb_words.specs.declared.fault.FaultKind.TheVariants.{Statement, UnknownName}
+use Rattle.grb_script.proofs.Prelude.{take_all, option_and_then, option_map, option_map_or, ok_or, FaultKind, UnknownName, Sort, Word, Name, name_found, Version, options_in, product_options, is_name, keyword_in, monoid_of, operator_of, semiring_of, wait_mode_of, Form, SetForm, BuildForm, EwiseForm, ProductForm, ReduceForm, TotalForm, WaitForm, ewise_form, product_form, reduce_form, total_form, wait_form, form_of_placed, indices_of, indices_and_value_of, values_in, matrix_form, vector_form, whole_form, placed_form, set_form, build_form, form_with, form_of, reading, used, masked, mask_found, where_found, names_behind, set_at, now_of}
+use Rattle.grb_words.specs.declared.fault.FaultKind.TheVariants.{Statement}
 use Rattle.grb_words.specs.declared.keyword.Ewise.{Ewise}
 use Rattle.grb_words.specs.declared.keyword.Keyword.{Keyword}
 use Rattle.grb_words.specs.declared.keyword.Keyword.TheVariants as keyword
@@ -13,18 +11,9 @@ use Rattle.grb_words.specs.declared.keyword.Placed.TheVariants.{Remove, Get, Res
 use Rattle.grb_words.specs.declared.keyword.Whole.{Whole}
 use Rattle.grb_words.specs.declared.keyword.Whole.TheVariants.{Free, Nvals, Size, Clear}
 use Rattle.grb_core.specs.declared.value.Value.{Value}
-use Rattle.grb_script.specs.declared.names.Sort.{Sort}
 use Rattle.grb_script.specs.declared.statement.Statement.{Statement as SaidStatement}
 use Rattle.grb_words.specs.declared.indices.Indices.{Indices}
-use Rattle.grb_words.specs.Line.{Word}
-use Rattle.grb_script.specs.Names.{Name, name_found}
-use Rattle.grb_words.specs.declared.version.Version.{Version}
-use Rattle.grb_words.specs.Options.{options_in, product_options}
-use Rattle.grb_words.specs.Word.{is_name, keyword_in, monoid_of, operator_of, semiring_of, wait_mode_of}
-use Rattle.grb_words.specs.Form.{Form, SetForm, BuildForm, EwiseForm, ProductForm, ReduceForm, TotalForm, WaitForm, ewise_form, product_form, reduce_form, total_form, wait_form, form_of_placed, indices_of, indices_and_value_of, values_in, matrix_form, vector_form, whole_form, placed_form, set_form, build_form, form_with, form_of}
-use Rattle.grb_script.specs.Reading.{reading, used, masked, mask_found, where_found, names_behind, set_at}
 use Rattle.grb_words.proofs.IndicesLemmas.{no_word}
-use Rattle.grb_words.proofs.TupleLemmas.{now_of}
 
 -- what an `ok_or` is that is `Ok`, and one that is not
 pub some_of_ok : {X : Type 0} (o : Option X) (kind : FaultKind) (x : X) → Ok x ≡ ok_or o kind → Some x ≡ o

@@ -1,28 +1,11 @@
 -- A text without thread sections, line by line.
 use Rattle.std.proofs.Common.{◌≡◌, ℕ, ◌+◌, Bool, true, false, not, cond, if◌then◌else◌, List, [], ◌∷◌, ◌++◌, Option, Some, None, is_some, length, map, refl, sym, ap, ◌∙◌, append_assoc}
-use Rattle.std.specs.Prelude.{codes}
-use Rattle.std.specs.List.{flat_map, take_while}
-use Rattle.std.specs.Option.{option_map, option_map_or}
-use Rattle.std.specs.Str.{bytes_eq}
+use Rattle.grb_script.proofs.Prelude.{codes, flat_map, take_while, option_map, option_map_or, bytes_eq, FaultKind, UnendedLine, BadByte, Version, Line, lines_of, Word, has_allowed_bytes, words_of, section_of, numeral_value, NumberedCommand, commands_in, names_behind_words, Name, Scope, at_start, begun, main_behind, with_names, with_version, section_on, scope_of, with_before, numbered_on, line_commands, section_commands, thread_part, finally_part, threads_in, finally_in, sections_of, section_fault, wording_fault, line_fault, first_fault, script_fault, version_by, says_nothing}
 use Rattle.std.proofs.lemmas.Slice.Eq.{bytes_eq-Decides}
-use Rattle.grb_words.specs.declared.fault.FaultKind.{FaultKind}
-use Rattle.grb_words.specs.declared.fault.FaultKind.TheVariants.{UnendedLine, BadByte}
 use Rattle.grb_words.specs.declared.section.Section.{Section}
 use Rattle.grb_words.specs.declared.section.Section.TheVariants as section
-use Rattle.grb_words.specs.declared.version.Version.{Version}
-use Rattle.grb_market.specs.Line.{Line, lines_of}
-use Rattle.grb_words.specs.Line.{Word, has_allowed_bytes, words_of}
-use Rattle.grb_words.specs.Section.{section_of}
-use Rattle.grb_words.specs.Word.{numeral_value}
-use Rattle.grb_script.specs.declared.command.NumberedCommand.{NumberedCommand}
 use Rattle.grb_script.specs.declared.fault.ScriptFault.{ScriptFault}
-use Rattle.grb_script.specs.Command.{commands_in, names_behind_words}
 use Rattle.grb_script.specs.Laws.{version_behind_lines, names_behind_lines, commands_of}
-use Rattle.grb_script.specs.Names.{Name}
-use Rattle.grb_script.specs.Scope.{Scope, at_start, begun, main_behind, with_names, with_version, section_on, scope_of}
-use Rattle.grb_script.specs.Script.{with_before, numbered_on, line_commands, section_commands, thread_part, finally_part, threads_in, finally_in, sections_of}
-use Rattle.grb_script.specs.ScriptFault.{section_fault, wording_fault, line_fault, first_fault, script_fault}
-use Rattle.grb_script.specs.Version.{version_by, says_nothing}
 use Rattle.grb_script.proofs.ScriptLemmas.{scope_behind_lines-push, in_section}
 
 -- the words 'finally' alone

@@ -1,8 +1,8 @@
-pub mod CommandCount
 pub mod FaultLemmas
 pub mod FormLemmas
 pub mod LawLemmas
 pub mod NamesLemmas
+mod Prelude
 pub mod ScopeLemmas
 pub mod ScriptLemmas
 mod ScriptRows

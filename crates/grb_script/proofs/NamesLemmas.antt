@@ -1,14 +1,10 @@
 -- What a map from names to sorts is as a list.
 use Rattle.std.proofs.Common.{◌≡◌, ℕ, zero, suc, ◌+◌, Bool, true, false, not, cond, List, [], ◌∷◌, ◌++◌, map, take, Option, Some, None, is_some, position, refl, sym, ap, true≢false, ◌∙◌, arith}
-use Rattle.std.specs.List.{position_or_len, slice_get}
+use Rattle.grb_script.proofs.Prelude.{position_or_len, option_map, bytes_eq, Word, Sort, Name, sort_of, stands, number_in, name_found}
+use Rattle.std.specs.List.{slice_get}
 use Rattle.std.proofs.lemmas.Option.{none-some, same_Some}
 use Rattle.std.specs.Map.{lookup, keys_of}
-use Rattle.std.specs.Option.{option_map}
-use Rattle.std.specs.Str.{bytes_eq}
 use Rattle.indexmap.specs.IndexMap.{insert_entry}
-use Rattle.grb_words.specs.Line.{Word}
-use Rattle.grb_script.specs.declared.names.Sort.{Sort}
-use Rattle.grb_script.specs.Names.{Name, sort_of, stands, number_in, name_found}
 
 module _ {V : Type 0} (bytes : V → List ℕ) where
   -- the names that these entries are

@@ -1,32 +1,16 @@
 -- Where the lines of a script stand, and what their words say.
-use Rattle.std.proofs.Common.{inl, inr, ◌≡◌, ℕ, ◌≤◌, ◌==◌, Bool, true, false, ◌||◌, if◌then◌else◌, List, [], ◌∷◌, ◌++◌, length, take, get_or, Option, Some, None, refl, sym, ap, ◌∙◌, true≢false, arith, length-append}
-use Rattle.std.specs.Prelude.{◌⊎◌, codes}
-use Rattle.std.specs.Option.{option_map, option_map_or, option_to_list}
+use Rattle.std.proofs.Common.{inl, inr, ◌≡◌, ℕ, ◌≤◌, ◌==◌, Bool, true, false, if◌then◌else◌, List, [], ◌∷◌, ◌++◌, length, take, get_or, Option, Some, None, refl, sym, ap, ◌∙◌, true≢false, arith, length-append}
+use Rattle.grb_script.proofs.Prelude.{◌⊎◌, codes, option_map, option_map_or, option_to_list, bytes_eq, false_from_ne_true, and_parts, or_cases, or_parts, append-nil, take-append-le, Version, Form, MatrixForm, VectorForm, DupForm, form_of, load_of, Word, is_load, is_section, is_skipped, section_of, numeral_value, Sort, asking, names_made, names_behind_load, names_behind_words, IsAsked, Name, sort_of, names_behind, Scope, begun, main_behind, main_kept, with_names, with_version, seen, IsKept, section_fault, saying_fault, wording_fault, version_by, says_nothing}
 use Rattle.std.specs.Result.{result_err, result_ok}
-use Rattle.std.specs.Str.{bytes_eq}
-use Rattle.std.proofs.lemmas.Bool.{false_from_ne_true, and_parts, or_cases}
-use Rattle.std.proofs.lemmas.List.{append-nil, take-append-le}
 use Rattle.std.proofs.lemmas.Slice.Eq.{bytes_eq-Decides}
 use Rattle.grb_words.specs.declared.section.Section.{Section}
 use Rattle.grb_words.specs.declared.section.Section.TheVariants as section
-use Rattle.grb_words.specs.declared.version.Version.{Version}
-use Rattle.grb_words.specs.Form.{Form, MatrixForm, VectorForm, DupForm, FreeForm, NvalsForm, SizeForm, ClearForm, RemoveForm, GetForm, ResizeForm, SetForm, BuildForm, EwiseForm, ProductForm, ReduceForm, TotalForm, WaitForm, form_of, load_of}
-use Rattle.grb_words.specs.Line.{Word, is_load, is_section, is_skipped}
-use Rattle.grb_words.specs.Section.{section_of}
 use Rattle.grb_words.specs.Version.{is_version_two}
-use Rattle.grb_words.specs.Word.{numeral_value}
 use Rattle.grb_script.specs.declared.command.Command.{Command}
 use Rattle.grb_script.specs.declared.line.LineMeaning.TheVariants as meaning
-use Rattle.grb_script.specs.declared.names.Sort.{Sort}
 use Rattle.grb_script.specs.declared.names.Sort.TheVariants as sort
 use Rattle.grb_script.specs.declared.scope.Scope.{Scope as Kept}
-use Rattle.grb_script.specs.Command.{asking, names_made, names_behind_load, names_behind_words, IsAsked}
-use Rattle.grb_script.specs.Names.{Name, sort_of}
-use Rattle.grb_script.specs.Reading.{names_behind}
 use Rattle.grb_script.specs.LineMeaning.{IsRead}
-use Rattle.grb_script.specs.Scope.{Scope, begun, main_behind, main_kept, with_names, with_version, seen, IsKept}
-use Rattle.grb_script.specs.ScriptFault.{section_fault, saying_fault, wording_fault}
-use Rattle.grb_script.specs.Version.{version_by, says_nothing}
 
 -- of words that are skipped none begins with the word of a section
 other_word : (word key : Word) → (get_or word 0 0 == 35) ≡ true → (get_or key 0 0 == 35) ≡ false → bytes_eq word key ≡ false
@@ -58,16 +42,11 @@ section_of-silent None words h =
     by (inl skipped) = section_of-skipped words skipped
     by (inr is) = ap section_of (is_version_two-words words is)
 
-neither : (a b : Bool) → (a || b) ≡ false → (a ≡ false) × (b ≡ false)
-neither false false h = (refl, refl)
-neither false true h = absurd (true≢false h)
-neither true b h = absurd (true≢false h)
-
 -- words that do not begin with the word of a section begin none
 pub section_of-other : (words : List Word) → is_section words ≡ false → section_of words ≡ None
 section_of-other [] h = refl
-section_of-other (word ∷ []) h = ap (λ b. if b then Some section.Finally else None) (neither (bytes_eq word (codes "thread")) _ h).1
-section_of-other (word ∷ k ∷ []) h = ap (λ b. if b then option_map section.Thread (numeral_value k) else None) (neither (bytes_eq word (codes "thread")) _ h).0
+section_of-other (word ∷ []) h = ap (λ b. if b then Some section.Finally else None) (or_parts (bytes_eq word (codes "thread")) _ h).1
+section_of-other (word ∷ k ∷ []) h = ap (λ b. if b then option_map section.Thread (numeral_value k) else None) (or_parts (bytes_eq word (codes "thread")) _ h).0
 section_of-other (word ∷ k ∷ x ∷ more) h = refl
 
 -- each statement keeps the names that stand, and may add one
@@ -82,24 +61,10 @@ with_copy names name None = same names
 with_copy names name (Some found) = ((name, found) ∷ [], refl)
 
 names_behind-extends : (names : List Name) (form : Option Form) → Extends names (names_behind names form)
-names_behind-extends names None = same names
 names_behind-extends names (Some (MatrixForm name domain nrows ncols)) = ((name, sort.Matrix) ∷ [], refl)
 names_behind-extends names (Some (VectorForm name domain size)) = ((name, sort.Vector) ∷ [], refl)
 names_behind-extends names (Some (DupForm name source)) = with_copy names name (sort_of names source)
-names_behind-extends names (Some (FreeForm name)) = same names
-names_behind-extends names (Some (NvalsForm name)) = same names
-names_behind-extends names (Some (SizeForm name)) = same names
-names_behind-extends names (Some (ClearForm name)) = same names
-names_behind-extends names (Some (RemoveForm name p)) = same names
-names_behind-extends names (Some (GetForm name p)) = same names
-names_behind-extends names (Some (ResizeForm name p)) = same names
-names_behind-extends names (Some (SetForm name p x)) = same names
-names_behind-extends names (Some (BuildForm name dup values)) = same names
-names_behind-extends names (Some (EwiseForm w output left right op o)) = same names
-names_behind-extends names (Some (ProductForm w output left right semiring o)) = same names
-names_behind-extends names (Some (ReduceForm output input monoid o)) = same names
-names_behind-extends names (Some (TotalForm name monoid)) = same names
-names_behind-extends names (Some (WaitForm name mode)) = same names
+names_behind-extends names _ = same names
 
 names_behind_load-extends : (names : List Name) (load : Option (Word × Word)) → Extends names (names_behind_load names load)
 names_behind_load-extends names None = same names

@@ -1,30 +1,17 @@
 -- The first fault of a script and what its sections ask for, line by line from where the lines so far leave it.
 use Rattle.std.proofs.Common.{◌≡◌, ℕ, ◌+◌, ◌≤◌, true, not, cond, List, [], ◌∷◌, ◌++◌, Option, Some, None, is_some, length, map, refl, sym, ap, ◌∙◌, true≢false, append_assoc, length-append, arith}
-use Rattle.std.specs.List.{flat_map, take_while}
-use Rattle.std.specs.Option.{option_map_or}
-use Rattle.std.proofs.lemmas.Bool.{eqb-true}
+use Rattle.grb_script.proofs.Prelude.{flat_map, take_while, option_map_or, eqb-true, append-nil, Version, Line, ended, lines_of, words_of, section_of, NumberedCommand, commands_in, names_behind_words, version_by, Scope, at_start, begun, with_names, with_version, most_threads, may_follow, section_on, scope_behind_line, scope_behind_lines, scope_behind_words, scope_of, with_before, line_commands, section_commands, thread_part, finally_part, main_part, part_of, threads_in, finally_in, Sections, sections_of, joined, line_fault, first_fault, script_fault, IsWhyLineUnread, IsWhyTextUnread}
 use Rattle.std.proofs.lemmas.Bool.Decides.{nat_tests}
-use Rattle.std.proofs.lemmas.List.{append-nil}
 use Rattle.std.proofs.lemmas.List.Sums.{take_while-cons}
 use Rattle.grb_words.specs.declared.section.Section.{Section}
 use Rattle.grb_words.specs.declared.section.Section.TheVariants as section
-use Rattle.grb_words.specs.declared.version.Version.{Version}
 use Rattle.grb_words.specs.declared.version.Version.TheVariants.{One, Two}
-use Rattle.grb_market.specs.Line.{Line, ended, lines_of}
-use Rattle.grb_words.specs.Line.{words_of}
-use Rattle.grb_words.specs.Section.{section_of}
 use Rattle.grb_script.specs.declared.command.Command.{Command}
-use Rattle.grb_script.specs.declared.command.NumberedCommand.{NumberedCommand}
 use Rattle.grb_script.specs.declared.fault.ReadFault.{ReadFault}
 use Rattle.grb_script.specs.declared.fault.ReadFault.TheVariants as read
 use Rattle.grb_script.specs.declared.line.LineMeaning.{LineMeaning}
 use Rattle.grb_script.specs.declared.line.LineMeaning.TheVariants as meaning
-use Rattle.grb_script.specs.Command.{commands_in, names_behind_words}
 use Rattle.grb_script.specs.LineMeaning.{IsTaken, Says}
-use Rattle.grb_script.specs.Version.{version_by}
-use Rattle.grb_script.specs.Scope.{Scope, at_start, begun, with_names, with_version, most_threads, may_follow, section_on, scope_behind_line, scope_behind_lines, scope_behind_words, scope_of}
-use Rattle.grb_script.specs.Script.{with_before, line_commands, section_commands, thread_part, finally_part, main_part, part_of, threads_in, finally_in, Sections, nothing, sections_in, sections_of, joined}
-use Rattle.grb_script.specs.ScriptFault.{line_fault, first_fault, script_fault, IsWhyLineUnread, IsWhyTextUnread}
 
 -- where the next line stands, behind one line more
 pub scope_behind_lines-push : (scope : Scope) (before : List Line) (line : Line) → scope_behind_lines scope (before ++ line ∷ []) ≡ scope_behind_line (scope_behind_lines scope before) line
@@ -35,9 +22,6 @@ scope_behind_lines-push scope (first ∷ more) line = scope_behind_lines-push (s
 abbrev pub total : Sections → Option Section → List NumberedCommand → List (List Line × Line) → Sections
 total ended section commands lines =
     joined ended (joined (part_of section (commands ++ section_commands lines)) (record { main = []; threads = threads_in lines; finally = finally_in lines }))
-
-total-start : (lines : List (List Line × Line)) → total nothing None [] lines ≡ sections_in lines
-total-start lines = λ j. record { main = append-nil (section_commands lines) j; threads = threads_in lines; finally = finally_in lines }
 
 main_part-nil : (here : Option Section) (commands : List NumberedCommand) → main_part here (commands ++ []) ++ [] ≡ main_part here commands
 main_part-nil here commands = append-nil (main_part here (commands ++ [])) ∙ ap (main_part here) (append-nil commands)
@@ -112,9 +96,6 @@ IsCounted-next version here (section.Thread k) ended commands c f =
     let t = counted-thread version here commands (length ended.threads) k c f in (omega (arith, t.0, length-append ended.threads (thread_part here commands)), t.1)
 IsCounted-next version here section.Finally ended commands c f = omega (arith, counted-here here commands (length ended.threads) c, length-append ended.threads (thread_part here commands))
 
-pub few-threads : (here : Option Section) (ended : Sections) (commands : List NumberedCommand) → IsCounted here (length ended.threads) → length (joined ended (part_of here commands)).threads ≤ most_threads Two
-few-threads here ended commands c = omega (arith, counted-here here commands (length ended.threads) c, length-append ended.threads (thread_part here commands))
-
 -- how far a text is read: these lines are, and the rest leaves the first fault and what the text asks for
 pub record Reached (text rest : List ℕ) (number : ℕ) (scope : Scope) (ended : Sections) (commands : List NumberedCommand) : Type 0 where
   pub before : List Line
@@ -123,16 +104,6 @@ pub record Reached (text rest : List ℕ) (number : ℕ) (scope : Scope) (ended 
   pub fault : first_fault number (with_before before (lines_of rest)) ≡ script_fault text
   pub sections : total ended scope.section commands (with_before before (lines_of rest)) ≡ sections_of text
   pub counted : IsCounted scope.section (length ended.threads)
-
-pub Reached-start : (text : List ℕ) (scope : Scope) (ended : Sections) (commands : List NumberedCommand) → scope ≡ scope_of [] → ended ≡ nothing → commands ≡ [] → Reached text text 1 scope ended commands
-Reached-start text scope ended commands at none empty = record {
-  before = [];
-  stands = at;
-  numbered = refl;
-  fault = refl;
-  sections = (λ j. total (none j) (at j).section (empty j) (with_before [] (lines_of text))) ∙ total-start (with_before [] (lines_of text));
-  counted = rw (at, none) refl;
-}
 
 pub Reached-end : (text rest : List ℕ) (number : ℕ) (scope : Scope) (ended : Sections) (commands : List NumberedCommand) → length rest ≡ 0 → Reached text rest number scope ended commands
     → (script_fault text ≡ None) × (joined ended (part_of scope.section commands) ≡ sections_of text)

@@ -1,20 +1,17 @@
 -- Worked rows: what the definitions of scripts say of small texts, by computing. Expected values are by hand.
 use Rattle.std.specs.Str.{is_utf8, chars}
-use Rattle.std.specs.Prelude.{◌≡◌, ℕ, List, [], ◌∷◌, ◌++◌, Some, None, refl, codes, true, false}
+use Rattle.grb_script.proofs.Prelude.{codes, FaultKind, UnendedLine, BadByte, NameTaken, UnknownName, WrongKind, Semiring, NumberedCommand, sections_of, script_fault}
+use Rattle.std.specs.Prelude.{◌≡◌, ℕ, List, [], ◌∷◌, ◌++◌, Some, None, refl, true, false}
 use Rattle.grb_core.specs.declared.domain.Domain.TheVariants as domain
 use Rattle.grb_call.specs.declared.descriptor.Descriptor.{Descriptor}
 use Rattle.grb_core.specs.declared.monoid.Monoid.TheVariants as monoid
 use Rattle.grb_core.specs.declared.operator.BinaryOp.TheVariants as op
 use Rattle.grb_core.specs.declared.value.Value.TheVariants as value
-use Rattle.grb_words.specs.declared.fault.FaultKind.{FaultKind}
-use Rattle.grb_words.specs.declared.fault.FaultKind.TheVariants.{UnendedLine, BadByte, Section, Statement, NameTaken, UnknownName, WrongKind, Semiring}
+use Rattle.grb_words.specs.declared.fault.FaultKind.TheVariants.{Section, Statement}
 use Rattle.grb_script.specs.declared.command.Command.TheVariants as command
-use Rattle.grb_script.specs.declared.command.NumberedCommand.{NumberedCommand}
 use Rattle.grb_script.specs.declared.names.Sort.TheVariants as sort
 use Rattle.grb_script.specs.declared.statement.Statement.{Statement as SaidStatement}
 use Rattle.grb_script.specs.declared.statement.Statement.TheVariants as statement
-use Rattle.grb_script.specs.Script.{sections_of}
-use Rattle.grb_script.specs.ScriptFault.{script_fault}
 
 -- the text has this first fault
 abbrev IsFaulty : List ℕ → ℕ → FaultKind → Type 0

@@ -1,13 +1,7 @@
 -- The target of a call by the answer of a check.
 use Rattle.std.proofs.Common.{◌≡◌, refl, Option, Some, None, Result, Ok, Err}
-use Rattle.std.specs.Option.{option_map_or}
-use Rattle.grb_core.specs.declared.refusal.Refusal.{Refusal}
-use Rattle.grb_call.specs.declared.call.Call.{Call}
+use Rattle.grb_slices.proofs.Prelude.{option_map_or, Refusal, Call, Object, ObjectShapes, refused_by_shapes, kind_of, check_of, target_of, effective_target}
 use Rattle.grb_call.specs.declared.checking.Kind.{Kind}
-use Rattle.grb_call.specs.declared.ids.Object.{Object}
-use Rattle.grb_call.specs.Shapes.{ObjectShapes}
-use Rattle.grb_call.specs.Refused.{refused_by_shapes, kind_of, check_of}
-use Rattle.grb_slices.specs.Content.{target_of, effective_target}
 
 by_refusal : (p : Option Refusal) (k : Kind) (r : Refusal) (t : Option Object) → ◌≡◌ {A = Result Kind Refusal} (option_map_or Err p (Ok k)) (Err r) → option_map_or (λ _. None) p t ≡ None
 by_refusal None k r t e = cc

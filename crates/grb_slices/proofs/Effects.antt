@@ -1,38 +1,19 @@
 -- What a call makes of each object: of its target what its outcome says, and nothing of any other; and that the outcome is a matter
 -- of what the call reads. Each case over calls stands here.
 use Rattle.std.proofs.Common.{◌≡◌, ◌≢◌, ℕ, zero, suc, Bool, true, false, not, ◌&&◌, nat_lt, if◌then◌else◌, List, [], ◌∷◌, ◌++◌, map, length, refl, sym, ap, subst, ◌∙◌, Option, Some, None, option_map, slice_set, IfSome}
-use lib.ListN.{length-map}
-use Rattle.std.specs.Prelude.{◌==◌}
-use Rattle.std.specs.List.{list_all}
-use Rattle.std.specs.Option.{option_map_or, option_or}
+use Rattle.grb_slices.proofs.Prelude.{length-map, ◌==◌, list_all, option_map_or, option_or, Refusal, OutputNotEmpty, IndexOutOfBounds, Call, MatrixId, VectorId, Object, ObjectShapes, MatrixShape, VectorShape, object_at, masks, named, objects_read, operands, objects_in, output_of, matrix_after, vector_after, matrix_left, vector_left, matrix_made, vector_made, refused_by_shapes, is_in_bounds, Store, shapes_of, matrix_shape, vector_shape, matrix_at, vector_at, has_old_entries, refused_build, changed, output_changed, after, object_at-map, Content, MatrixContent, VectorContent, Contents, content_at, target_of, effective_target, matrix_held, vector_held, objects_held, can_fill_matrix, can_fill_vector, filled_matrix, filled_vector, content_made, output_made, outcome, AgreeOn, is_among}
 use Rattle.grb_core.specs.declared.value.Value.{Value}
 use Rattle.grb_core.specs.declared.monoid.Monoid.{Monoid}
-use Rattle.grb_core.specs.declared.refusal.Refusal.{Refusal}
-use Rattle.grb_core.specs.declared.refusal.Refusal.TheVariants.{OutputNotEmpty, IndexOutOfBounds}
 use Rattle.grb_core.specs.Contents.{Matrix, Vector}
 use Rattle.grb_core.specs.Entries.{nvals_of}
-use Rattle.grb_call.specs.declared.call.Call.{Call}
 use Rattle.grb_call.specs.declared.call.Call.TheVariants as call
-use Rattle.grb_call.specs.declared.ids.MatrixId.{MatrixId}
-use Rattle.grb_call.specs.declared.ids.VectorId.{VectorId}
-use Rattle.grb_call.specs.declared.ids.Object.{Object}
 use Rattle.grb_call.specs.declared.ids.Object.TheVariants as object
 use Rattle.grb_call.specs.declared.operation.Operation.{Operation}
-use Rattle.grb_call.specs.Shapes.{ObjectShapes, MatrixShape, VectorShape, object_at}
-use Rattle.grb_call.specs.Operands.{masks, named, objects_read, operands}
-use Rattle.grb_call.specs.Operation.{if_any, operation_of, operation_objects}
-use Rattle.grb_call.specs.Output.{entries_in, output_of, matrix_after, vector_after, matrix_left, vector_left, matrix_made, vector_made}
-use Rattle.grb_call.specs.Refused.{refused_by_shapes, is_in_bounds}
-use Rattle.grb_call.specs.Store.{Store, shapes_of, matrix_shape, vector_shape, matrix_at, vector_at}
-use Rattle.grb_call.specs.After.{has_old_entries, refused_build, changed, output_changed, after}
+use Rattle.grb_call.specs.Operation.{if_any, operation_inputs, operation_of, operation_objects}
 use Rattle.grb_call.proofs.Changed.{matrix_left-none, vector_left-none}
 use Rattle.grb_call.proofs.ObjectLists.{object_at-end}
 use Rattle.grb_call.proofs.ObjectsAfter.{other_matrix-output, other_vector-output}
-use Rattle.grb_call.proofs.Operated.{SameEntries, ReadsSame, matrix_made-same, vector_made-same}
-use Rattle.grb_call.proofs.ShapesAfter.{object_at-map}
-use Rattle.grb_slices.specs.Content.{Content, MatrixContent, VectorContent, Contents, content_at, target_of, effective_target, held_by_matrix, held_by_vector, entries_held, can_fill_matrix, can_fill_vector, filled_matrix, filled_vector, content_made, output_made, outcome}
-use Rattle.grb_slices.specs.Steps.{AgreeOn}
-use Rattle.grb_slices.specs.Slice.{is_among}
+use Rattle.grb_call.proofs.Operated.{SameObject, ReadsSame, matrix_made-same, vector_made-same}
 use Rattle.grb_slices.proofs.Outputs.{output_among}
 use Rattle.grb_slices.proofs.Wants.{among_after, among_before, among_first, among_next}
 
@@ -52,33 +33,33 @@ module _ {X : Type 0} where
   object_at-count : {Y : Type 0} (g : X → Y) (xs : List (Option X)) (o : Option X) → object_at (xs ++ o ∷ []) (length (map (option_map g) xs)) ≡ o
   object_at-count g xs o = ap (object_at (xs ++ o ∷ [])) (length-map xs (option_map g)) ∙ object_at-end xs o
 
--- the entries that a call reads of the store are those of what its objects hold
-held_m : (o : Option Matrix) → held_by_matrix (option_map MatrixContent o) ≡ option_map_or (λ m. m.entries) o []
+-- what a call reads of the store is what its objects hold
+held_m : (o : Option Matrix) → matrix_held (option_map MatrixContent o) ≡ o
 held_m None = refl
 held_m (Some m) = refl
 
-held_v : (o : Option Vector) → held_by_vector (option_map VectorContent o) ≡ option_map_or (λ x. x.entries) o []
+held_v : (o : Option Vector) → vector_held (option_map VectorContent o) ≡ o
 held_v None = refl
 held_v (Some x) = refl
 
 module _ (s : Store) where
-  in_any : (o : Object) → SameEntries (entries_in s) (entries_held (content_at s)) o
+  in_any : (o : Object) → SameObject (objects_in s) (objects_held (content_at s)) o
   in_any (object.Matrix a) = sym (held_m (matrix_at s a))
   in_any (object.Vector v) = sym (held_v (vector_at s v))
 
-  if_any-in : (q : Option Object) → IfSome q (SameEntries (entries_in s) (entries_held (content_at s)))
+  if_any-in : (q : Option Object) → IfSome q (SameObject (objects_in s) (objects_held (content_at s)))
   if_any-in None = tt
   if_any-in (Some o) = in_any o
 
-  reads_in : (q : Option Operation) → IfSome q (ReadsSame (entries_in s) (entries_held (content_at s)))
+  reads_in : (q : Option Operation) → IfSome q (ReadsSame (objects_in s) (objects_held (content_at s)))
   reads_in None = tt
-  reads_in (Some o) = record { first = in_any o.first; second = if_any-in o.second; mask = if_any-in o.mask }
+  reads_in (Some o) = record { first = if_any-in o.first; second = if_any-in o.second; mask = if_any-in o.mask }
 
-  made_m : (c : Call) (m : Matrix) → matrix_after s c m ≡ matrix_made (entries_held (content_at s)) c m
-  made_m c m = matrix_made-same (entries_in s) (entries_held (content_at s)) c m (reads_in (operation_of c))
+  made_m : (c : Call) (m : Matrix) → matrix_after s c m ≡ matrix_made (objects_held (content_at s)) c m
+  made_m c m = matrix_made-same (objects_in s) (objects_held (content_at s)) c m (reads_in (operation_of c))
 
-  made_v : (c : Call) (x : Vector) → vector_after s c x ≡ vector_made (entries_held (content_at s)) c x
-  made_v c x = vector_made-same (entries_in s) (entries_held (content_at s)) c x (reads_in (operation_of c))
+  made_v : (c : Call) (x : Vector) → vector_after s c x ≡ vector_made (objects_held (content_at s)) c x
+  made_v c x = vector_made-same (objects_in s) (objects_held (content_at s)) c x (reads_in (operation_of c))
 
 -- the call ends its output, or may find it filled
 abbrev ends_or_fills : Call → Bool
@@ -255,32 +236,32 @@ module _ (r t : Contents) where
       option_map (content_made r c) (r o) ≡ option_map (content_made t c) (t o)
   framed c o m v e = made_same c m v (r o) ∙ ap (option_map (content_made t c)) e
 
-  -- the entries of each object that the call reads
-  held_same : (o : Object) → r o ≡ t o → SameEntries (entries_held r) (entries_held t) o
-  held_same (object.Matrix a) e = ap held_by_matrix e
-  held_same (object.Vector v) e = ap held_by_vector e
+  -- each object that the call reads
+  held_same : (o : Object) → r o ≡ t o → SameObject (objects_held r) (objects_held t) o
+  held_same (object.Matrix a) e = ap matrix_held e
+  held_same (object.Vector v) e = ap vector_held e
 
-  any_same : (q : Option Object) → AgreeOn (is_among (if_any q)) r t → IfSome q (SameEntries (entries_held r) (entries_held t))
+  any_same : (q : Option Object) → AgreeOn (is_among (if_any q)) r t → IfSome q (SameObject (objects_held r) (objects_held t))
   any_same None agree = tt
   any_same (Some o) agree = held_same o (agree_first o [] agree)
 
   reads_same : (q : Option Operation) (os : List Object) → AgreeOn (is_among (option_map_or operation_objects q os ++ option_map_or (λ o. if_any o.mask) q [])) r t →
-      IfSome q (ReadsSame (entries_held r) (entries_held t))
+      IfSome q (ReadsSame (objects_held r) (objects_held t))
   reads_same None os agree = tt
   reads_same (Some o) os agree =
-      let inputs : AgreeOn (is_among (o.first ∷ (if_any o.second ++ if_any o.mask))) r t = agree_next o.output (o.first ∷ (if_any o.second ++ if_any o.mask)) agree in
-      let rest : AgreeOn (is_among (if_any o.second ++ if_any o.mask)) r t = agree_next o.first (if_any o.second ++ if_any o.mask) inputs in
+      let rest : AgreeOn (is_among (operation_inputs o ++ if_any o.mask)) r t = agree_next o.output (operation_inputs o ++ if_any o.mask) agree in
+      let inputs : AgreeOn (is_among (operation_inputs o)) r t = λ p wanted. rest p (among_before p (operation_inputs o) (if_any o.mask) wanted) in
       record {
-        first = held_same o.first (agree_first o.first (if_any o.second ++ if_any o.mask) inputs);
-        second = any_same o.second (λ p wanted. rest p (among_before p (if_any o.second) (if_any o.mask) wanted));
-        mask = any_same o.mask (λ p wanted. rest p (among_after p (if_any o.second) (if_any o.mask) wanted));
+        first = any_same o.first (λ p wanted. inputs p (among_before p (if_any o.first) (if_any o.second) wanted));
+        second = any_same o.second (λ p wanted. inputs p (among_after p (if_any o.first) (if_any o.second) wanted));
+        mask = any_same o.mask (λ p wanted. rest p (among_after p (operation_inputs o) (if_any o.mask) wanted));
       }
 
   filled_m : (c : Call) (m : Matrix) → AgreeOn (is_among (objects_read c)) r t → filled_matrix r c m ≡ filled_matrix t c m
-  filled_m c m agree = ap (λ (y : Matrix). if can_fill_matrix c m then y else m) (matrix_made-same (entries_held r) (entries_held t) c m (reads_same (operation_of c) (if_any (named c)) agree))
+  filled_m c m agree = ap (λ (y : Matrix). if can_fill_matrix c m then y else m) (matrix_made-same (objects_held r) (objects_held t) c m (reads_same (operation_of c) (if_any (named c)) agree))
 
   filled_v : (c : Call) (x : Vector) → AgreeOn (is_among (objects_read c)) r t → filled_vector r c x ≡ filled_vector t c x
-  filled_v c x agree = ap (λ (y : Vector). if can_fill_vector c x then y else x) (vector_made-same (entries_held r) (entries_held t) c x (reads_same (operation_of c) (if_any (named c)) agree))
+  filled_v c x agree = ap (λ (y : Vector). if can_fill_vector c x then y else x) (vector_made-same (objects_held r) (objects_held t) c x (reads_same (operation_of c) (if_any (named c)) agree))
 
   frame-output : (c : Call) (q : Option Object) → output_of c ≡ q → AgreeOn (is_among (objects_read c)) r t → output_made r c q ≡ output_made t c q
   frame-output c None is agree = refl

@@ -1,25 +1,8 @@
 -- One entry of a list, made on the whole store, and on the part that holds what is wanted where it belongs to the slice.
 use Rattle.std.proofs.Common.{◌≡◌, ◌≢◌, ℕ, zero, suc, Bool, true, false, if◌then◌else◌, List, [], ◌∷◌, ◌++◌, length, refl, sym, ap, subst, ◌∙◌, Option, Some, None, option_map, length-set}
-use lib.ListN.{length-map}
-use Rattle.std.specs.Option.{option_map_or}
-use Rattle.grb_core.specs.declared.refusal.Refusal.{Refusal}
-use Rattle.grb_call.specs.declared.call.Call.{Call}
+use Rattle.grb_slices.proofs.Prelude.{length-map, option_map_or, Refusal, Call, Object, output_of, ObjectShapes, object_at, refused_by_shapes, reshaped, is_same_object, Store, shapes_of, with_place, after, shapes_of-after, objects_read, MatrixContent, VectorContent, content_at, target_of, effective_target, outcome, Wants, Make, is_among, wants_before, with_content, AgreeOn, Follows, part_after, is_chosen, wants_before_entry}
 use Rattle.grb_call.specs.declared.call.Call.TheVariants as call
-use Rattle.grb_call.specs.declared.ids.Object.{Object}
 use Rattle.grb_call.specs.declared.ids.Object.TheVariants as object
-use Rattle.grb_call.specs.Output.{output_of}
-use Rattle.grb_call.specs.Shapes.{ObjectShapes, object_at}
-use Rattle.grb_call.specs.Refused.{refused_by_shapes, reshaped}
-use Rattle.grb_call.specs.Status.{is_same_object}
-use Rattle.grb_call.specs.Store.{Store, shapes_of, with_place}
-use Rattle.grb_call.specs.After.{after}
-use Rattle.grb_call.proofs.ShapesAfter.{shapes_of-after}
-use Rattle.grb_call.specs.Operands.{objects_read}
-use Rattle.grb_slices.specs.Content.{MatrixContent, VectorContent, content_at, target_of, effective_target, outcome}
-use Rattle.grb_slices.specs.Slice.{Wants, Make, is_among, wants_before, with_content}
-use Rattle.grb_slices.specs.Steps.{AgreeOn}
-use Rattle.grb_slices.specs.Followed.{Follows, part_after}
-use Rattle.grb_slices.specs.Wanted.{is_chosen, wants_before_entry}
 use Rattle.grb_slices.proofs.Effects.{own, other, effective, frame}
 use Rattle.grb_slices.proofs.Refusals.{same_refusal}
 use Rattle.grb_slices.proofs.Wants.{is_same_object-self, is_same_object-true, read_before, other_before}

@@ -1,20 +1,6 @@
 -- A list of calls on the whole store and on the part, one after another.
 use Rattle.std.proofs.Common.{◌≡◌, ℕ, zero, suc, ◌<◌, Bool, true, false, if◌then◌else◌, List, [], ◌∷◌, refl, sym, ap, subst, ◌∙◌, arith, length, drop, take, get_or, Option, Some, None}
-use Rattle.std.specs.Option.{option_map_or}
-use Rattle.grb_call.specs.declared.call.Call.{Call}
-use Rattle.grb_call.specs.declared.ids.Object.{Object}
-use Rattle.grb_call.specs.Shapes.{ObjectShapes}
-use Rattle.grb_call.specs.Refused.{shapes_after}
-use Rattle.grb_call.specs.Output.{output_of}
-use Rattle.grb_call.specs.Store.{Store, shapes_of, with_place}
-use Rattle.grb_call.specs.After.{after}
-use Rattle.grb_call.specs.History.{after_all}
-use Rattle.grb_call.proofs.ShapesAfter.{shapes_of-after}
-use Rattle.grb_slices.specs.Content.{Contents, content_at, effective_target, outcome}
-use Rattle.grb_slices.specs.Slice.{Step, Entry, Make, Wants, entries, evaluated, sliced, wants_before, with_content}
-use Rattle.grb_slices.specs.Steps.{steps_of}
-use Rattle.grb_slices.specs.Wanted.{is_chosen, wants_before_entry}
-use Rattle.grb_slices.specs.Followed.{Follows, GoesOn, HasGoneOver, part_after, targets_of}
+use Rattle.grb_slices.proofs.Prelude.{option_map_or, Call, Object, ObjectShapes, shapes_after, output_of, Store, shapes_of, with_place, after, after_all, shapes_of-after, Contents, content_at, effective_target, outcome, Step, Entry, Make, Wants, entries, evaluated, sliced, wants_before, with_content, steps_of, is_chosen, wants_before_entry, Follows, GoesOn, HasGoneOver, part_after, targets_of}
 use Rattle.grb_slices.proofs.Followed.{follows_next, made_there, placed_same, same_wants, taken_there}
 use Rattle.grb_slices.proofs.Walked.{sliced_before}
 

@@ -1,8 +1,6 @@
-pub mod Answered
 pub mod EffectiveTarget
 pub mod Effects
 pub mod Followed
-pub mod Freed
 pub mod Going
 pub mod Live
 pub mod Marks
@@ -10,6 +8,7 @@ pub mod NextTarget
 pub mod Outputs
 pub mod Placed
 pub mod Places
+pub mod Prelude
 pub mod Refusals
 pub mod Sliced
 pub mod Stays

@@ -1,7 +1,7 @@
 -- A mark that stands here and not there, as an object.
 use Rattle.std.proofs.Common.{◌≡◌, ap, sym, ◌∙◌, List, Bool}
 use Rattle.grb_call.specs.declared.ids.Object.TheVariants as object
-use Rattle.grb_slices.specs.Wanted.{LacksMark, LacksOne, Marks, marked}
+use Rattle.grb_slices.proofs.Prelude.{LacksMark, LacksOne, Marks, marked}
 
 pub lacks_matrix : (here there : Marks) (ms ns : List Bool) → ms ≡ here.matrices → ns ≡ there.matrices → LacksMark ms ns → LacksOne here there
 lacks_matrix here there ms ns m n l = record {

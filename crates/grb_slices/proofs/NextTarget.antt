@@ -1,17 +1,6 @@
 -- One more target, by one walk over shapes.
-use Rattle.std.proofs.Common.{◌≡◌, ℕ, suc, ◌+◌, ◌-◌, ◌<◌, List, [], ◌∷◌, ◌++◌, refl, sym, ap, ◌∙◌, length, drop, take, get_or, Option, arith}
-use Rattle.std.proofs.lemmas.List.{get_or-drop, length_push, take_more}
-use lib.ListN.{length-drop}
-use Rattle.grb_call.specs.declared.call.Call.{Call}
-use Rattle.grb_call.specs.declared.ids.Object.{Object}
-use Rattle.grb_call.specs.Shapes.{ObjectShapes}
-use Rattle.grb_call.specs.Refused.{shapes_after}
-use Rattle.grb_call.specs.Store.{Store, shapes_of}
-use Rattle.grb_call.specs.After.{after}
-use Rattle.grb_call.specs.History.{after_all}
-use Rattle.grb_call.proofs.ShapesAfter.{shapes_of-after}
-use Rattle.grb_slices.specs.Content.{effective_target}
-use Rattle.grb_slices.specs.Followed.{targets_of}
+use Rattle.std.proofs.Common.{◌≡◌, ℕ, ◌+◌, ◌-◌, ◌<◌, List, [], ◌∷◌, ◌++◌, refl, sym, ap, ◌∙◌, length, drop, take, get_or, Option, arith}
+use Rattle.grb_slices.proofs.Prelude.{get_or-drop, length_push, take_more, length-drop, Call, Object, ObjectShapes, shapes_after, Store, shapes_of, after, after_all, shapes_of-after, effective_target, targets_of}
 use Rattle.grb_slices.proofs.Going.{take_all}
 use Rattle.grb_slices.specs.Targets.{AreTargetsOf, WalkedCalls}
 
@@ -20,11 +9,6 @@ targets_push s [] c = refl
 targets_push s (d ∷ cs) c = ap (λ (ts : List (Option Object)). effective_target (shapes_of s) d ∷ ts)
     (ap (λ (u : ObjectShapes). targets_of u (cs ++ c ∷ [])) (sym (shapes_of-after s d)) ∙ (targets_push (after s d) cs c
     ∙ ap (λ (u : ObjectShapes). targets_of u cs ++ effective_target (shapes_of (after_all (after s d) cs)) c ∷ []) (shapes_of-after s d)))
-
--- one for each call
-pub length-targets_of : (s : ObjectShapes) (cs : List Call) → length (targets_of s cs) ≡ length cs
-length-targets_of s [] = refl
-length-targets_of s (c ∷ cs) = ap suc (length-targets_of (shapes_after s c) cs)
 
 module _ (s : Store) (old new : WalkedCalls) (cs : List Call) (at : ℕ) (c : Call) (was : AreTargetsOf s old cs) (here : length old.targets ≡ at) (less : at < length cs) (is : get_or cs at c ≡ c)
     (pushed : new.targets ≡ old.targets ++ effective_target old.shapes.objects c ∷ []) (shaped : new.shapes.objects ≡ shapes_after old.shapes.objects c) where

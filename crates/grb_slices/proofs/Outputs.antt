@@ -1,14 +1,8 @@
 -- The output of a call: it is the target of the call, and one of the objects that the call names.
 use Rattle.std.proofs.Common.{◌≡◌, true, List, sym, subst, Some}
-use Rattle.grb_call.specs.declared.call.Call.{Call}
+use Rattle.grb_slices.proofs.Prelude.{Call, Object, operands, output_of, ObjectShapes, target_of, is_among}
 use Rattle.grb_call.specs.declared.call.Call.TheVariants as call
-use Rattle.grb_call.specs.declared.ids.Object.{Object}
-use Rattle.grb_call.specs.Operands.{operands}
-use Rattle.grb_call.specs.Output.{output_of}
-use Rattle.grb_call.specs.Shapes.{ObjectShapes}
 use Rattle.grb_call.proofs.Outputs.{output-first}
-use Rattle.grb_slices.specs.Content.{target_of}
-use Rattle.grb_slices.specs.Slice.{is_among}
 use Rattle.grb_slices.proofs.Wants.{among_first}
 
 -- a call names its output

@@ -1,11 +1,7 @@
 -- Marks for a list of objects, from its end.
-use Rattle.std.proofs.Common.{◌≡◌, ℕ, zero, suc, Bool, true, false, ◌||◌, nat_eq, if◌then◌else◌, List, [], ◌∷◌, length, drop, refl, sym, ap, subst, ◌∙◌, arith, Option, Some}
-use Rattle.std.specs.Prelude.{slice_get}
-use Rattle.grb_call.specs.declared.ids.Object.{Object}
+use Rattle.std.proofs.Common.{◌≡◌, ℕ, zero, suc, Bool, true, false, ◌||◌, nat_eq, if◌then◌else◌, List, [], ◌∷◌, length, drop, refl, sym, ap, subst, ◌∙◌, arith, Some}
+use Rattle.grb_slices.proofs.Prelude.{slice_get, Object, is_same_object, is_among, HasPlace, HavePlaces, KeepsPlaces, Marks, is_wanted}
 use Rattle.grb_call.specs.declared.ids.Object.TheVariants as object
-use Rattle.grb_call.specs.Status.{is_same_object}
-use Rattle.grb_slices.specs.Slice.{is_among}
-use Rattle.grb_slices.specs.Wanted.{HasPlace, HavePlaces, KeepsPlaces, Marks, is_wanted}
 
 pub drop_there : {X : Type 0} (xs : List X) (n : ℕ) (x : X) → slice_get xs n ≡ Some x → drop n xs ≡ x ∷ drop (suc n) xs
 drop_there [] n x e = cc
@@ -33,18 +29,6 @@ have_places_still m n keeps (o ∷ os) have = (has_place_still m n keeps o have.
 -- one more object from the end has a place
 pub places_next : (m : Marks) (os : List Object) (n : ℕ) (o : Object) → slice_get os n ≡ Some o → HasPlace m o → HavePlaces m (drop (suc n) os) → HavePlaces m (drop n os)
 places_next m os n o there has have = subst (λ (ps : List Object). HavePlaces m ps) (sym (drop_there os n o there)) (has, have)
-
-place_at : (m : Marks) (os : List Object) (n : ℕ) (o : Object) → slice_get os n ≡ Some o → HavePlaces m os → HasPlace m o
-place_at m [] n o there have = cc
-place_at m (p ∷ os) zero o there have = subst (HasPlace m) (some_is p o there) have.0
-  where
-    some_is : (p o : Object) → ◌≡◌ {A = Option Object} (Some p) (Some o) → p ≡ o
-    some_is p o e = cc
-place_at m (p ∷ os) (suc n) o there have = place_at m os n o there have.1
-
--- an object of the list has a place, also where more have one
-pub place_there : (m n : Marks) → KeepsPlaces m n → (os : List Object) (k : ℕ) (o : Object) → slice_get os k ≡ Some o → HavePlaces m os → HasPlace n o
-place_there m n keeps os k o there have = has_place_still m n keeps o (place_at m os k o there have)
 
 same_turned : (m n : ℕ) → nat_eq m n ≡ nat_eq n m
 same_turned m n = grind arith

@@ -1,30 +1,17 @@
 -- Why a call is refused is a matter of what it reads.
 use Rattle.std.proofs.Common.{◌≡◌, ℕ, Bool, true, false, not, ◌&&◌, nat_lt, if◌then◌else◌, List, [], ◌∷◌, refl, sym, ap, ◌∙◌, Option, Some, None, option_map, is_some, IfSome}
-use Rattle.std.specs.Prelude.{◌==◌}
-use Rattle.std.specs.List.{list_all}
-use Rattle.std.specs.Option.{option_map_or}
+use Rattle.grb_slices.proofs.Prelude.{◌==◌, list_all, option_map_or, Refusal, UninitializedObject, InvalidValue, InvalidIndex, DomainMismatch, DimensionMismatch, Call, MatrixId, VectorId, Object, given_domains, masks, named, objects_read, operands, ObjectShapes, MatrixShape, VectorShape, matrix_shape_at, vector_shape_at, is_live, domain_at, nrows_at, ncols_at, size_at, is_initialized, has_valid_values, has_valid_index, has_one_domain, has_fitting_dims, same_domain, are_of_domain, is_one_domain, mask_fits, ewise_fits, product_fits, rows_fit, fitting_of, operation_fits, refused_by_shapes, turned_ncols, turned_nrows, Store, shapes_of, matrix_shape, vector_shape, matrix_at, vector_at, object_at-map, Content, MatrixContent, VectorContent, content_at, is_among, AgreeOn}
 use Rattle.grb_core.specs.declared.domain.Domain.{Domain}
-use Rattle.grb_core.specs.declared.refusal.Refusal.{Refusal}
-use Rattle.grb_core.specs.declared.refusal.Refusal.TheVariants.{UninitializedObject, InvalidValue, InvalidIndex, DomainMismatch, DimensionMismatch}
 use Rattle.grb_core.specs.Contents.{Matrix, Vector}
-use Rattle.grb_call.specs.declared.call.Call.{Call}
 use Rattle.grb_call.specs.declared.call.Call.TheVariants as call
-use Rattle.grb_call.specs.declared.ids.MatrixId.{MatrixId}
-use Rattle.grb_call.specs.declared.ids.VectorId.{VectorId}
-use Rattle.grb_call.specs.declared.ids.Object.{Object}
+use Rattle.grb_call.specs.declared.descriptor.Descriptor.{Descriptor}
 use Rattle.grb_call.specs.declared.ids.Object.TheVariants as object
+use Rattle.grb_call.specs.declared.operation.Input.TheVariants.{First, Second}
 use Rattle.grb_call.specs.declared.operation.Operation.{Operation}
 use Rattle.grb_call.specs.declared.operation.OperationKind.{OperationKind}
 use Rattle.grb_call.specs.declared.operation.OperationKind.TheVariants.{EwiseAdd, EwiseMult, Product, Rows}
-use Rattle.grb_call.specs.Operands.{given_domains, masks, named, objects_read, operands}
-use Rattle.grb_call.specs.Operation.{if_any, operation_objects, operation_of}
-use Rattle.grb_call.specs.Shapes.{ObjectShapes, MatrixShape, VectorShape, matrix_shape_at, vector_shape_at, is_live, domain_at, nrows_at, ncols_at, size_at}
-use Rattle.grb_call.specs.Refused.{is_initialized, has_valid_values, has_valid_index, has_one_domain, has_fitting_dims, same_domain, are_of_domain, is_one_domain, same_shape, mask_fits, ewise_fits, product_fits, rows_fit, fitting_of, operation_fits, refused_by_shapes, turned_ncols, turned_nrows}
-use Rattle.grb_call.specs.Store.{Store, shapes_of, matrix_shape, vector_shape, matrix_at, vector_at}
-use Rattle.grb_call.proofs.ShapesAfter.{object_at-map}
-use Rattle.grb_slices.specs.Content.{Content, MatrixContent, VectorContent, content_at}
-use Rattle.grb_slices.specs.Slice.{is_among}
-use Rattle.grb_slices.specs.Steps.{AgreeOn}
+use Rattle.grb_call.specs.Operation.{if_any, operation_inputs, operation_objects, operation_of, turns}
+use Rattle.grb_call.specs.Refused.{dims_at, has_dims, turned_dims}
 use Rattle.grb_slices.proofs.Wants.{among_first, among_next, among_before, among_after}
 
 -- the shapes have the same of this object
@@ -97,34 +84,27 @@ module _ (s t : ObjectShapes) where
   valid_index (call.GetVector v i) same = index v i (first (object.Vector v) [] same)
   valid_index _ same = refl
 
-  dims : (a b : MatrixId) → SameAt s t (object.Matrix a) → SameAt s t (object.Matrix b) →
-      ((nrows_at s a == nrows_at s b) && (ncols_at s a == ncols_at s b)) ≡ ((nrows_at t a == nrows_at t b) && (ncols_at t a == ncols_at t b))
-  dims a b x y = ap (λ n. (n == nrows_at s b) && (ncols_at s a == ncols_at s b)) (rows a x) ∙ (ap (λ n. (nrows_at t a == n) && (ncols_at s a == ncols_at s b)) (rows b y)
-      ∙ (ap (λ n. (nrows_at t a == nrows_at t b) && (n == ncols_at s b)) (columns a x) ∙ ap (λ n. (nrows_at t a == nrows_at t b) && (ncols_at t a == n)) (columns b y)))
-
   sizes : (u v : VectorId) → SameAt s t (object.Vector u) → SameAt s t (object.Vector v) → (size_at s u == size_at s v) ≡ (size_at t u == size_at t v)
   sizes u v x y = ap (λ n. n == size_at s v) (size u x) ∙ ap (λ n. size_at t u == n) (size v y)
 
-  shape_same : (m o : Object) → SameAt s t m → SameAt s t o → same_shape s m o ≡ same_shape t m o
-  shape_same (object.Matrix a) (object.Matrix b) x y = dims a b x y
+  same_number : (k m n o : ℕ) → k ≡ m → n ≡ o → (k == n) ≡ (m == o)
+  same_number k m n o x y = ap (λ i. i == n) x ∙ ap (λ i. m == i) y
+
+  both : (a b x y : Bool) → a ≡ x → b ≡ y → (a && b) ≡ (x && y)
+  both a b x y e f = ap (λ n. n && b) e ∙ ap (λ n. x && n) f
+
+  -- a mask, against the dimensions of an output
+  shape_same : (m o : Object) → SameAt s t m → SameAt s t o → has_dims s m (dims_at s o) ≡ has_dims t m (dims_at t o)
+  shape_same (object.Matrix a) (object.Matrix b) x y = both _ _ _ _ (same_number _ _ _ _ (rows a x) (rows b y)) (same_number _ _ _ _ (columns a x) (columns b y))
   shape_same (object.Vector u) (object.Vector v) x y = sizes u v x y
   shape_same (object.Matrix a) (object.Vector v) x y = refl
   shape_same (object.Vector u) (object.Matrix b) x y = refl
 
-  mask_same : (mask : Option Object) (output : Object) → IfSome mask (SameAt s t) → SameAt s t output → mask_fits s mask output ≡ mask_fits t mask output
+  mask_same : (mask : Option Object) (output : Object) → IfSome mask (SameAt s t) → SameAt s t output → mask_fits s mask (dims_at s output) ≡ mask_fits t mask (dims_at t output)
   mask_same None output x y = refl
   mask_same (Some m) output x y = shape_same m output x y
 
-  columns_columns : (a b : MatrixId) → SameAt s t (object.Matrix a) → SameAt s t (object.Matrix b) → (ncols_at s a == ncols_at s b) ≡ (ncols_at t a == ncols_at t b)
-  columns_columns a b x y = ap (λ n. n == ncols_at s b) (columns a x) ∙ ap (λ n. ncols_at t a == n) (columns b y)
-
-  rows_size : (a : MatrixId) (v : VectorId) → SameAt s t (object.Matrix a) → SameAt s t (object.Vector v) → (nrows_at s a == size_at s v) ≡ (nrows_at t a == size_at t v)
-  rows_size a v x y = ap (λ n. n == size_at s v) (rows a x) ∙ ap (λ n. nrows_at t a == n) (size v y)
-
-  columns_size : (a : MatrixId) (v : VectorId) → SameAt s t (object.Matrix a) → SameAt s t (object.Vector v) → (ncols_at s a == size_at s v) ≡ (ncols_at t a == size_at t v)
-  columns_size a v x y = ap (λ n. n == size_at s v) (columns a x) ∙ ap (λ n. ncols_at t a == n) (size v y)
-
-  -- a first input, as it is turned
+  -- an input, as it is turned
   turned_rows : (tran : Bool) (a : MatrixId) → SameAt s t (object.Matrix a) → turned_nrows s tran a ≡ turned_nrows t tran a
   turned_rows true a e = columns a e
   turned_rows false a e = rows a e
@@ -133,44 +113,40 @@ module _ (s t : ObjectShapes) where
   turned_columns true a e = rows a e
   turned_columns false a e = columns a e
 
-  same_number : (k m n o : ℕ) → k ≡ m → n ≡ o → (k == n) ≡ (m == o)
-  same_number k m n o x y = ap (λ i. i == n) x ∙ ap (λ i. m == i) y
-
-  both : (a b x y : Bool) → a ≡ x → b ≡ y → (a && b) ≡ (x && y)
-  both a b x y e f = ap (λ n. n && b) e ∙ ap (λ n. x && n) f
+  turned_same : (tran : Bool) (a c : MatrixId) → SameAt s t (object.Matrix a) → SameAt s t (object.Matrix c) → turned_dims s tran a c ≡ turned_dims t tran a c
+  turned_same tran a c x y = both _ _ _ _ (same_number _ _ _ _ (turned_rows tran a x) (rows c y)) (same_number _ _ _ _ (turned_columns tran a x) (columns c y))
 
   -- how the objects of an operation fit together, by what it computes
-  ewise_same : (tran : Bool) (mask : Option Object) (output first : Object) (second : Option Object) → SameAt s t output → SameAt s t first → IfSome second (SameAt s t) → IfSome mask (SameAt s t) →
-      ewise_fits s tran mask output first second ≡ ewise_fits t tran mask output first second
-  ewise_same tran mask (object.Matrix c) (object.Matrix a) (Some (object.Matrix b)) one two three masked =
-      both _ _ _ _ (both _ _ _ _ (same_number _ _ _ _ (turned_rows tran a two) (rows c one)) (same_number _ _ _ _ (turned_columns tran a two) (columns c one)))
-      (both _ _ _ _ (dims b c three one) (mask_same mask (object.Matrix c) masked one))
-  ewise_same tran mask (object.Vector w) (object.Vector u) (Some (object.Vector v)) one two three masked =
-      both _ _ _ _ (sizes u w two one) (both _ _ _ _ (sizes v w three one) (mask_same mask (object.Vector w) masked one))
-  ewise_same tran mask _ _ _ one two three masked = refl
+  module _ (d : Descriptor) where
+    ewise_same : (output : Object) (first second : Option Object) (x y : Bool) → SameAt s t output → IfSome first (SameAt s t) → IfSome second (SameAt s t) → x ≡ y →
+        ewise_fits s d output first second x ≡ ewise_fits t d output first second y
+    ewise_same (object.Matrix c) (Some (object.Matrix a)) (Some (object.Matrix b)) x y one two three masked =
+        both _ _ _ _ (turned_same (turns d First) a c two one) (both _ _ _ _ (turned_same (turns d Second) b c three one) masked)
+    ewise_same (object.Vector w) (Some (object.Vector u)) (Some (object.Vector v)) x y one two three masked = both _ _ _ _ (sizes u w two one) (both _ _ _ _ (sizes v w three one) masked)
+    ewise_same _ _ _ x y one two three masked = refl
 
-  product_same : (tran : Bool) (mask : Option Object) (output first : Object) (second : Option Object) → SameAt s t output → SameAt s t first → IfSome second (SameAt s t) → IfSome mask (SameAt s t) →
-      product_fits s tran mask output first second ≡ product_fits t tran mask output first second
-  product_same tran mask (object.Matrix c) (object.Matrix a) (Some (object.Matrix b)) one two three masked =
-      both _ _ _ _ (same_number _ _ _ _ (turned_rows tran a two) (rows c one)) (both _ _ _ _ (columns_columns b c three one)
-      (both _ _ _ _ (same_number _ _ _ _ (turned_columns tran a two) (rows b three)) (mask_same mask (object.Matrix c) masked one)))
-  product_same tran mask (object.Vector w) (object.Matrix a) (Some (object.Vector u)) one two three masked =
-      both _ _ _ _ (same_number _ _ _ _ (turned_rows tran a two) (size w one)) (both _ _ _ _ (same_number _ _ _ _ (turned_columns tran a two) (size u three)) (mask_same mask (object.Vector w) masked one))
-  product_same tran mask (object.Vector w) (object.Vector u) (Some (object.Matrix a)) one two three masked =
-      both _ _ _ _ (columns_size a w three one) (both _ _ _ _ (rows_size a u three two) (mask_same mask (object.Vector w) masked one))
-  product_same tran mask _ _ _ one two three masked = refl
+    product_same : (output : Object) (first second : Option Object) (x y : Bool) → SameAt s t output → IfSome first (SameAt s t) → IfSome second (SameAt s t) → x ≡ y →
+        product_fits s d output first second x ≡ product_fits t d output first second y
+    product_same (object.Matrix c) (Some (object.Matrix a)) (Some (object.Matrix b)) x y one two three masked =
+        both _ _ _ _ (same_number _ _ _ _ (turned_rows (turns d First) a two) (rows c one)) (both _ _ _ _ (same_number _ _ _ _ (turned_columns (turns d Second) b three) (columns c one))
+        (both _ _ _ _ (same_number _ _ _ _ (turned_columns (turns d First) a two) (turned_rows (turns d Second) b three)) masked))
+    product_same (object.Vector w) (Some (object.Matrix a)) (Some (object.Vector u)) x y one two three masked =
+        both _ _ _ _ (same_number _ _ _ _ (turned_rows (turns d First) a two) (size w one)) (both _ _ _ _ (same_number _ _ _ _ (turned_columns (turns d First) a two) (size u three)) masked)
+    product_same (object.Vector w) (Some (object.Vector u)) (Some (object.Matrix a)) x y one two three masked =
+        both _ _ _ _ (same_number _ _ _ _ (turned_columns (turns d Second) a three) (size w one)) (both _ _ _ _ (same_number _ _ _ _ (turned_rows (turns d Second) a three) (size u two)) masked)
+    product_same _ _ _ x y one two three masked = refl
 
-  rows_same : (tran : Bool) (mask : Option Object) (output first : Object) (second : Option Object) → SameAt s t output → SameAt s t first → IfSome mask (SameAt s t) →
-      rows_fit s tran mask output first second ≡ rows_fit t tran mask output first second
-  rows_same tran mask (object.Vector w) (object.Matrix a) None one two masked = both _ _ _ _ (same_number _ _ _ _ (turned_rows tran a two) (size w one)) (mask_same mask (object.Vector w) masked one)
-  rows_same tran mask _ _ _ one two masked = refl
+    rows_same : (output : Object) (first second : Option Object) (x y : Bool) → SameAt s t output → IfSome first (SameAt s t) → IfSome second (SameAt s t) → x ≡ y →
+        rows_fit s d output first second x ≡ rows_fit t d output first second y
+    rows_same (object.Vector w) (Some (object.Matrix a)) None x y one two three masked = both _ _ _ _ (same_number _ _ _ _ (turned_rows (turns d First) a two) (size w one)) masked
+    rows_same _ _ _ x y one two three masked = refl
 
-  kind_same : (kind : OperationKind) (tran : Bool) (mask : Option Object) (output first : Object) (second : Option Object) → SameAt s t output → SameAt s t first → IfSome second (SameAt s t) → IfSome mask (SameAt s t) →
-      fitting_of kind s tran mask output first second ≡ fitting_of kind t tran mask output first second
-  kind_same (EwiseAdd op) = ewise_same
-  kind_same (EwiseMult op) = ewise_same
-  kind_same (Product semiring) = product_same
-  kind_same (Rows monoid) = λ tran mask output input second one two three masked. rows_same tran mask output input second one two masked
+    kind_same : (kind : OperationKind) (output : Object) (first second : Option Object) (x y : Bool) → SameAt s t output → IfSome first (SameAt s t) → IfSome second (SameAt s t) → x ≡ y →
+        fitting_of kind s d output first second x ≡ fitting_of kind t d output first second y
+    kind_same (EwiseAdd op) = ewise_same
+    kind_same (EwiseMult op) = ewise_same
+    kind_same (Product semiring) = product_same
+    kind_same (Rows monoid) = rows_same
 
   any_same : (q : Option Object) → SameOn s t (if_any q) → IfSome q (SameAt s t)
   any_same None same = tt
@@ -180,8 +156,11 @@ module _ (s t : ObjectShapes) where
       option_map_or (operation_fits s) q true ≡ option_map_or (operation_fits t) q true
   any_fitting None os same masked = refl
   any_fitting (Some o) os same masked =
-      let inputs : SameOn s t (o.first ∷ if_any o.second) = next o.output (o.first ∷ if_any o.second) same in
-      kind_same o.kind o.d.tran o.mask o.output o.first o.second (first o.output (o.first ∷ if_any o.second) same) (first o.first (if_any o.second) inputs) (any_same o.second (next o.first (if_any o.second) inputs)) (any_same o.mask masked)
+      let output = first o.output (operation_inputs o) same in
+      let inputs = next o.output (operation_inputs o) same in
+      kind_same o.d o.kind o.output o.first o.second _ _ output
+      (any_same o.first (λ p wanted. inputs p (among_before p (if_any o.first) (if_any o.second) wanted))) (any_same o.second (λ p wanted. inputs p (among_after p (if_any o.first) (if_any o.second) wanted)))
+      (mask_same o.mask o.output (any_same o.mask masked) output)
 
   fitting : (c : Call) → SameOn s t (operands c) → SameOn s t (masks c) → has_fitting_dims s c ≡ has_fitting_dims t c
   fitting c same masked = any_fitting (operation_of c) (if_any (named c)) same masked

@@ -1,16 +1,6 @@
 -- Evaluating a slice alone gives what the wanted objects hold after all calls. No case over calls stands here.
 use Rattle.std.proofs.Common.{◌≡◌, ◌≢◌, Bool, true, false, if◌then◌else◌, List, [], ◌∷◌, refl, sym, ap, subst, ◌∙◌, Option, Some, None}
-use Rattle.grb_call.specs.declared.call.Call.{Call}
-use Rattle.grb_call.specs.declared.ids.Object.{Object}
-use Rattle.grb_call.specs.Shapes.{ObjectShapes}
-use Rattle.grb_call.specs.Store.{Store, shapes_of}
-use Rattle.grb_call.specs.After.{after}
-use Rattle.grb_call.specs.History.{after_all}
-use Rattle.grb_call.proofs.ShapesAfter.{shapes_of-after}
-use Rattle.grb_call.specs.Status.{is_same_object}
-use Rattle.grb_slices.specs.Content.{Content, Contents, content_at, effective_target, outcome}
-use Rattle.grb_slices.specs.Slice.{Step, Entry, Known, Origin, Make, Recall, Element, chosen, Wants, wants_before, Sliced, sliced_step, sliced, result_of, with_content, evaluated}
-use Rattle.grb_slices.specs.Steps.{steps_of, AreSteps, AgreeOn}
+use Rattle.grb_slices.proofs.Prelude.{Call, Object, ObjectShapes, Store, shapes_of, after, after_all, shapes_of-after, is_same_object, Content, Contents, content_at, effective_target, outcome, Step, Entry, Known, Origin, Make, Recall, Element, chosen, Wants, wants_before, Sliced, sliced_step, sliced, result_of, with_content, evaluated, steps_of, AreSteps, AgreeOn}
 use Rattle.grb_slices.proofs.Effects.{own, other, effective, frame}
 use Rattle.grb_slices.proofs.Wants.{is_same_object-self, is_same_object-true, read_before, other_before}
 

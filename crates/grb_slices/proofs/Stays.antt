@@ -1,11 +1,6 @@
 -- What was evaluated stays so when more calls come, and more may be known.
 use Rattle.std.proofs.Common.{List, [], ◌∷◌, ◌++◌}
-use Rattle.grb_call.specs.declared.call.Call.{Call}
-use Rattle.grb_call.specs.Store.{Store}
-use Rattle.grb_call.specs.After.{after}
-use Rattle.grb_call.specs.History.{after_all}
-use Rattle.grb_slices.specs.Slice.{Step, Entry, Known}
-use Rattle.grb_slices.specs.Steps.{AreSteps}
+use Rattle.grb_slices.proofs.Prelude.{Call, Store, after, after_all, Step, Entry, Known, AreSteps}
 
 pub steps-append : (s : Store) (cs ds : List Call) (xs ys : List Step) → AreSteps s cs xs → AreSteps (after_all s cs) ds ys → AreSteps s (cs ++ ds) (xs ++ ys)
 steps-append s [] ds [] ys first then = then

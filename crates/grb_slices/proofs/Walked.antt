@@ -1,13 +1,7 @@
 -- The walk back over entries: one step of it, and where it begins.
 use Rattle.std.proofs.Common.{◌≡◌, ℕ, zero, suc, ◌+◌, ◌-◌, ◌<◌, ◌≤◌, Bool, true, false, ◌||◌, if◌then◌else◌, List, [], ◌∷◌, refl, sym, ap, ◌∙◌, arith, length, map, drop, get_or, set, Option, Some, None}
-use Rattle.std.specs.Prelude.{slice_get}
-use Rattle.std.specs.Option.{option_map_or}
-use Rattle.std.proofs.lemmas.List.{get_or-drop}
+use Rattle.grb_slices.proofs.Prelude.{slice_get, option_map_or, get_or-drop, Call, Object, Step, Entry, Make, Wants, wants_before, choices, entries, sliced, is_chosen, wants_before_entry}
 use Rattle.std.proofs.lemmas.Option.{get_or_from_slice_get}
-use Rattle.grb_call.specs.declared.call.Call.{Call}
-use Rattle.grb_call.specs.declared.ids.Object.{Object}
-use Rattle.grb_slices.specs.Slice.{Step, Entry, Make, Wants, wants_before, choices, entries, sliced}
-use Rattle.grb_slices.specs.Wanted.{is_chosen, wants_before_entry}
 
 -- lists
 module _ {X : Type 0} where

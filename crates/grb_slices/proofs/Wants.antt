@@ -1,10 +1,8 @@
 -- The wanted objects: what is wanted before an entry, and lists of objects.
 use Rattle.std.proofs.Common.{◌≡◌, ℕ, Bool, true, false, ◌||◌, nat_eq, if◌then◌else◌, List, [], ◌∷◌, ◌++◌, refl, sym, ap, subst, arith}
-use Rattle.std.specs.List.{list_any}
-use Rattle.grb_call.specs.declared.ids.Object.{Object}
+use Rattle.grb_slices.proofs.Prelude.{list_any, Object, is_same_object, Origin, Wants, is_among, needs, wants_before}
+use Rattle.std.proofs.lemmas.Bool.{or_left, or_right}
 use Rattle.grb_call.specs.declared.ids.Object.TheVariants as object
-use Rattle.grb_call.specs.Status.{is_same_object}
-use Rattle.grb_slices.specs.Slice.{Origin, Wants, is_among, needs, wants_before}
 
 same_number : (n : ℕ) → nat_eq n n ≡ true
 same_number n = grind arith
@@ -21,14 +19,6 @@ is_same_object-true (object.Matrix a) (object.Matrix b) e = ap (λ n. object.Mat
 is_same_object-true (object.Vector a) (object.Vector b) e = ap (λ n. object.Vector (record { 0 = n })) (number_same a.0 b.0 e)
 is_same_object-true (object.Matrix a) (object.Vector b) e = cc
 is_same_object-true (object.Vector a) (object.Matrix b) e = cc
-
-or_left : (a b : Bool) → a ≡ true → (a || b) ≡ true
-or_left true b e = refl
-or_left false b e = cc
-
-or_right : (a b : Bool) → b ≡ true → (a || b) ≡ true
-or_right true b e = refl
-or_right false b e = e
 
 pub among_first : (o : Object) (os : List Object) → is_among (o ∷ os) o ≡ true
 among_first o os = or_left (is_same_object o o) _ (is_same_object-self o)

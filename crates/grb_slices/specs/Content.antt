@@ -4,12 +4,12 @@ use Rattle.std.specs.Prelude.{Bool, true, ◌&&◌, ◌==◌, nat_lt, if◌then�
 use Rattle.std.specs.List.{list_all}
 use Rattle.std.specs.Option.{option_map, option_map_or}
 use Rattle.grb_core.specs.Contents.{Matrix, Vector}
-use Rattle.grb_core.specs.Entries.{MatrixEntries, VectorEntries, nvals_of}
+use Rattle.grb_core.specs.Entries.{nvals_of}
 use Rattle.grb_call.specs.declared.call.Call.{Call}
 use Rattle.grb_call.specs.declared.call.Call.TheVariants as call
 use Rattle.grb_call.specs.declared.ids.Object.{Object}
 use Rattle.grb_call.specs.declared.ids.Object.TheVariants as object
-use Rattle.grb_call.specs.Output.{ObjectEntries, output_of, matrix_made, vector_made}
+use Rattle.grb_call.specs.Output.{StoredObjects, output_of, matrix_made, vector_made}
 use Rattle.grb_call.specs.Refused.{refused_by_shapes}
 use Rattle.grb_call.specs.Shapes.{ObjectShapes}
 use Rattle.grb_call.specs.Store.{Store, matrix_at, vector_at}
@@ -39,18 +39,18 @@ target_of s c = output_of c
 abbrev pub effective_target : ObjectShapes → Call → Option Object
 effective_target s c = option_map_or (λ _. None) (refused_by_shapes s c) (target_of s c)
 
--- the entries of a matrix, and of a vector; none of an object that is not there
-abbrev pub held_by_matrix : Option Content → MatrixEntries
-held_by_matrix (Some (MatrixContent m)) = m.entries
-held_by_matrix _ = []
+-- the matrix, and the vector, that an object holds; None of one that is not there
+abbrev pub matrix_held : Option Content → Option Matrix
+matrix_held (Some (MatrixContent m)) = Some m
+matrix_held _ = None
 
-abbrev pub held_by_vector : Option Content → VectorEntries
-held_by_vector (Some (VectorContent x)) = x.entries
-held_by_vector _ = []
+abbrev pub vector_held : Option Content → Option Vector
+vector_held (Some (VectorContent x)) = Some x
+vector_held _ = None
 
--- the entries of all objects
-abbrev pub entries_held : Contents → ObjectEntries
-entries_held r = record { matrix = λ a. held_by_matrix (r (object.Matrix a)); vector = λ v. held_by_vector (r (object.Vector v)) }
+-- all objects, as calls read them
+abbrev pub objects_held : Contents → StoredObjects
+objects_held r = record { matrix = λ a. matrix_held (r (object.Matrix a)); vector = λ v. vector_held (r (object.Vector v)) }
 
 -- whether a call may fill what it finds: a build no entry, and all places of its list within the object; any other call what there is
 abbrev pub can_fill_matrix : Call → Matrix → Bool
@@ -63,10 +63,10 @@ can_fill_vector _ x = true
 
 -- what a call which shapes do not refuse leaves of its output, where it does not end it
 abbrev pub filled_matrix : Contents → Call → Matrix → Matrix
-filled_matrix r c m = if can_fill_matrix c m then matrix_made (entries_held r) c m else m
+filled_matrix r c m = if can_fill_matrix c m then matrix_made (objects_held r) c m else m
 
 abbrev pub filled_vector : Contents → Call → Vector → Vector
-filled_vector r c x = if can_fill_vector c x then vector_made (entries_held r) c x else x
+filled_vector r c x = if can_fill_vector c x then vector_made (objects_held r) c x else x
 
 abbrev pub content_made : Contents → Call → Content → Content
 content_made r c (MatrixContent m) = MatrixContent (filled_matrix r c m)

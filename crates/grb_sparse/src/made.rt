@@ -64,7 +64,7 @@ impl SparseVector {
 
 impl SparseMatrix {
     /// The matrix of `nrows` rows and `ncols` columns that stores these lists, assembled. Takes no memory, and gives back what no entry
-    /// takes.
+    /// takes, where a list has room for more than an eighth of what it holds.
     ///
     /// Source: own.
     pub fn from_lists(alloc: Global, nrows: u64, ncols: u64, mut lists: FlatRows) -> SparseMatrix

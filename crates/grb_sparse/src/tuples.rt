@@ -58,8 +58,8 @@ pub(crate) fn add(built: &mut FlatRows, place: u64, value: Value, dup: Monoid)
 }
 
 /// The flat lists of tuples in rising order of their places, where those of one place stand together: their values are combined. Takes
-/// memory for as many entries as there are tuples, and gives back what none takes. `AllocError` where that is refused; then nothing is
-/// made.
+/// memory for as many entries as there are tuples, and gives back what none takes, as `shrink` does. `AllocError` where that is refused;
+/// then nothing is made.
 fn combine(alloc: Global, tuples: &[(u64, Value)], dup: Monoid) -> Result<FlatRows, AllocError>
     requires rising { IsSortedByKey (λ e. e.0) nat_cmp tuples.now }
     requires of_domain { All (λ e. value_domain e.1 ≡ monoid_domain dup) tuples.now }

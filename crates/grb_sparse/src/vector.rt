@@ -10,9 +10,9 @@ ghost use Rattle.grb_rows.specs.Pending.{changed};
 ghost use Rattle.grb_sparse.specs.Vector.{settled_vector};
 
 use crate::iter::EntriesByIndex;
-use crate::tuples;
+use crate::{apart, tuples};
 use grb_core::{Domain, Monoid, Value};
-use grb_rows::{Held, Layers};
+use grb_rows::{ApartTuples, FlatRows, Held, Layers};
 use std::alloc::{AllocError, Global};
 use std::marker::Model;
 
@@ -140,6 +140,17 @@ impl SparseVector {
         ensures whole { IsVector self.now.vector }
     {
         self.held.rows().columns()
+    }
+
+    /// The stored entries as flat lists, the row 0 alone: of an assembled vector alone. Nothing is copied.
+    ///
+    /// Source: own.
+    pub fn lists(&self) -> &FlatRows
+        requires assembled { self.now.assembled ≡ true }
+        ensures entries { result.now.entries ≡ self.now.vector.entries }
+        ensures domain { result.now.domain ≡ self.now.vector.domain }
+    {
+        self.held.rows()
     }
 
     /// The stored values of a vector of the domain `Bool`, in the order of their indices: of an assembled vector alone. Nothing is copied.
@@ -301,6 +312,26 @@ impl SparseVector {
     {
         let alloc = self.held.allocator();
         let built = tuples::build(alloc, tuples, dup)?;
+        self.held = Held::shareable(alloc, built, true);
+        Ok(())
+    }
+
+    /// The same of tuples whose indices and values lie apart. It sorts one number for each tuple, unless they are in order.
+    ///
+    /// Source: GraphBLAS C API 2.0, `GrB_Vector_build`.
+    pub fn build_apart(&mut self, list: &ApartTuples, dup: Monoid) -> Result<(), AllocError>
+        requires empty { self.old.vector.entries ≡ [] }
+        requires in_range { All (λ e. e.0 < self.old.vector.size) list.now }
+        requires same_domain { monoid_domain dup ≡ self.old.vector.domain }
+        requires tuples_domain { All (λ e. value_domain e.1 ≡ self.old.vector.domain) list.now }
+        ensures vector { OnOk result (self.new.vector ≡ edited_vector (λ _. built_from nat_cmp dup list.now) self.old.vector) }
+        ensures assembled { OnOk result (self.new.assembled ≡ true) }
+        ensures reserved { OnOk result (self.new.reserved ≡ 0) }
+        ensures pending { OnOk result (self.new.pending ≡ 0) }
+        ensures err { OnErr result (self.new ≡ self.old) }
+    {
+        let alloc = self.held.allocator();
+        let built = apart::build(alloc, list, dup)?;
         self.held = Held::shareable(alloc, built, true);
         Ok(())
     }

@@ -21,7 +21,7 @@ use Rattle.grb_call.specs.After.{changed, refused}
 use Rattle.grb_call.proofs.Outputs.{output-first}
 use Rattle.grb_call.proofs.Passed.{has_passed}
 use Rattle.grb_state.specs.Operation.{AreAssembled}
-use Rattle.grb_state.specs.State.{stored, stored_matrix, stored_vector}
+use Rattle.grb_objects.specs.Stored.{stored, stored_matrix, stored_vector}
 use Rattle.grb_state.proofs.Lent.{held}
 
 -- a call that reads changes nothing

@@ -22,7 +22,7 @@ use Rattle.grb_call.specs.declared.ids.VectorId.{VectorId}
 use Rattle.grb_call.specs.declared.ids.Object.TheVariants as object
 use Rattle.grb_call.specs.Operands.{matrix_mask, vector_mask}
 use Rattle.grb_call.specs.Operation.{accum_domains}
-use Rattle.grb_call.specs.Output.{entries_in, matrix_left, vector_left}
+use Rattle.grb_call.specs.Output.{objects_in, matrix_left, vector_left}
 use Rattle.grb_call.specs.Shapes.{ObjectShapes, object_at, is_live}
 use Rattle.grb_call.specs.Refused.{is_one_domain}
 use Rattle.grb_call.specs.Fits.{ewise_matrices_fit, ewise_vectors_fit}
@@ -32,7 +32,7 @@ use Rattle.grb_call.proofs.ShapesAfter.{object_at-map}
 use Rattle.grb_call.proofs.Passed.{has_passed}
 use Rattle.grb_call.proofs.Operated.{writes_matrix, writes_vector}
 use Rattle.grb_call.proofs.Operations.{IsMatrixAt, IsTurnedAt, EwiseMatrices, EwiseVectors, ewise_matrices, ewise_vectors}
-use Rattle.grb_state.specs.State.{stored, stored_matrix, stored_vector}
+use Rattle.grb_objects.specs.Stored.{stored, stored_matrix, stored_vector}
 
 pub if_ok : {X E : Type 0} (P Q : X → Type 0) (r : Result X E) → ((x : X) → P x → Q x) → IfOk r P → IfOk r Q
 if_ok P Q (Ok x) f p = f x p
@@ -134,7 +134,7 @@ module _ (ms : List (Option SparseMatrixView)) (vs : List (Option SparseVectorVi
     add_matrix-left is =
         let s = stored ms vs in
         ap (λ (o : Option Matrix). matrix_left s (call.EwiseAddMatrix c mask accum op a b d) o) (at_matrix c x at_output)
-        ∙ ap (λ (m : Matrix). Some m) ((writes_matrix (entries_in s) mask accum d x.matrix c).of_ewise_add op a b ∙ sym (is
+        ∙ ap (λ (m : Matrix). Some m) ((writes_matrix (objects_in s) mask accum d x.matrix c).of_ewise_add op a b ∙ sym (is
         ∙ ap (λ m. matrix_write m (ewise_add cell_cmp op (turned d.tran y.matrix.entries) z.matrix.entries)) same_mask
         ∙ ap (λ es. matrix_write (option_map (matrix_entries s) mask) (ewise_add cell_cmp op (turned d.tran es) z.matrix.entries)) (sym (matrix_entries-at a y at_first))
         ∙ ap (λ es. matrix_write (option_map (matrix_entries s) mask) (ewise_add cell_cmp op (turned d.tran (matrix_entries s a)) es)) (sym (matrix_entries-at b z at_second))))
@@ -144,7 +144,7 @@ module _ (ms : List (Option SparseMatrixView)) (vs : List (Option SparseVectorVi
     mult_matrix-left is =
         let s = stored ms vs in
         ap (λ (o : Option Matrix). matrix_left s (call.EwiseMultMatrix c mask accum op a b d) o) (at_matrix c x at_output)
-        ∙ ap (λ (m : Matrix). Some m) ((writes_matrix (entries_in s) mask accum d x.matrix c).of_ewise_mult op a b ∙ sym (is
+        ∙ ap (λ (m : Matrix). Some m) ((writes_matrix (objects_in s) mask accum d x.matrix c).of_ewise_mult op a b ∙ sym (is
         ∙ ap (λ m. matrix_write m (ewise_mult cell_cmp op (turned d.tran y.matrix.entries) z.matrix.entries)) same_mask
         ∙ ap (λ es. matrix_write (option_map (matrix_entries s) mask) (ewise_mult cell_cmp op (turned d.tran es) z.matrix.entries)) (sym (matrix_entries-at a y at_first))
         ∙ ap (λ es. matrix_write (option_map (matrix_entries s) mask) (ewise_mult cell_cmp op (turned d.tran (matrix_entries s a)) es)) (sym (matrix_entries-at b z at_second))))
@@ -217,7 +217,7 @@ module _ (ms : List (Option SparseMatrixView)) (vs : List (Option SparseVectorVi
     add_vector-left is =
         let s = stored ms vs in
         ap (λ (o : Option Vector). vector_left s (call.EwiseAddVector w mask accum op u v d) o) (at_vector w x at_output)
-        ∙ ap (λ (m : Vector). Some m) ((writes_vector (entries_in s) mask accum d x.vector w).of_ewise_add op u v ∙ sym (is
+        ∙ ap (λ (m : Vector). Some m) ((writes_vector (objects_in s) mask accum d x.vector w).of_ewise_add op u v ∙ sym (is
         ∙ ap (λ m. vector_write m (ewise_add nat_cmp op y.vector.entries z.vector.entries)) same_mask
         ∙ ap (λ es. vector_write (option_map (vector_entries s) mask) (ewise_add nat_cmp op es z.vector.entries)) (sym (vector_entries-at u y at_first))
         ∙ ap (λ es. vector_write (option_map (vector_entries s) mask) (ewise_add nat_cmp op (vector_entries s u) es)) (sym (vector_entries-at v z at_second))))
@@ -227,7 +227,7 @@ module _ (ms : List (Option SparseMatrixView)) (vs : List (Option SparseVectorVi
     mult_vector-left is =
         let s = stored ms vs in
         ap (λ (o : Option Vector). vector_left s (call.EwiseMultVector w mask accum op u v d) o) (at_vector w x at_output)
-        ∙ ap (λ (m : Vector). Some m) ((writes_vector (entries_in s) mask accum d x.vector w).of_ewise_mult op u v ∙ sym (is
+        ∙ ap (λ (m : Vector). Some m) ((writes_vector (objects_in s) mask accum d x.vector w).of_ewise_mult op u v ∙ sym (is
         ∙ ap (λ m. vector_write m (ewise_mult nat_cmp op y.vector.entries z.vector.entries)) same_mask
         ∙ ap (λ es. vector_write (option_map (vector_entries s) mask) (ewise_mult nat_cmp op es z.vector.entries)) (sym (vector_entries-at u y at_first))
         ∙ ap (λ es. vector_write (option_map (vector_entries s) mask) (ewise_mult nat_cmp op (vector_entries s u) es)) (sym (vector_entries-at v z at_second))))

@@ -19,7 +19,7 @@ use Rattle.grb_call.specs.declared.descriptor.Descriptor.{Descriptor}
 use Rattle.grb_call.specs.declared.ids.MatrixId.{MatrixId}
 use Rattle.grb_call.specs.declared.ids.VectorId.{VectorId}
 use Rattle.grb_call.specs.declared.ids.Object.TheVariants as object
-use Rattle.grb_call.specs.Output.{entries_in, matrix_left, vector_left}
+use Rattle.grb_call.specs.Output.{objects_in, matrix_left, vector_left}
 use Rattle.grb_call.specs.Shapes.{object_at, is_live}
 use Rattle.grb_call.specs.Store.{shapes_of, vector_at, matrix_at, matrix_entries, vector_entries, matrix_shape, vector_shape}
 use Rattle.grb_call.specs.After.{refused}
@@ -27,7 +27,7 @@ use Rattle.grb_call.proofs.Passed.{HasPassed, has_passed}
 use Rattle.grb_call.proofs.Operated.{writes_matrix, writes_vector}
 use Rattle.grb_call.proofs.Operations.{IsVectorAt, IsMatrixMask, IsVectorMask}
 use Rattle.grb_call.proofs.Products.{MxvOperands, mxv_operands, MxmOperands, mxm_operands, ReduceRowsOperands, reduce_rows_operands, VxmOperands, vxm_operands}
-use Rattle.grb_state.specs.State.{stored, stored_matrix, stored_vector}
+use Rattle.grb_objects.specs.Stored.{stored, stored_matrix, stored_vector}
 use Rattle.grb_state.proofs.Lent.{held, at_matrix, at_vector, matrix_mask_held, vector_mask_held, matrix_is, vector_is, matrix_entries-at, vector_entries-at}
 
 module _ (ms : List (Option SparseMatrixView)) (vs : List (Option SparseVectorView)) where
@@ -126,7 +126,7 @@ module _ (ms : List (Option SparseMatrixView)) (vs : List (Option SparseVectorVi
         let s = stored ms vs in
         let write : Option MatrixEntries → MatrixEntries → Matrix = λ m computed. edited_matrix (λ old. written cell_cmp (is_inside cell_cmp d.structure d.comp m) d.replace accum old computed) x.matrix in
         ap (λ (o : Option Matrix). matrix_left s (call.Mxm c mask accum semiring a b d) o) (at_matrix ms vs c x at_output)
-        ∙ ap (λ (m : Matrix). Some m) ((writes_matrix (entries_in s) mask accum d x.matrix c).of_mxm semiring a b ∙ sym (is
+        ∙ ap (λ (m : Matrix). Some m) ((writes_matrix (objects_in s) mask accum d x.matrix c).of_mxm semiring a b ∙ sym (is
         ∙ ap (λ m. write m (mxm_of semiring (turned d.tran y.matrix.entries) z.matrix.entries)) same_mask
         ∙ ap (λ (es : MatrixEntries). write (option_map (matrix_entries s) mask) (mxm_of semiring (turned d.tran es) z.matrix.entries)) (sym (matrix_entries-at ms vs a y at_first))
         ∙ ap (λ (es : MatrixEntries). write (option_map (matrix_entries s) mask) (mxm_of semiring (turned d.tran (matrix_entries s a)) es)) (sym (matrix_entries-at ms vs b z at_second))))
@@ -158,7 +158,7 @@ module _ (ms : List (Option SparseMatrixView)) (vs : List (Option SparseVectorVi
     mxv-left semiring a u y z at_matrix_input at_vector_input is =
         let s = stored ms vs in
         ap (λ (o : Option Vector). vector_left s (call.Mxv w mask accum semiring a u d) o) (at_vector ms vs w x at_output)
-        ∙ ap (λ (v : Vector). Some v) ((writes_vector (entries_in s) mask accum d x.vector w).of_mxv semiring a u ∙ sym (is
+        ∙ ap (λ (v : Vector). Some v) ((writes_vector (objects_in s) mask accum d x.vector w).of_mxv semiring a u ∙ sym (is
         ∙ ap (λ m. write m (mxv_of semiring (turned d.tran y.matrix.entries) z.vector.entries)) same_mask
         ∙ ap (λ (es : MatrixEntries). write (option_map (vector_entries s) mask) (mxv_of semiring (turned d.tran es) z.vector.entries)) (sym (matrix_entries-at ms vs a y at_matrix_input))
         ∙ ap (λ (es : VectorEntries). write (option_map (vector_entries s) mask) (mxv_of semiring (turned d.tran (matrix_entries s a)) es)) (sym (vector_entries-at ms vs u z at_vector_input))))
@@ -169,7 +169,7 @@ module _ (ms : List (Option SparseMatrixView)) (vs : List (Option SparseVectorVi
     vxm-left semiring u a z y at_vector_input at_matrix_input is =
         let s = stored ms vs in
         ap (λ (o : Option Vector). vector_left s (call.Vxm w mask accum semiring u a d) o) (at_vector ms vs w x at_output)
-        ∙ ap (λ (v : Vector). Some v) ((writes_vector (entries_in s) mask accum d x.vector w).of_vxm semiring u a ∙ sym (is
+        ∙ ap (λ (v : Vector). Some v) ((writes_vector (objects_in s) mask accum d x.vector w).of_vxm semiring u a ∙ sym (is
         ∙ ap (λ m. write m (vxm_of semiring z.vector.entries y.matrix.entries)) same_mask
         ∙ ap (λ (es : MatrixEntries). write (option_map (vector_entries s) mask) (vxm_of semiring z.vector.entries es)) (sym (matrix_entries-at ms vs a y at_matrix_input))
         ∙ ap (λ (es : VectorEntries). write (option_map (vector_entries s) mask) (vxm_of semiring es (matrix_entries s a))) (sym (vector_entries-at ms vs u z at_vector_input))))
@@ -179,6 +179,6 @@ module _ (ms : List (Option SparseMatrixView)) (vs : List (Option SparseVectorVi
     rows-left monoid a y at_matrix_input is =
         let s = stored ms vs in
         ap (λ (o : Option Vector). vector_left s (call.ReduceRows w mask accum monoid a d) o) (at_vector ms vs w x at_output)
-        ∙ ap (λ (v : Vector). Some v) ((writes_vector (entries_in s) mask accum d x.vector w).of_reduce_rows monoid a ∙ sym (is
+        ∙ ap (λ (v : Vector). Some v) ((writes_vector (objects_in s) mask accum d x.vector w).of_reduce_rows monoid a ∙ sym (is
         ∙ ap (λ m. write m (reduce_rows_of monoid (turned d.tran y.matrix.entries))) same_mask
         ∙ ap (λ (es : MatrixEntries). write (option_map (vector_entries s) mask) (reduce_rows_of monoid (turned d.tran es))) (sym (matrix_entries-at ms vs a y at_matrix_input))))

@@ -16,7 +16,7 @@ use Rattle.grb_call.specs.Shapes.{object_at}
 use Rattle.grb_call.specs.Store.{shapes_of}
 use Rattle.grb_call.proofs.Operations.{IsMatrixAt, IsTurnedAt, IsVectorAt, IsMatrixMask, IsVectorMask}
 use Rattle.grb_state.specs.Operation.{AreAllOf, IsAssembledMatrix, IsAssembledVector}
-use Rattle.grb_state.specs.State.{stored}
+use Rattle.grb_objects.specs.Stored.{stored}
 use Rattle.grb_state.proofs.Lent.{MatrixTests, VectorTests, if_both-0, if_both-1, lent_matrix_is, lent_turned_is, matrix_are, vector_are}
 use Rattle.grb_state.proofs.LentProducts.{lent_mask_is, lent_matrix_mask_is, lent_vector_is}
 

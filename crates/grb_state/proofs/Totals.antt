@@ -17,7 +17,8 @@ use Rattle.grb_call.specs.After.{refused}
 use Rattle.grb_call.proofs.Passed.{has_passed, matrix_given, vector_given}
 use Rattle.grb_state.specs.Operation.{IsAssembledMatrix, IsAssembledVector}
 use Rattle.grb_state.specs.Settled.{AreAllAssembled}
-use Rattle.grb_state.specs.State.{stored, stored_matrix, stored_vector, is_assembled}
+use Rattle.grb_objects.specs.Stored.{stored, stored_matrix, stored_vector}
+use Rattle.grb_state.specs.State.{is_assembled}
 use Rattle.grb_state.proofs.Lent.{held, at_matrix, at_vector, matrix_entries-at, vector_entries-at}
 
 assembled-matrix : (o : Option SparseMatrixView) → IfSome o (λ m. m.assembled ≡ true) → option_map_or (λ m. m.assembled) o true ≡ true

@@ -1,11 +1,8 @@
 pub mod Evaluated
-pub mod Fits
 pub mod Live
 pub mod Objects
 pub mod Operation
-pub mod Places
 pub mod Reading
 pub mod Settled
-pub mod SharedContent
 pub mod StoredIn
 pub mod State

@@ -6,7 +6,7 @@ use Rattle.grb_call.specs.declared.ids.Object.{Object}
 use Rattle.grb_call.specs.Store.{Store}
 use Rattle.grb_state.specs.declared.objects.Objects.{Objects}
 use Rattle.grb_state.specs.Operation.{AreAllOf, AreAssembled, IsAssembled}
-use Rattle.grb_state.specs.State.{stored}
+use Rattle.grb_objects.specs.Stored.{stored}
 
 -- the store of these objects
 abbrev pub store_of : Objects → Store

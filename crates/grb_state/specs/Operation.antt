@@ -7,7 +7,7 @@ use Rattle.grb_call.specs.declared.call.Call.{Call}
 use Rattle.grb_call.specs.declared.ids.Object.{Object}
 use Rattle.grb_call.specs.declared.ids.Object.TheVariants as object
 use Rattle.grb_call.specs.Operands.{objects_read}
-use Rattle.grb_state.specs.Places.{IsAssembledAt}
+use Rattle.grb_objects.specs.Places.{IsAssembledAt}
 
 -- the matrix, or the vector, with this number has no change that waits, if it is there
 abbrev pub IsAssembledMatrix : List (Option SparseMatrixView) → ℕ → Type 0

@@ -5,8 +5,8 @@ use Rattle.grb_core.specs.declared.monoid.Monoid.{Monoid}
 use Rattle.grb_core.specs.declared.value.Value.{Value}
 use Rattle.grb_core.specs.Entries.{MatrixEntries, VectorEntries}
 use Rattle.grb_core.specs.Results.{reduce_of}
-use Rattle.grb_state.specs.declared.shared_content.SharedContent.{SharedContent}
-use Rattle.grb_state.specs.declared.shared_content.SharedContent.TheVariants as shared
+use Rattle.grb_objects.specs.declared.shared_content.SharedContent.{SharedContent}
+use Rattle.grb_objects.specs.declared.shared_content.SharedContent.TheVariants as shared
 
 -- the entries of a matrix, and none of a vector
 abbrev pub cells_of : SharedContent → MatrixEntries

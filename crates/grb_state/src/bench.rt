@@ -1,20 +1,14 @@
 //! A bench, on which one operation is made of single objects.
-ghost use Rattle.std.specs.Prelude.{◌≡◌, ◌≢◌, ◌<◌, ℕ, None, Some, length, OnOk, OnErr};
-ghost use Rattle.std.specs.Option.{option_map};
-ghost use Rattle.grb_call.specs.declared.ids.Object.{Object};
+ghost use Rattle.std.specs.Prelude.{◌≡◌, None, OnOk, OnErr};
 ghost use Rattle.grb_call.specs.Kinds.{class_of};
-ghost use Rattle.grb_call.specs.Shapes.{object_at};
 ghost use Rattle.grb_call.specs.Store.{Store, empty_store};
 ghost use Rattle.grb_call.specs.After.{changed, refused};
-ghost use Rattle.grb_state.specs.Places.{contents_at};
-ghost use Rattle.grb_state.specs.SharedContent.{AreElse, IsAt, IsThere};
+ghost use Rattle.grb_objects.specs.SharedContent.{AreElse, IsAt, IsThere};
 
 use crate::objects::Objects;
 use crate::operations::operate;
-use crate::shared::{Places, SharedObject};
-use crate::shared_content::SharedContent;
-use crate::stored_object::StoredObject;
 use grb_call::{Call, Class, Object};
+use grb_objects::{SharedContent, hold, take};
 use std::alloc::{AllocError, Global};
 use std::marker::Model;
 
@@ -32,43 +26,6 @@ impl Model for Bench {
     ghost Value = { Store };
 
     ghost view = { λ b. store_of b.objects };
-}
-
-/// Makes places up to this number, with nothing there. `AllocError` where memory is refused.
-fn make_places<T: StoredObject>(places: &mut Places<T>, number: u32) -> Result<(), AllocError>
-    ensures same { (n : ℕ) → object_at (contents_at T.contents places.new.items) n ≡ object_at (contents_at T.contents places.old.items) n }
-    ensures place { OnOk result (number < length places.new.items) }
-{
-    'places: while places.len() <= number as usize {
-        places.push(None)?;
-    }
-    Ok(())
-}
-
-/// Puts the object at its number. `AllocError` where memory for its place is refused.
-fn hold<T: StoredObject>(
-    places: &mut Places<T>,
-    id: T::Id,
-    object: SharedObject<T>,
-) -> Result<(), AllocError>
-    ensures held { OnOk result (object_at (contents_at T.contents places.new.items) (T.number id) ≡ Some (T.contents object)) }
-    ensures others { OnOk result ((n : ℕ) → T.number id ≢ n → object_at (contents_at T.contents places.new.items) n ≡ object_at (contents_at T.contents places.old.items) n) }
-{
-    make_places(places, T::number(id))?;
-    if let Some(place) = places.get_mut(T::number(id) as usize) {
-        *place = Some(object);
-    }
-    Ok(())
-}
-
-/// Takes the object with this number, if it is there: nothing is there then.
-fn take<T: StoredObject>(places: &mut Places<T>, id: T::Id) -> Option<SharedObject<T>>
-    ensures { option_map T.contents result ≡ object_at (contents_at T.contents places.old.items) (T.number id) }
-{
-    match places.get_mut(T::number(id) as usize) {
-        Some(place) => place.take(),
-        None => None,
-    }
 }
 
 impl Bench {

@@ -5,10 +5,9 @@ ghost use Rattle.grb_call.specs.Store.{matrix_at, shapes_of, vector_at};
 ghost use Rattle.grb_state.specs.State.{count_in, is_assembled_in};
 
 use crate::objects::Objects;
-use crate::places::{held_of, object_of};
-use crate::shared::share_all;
 use crate::state::State;
 use grb_call::{MatrixId, Object, Shapes, VectorId};
+use grb_objects::{held_of, object_of, share_all};
 use grb_sparse::{SparseMatrix, SparseVector};
 use std::alloc::AllocError;
 use std::sync::Arc;

@@ -3,30 +3,22 @@
 //! A `State` holds the matrices and vectors that the calls made, with their entries. One unit is one call: `apply` makes of the
 //! store what the call makes of it, and nothing of it where the call is refused; `settle` does what waits in the objects and changes
 //! no entry; `reply` and `refused_build` read it. All places for objects to come are reserved where a state is cloned: an empty state has
-//! none. A `SharedContent` is what one object holds, in no store, and is edited by itself; a `Bench` has objects at their numbers as long
-//! as one operation is made of them. Nothing here knows of passes, of an order, or of which calls there are: the caller brings them, one
-//! after another.
+//! none. A `Bench` has objects at their numbers as long as one operation is made of them, and `reply_from` reads one by itself. Nothing
+//! here knows of passes, of an order, or of which calls there are: the caller brings them, one after another.
 #![tactic(auto)]
 
 mod bench;
 mod copies;
 mod fold;
 mod live;
-mod matrices;
 mod objects;
 mod operations;
 mod outputs;
 mod parts;
-mod places;
 mod reading;
-mod shared;
-mod shared_content;
 mod state;
-mod stored_object;
-mod vectors;
 
 pub use bench::Bench;
 pub use fold::replay;
-pub use shared::SharedObject;
-pub use shared_content::SharedContent;
+pub use reading::reply_from;
 pub use state::State;

@@ -6,9 +6,8 @@ ghost use Rattle.grb_call.specs.After.{changed, refused};
 ghost use Rattle.grb_state.specs.Objects.{store_of, places_of, HasPlaces, IsAssembledIn};
 
 use crate::operations::operate;
-use crate::places::{assemble, dup, edit, has_many_changes};
-use crate::shared::{Places, SharedObject};
 use grb_call::{Call, Class, Object};
+use grb_objects::{Places, SharedObject, assemble, dup, edit, has_many_changes};
 use grb_sparse::{SparseMatrix, SparseVector};
 use std::alloc::AllocError;
 

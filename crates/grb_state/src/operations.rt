@@ -6,8 +6,8 @@ ghost use Rattle.grb_state.specs.Objects.{store_of, places_of, AreAllIn, AreOper
 
 use crate::objects::Objects;
 use crate::outputs::{operated_matrix, operated_vector};
-use crate::places::put;
 use grb_call::{Call, Class, Object, objects_read};
+use grb_objects::put;
 use std::alloc::AllocError;
 
 /// The object at this place of the list.

@@ -7,8 +7,8 @@ ghost use Rattle.grb_call.specs.After.{refused};
 ghost use Rattle.grb_state.specs.Objects.{store_of, AreOperandsIn};
 
 use crate::objects::Objects;
-use crate::places::{lent, lent_mask};
 use grb_call::{Call, Class, MatrixId, Object, VectorId};
+use grb_objects::{lent, lent_mask};
 use grb_ops::{
     ewise_add_matrix, ewise_add_vector, ewise_mult_matrix, ewise_mult_vector, mxm, mxv,
     reduce_rows, vxm,

@@ -2,40 +2,17 @@
 ghost use Rattle.std.specs.Prelude.{◌≡◌, ◌<◌, ◌^◌, map, length, IfOk, IfSome};
 ghost use Rattle.std.specs.Option.{option_map};
 ghost use Rattle.grb_call.specs.Store.{matrix_shape, vector_shape};
-ghost use Rattle.grb_state.specs.SharedContent.{IsThere, is_assembled_content, matrix_in, vector_in};
-ghost use Rattle.grb_state.specs.State.{is_assembled_in, stored, stored_matrices, stored_matrix, stored_vector, stored_vectors};
+ghost use Rattle.grb_objects.specs.SharedContent.{IsThere, is_assembled_content};
+ghost use Rattle.grb_objects.specs.Stored.{stored, stored_matrices, stored_matrix, stored_vector, stored_vectors};
+ghost use Rattle.grb_state.specs.State.{is_assembled_in};
 
 use crate::objects::Objects;
-use crate::places::share;
-use crate::shared::{Places, SharedObject};
-use crate::shared_content::SharedContent;
 use crate::state::State;
 use grb_call::{Object, Shapes};
 use grb_core::Domain;
+use grb_objects::{Places, SharedContent, SharedObject, share};
 use grb_sparse::{SparseMatrix, SparseVector};
 use std::alloc::{AllocError, Global};
-
-impl SharedContent {
-    /// The matrix for one more holder, where it is one; nothing of it is copied, and no memory is taken. `AllocError` where 2^63 - 1 hold it.
-    pub fn share_matrix(&self) -> Result<Option<SharedObject<SparseMatrix>>, AllocError>
-        ensures { IfOk result (λ shared. shared ≡ matrix_in self.now) }
-    {
-        match self {
-            SharedContent::Matrix(matrix) => Ok(Some(matrix.share()?)),
-            SharedContent::Vector(_) => Ok(None),
-        }
-    }
-
-    /// The vector for one more holder, where it is one, as [`SharedContent::share_matrix`] gives a matrix.
-    pub fn share_vector(&self) -> Result<Option<SharedObject<SparseVector>>, AllocError>
-        ensures { IfOk result (λ shared. shared ≡ vector_in self.now) }
-    {
-        match self {
-            SharedContent::Matrix(_) => Ok(None),
-            SharedContent::Vector(vector) => Ok(Some(vector.share()?)),
-        }
-    }
-}
 
 /// The shape of the matrix of a place, if there is one.
 fn shape_of_matrix(place: &Option<SharedObject<SparseMatrix>>) -> Option<(Domain, u64, u64)>
@@ -104,8 +81,8 @@ fn shapes_of_objects(
 }
 
 impl State {
-    /// What the object holds, for one more holder, if it was made and not freed; no entry is copied, and no memory is taken. `AllocError` where
-    /// 2^63 - 1 hold it.
+    /// What the object holds, for one more holder, if it was made and not freed; no entry is copied, and no memory is taken. `AllocError`
+    /// where 2^63 - 1 hold it.
     pub fn share(&self, object: Object) -> Result<Option<SharedContent>, AllocError>
         ensures there { IfOk result (λ found. IsThere self.now.store object found) }
         ensures assembled { IfOk result (λ found. IfSome found (λ x. is_assembled_content x ≡ is_assembled_in self.now object)) }

@@ -7,14 +7,15 @@ ghost use Rattle.grb_core.specs.Results.{reduce_of};
 ghost use Rattle.grb_call.specs.Kinds.{class_of, enters, is_size};
 ghost use Rattle.grb_call.specs.Refused.{is_in_bounds};
 ghost use Rattle.grb_call.specs.Store.{empty_store, shapes_of, matrix_entries, vector_entries, with_place};
-ghost use Rattle.grb_call.specs.After.{after, get_reply, has_old_entries, refused, refused_build, reply_of};
+ghost use Rattle.grb_call.specs.After.{after, has_old_entries, refused, refused_build, reply_of};
 ghost use Rattle.grb_state.specs.Settled.{AreAllAssembled, IsSettled, settles};
 ghost use Rattle.grb_state.specs.State.{is_assembled};
 
 use crate::objects::Objects;
-use crate::places::{assemble_all, lent, object_of};
+use crate::reading::get_reply;
 use grb_call::{Call, Class, Extent, Kind, MatrixId, Object, Reply, Shapes, VectorId, check};
 use grb_core::{Monoid, Refusal, Value};
+use grb_objects::{assemble_all, lent, object_of};
 use grb_ops::{reduce_matrix, reduce_vector};
 use grb_sparse::{SparseMatrix, SparseVector};
 use std::alloc::{AllocError, Global};
@@ -36,16 +37,6 @@ impl Model for State {
     ghost view = { λ s. record { store = store_of s.objects; room = s.shapes.room; matrices = s.objects.matrices.items; vectors = s.objects.vectors.items } };
 
     ghost invariant = { λ s. IsState s.shapes (store_of s.objects) (places_of s.objects).0 (places_of s.objects).1 };
-}
-
-/// The reply to a get, by what is stored there.
-fn get_reply(value: Option<Value>) -> Reply
-    ensures { result ≡ get_reply value }
-{
-    match value {
-        Some(value) => Reply::Value(value),
-        None => Reply::NoValue,
-    }
 }
 
 impl State {

@@ -27,7 +27,7 @@ use Rattle.grb_sums.proofs.MarkedPlaces.{entries_at-made, is_sorted-entries_at, 
 use Rattle.grb_semirings.proofs.Sums.{fold_of_some-more}
 
 -- the values at a column, with one entry more
-values_at-append : (q : ℕ) (xs ys : VectorEntries) → values_at nat_cmp q (xs ++ ys) ≡ values_at nat_cmp q xs ++ values_at nat_cmp q ys
+pub values_at-append : (q : ℕ) (xs ys : VectorEntries) → values_at nat_cmp q (xs ++ ys) ≡ values_at nat_cmp q xs ++ values_at nat_cmp q ys
 values_at-append q xs ys = ap (λ (m : VectorEntries). values_of m) (filter-append (λ (e : ℕ × Value). eq_by_cmp nat_cmp q e.0) xs ys) ∙ values_of-append (restricted (λ l. eq_by_cmp nat_cmp q l) xs) (restricted (λ l. eq_by_cmp nat_cmp q l) ys)
   where
     values_of-append : (xs ys : VectorEntries) → values_of (xs ++ ys) ≡ values_of xs ++ values_of ys
@@ -37,10 +37,10 @@ values_at-append q xs ys = ap (λ (m : VectorEntries). values_of m) (filter-appe
 same_column : (q k : ℕ) → k ≡ q → eq_by_cmp nat_cmp q k ≡ true
 same_column q k h = grind (arith, nat_tests)
 
-values_at-more : (q j : ℕ) (v : Value) (added : VectorEntries) → j ≡ q → values_at nat_cmp q (added ++ (j, v) ∷ []) ≡ values_at nat_cmp q added ++ v ∷ []
+pub values_at-more : (q j : ℕ) (v : Value) (added : VectorEntries) → j ≡ q → values_at nat_cmp q (added ++ (j, v) ∷ []) ≡ values_at nat_cmp q added ++ v ∷ []
 values_at-more q j v added e = values_at-append q added ((j, v) ∷ []) ∙ ap (λ b. values_at nat_cmp q added ++ values_of (cond b ((j, v) ∷ []) [])) (same_column q j e)
 
-values_at-other : (q j : ℕ) (v : Value) (added : VectorEntries) → (j ≡ q → ⊥) → values_at nat_cmp q (added ++ (j, v) ∷ []) ≡ values_at nat_cmp q added
+pub values_at-other : (q j : ℕ) (v : Value) (added : VectorEntries) → (j ≡ q → ⊥) → values_at nat_cmp q (added ++ (j, v) ∷ []) ≡ values_at nat_cmp q added
 values_at-other q j v added n =
     values_at-append q added ((j, v) ∷ [])
     ∙ ap (λ b. values_at nat_cmp q added ++ values_of (cond b ((j, v) ∷ []) [])) (other_column q j n)

@@ -1,5 +1,5 @@
 //! The sums of a row at all places, with a bit for each place at which one lies open.
-ghost use Rattle.std.specs.Prelude.{◌≡◌, ◌≢◌, ◌<◌, ◌≤◌, ℕ, ◌*◌, ◌/◌, length, true, Some, IsTrue, All, slice_set};
+ghost use Rattle.std.specs.Prelude.{◌≡◌, ◌≢◌, ◌<◌, ◌≤◌, ℕ, Bool, List, ◌*◌, ◌/◌, length, true, false, Some, IsTrue, All, slice_set, slice_index_or};
 ghost use Rattle.std.specs.List.{AllByRecursion};
 ghost use Rattle.std.specs.Ordering.{nat_cmp};
 ghost use Rattle.std.specs.FinMap.{is_sorted, find};
@@ -60,6 +60,17 @@ fn add_row<T: Stored, M: MonoidOver<T>, O: Operator<T>>(
     }
 }
 
+/// Sets the bit of a word in `tops`, but where it is the word before, whose bit is set: neighbours wait for no write then.
+fn mark_after(before: usize, word: usize, tops: &mut [u64])
+    requires in_range { word < 64 * length tops.old }
+    ensures { (marks : List Bool) → word < length marks → (word ≡ before → slice_index_or marks word false ≡ true) → AreMarks marks tops.old → AreMarks (slice_set marks word true) tops.new }
+{
+    if word == before {
+        return;
+    }
+    mark(tops, word);
+}
+
 /// Adds a row as `add_row` does, and sets the bit of `tops` of each word that gets one.
 fn add_topped<T: Stored, M: MonoidOver<T>, O: Operator<T>>(
     x: T,
@@ -82,12 +93,14 @@ fn add_topped<T: Stored, M: MonoidOver<T>, O: Operator<T>>(
     ensures clear { HoldUnmarked T.value (identity_of M.monoid) (marks_of (length sums.new) words.new) sums.new }
     ensures tops { AreTops words.new tops.new }
 {
+    let mut before = words.len();
     'row: for i in 0..places.len() {
         let at = places[i] as usize;
         let made = O::apply(x, values[i]);
         let product = made.read();
         add_at::<T, M>(at, product, sums, words);
-        mark(tops, at / 64);
+        mark_after(before, at / 64, tops);
+        before = at / 64;
     }
 }
 

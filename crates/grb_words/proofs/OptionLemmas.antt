@@ -5,8 +5,9 @@ use Rattle.std.specs.Map.{lookup}
 use Rattle.std.specs.Option.{option_and_then, option_map}
 use Rattle.std.specs.Str.{bytes_eq}
 use Rattle.std.proofs.lemmas.Slice.Eq.{bytes_eq-Decides}
+use Rattle.std.proofs.lemmas.Option.{same_Some}
 use Rattle.grb_core.specs.declared.operator.BinaryOp.{BinaryOp}
-use Rattle.grb_core.specs.declared.operator.BinaryOp.TheVariants.{Lor, Land, Lxor, Lxnor, FirstBool, SecondBool, Plus, Times, Min, Max, Minus, First, Second}
+use Rattle.grb_core.specs.declared.operator.BinaryOp.TheVariants.{Lor}
 use Rattle.grb_words.specs.Line.{Word}
 use Rattle.grb_words.specs.Word.{is_name, operators, operator_of, operator_word}
 use Rattle.grb_words.specs.Options.{OptionWords, word_if, mask_words, accum_words, last_flags, options_words, IsNamed, flag, name_first, operator_first, mask_option, accum_option, where_none_left, options_of}
@@ -36,21 +37,7 @@ operator_of-some word op e = found-word word operators (refl, (refl, (refl, (ref
 
 pub operator_of-word : (op : BinaryOp) → operator_of (operator_word op) ≡ Some op
 operator_of-word Lor = refl
-operator_of-word Land = refl
-operator_of-word Lxor = refl
-operator_of-word Lxnor = refl
-operator_of-word FirstBool = refl
-operator_of-word SecondBool = refl
-operator_of-word Plus = refl
-operator_of-word Times = refl
-operator_of-word Min = refl
-operator_of-word Max = refl
-operator_of-word Minus = refl
-operator_of-word First = refl
-operator_of-word Second = refl
-
-pub some-same : {X : Type 0} (x y : X) → Some x ≡ Some y → x ≡ y
-some-same x y e = cc
+operator_of-word _ = refl
 
 -- words by the option that they begin with
 abbrev flagged : Bool → Word → List Word → Bool × List Word
@@ -69,7 +56,7 @@ named b name others = if b then Some (Some name, others) else None
 
 named-words : (b : Bool) (name : Word) (others : List Word) (mask : Option Word) (rest : List Word) → named b name others ≡ Some (mask, rest) → codes "mask" ∷ name ∷ others ≡ mask_words mask ++ rest
 named-words true name others mask rest e =
-    let is = some-same {X = Option Word × List Word} (Some name, others) (mask, rest) e in λ j. mask_words (is j).0 ++ (is j).1
+    let is = same_Some {A = Option Word × List Word} (Some name, others) (mask, rest) e in λ j. mask_words (is j).0 ++ (is j).1
 named-words false name others mask rest e = cc
 
 abbrev masked : Bool → List Word → Option (Option Word × List Word)
@@ -79,7 +66,7 @@ masked-words : (b : Bool) (words : List Word) (mask : Option Word) (rest : List 
 masked-words true [] mask rest e = cc
 masked-words true (name ∷ others) mask rest e = named-words (is_name name) name others mask rest e
 masked-words false words mask rest e =
-    let is = some-same {X = Option Word × List Word} (None, words) (mask, rest) e in λ j. mask_words (is j).0 ++ (is j).1
+    let is = same_Some {A = Option Word × List Word} (None, words) (mask, rest) e in λ j. mask_words (is j).0 ++ (is j).1
 
 mask-words : (words : List Word) (mask : Option Word) (rest : List Word) → mask_option words ≡ Some (mask, rest) → words ≡ mask_words mask ++ rest
 mask-words words mask rest e =
@@ -92,7 +79,7 @@ operated-words : (found : Option BinaryOp) (word : Word) (others : List Word) (a
     → operated found others ≡ Some (accum, rest) → codes "accum" ∷ word ∷ others ≡ accum_words accum ++ rest
 operated-words None word others accum rest is e = cc
 operated-words (Some op) word others accum rest is e =
-    let same = some-same {X = Option BinaryOp × List Word} (Some op, others) (accum, rest) e in ap (λ w. codes "accum" ∷ w ∷ others) (is op refl) ∙ (λ j. accum_words (same j).0 ++ (same j).1)
+    let same = same_Some {A = Option BinaryOp × List Word} (Some op, others) (accum, rest) e in ap (λ w. codes "accum" ∷ w ∷ others) (is op refl) ∙ (λ j. accum_words (same j).0 ++ (same j).1)
 
 abbrev accumulated : Bool → List Word → Option (Option BinaryOp × List Word)
 accumulated b words = if b then operator_first words else Some (None, words)
@@ -101,7 +88,7 @@ accumulated-words : (b : Bool) (words : List Word) (accum : Option BinaryOp) (re
 accumulated-words true [] accum rest e = cc
 accumulated-words true (word ∷ others) accum rest e = operated-words (operator_of word) word others accum rest (operator_of-some word) e
 accumulated-words false words accum rest e =
-    let is = some-same {X = Option BinaryOp × List Word} (None, words) (accum, rest) e in λ j. accum_words (is j).0 ++ (is j).1
+    let is = same_Some {A = Option BinaryOp × List Word} (None, words) (accum, rest) e in λ j. accum_words (is j).0 ++ (is j).1
 
 accum-words : (words : List Word) (accum : Option BinaryOp) (rest : List Word) → accum_option words ≡ Some (accum, rest) → words ≡ accum_words accum ++ rest
 accum-words words accum rest e =

@@ -5,13 +5,14 @@ use Rattle.std.specs.Option.{option_and_then, option_map}
 use Rattle.std.specs.Str.{bytes_eq}
 use Rattle.std.proofs.lemmas.Bool.{false_from_ne_true, eqb-true}
 use Rattle.std.proofs.lemmas.Slice.Eq.{bytes_eq-Decides}
+use Rattle.std.proofs.lemmas.Option.{same_Some}
 use Rattle.memchr.specs.Find.{IsFirstByte, is_byte}
 use Rattle.grb_core.specs.declared.monoid.Monoid.{Monoid}
-use Rattle.grb_core.specs.declared.monoid.Monoid.TheVariants.{Lor, Land, Lxor, Lxnor, Plus, Times, Min, Max}
+use Rattle.grb_core.specs.declared.monoid.Monoid.TheVariants.{Lor}
 use Rattle.grb_core.specs.declared.operator.BinaryOp.{BinaryOp}
 use Rattle.grb_words.specs.Line.{Word}
 use Rattle.grb_words.specs.Word.{monoids, monoid_of, monoid_word, operator_of, operator_word, at_dot, semiring_of, semiring_word}
-use Rattle.grb_words.proofs.OptionLemmas.{and_then-some, some-same, operator_of-some, operator_of-word}
+use Rattle.grb_words.proofs.OptionLemmas.{and_then-some, operator_of-some, operator_of-word}
 
 -- the parts of a word behind one more byte
 abbrev parts_behind : ℕ → Bool → Word → Option (Word × Word) → Option (Word × Word)
@@ -44,10 +45,10 @@ at_dot-absent word h = at_dot-none word (λ k l. false_from_ne_true _ (h k (omeg
 joined-behind : (b : ℕ) (is_dot : Bool) (bs : Word) (found : Option (Word × Word)) (parts : Word × Word) → (is_dot ≡ true → b ≡ 46)
     → ((behind : Word × Word) → found ≡ Some behind → bs ≡ behind.0 ++ 46 ∷ behind.1) → parts_behind b is_dot bs found ≡ Some parts → b ∷ bs ≡ parts.0 ++ 46 ∷ parts.1
 joined-behind b true bs found parts is behind e =
-    let same = some-same {X = Word × Word} ([], bs) parts e in ap (λ b. b ∷ bs) (is refl) ∙ ap (λ (p : Word × Word). p.0 ++ 46 ∷ p.1) same
+    let same = same_Some {A = Word × Word} ([], bs) parts e in ap (λ b. b ∷ bs) (is refl) ∙ ap (λ (p : Word × Word). p.0 ++ 46 ∷ p.1) same
 joined-behind b false bs None parts is behind e = cc
 joined-behind b false bs (Some found) parts is behind e =
-    let same = some-same {X = Word × Word} (b ∷ found.0, found.1) parts e in ap (λ bs. b ∷ bs) (behind found refl) ∙ ap (λ (p : Word × Word). p.0 ++ 46 ∷ p.1) same
+    let same = same_Some {A = Word × Word} (b ∷ found.0, found.1) parts e in ap (λ bs. b ∷ bs) (behind found refl) ∙ ap (λ (p : Word × Word). p.0 ++ 46 ∷ p.1) same
 
 joined : (word : Word) (parts : Word × Word) → at_dot word ≡ Some parts → word ≡ parts.0 ++ 46 ∷ parts.1
 joined [] parts e = cc
@@ -74,7 +75,7 @@ monoid_of-some word m e = found-word word monoids (refl, (refl, (refl, (refl, (r
 paired : (m : Monoid) (found : Option BinaryOp) (n : Monoid) (f : BinaryOp) → option_map {U = Monoid × BinaryOp} (λ f. (m, f)) found ≡ Some (n, f) → (m ≡ n) × (found ≡ Some f)
 paired m None n f e = cc
 paired m (Some g) n f e =
-    let same = some-same {X = Monoid × BinaryOp} (m, g) (n, f) e in (ap (λ (p : Monoid × BinaryOp). p.0) same, ap (λ (p : Monoid × BinaryOp). Some p.1) same)
+    let same = same_Some {A = Monoid × BinaryOp} (m, g) (n, f) e in (ap (λ (p : Monoid × BinaryOp). p.0) same, ap (λ (p : Monoid × BinaryOp). Some p.1) same)
 
 abbrev of_parts : Word × Word → Option (Monoid × BinaryOp)
 of_parts parts = option_and_then (λ m. option_map (λ f. (m, f)) (operator_of parts.1)) (monoid_of parts.0)
@@ -90,23 +91,11 @@ semirings_are_spelled word m f e =
 -- the parts of the word of a semiring
 at_dot-word : (m : Monoid) (word : Word) → at_dot (monoid_word m ++ 46 ∷ word) ≡ Some (monoid_word m, word)
 at_dot-word Lor word = refl
-at_dot-word Land word = refl
-at_dot-word Lxor word = refl
-at_dot-word Lxnor word = refl
-at_dot-word Plus word = refl
-at_dot-word Times word = refl
-at_dot-word Min word = refl
-at_dot-word Max word = refl
+at_dot-word _ word = refl
 
 monoid_of-word : (m : Monoid) → monoid_of (monoid_word m) ≡ Some m
 monoid_of-word Lor = refl
-monoid_of-word Land = refl
-monoid_of-word Lxor = refl
-monoid_of-word Lxnor = refl
-monoid_of-word Plus = refl
-monoid_of-word Times = refl
-monoid_of-word Min = refl
-monoid_of-word Max = refl
+monoid_of-word _ = refl
 
 pub spelled_semirings_are_read : (m : Monoid) (f : BinaryOp) → semiring_of (semiring_word m f) ≡ Some (m, f)
 spelled_semirings_are_read m f =

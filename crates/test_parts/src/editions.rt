@@ -11,9 +11,9 @@ use crate::results::{learnt, settle};
 use crate::same::same;
 use grb_call::{Call, VectorId};
 use grb_core::{Domain, Value};
+use grb_objects::SharedContent;
 use grb_replay::Versions;
 use grb_results::{Kept, Table};
-use grb_state::SharedContent;
 use std::alloc::{AllocError, Global};
 use std::process::Abort;
 

@@ -38,4 +38,6 @@ mod texts_read;
 #[cfg(test)]
 mod texts_written;
 #[cfg(test)]
+mod tuples;
+#[cfg(test)]
 mod values;

@@ -9,9 +9,10 @@ use crate::calls::{PLAIN, lent};
 use crate::same::same;
 use grb_call::{Call, MatrixId, Object, VectorId, VectorTuples};
 use grb_core::{BinaryOp, Domain, Monoid, Value};
+use grb_objects::SharedContent;
 use grb_replay::{LentCalls, Targets};
 use grb_results::Table;
-use grb_state::{Bench, SharedContent, State};
+use grb_state::{Bench, State};
 use std::alloc::{AllocError, Global};
 use std::process::Abort;
 

@@ -56,6 +56,7 @@ _PARAMETERS: Dict[str, Tuple[Any, ...]] = {
     # Stores and passes.
     "trb_open": (_U64, _U32, _PASS, ctypes.c_size_t),
     "trb_succeed": (_U64, _U32, _PASS, _U64_OUT, _PASS, ctypes.c_size_t),
+    "trb_branch": (_U64, _U32, _PASS, *_ARRAY, *_ARRAY, _U64_OUT, _PASS, ctypes.c_size_t),
     "trb_is_full": (_PASS, _BOOL_OUT),
     "trb_free": (_PASS,),
     "trb_meet": (_PASS, _PASS),
@@ -91,7 +92,9 @@ _PARAMETERS: Dict[str, Tuple[Any, ...]] = {
     "trb_vector_remove": (_PASS, _U32, _U64),
     "trb_matrix_nvals": (_PASS, _U64_OUT, _U32),
     "trb_vector_nvals": (_PASS, _U64_OUT, _U32),
-    # Lists of entries.
+    # Lists of entries, and all entries of another pass's object.
+    "trb_matrix_build_from": (_PASS, _U32, _PASS, _U32),
+    "trb_vector_build_from": (_PASS, _U32, _PASS, _U32),
     "trb_matrix_build_uint64": (_PASS, _U32, *_ARRAY, *_ARRAY, *_ARRAY, _U32),
     "trb_vector_build_uint64": (_PASS, _U32, *_ARRAY, *_ARRAY, _U32),
     "trb_matrix_build_bool": (_PASS, _U32, *_ARRAY, *_ARRAY, *_ARRAY, _U32),

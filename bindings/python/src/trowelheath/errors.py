@@ -186,7 +186,8 @@ class InsufficientSpace(Refusal):
 
 
 class RoomTooSmall(Refusal, ValueError):
-    """The room of a successor is below the number of calls that make its objects.
+    """The room of a successor is below the number of calls that make its objects, or these and the room of a branch
+    are more than any store takes.
 
     Attributes:
         needed: how many calls make the objects, which is the least room of a successor.

@@ -203,26 +203,26 @@ class Object:
         return Info(out.value)
 
     def using(self: AnyObject, pass_: Pass) -> AnyObject:
-        """The same object by another pass of its store, or what it became by a pass of the store's successor.
+        """The same object by another pass of its store, or what it became by a pass of the store's successor or branch.
 
         An object that was made after the successor was opened became none: its number is that of another object
         there, or of none.
 
         Raises:
-            ValueError: the pass is of another store.
+            ValueError: the pass is of another store, or of a branch that did not begin with the object.
         """
         there: Optional[_Core] = getattr(pass_, "_core", None)
         if there is None:
             raise TypeError(f"an object is used by a pass, not by a {type(pass_).__name__}")
         core = self._pass._core
         if there is core:
-            life = self._life
-        elif there.before == core.number:
-            # It is not freed there where it is let go: other names may come from here.
-            life = there.lives.setdefault((self._sort, self._number), Life(None))
-        else:
+            return self._named(pass_, self._number, self._domain, self._life)
+        number = there.place_of(self._sort, self._number) if there.before == core.number else None
+        if number is None:
             raise ValueError("the pass is of another store")
-        return self._named(pass_, self._number, self._domain, life)
+        # It is not freed there where it is let go: other names may come from here.
+        life = there.lives.setdefault((self._sort, number), Life(None))
+        return self._named(pass_, number, self._domain, life)
 
     def keep(self: AnyObject) -> AnyObject:
         """Has the object not freed where it is let go, nor at the end of a `Pass.temporary`. Returns it.
@@ -381,6 +381,29 @@ class Object:
         sort: Any = type(self)
         made: AnyObject = sort.from_lists(pass_, *self.shape, *self._lists(), self.dtype)
         return made
+
+    def build_from(self: AnyObject, other: AnyObject) -> None:
+        """Fills the object, which stores nothing, with all entries of another one, of a branch as a rule.
+
+        The entries are shared until one of the two is changed, and none is copied. It is one call that changes the
+        store, and it first waits for the other object. The other may be smaller.
+
+        Raises:
+            ValueError: both are by one pass; `dup` makes an equal object.
+            DomainMismatch: the two are not of one dtype.
+            OutputNotEmpty: this one stores an entry.
+            IndexOutOfBounds: an entry of the other is outside of this one.
+        """
+        if not isinstance(other, type(self)):
+            raise TypeError(f"a {self._sort} is built from a {self._sort}, not from a {type(other).__name__}")
+        mine, theirs = self._pass, other._pass
+        if mine is theirs:
+            raise ValueError("both objects are by one pass")
+        first, second = mine._in_turn(theirs)
+        with first._lock, second._lock:
+            theirs._require_open()
+            self._change("build_from", self._number, theirs._handle, other._number)
+        self._life.entries, self._life.work = other._life.entries, other._life.work
 
     def free(self) -> None:
         """Ends the object, for all passes. Its number is not used again.

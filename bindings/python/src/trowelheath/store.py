@@ -39,6 +39,9 @@ _RANGES = (
 # What opens a store: it is given a number, and a handle for each pass, and answers the status.
 _Opening = Callable[[int, "ctypes.Array[PassHandle]"], int]
 
+# The numbers that objects have in a branch, by their sort and their number in the store that it branched from.
+_Chosen = Dict[Tuple[str, int], int]
+
 # A store has the address of one of these as its number. They are kept as long as the process runs, so no two
 # stores have the same number.
 _numbers: List[ctypes.c_uint64] = []
@@ -66,6 +69,7 @@ class _Core:
         room: int,
         number: int,
         before: Optional[_Core],
+        chosen: Optional[_Chosen],
     ) -> None:
         self.library = library
         self.handles = handles
@@ -75,6 +79,8 @@ class _Core:
         self.place = next(_places)
         # The number of the store that it succeeds, and the shapes that objects had there. That store itself may end.
         self.before = None if before is None else before.number
+        # The numbers here of the objects that a branch begins with; none where each object keeps its own.
+        self.chosen = chosen
         self.lives: Dict[Tuple[str, int], Life] = {}
         # Why no calls are made any more, where none are.
         self.closed: Optional[str] = None
@@ -123,9 +129,15 @@ class _Core:
     def inherit(self, before: _Core) -> None:
         """What is known of the objects of the store before."""
         self.work = before.work
-        for key, life in before.let_go.lives() + list(before.lives.items()):
-            there = self.lives[key] = Life(life.shape, life.entries, life.work)
-            there.freed = life.freed
+        for (sort, number), life in before.let_go.lives() + list(before.lives.items()):
+            place = self.place_of(sort, number)
+            if place is not None:
+                there = self.lives[sort, place] = Life(life.shape, life.entries, life.work)
+                there.freed = life.freed
+
+    def place_of(self, sort: str, number: int) -> Optional[int]:
+        """The number here of an object of the store before, if it went over."""
+        return number if self.chosen is None else self.chosen.get((sort, number))
 
     def pass_at(self, number: int) -> Pass:
         """The pass of this number."""
@@ -460,6 +472,65 @@ class Pass:
         except InsufficientSpace:
             raise RoomTooSmall(needed.value, calls) from None
 
+    def branch(self, *objects: Object, room: SupportsIndex = 4096, passes: SupportsIndex = 1) -> Store:
+        """Opens a branch: a store of its own that begins with these objects, as this pass knows them, at one moment.
+
+        `A.using(pass_)` gives an object by a pass of the branch. What is made or changed in either store is not seen in
+        the other, and a branch's objects take no room here: so an analysis of many calls reads one moment, and
+        `build_from` brings a result back by one call. Objects are shared until one of the two stores changes one,
+        no entry is copied, and nothing else is evaluated. A read or a wait of the pass learns the newest changes first.
+
+        Args:
+            objects: matrices and vectors of this store. One that was freed is not there in the branch.
+            room: how many calls that change it the branch takes, as of `Store`, next to those that make its objects.
+            passes: how many passes it has, as of `Store`.
+
+        Raises:
+            InvalidValue: the room or the number of passes is out of its range, or their product is too large.
+            RoomTooSmall: no store has room for the calls that make the objects, and for `room` more.
+            OutOfMemory: memory was refused.
+            Panic: the record of a call was not shown; call again.
+            StoreClosed: the store is closed.
+            ValueError: an object is of another store.
+        """
+        calls, count = _within_ranges(room, passes)
+        self._free_gone()
+        needed = ctypes.c_uint64()
+        chosen: _Chosen = {}
+        numbers: Dict[str, List[int]] = {"matrix": [], "vector": []}
+        for each in objects:
+            if not isinstance(each, Object):
+                raise TypeError(f"a branch begins with matrices and vectors, not with a {type(each).__name__}")
+            if each._pass._core is not self._core:
+                raise ValueError("an object is of another store")
+            if (each._sort, each._number) not in chosen:
+                chosen[each._sort, each._number] = len(numbers[each._sort])
+                numbers[each._sort].append(each._number)
+        matrices = (ctypes.c_uint32 * max(1, len(numbers["matrix"])))(*numbers["matrix"])
+        vectors = (ctypes.c_uint32 * max(1, len(numbers["vector"])))(*numbers["vector"])
+
+        def opening(number: int, handles: ctypes.Array[PassHandle]) -> int:
+            with self._lock:
+                self._require_open()
+                status: int = self._library.trb_branch(
+                    number,
+                    calls,
+                    self._handle,
+                    matrices,
+                    len(numbers["matrix"]),
+                    vectors,
+                    len(numbers["vector"]),
+                    ctypes.byref(needed),
+                    handles,
+                    count,
+                )
+            return status
+
+        try:
+            return Store._opened(calls, count, opening, self._core, chosen)
+        except InsufficientSpace:
+            raise RoomTooSmall(needed.value, calls) from None
+
     # How calls are made.
 
     def _call(
@@ -564,11 +635,14 @@ class Pass:
         if other is self:
             self._require_open()
             return
-        # The locks of two passes are taken in one order by all threads, so none waits for another in a ring.
-        first, second = sorted((self, other), key=lambda pass_: (pass_._core.place, pass_._number))
+        first, second = self._in_turn(other)
         with first._lock, second._lock:
             other._require_open()
             self._call(name, other._handle, invalid="Give two passes of one store.")
+
+    def _in_turn(self, other: Pass) -> List[Pass]:
+        """The two passes, in the one order in which all threads take their locks: so none waits for another in a ring."""
+        return sorted((self, other), key=lambda pass_: (pass_._core.place, pass_._number))
 
     def _require_open(self) -> None:
         """Raises `StoreClosed` where no call is made by the pass any more."""
@@ -696,14 +770,23 @@ class Store:
         self._open(calls, count, lambda number, handles: load().trb_open(number, calls, handles, count), None)
 
     @classmethod
-    def _opened(cls, room: int, count: int, opening: _Opening, before: _Core) -> Store:
-        """A store that `opening` opens, as the successor of another one."""
+    def _opened(
+        cls, room: int, count: int, opening: _Opening, before: _Core, chosen: Optional[_Chosen] = None
+    ) -> Store:
+        """A store that `opening` opens, as the successor of another one, or as a branch with the chosen objects."""
         store = cls.__new__(cls)
-        store._open(room, count, opening, before)
+        store._open(room, count, opening, before, chosen)
         return store
 
-    def _open(self, room: int, count: int, opening: _Opening, before: Optional[_Core]) -> None:
-        """Has the store opened, under a number that no other store has. `before` is the one that it succeeds."""
+    def _open(
+        self,
+        room: int,
+        count: int,
+        opening: _Opening,
+        before: Optional[_Core],
+        chosen: Optional[_Chosen] = None,
+    ) -> None:
+        """Has the store opened, under a number that no other store has. `before` is the one that it goes on from."""
         library = load()
         number = ctypes.c_uint64()
         _numbers.append(number)
@@ -717,7 +800,7 @@ class Store:
         if status != 0:
             _end_all(library, handles)
             raise refusal_of(status, _RANGES)
-        core = _Core(library, handles, room, address, before)
+        core = _Core(library, handles, room, address, before, chosen)
         if before is not None:
             core.inherit(before)
         core.store(self)

@@ -2,7 +2,7 @@
 
 use crate::open;
 use std::thread;
-use trowelheath::{Error, Monoid, Object, Store, Wait};
+use trowelheath::{Chosen, Error, Monoid, Object, Store, Wait};
 
 #[test]
 fn a_store_is_opened_within_its_limits() {
@@ -127,6 +127,58 @@ fn a_wait_for_all_settles_what_is_known() {
     assert_eq!(pass.facts().unwrap().settled, 0);
     pass.wait(v, Wait::Materialize).unwrap();
     assert_eq!(pass.facts().unwrap().settled, 2);
+}
+
+#[test]
+fn a_branch_keeps_the_moment_of_its_objects_and_gives_a_result_back() {
+    let [mut pass] = Store::open_array(12).unwrap();
+    let gone = pass.new_vector::<bool>(3).unwrap();
+    pass.free(gone).unwrap();
+    let v = pass.new_vector::<u64>(3).unwrap();
+    pass.set(v, 0, 5).unwrap();
+    let a = pass.new_matrix::<bool>(2, 2).unwrap();
+    pass.set(a, (1, 1), true).unwrap();
+    let out = pass.new_vector::<u64>(4).unwrap();
+
+    let chosen = Chosen::new().with(a).with(v).with(gone).with(v);
+    assert_eq!(
+        pass.branch(&chosen, 65_536, 1).map(|_| ()),
+        Err(Error::RoomTooSmall { needed: 6 })
+    );
+    let mut branch = pass.branch(&chosen, 10, 2).unwrap();
+    let facts = branch[1].facts().unwrap();
+    assert_eq!((facts.number, facts.known, facts.room_left), (1, 6, 10));
+    let (w, b) = (
+        branch[0].inherited(v).unwrap(),
+        branch[0].inherited(a).unwrap(),
+    );
+    let lost = branch[0].inherited(gone).unwrap();
+    assert_eq!(branch[0].inherited(out), Err(Error::ForeignObject));
+    pass.clear(v).unwrap();
+    pass.set(a, (0, 0), true).unwrap();
+    branch[0].set(w, 2, 6).unwrap();
+    assert_eq!(branch[1].get(w, 0), Ok(Some(5)));
+    assert_eq!(branch[1].nvals(b), Ok(1));
+    assert_eq!(branch[1].nvals(lost), Err(Error::UninitializedObject));
+    assert_eq!(pass.nvals(v), Ok(0));
+
+    let left = pass.facts().unwrap().room_left;
+    pass.build_from(out, &mut branch[1], w).unwrap();
+    assert_eq!(pass.facts().unwrap().room_left, left - 1);
+    assert_eq!(pass.get(out, 0), Ok(Some(5)));
+    assert_eq!(pass.get(out, 2), Ok(Some(6)));
+    assert_eq!(
+        pass.build_from(out, &mut branch[1], w),
+        Err(Error::OutputNotEmpty)
+    );
+    assert_eq!(
+        pass.build_from(out, &mut branch[1], v),
+        Err(Error::ForeignObject)
+    );
+    assert_eq!(
+        branch[0].branch(&chosen, 10, 1).map(|_| ()),
+        Err(Error::ForeignObject)
+    );
 }
 
 #[test]

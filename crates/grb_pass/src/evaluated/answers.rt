@@ -78,7 +78,7 @@ impl Evaluated {
     }
 
     /// Makes what the object holds, as [`Evaluated::make`] does, and leaves it to the other passes where that was dear.
-    fn make_and_share(
+    pub(super) fn make_and_share(
         &mut self,
         records: &Records,
         reader: &mut Reader,

@@ -1,7 +1,7 @@
-//! A successor with ever more memory, from none on, each time of a store of its own, until it is not refused. No contract says that memory
-//! is refused, or what the old pass and the new ones answer then. And one of a large object, with less memory than its entries take: no
-//! contract says that they are shared.
-ghost use Rattle.std.specs.Prelude.{◌<◌, ◌≤◌, IfOk};
+//! A successor or a branch with ever more memory, from none on, each time of a store of its own, until it is not refused. No contract says
+//! that memory is refused, or what the old pass and the new ones answer then. And one of a large object, with less memory than its entries
+//! take, and a large result of a branch that comes back: no contract says that they are shared.
+ghost use Rattle.std.specs.Prelude.{◌≡◌, ◌<◌, ◌≤◌, ◌^◌, true, length, IfOk};
 ghost use Rattle.grb_order.specs.declared.limits.TheConstants.{MOST_PASSES, MOST_ROOM, MOST_SEATS};
 ghost use Rattle.grb_context.specs.Known.{IsPassOf};
 
@@ -10,13 +10,15 @@ use crate::tests::memory::{STEP, TRIALS, hold_all, leave, leave_ample};
 use crate::tests::same::same;
 use crate::tests::shown::Shown;
 use crate::tests::stores::{Answer, Store, answers_to, make_all, open, with_two};
-use grb_call::{Call, Reply, VectorId, VectorTuples};
+use grb_call::{Call, MatrixId, Reply, VectorId, VectorTuples};
 use grb_context::{Context, NoSuccessor, Pass};
 use grb_core::{Domain, Monoid, Refusal, Value};
 use grb_scarcity::{Hoard, SPARE};
+use grb_sparse::SparseVector;
 use std::alloc::{AllocError, Global};
 use std::fs::Files;
 use std::process::Abort;
+use std::sync::Arc;
 use std::test::Fail;
 
 /// How many calls the stores take, the successors too.
@@ -40,6 +42,13 @@ const LIVE: &str = "vector u uint64 4
     matrix A uint64 4 4
     vector f uint64 4
     matrix B uint64 4 4
+";
+
+/// The same, numbered as in a branch that has the second vector and the first, and the second matrix and the first.
+const CHOSEN: &str = "vector u uint64 4
+    matrix B uint64 4 4
+    vector f uint64 4
+    matrix A uint64 4 4
 ";
 
 /// Changes that nobody has read: builds, with a set and a remove that wait, and a product. After `finally` what is read.
@@ -90,6 +99,8 @@ enum Numbers {
     Kept,
     /// The lowest, without those of freed objects.
     Lowest,
+    /// Those of their places, in a branch.
+    Chosen,
 }
 
 /// The calls of all trials: those that make the old store, those that read it, and those that read a successor.
@@ -118,6 +129,7 @@ fn frame_of<R: Abort>(rt: &R, alloc: Global, numbers: Numbers) -> Result<Frame, 
     let objects = match numbers {
         Numbers::Kept => NUMBERED,
         Numbers::Lowest => LIVE,
+        Numbers::Chosen => CHOSEN,
     };
     let (_, new) = numbered(rt, alloc, objects)?;
     Ok(Frame { history, old, new })
@@ -151,6 +163,41 @@ fn succeed_live(
 {
     let (next, passes, _) = context.succeed_live(alloc, pass, ROOM, 2)?;
     Ok(with_two(rt, next, passes))
+}
+
+/// A branch of these objects.
+fn branch(
+    rt: &impl Abort,
+    alloc: Global,
+    context: &Context,
+    pass: &mut Pass,
+    matrices: &[MatrixId],
+    vectors: &[VectorId],
+) -> Result<Store, NoSuccessor>
+    requires pass { IsPassOf context.now pass.old }
+    requires matrices { length matrices.now < 2 ^ 32 }
+    requires vectors { length vectors.now < 2 ^ 32 }
+    ensures pass { IsPassOf context.now pass.new }
+    ensures q { IfOk result (λ next. IsPassOf next.context next.q) }
+{
+    let (next, passes) = context.branch(alloc, pass, matrices, vectors, ROOM, 2)?;
+    Ok(with_two(rt, next, passes))
+}
+
+/// A branch of all objects, the last of each sort first.
+fn branch_of_all(
+    rt: &impl Abort,
+    alloc: Global,
+    context: &Context,
+    pass: &mut Pass,
+) -> Result<Store, NoSuccessor>
+    requires { IsPassOf context.now pass.old }
+    ensures pass { IsPassOf context.now pass.new }
+    ensures q { IfOk result (λ next. IsPassOf next.context next.q) }
+{
+    let matrices = [MatrixId(1), MatrixId(0)];
+    let vectors = [VectorId(1), VectorId(0)];
+    branch(rt, alloc, context, pass, &matrices, &vectors)
 }
 
 /// The reads are answered as is stated.
@@ -208,6 +255,7 @@ fn is_refused_with<R: Abort>(
     let made = match numbers {
         Numbers::Kept => succeed(rt, alloc, context, pass),
         Numbers::Lowest => succeed_live(rt, alloc, context, pass),
+        Numbers::Chosen => branch_of_all(rt, alloc, context, pass),
     };
     leave_ample(rt, hoard);
     same(rt, Shown::of(pass), before, numbers);
@@ -288,6 +336,11 @@ fn a_successor_without_freed_numbers_is_refused_in_turn(rt: HostRuntime) -> Resu
     sweep(&rt, Numbers::Lowest)
 }
 
+#[test]
+fn a_branch_is_refused_in_turn(rt: HostRuntime) -> Result<(), Fail> {
+    sweep(&rt, Numbers::Chosen)
+}
+
 /// A vector of many ones.
 fn many(alloc: Global) -> Result<VectorTuples, AllocError> {
     let mut tuples = Vec::new(alloc);
@@ -315,48 +368,110 @@ fn calls_of_many(alloc: Global) -> Result<(Vec<Call>, Vec<Call>), AllocError> {
     Ok((made, counted))
 }
 
-/// With less memory than the entries take the successor is made, and counts them.
-fn expect_shared<R: Abort + Files + AllocGlobal>(
-    rt: &R,
-    context: &Context,
-    pass: &mut Pass,
-    counted: &[Call],
-)
-    requires { IsPassOf context.now pass.old }
+/// The store was made, and counts the entries.
+fn expect_counted<R: Abort>(rt: &R, made: Result<Store, NoSuccessor>, counted: &[Call])
+    requires { IfOk made (λ next. IsPassOf next.context next.q) }
 {
-    let mut hoard = hold_all(rt, 10);
-    leave_ample(rt, &mut hoard);
-    match succeed(rt, rt.alloc(), context, pass) {
+    match made {
         Ok(mut next) => {
             let answers = answers_to(rt, &next.context, &mut next.q, counted);
-            same(
-                rt,
-                answers.as_slice(),
-                &[Ok(Reply::Count(MANY))],
-                "the entries",
-            );
+            let wanted = [Ok(Reply::Count(MANY))];
+            same(rt, answers.as_slice(), &wanted, "the entries");
         }
         Err(no) => panic!(rt; "no successor: {no:?}"),
     }
 }
 
-/// Makes the vector and reads it, so that it is evaluated.
-fn make_many<R: Abort + Files + AllocGlobal>(
+/// With less memory than the entries take, a successor or a branch is made, and counts them.
+fn expect_shared<R: Abort + Files + AllocGlobal>(
     rt: &R,
     context: &Context,
     pass: &mut Pass,
+    is_branch: bool,
 ) -> Result<(), AllocError>
     requires { IsPassOf context.now pass.old }
 {
     let (made, counted) = calls_of_many(rt.alloc())?;
     make_all(rt, context, pass, &made);
     make_all(rt, context, pass, &counted);
-    expect_shared(rt, context, pass, &counted);
+    let mut hoard = hold_all(rt, 10);
+    leave_ample(rt, &mut hoard);
+    let next = if is_branch {
+        branch(rt, rt.alloc(), context, pass, &[], &[VectorId(0)])
+    } else {
+        succeed(rt, rt.alloc(), context, pass)
+    };
+    expect_counted(rt, next, &counted);
     Ok(())
 }
 
 #[test]
 fn a_successor_copies_no_entry(rt: HostRuntime) -> Result<(), AllocError> {
     let mut store = open(&rt, rt.alloc(), ROOM);
-    make_many(&rt, &store.context, &mut store.p)
+    expect_shared(&rt, &store.context, &mut store.p, false)
+}
+
+#[test]
+fn a_branch_copies_no_entry(rt: HostRuntime) -> Result<(), AllocError> {
+    let mut store = open(&rt, rt.alloc(), ROOM);
+    expect_shared(&rt, &store.context, &mut store.p, true)
+}
+
+/// The many ones that a branch has made.
+fn found_in<R: Abort>(
+    rt: &R,
+    next: &Context,
+    own: &mut Pass,
+    made: &[Call],
+) -> Result<Arc<SparseVector>, Refusal>
+    requires { IsPassOf next.now own.old }
+    ensures { IfOk result (λ vector. vector.value.assembled ≡ true) }
+{
+    make_all(rt, next, own, made);
+    next.snapshot_vector(own, VectorId(0))
+}
+
+/// With less memory than the entries take, the store takes over what the branch has found, and counts it.
+fn expect_published<R: Abort + Files + AllocGlobal>(
+    rt: &R,
+    context: &Context,
+    pass: &mut Pass,
+    next: &Context,
+    own: &mut Pass,
+) -> Result<(), AllocError>
+    requires old { IsPassOf context.now pass.old }
+    requires new { IsPassOf next.now own.old }
+{
+    let v = VectorId(0);
+    let (made, counted) = calls_of_many(rt.alloc())?;
+    let new = context.new_vector(pass, Domain::Uint64, MANY);
+    same(rt, new, Ok(Reply::MadeVector(v)), "the vector");
+    let Ok(found) = found_in(rt, next, own, &made) else {
+        panic!(rt; "nothing is found")
+    };
+    let mut hoard = hold_all(rt, 10);
+    leave_ample(rt, &mut hoard);
+    let built = context.build_vector(pass, v, VectorTuples::from_vector(found), Monoid::Plus);
+    same(rt, built, Ok(Reply::Done), "the build");
+    let answers = answers_to(rt, context, pass, &counted);
+    same(
+        rt,
+        answers.as_slice(),
+        &[Ok(Reply::Count(MANY))],
+        "the entries",
+    );
+    Ok(())
+}
+
+#[test]
+fn a_result_of_a_branch_comes_back_without_a_copy(rt: HostRuntime) -> Result<(), AllocError> {
+    let mut store = open(&rt, rt.alloc(), ROOM);
+    let made = branch(&rt, rt.alloc(), &store.context, &mut store.p, &[], &[]);
+    match made {
+        Ok(mut next) => {
+            let (context, pass) = (&store.context, &mut store.p);
+            expect_published(&rt, context, pass, &next.context, &mut next.q)
+        }
+        Err(no) => panic!(&rt; "no branch: {no:?}"),
+    }
 }

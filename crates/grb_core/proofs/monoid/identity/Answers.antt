@@ -1,10 +1,5 @@
-use Prim.{search}
-use Rattle.std.proofs.Common.{rules}
 use Rattle.grb_core.proofs.MonoidLaws.{monoid_laws}
 use Rattle.grb_core.proofs.monoid.identity.Goals as goal
 
 pub returns-in-Times-clause-laws : goal.returns-in-Times-clause-laws
 returns-in-Times-clause-laws c = monoid_laws c.args.m
-
-pub returns-in-Min-clause-value : goal.returns-in-Min-clause-value
-returns-in-Min-clause-value c = search rules

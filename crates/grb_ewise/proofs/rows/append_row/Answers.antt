@@ -1,24 +1,30 @@
-use Rattle.std.proofs.Common.{◌≡◌, ◌+◌, ℕ, List, length, take, drop, ap, ◌∙◌, arith}
-use Rattle.std.proofs.lemmas.List.{drop-take}
-use Rattle.grb_kernels.specs.Typed.{entries_of}
-use Rattle.grb_ewise.proofs.RowMerges.{of_lent}
+use Rattle.std.proofs.Common.{◌∙◌}
+use Rattle.grb_kernels.specs.Typed.{entries_of, first_entries}
+use Rattle.grb_ewise.proofs.Cutting.{cut_lent, cut-in_order, pointwise-cut}
 use Rattle.grb_ewise.proofs.rows.append_row.Goals as goal
 
-pub returns-clause-entries : goal.returns-clause-entries
-returns-clause-entries g c =
+pub invariant_of-cut-clause-rising : goal.invariant_of-cut-clause-rising
+invariant_of-cut-clause-rising g c =
     let tv = g.T.Scalar.value in
-    let k = c.len-k.result in
-    let n = c.merge_row-count.result in
-    let columns = c.merge_row-count.new.columns in
-    let values = c.merge_row-count.new.values in
-    let columns_are : drop k c.truncate.new.self.items ≡ take n (drop k columns) =
-    ap (drop k) (c.truncate.ensures.items ∙ of_lent (k + n) c.resize.new.self.len columns _ (omega (arith, c.merge_row-count.auto.columns, ap length c.as_mut_slice.ensures.value, c.resize.new.self.ok.0)))
-    ∙ drop-take k n columns in
-    let values_are : drop k c.truncate-2.new.self.items ≡ take n (drop k values) =
-    ap (drop k) (c.truncate-2.ensures.items ∙ of_lent (k + n) c.resize-2.new.self.len values _ (omega (arith, c.merge_row-count.auto.values, ap length c.as_mut_slice-2.ensures.value, c.resize-2.new.self.ok.0)))
-    ∙ drop-take k n values in
-    let here : length c.args.columns.now.items ≡ k = omega (arith, c.len-k.ensures, c.args.columns.now.ok.0) in
-    ap (λ (m : ℕ). entries_of tv (drop m c.truncate.new.self.items) (drop m c.truncate-2.new.self.items)) here
-    ∙ ap (λ (s : List ℕ). entries_of tv s (drop k c.truncate-2.new.self.items)) columns_are
-    ∙ ap (entries_of tv (take n (drop k columns))) values_are
-    ∙ c.merge_row-count.ensures.entries
+    let x = c.args.x.now in
+    let js = c.args.y.now.indices.now in
+    let row = entries_of tv x.indices.now x.values.now in
+    let n = c.in_ok-n.n in
+    let laid = c.lay_common.new.laid in
+    let cut = cut_lent tv js row n laid.columns.items c.deref.result.now laid.values.items c.deref-then-is_cut.result.now c.deref.ensures.value c.deref-then-is_cut.ensures.value c.in_ok-n.ensures.entries in
+    cut-in_order js row _ x.rising cut
+
+pub returns-then-is_cut-clause-entries : goal.returns-then-is_cut-clause-entries
+returns-then-is_cut-clause-entries g c =
+    let tv = g.T.Scalar.value in
+    let x = c.args.x.now in
+    let y = c.args.y.now in
+    let js = y.indices.now in
+    let row = entries_of tv x.indices.now x.values.now in
+    let n = c.in_ok-n.n in
+    let laid = c.lay_common.new.laid in
+    let rule = c.args.rule.now in
+    let cut = cut_lent tv js row n laid.columns.items c.deref.result.now laid.values.items c.deref-then-is_cut.result.now c.deref.ensures.value c.deref-then-is_cut.ensures.value c.in_ok-n.ensures.entries in
+    c.in_ok-count.ensures.entries
+    ∙ pointwise-cut (g.R.Rule.gives rule) (g.met.R.Rule.none rule) (g.met.R.Rule.left_none rule (c.is_cut.ensures.left c.if-is_cut.true)) g.U.Scalar.value js y.values.now row
+    (first_entries tv n c.deref.result.now c.deref-then-is_cut.result.now) cut

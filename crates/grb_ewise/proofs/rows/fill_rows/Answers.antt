@@ -1,10 +1,11 @@
-use Rattle.std.proofs.Common.{rules, List, ◌≡◌, ◌≤◌, ◌+◌, ◌<◌, ℕ, [], ◌∷◌, ◌++◌, length, drop, ap, subst, ◌∙◌, arith, get_or}
-use Rattle.std.proofs.lemmas.List.{length-drop}
+use Rattle.std.proofs.Common.{rules, List, ◌≡◌, ◌≤◌, ◌+◌, ◌<◌, ℕ, [], ◌∷◌, ◌++◌, length, take, drop, refl, sym, ap, subst, ◌∙◌, arith, get_or}
+use Rattle.std.proofs.lemmas.List.{length-take-le}
 use Rattle.grb_kernels.specs.Typed.{entries_of}
 use Rattle.grb_lists.specs.Cells.{decoded}
+use Rattle.grb_ewise.specs.Rows.{flat_entries}
 use Rattle.grb_ewise.proofs.RowEntries.{holds}
 use Rattle.grb_ewise.proofs.MatrixRows.{rows_from-all}
-use Rattle.grb_ewise.proofs.RowMerges.{turn, stands, one_goes_on, at_one, filled, filling_begins, filling_ends, fit-dropped, merged_in_order, parted}
+use Rattle.grb_ewise.proofs.RowMerges.{turn, stands, one_goes_on, at_one, filled, filling_begins, filling_ends, merged_in_order, written_at, length-written, fit-written}
 use Rattle.grb_ewise.proofs.rows.fill_rows.Goals as goal
 
 pub merging-init : goal.merging-init
@@ -16,11 +17,15 @@ merging-init g c =
       starts_len = omega (arith, c.args.starts.now.ok.0, ap length c.requires.no_starts);
       rows_capacity = search rules;
       starts_capacity = search rules;
+      within = omega arith;
+      same = ap length c.requires.no_values ∙ sym (ap length c.requires.no_columns);
+      clear = c.requires.clear;
+      laid = c.requires.laid;
       filling = filling_begins g.T.Scalar.value (g.R.Rule.gives c.args.rule.now) (g.met.R.Rule.none c.args.rule.now) (decoded a.entries) (decoded b.entries) a.rows b.rows
-          c.args.rows.now.items c.args.starts.now.items c.args.columns.now.items c.args.values.now.items
+          c.args.rows.now.items c.args.starts.now.items (take 0 c.args.columns.now.items) (take 0 c.args.values.now.items)
           (rows_from-all (decoded a.entries) (holds _ c.args.a.now.ordered) a.rows c.rows-rows_a.ensures.rise c.rows-rows_a.ensures.all)
           (rows_from-all (decoded b.entries) (holds _ c.args.b.now.ordered) b.rows c.rows-rows_b.ensures.rise c.rows-rows_b.ensures.all)
-          c.requires.no_rows c.requires.no_starts c.requires.no_columns c.requires.no_values;
+          c.requires.no_rows c.requires.no_starts refl refl;
     }
 
 pub merging-preserved : goal.merging-preserved
@@ -63,25 +68,31 @@ merging-preserved g c =
     let goes_on = one_goes_on c.is_upto.result c.is_upto-in-merging.result i j c.take_row-next_i.result.1 c.take_row-next_j.result.1 p q here.above there.above
     c.take_row-next_i.ensures.on c.take_row-next_i.ensures.stays c.take_row-next_j.ensures.on c.take_row-next_j.ensures.stays in
     let made = c.in_ok-count.ensures in
-    let so_far = c.merging.columns.items in
+    let k = c.merging.k in
+    let n = c.in_ok-count.count in
+    let columns = c.merging.columns.items in
+    let values = c.merging.values.items in
     let columns2 = c.append_row.new.columns.items in
     let values2 = c.append_row.new.values.items in
-    let here_starts : c.len-start.result ≡ length so_far = omega (arith, c.len-start.ensures, c.merging.columns.ok.0) in
-    let js_long : length (drop (length so_far) columns2) ≡ c.in_ok-count.count = let l = length-drop (length so_far) columns2 in omega (arith, l, made.columns_long) in
-    let ws_long : length (drop (length so_far) values2) ≡ c.in_ok-count.count = let l = length-drop (length so_far) values2 in omega (arith, l, made.values_long) in
+    let long : k + n ≤ length values2 = omega (arith, made.within, made.same) in
+    let here_starts : k ≡ length (take k columns) = sym (length-take-le k columns before.within) in
     record {
       rows_len = omega (arith, pushed.rows_most, before.rows_len, goes_on);
       starts_len = omega (arith, pushed.starts_most, before.starts_len, goes_on);
       rows_capacity = pushed.rows_capacity ∙ before.rows_capacity;
       starts_capacity = pushed.starts_capacity ∙ before.starts_capacity;
+      within = made.within;
+      same = made.same;
+      clear = c.append_row.ensures.clear;
+      laid = made.laid;
       filling = filled tv (g.R.Rule.gives c.args.rule.now) (g.met.R.Rule.none c.args.rule.now) (decoded a.entries) (decoded b.entries) a.rows b.rows _
-          i j c.take_row-next_i.result.1 c.take_row-next_j.result.1 c.in_ok-count.count r
+          i j c.take_row-next_i.result.1 c.take_row-next_j.result.1 n r
           c.merging.rows.items c.merging.starts.items c.push_row.new.rows.items c.push_row.new.starts.items
-          so_far columns2 (drop (length so_far) columns2) c.merging.values.items values2 (drop (length so_far) values2) ex ey
+          (take k columns) (take (k + n) columns2) (take n (drop k columns2)) (take k values) (take (k + n) values2) (take n (drop k values2)) ex ey
           held turn_a turn_b
-          (parted so_far columns2 (length so_far) made.columns_before) (parted c.merging.values.items values2 (length so_far) made.values_before)
-          js_long ws_long made.entries
-          (fit-dropped columns2 (length so_far) (omega (arith, made.columns_long)) made.fit)
+          (written_at k n columns columns2 made.columns_before) (written_at k n values values2 made.values_before)
+          (length-written k n columns2 made.within) (length-written k n values2 long) made.entries
+          (fit-written k n columns2 made.within made.fit)
           (at_one a.rows b.rows i j p q r c.is_upto.result c.is_upto-in-merging.result going held.left held.right number_a fits_a past_a number_b fits_b past_b here.upto here.above there.upto there.above c.lower.ensures.left c.lower.ensures.right)
           pushed.rows_pushed (λ l. pushed.starts_pushed l ∙ ap (λ n. c.merging.starts.items ++ n ∷ []) here_starts) pushed.rows_same pushed.starts_same;
     }
@@ -90,9 +101,13 @@ pub returns-clause-entries : goal.returns-clause-entries
 returns-clause-entries g c =
     let a = c.args.a.now.lists.now in
     let b = c.args.b.now.lists.now in
+    let tv = g.T.Scalar.value in
+    let columns = take c.merging.k c.merging.columns.items in
     let past : length a.rows + length b.rows ≤ c.merging.i + c.merging.j = omega (arith, c.merging-test.false, ap length c.rows-rows_a.ensures.list, ap length c.rows-rows_b.ensures.list) in
-    filling_ends g.T.Scalar.value (g.R.Rule.gives c.args.rule.now) (g.met.R.Rule.none c.args.rule.now) (decoded a.entries) (decoded b.entries) a.rows b.rows
-    c.merging.rows.items c.merging.starts.items c.merging.columns.items c.merging.values.items _ c.merging.i c.merging.j c.merging.invariant.filling past
+    ap (λ (s : List ℕ). flat_entries tv c.merging.rows.items c.merging.starts.items s c.truncate-2.new.self.items) c.truncate.ensures.items
+    ∙ ap (flat_entries tv c.merging.rows.items c.merging.starts.items columns) c.truncate-2.ensures.items
+    ∙ filling_ends tv (g.R.Rule.gives c.args.rule.now) (g.met.R.Rule.none c.args.rule.now) (decoded a.entries) (decoded b.entries) a.rows b.rows
+    c.merging.rows.items c.merging.starts.items columns (take c.merging.k c.merging.values.items) _ c.merging.i c.merging.j c.merging.invariant.filling past
 
 pub returns-clause-ordered : goal.returns-clause-ordered
 returns-clause-ordered g c =

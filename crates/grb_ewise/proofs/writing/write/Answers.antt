@@ -17,5 +17,5 @@ returns-in-None g c =
     IfOk c.write_unmasked.result (λ made. IsLike (k w) (written r (is_inside r d.structure d.comp m) d.replace c.args.output.now.accum (k w).entries (k c.args.computed).entries) (k made)))
     (sym (ap (λ m. option_map (λ x. (k x.now).entries) m) c.in-None.is)) c.write_unmasked.ensures
 
-pub write_inside-requires-clause-mask : goal.write_inside-requires-clause-mask
-write_inside-requires-clause-mask g c = subst (λ m. IfSome m (λ x. AreAlike (g.O.SparseObject.contents c.args.output.now.old.now) (g.O.SparseObject.contents x.now))) c.in-Some.is c.requires.mask
+pub write_by_mask-requires-clause-mask : goal.write_by_mask-requires-clause-mask
+write_by_mask-requires-clause-mask g c = subst (λ m. IfSome m (λ x. AreAlike (g.O.SparseObject.contents c.args.output.now.old.now) (g.O.SparseObject.contents x.now))) c.in-Some.is c.requires.mask

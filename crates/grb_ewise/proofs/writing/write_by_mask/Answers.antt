@@ -1,33 +1,30 @@
-use Rattle.std.proofs.Common.{◌∙◌}
-use Rattle.grb_kernels.proofs.Outputs.{replaced, kept_outside}
+use Rattle.std.proofs.Common.{◌∙◌, List, [], ap, sym}
+use Rattle.std.specs.Prelude.{Option, Some, if◌then◌else◌}
+use Rattle.std.specs.Option.{option_or}
+use Rattle.grb_core.specs.declared.operator.BinaryOp.{BinaryOp}
+use Rattle.grb_core.specs.declared.value.Value.{Value}
+use Rattle.grb_core.specs.Mask.{is_inside}
+use Rattle.grb_core.specs.Written.{pointwise, written}
+use Rattle.grb_kernels.specs.Masked.{by_mask}
+use Rattle.grb_kernels.proofs.Outputs.{masked_parts}
 use Rattle.grb_ewise.proofs.writing.write_by_mask.Goals as goal
 
-pub returns-then-descriptor : goal.returns-then-descriptor
-returns-then-descriptor g c =
+pub returns-in_ok-new-in-None : goal.returns-in_ok-new-in-None
+returns-in_ok-new-in-None g c =
     let k = g.O.SparseObject.contents in
+    let r = g.O.SparseObject.order in
     let d = c.args.output.now.descriptor in
-    let inside = c.in_ok-inside.ensures in
+    let w = (k c.args.output.now.old.now).entries in
+    let t = (k c.args.computed).entries in
+    let m = (k c.args.mask.now).entries in
+    let new = c.in_ok-new-in-None.ensures in
     record {
-      entries = replaced g.O.SparseObject.order g.met.O.SparseObject.total g.met.O.SparseObject.same d.structure d.comp (k c.args.mask.now).entries
-          d.replace (k c.args.output.now.old.now).entries (k c.args.made.now).entries (k c.in_ok-inside.inside).entries c.if-descriptor.true inside.entries;
-      domain = inside.domain ∙ c.requires.domain;
-      rows = inside.rows ∙ c.requires.made.rows;
-      columns = inside.columns ∙ c.requires.made.columns;
-      assembled = inside.assembled;
-    }
-
-pub returns : goal.returns
-returns g c =
-    let k = g.O.SparseObject.contents in
-    let d = c.args.output.now.descriptor in
-    let inside = c.in_ok-inside.ensures in
-    let both = c.in_ok-both.ensures in
-    record {
-      entries = kept_outside g.O.SparseObject.order g.met.O.SparseObject.total g.met.O.SparseObject.same d.structure d.comp (k c.args.mask.now).entries
-          d.replace (k c.args.output.now.old.now).entries (k c.args.made.now).entries (k c.in_ok-inside.inside).entries (k c.in_ok-outside.outside).entries (k c.in_ok-both.both).entries
-          c.if-descriptor.false inside.entries c.in_ok-outside.ensures.entries both.entries;
-      domain = both.domain ∙ inside.domain ∙ c.requires.domain;
-      rows = both.rows ∙ inside.rows ∙ c.requires.made.rows;
-      columns = both.columns ∙ inside.columns ∙ c.requires.made.columns;
-      assembled = both.assembled;
+      entries = new.entries
+          ∙ ap (λ (x : List (g.O.SparseObject.Place × Value)). pointwise r option_or x (if d.replace then [] else pointwise r (by_mask d.structure d.comp) w m)) c.in_ok-inside-in-None.ensures.entries
+          ∙ sym (masked_parts r g.met.O.SparseObject.total g.met.O.SparseObject.same d.structure d.comp m d.replace w t)
+          ∙ ap (λ (a : Option BinaryOp). written r (is_inside r d.structure d.comp (Some m)) d.replace a w t) (sym c.in-None.is);
+      domain = new.domain;
+      rows = new.rows;
+      columns = new.columns;
+      assembled = new.assembled;
     }

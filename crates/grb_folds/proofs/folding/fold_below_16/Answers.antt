@@ -1,9 +1,6 @@
-use Rattle.std.proofs.Common.{◌-◌, arith, ap, sym, subst, ◌∙◌, cond, nat_le, drop, take}
-use Rattle.std.specs.Prelude.{All, map}
+use Rattle.std.proofs.Common.{◌-◌, arith, ap, ◌∙◌, cond, nat_le, drop, take}
+use Rattle.std.specs.Prelude.{map}
 use Rattle.std.proofs.lemmas.Bool.Decides.{nat_tests}
-use Rattle.grb_core.specs.declared.domain.Domain.{Domain}
-use Rattle.grb_core.specs.Value.{IsValueOf}
-use Rattle.grb_core.specs.Monoid.{monoid_domain}
 use Rattle.grb_core.specs.Fold.{fold_of}
 use Rattle.grb_semirings.proofs.Marks.{by_test}
 use Rattle.grb_folds.proofs.Spans.{part_and_rest}
@@ -17,8 +14,7 @@ returns g c =
     let at = c.args.at in
     let end = c.args.end in
     let taken = nat_le 8 (end - at) in
-    let is : All (λ x. IsValueOf (monoid_domain m) (tv x)) vs = subst (λ (d : Domain). All (λ x. IsValueOf d (tv x)) vs) (sym g.met.M.MonoidOver.same_domain) c.show.ensures in
-    part_and_rest m tv vs is at end 8 taken (tv c.fold_8.result) (tv c.fold_below_8.result) (tv c.chosen-part.result) (tv c.add.result) c.requires.order
+    part_and_rest m tv vs g.met.M.MonoidOver.same_domain c.show.ensures at end 8 taken (tv c.fold_8.result) (tv c.fold_below_8.result) (tv c.chosen-part.result) (tv c.add.result) c.requires.order
     (λ t. grind (arith, nat_tests, t)) c.fold_8.ensures
     (ap tv c.chosen-part.ensures ∙ by_test tv taken c.fold_8.result c.identity.result ∙ ap (cond taken (tv c.fold_8.result)) c.identity.ensures)
     (c.fold_below_8.ensures ∙ ap (λ k. fold_of m (map tv (drop k (take end vs)))) c.after.ensures)

@@ -1,8 +1,14 @@
-use Rattle.std.proofs.Common.{take}
-use Rattle.std.specs.Prelude.{map}
-use Rattle.grb_semirings.proofs.Folds.{IsFolding}
+use Rattle.std.proofs.Common.{◌≤◌, ◌-◌}
+use Rattle.grb_folds.proofs.Spans.{IsSpan}
 use Rattle.grb_folds.proofs.folding.fold_each.Given as goal
 
 -- the values so far
 abbrev pub invariant-values : goal.invariant-values
-invariant-values g l = IsFolding g.M.MonoidOver.monoid (map g.T.Scalar.value (take l.x-index l.values)) (g.T.Scalar.value l.sum)
+invariant-values g l = record {
+  after : l.start ≤ l.at;
+  before : l.at ≤ l.end;
+  so_far : IsSpan g.M.MonoidOver.monoid g.T.Scalar.value l.values l.start l.at (g.T.Scalar.value l.sum);
+}
+
+abbrev pub decreases-values : goal.decreases-values
+decreases-values g l = l.end - l.at

@@ -1,6 +1,5 @@
-use Rattle.std.proofs.Common.{◌≡◌, ◌+◌, [], take, drop}
-use Rattle.grb_core.specs.Entries.{cell_cmp, cells_of, map_from}
-use Rattle.grb_market.specs.Gathered.{count_apart}
+use Rattle.std.proofs.Common.{◌≡◌, ◌+◌, take, drop, []}
+use Rattle.grb_market.proofs.Prelude.{cell_cmp, cells_of, map_from, count_apart}
 use Rattle.grb_market.proofs.gathered.count_apart.Given as goal
 
 abbrev pub invariant-loop-i : goal.invariant-loop-i

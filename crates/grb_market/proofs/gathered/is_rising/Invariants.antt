@@ -1,6 +1,5 @@
 use Rattle.std.proofs.Common.{◌≡◌, ◌∷◌, drop}
-use Rattle.std.specs.FinMap.{is_sorted}
-use Rattle.grb_core.specs.Entries.{cell_cmp, cells_of}
+use Rattle.grb_market.proofs.Prelude.{is_sorted, cell_cmp, cells_of}
 use Rattle.grb_market.proofs.gathered.is_rising.Given as goal
 
 -- the last tuple and those to come rise just where all do

@@ -1,7 +1,6 @@
 use Rattle.std.proofs.Common.{sym, ap, refl, ◌≡◌, ◌∙◌, ◌+◌, ◌-◌, length, get_or, false, rules}
-use Rattle.std.specs.Prelude.{◌&&◌}
+use Rattle.grb_market.proofs.Prelude.{◌&&◌, comes_before}
 use Rattle.grb_core.specs.declared.value.Value.TheVariants as value
-use Rattle.grb_market.specs.Gathered.{comes_before}
 use Rattle.grb_market.proofs.ApartLemmas.{place_of, rising_pushed}
 use Rattle.grb_market.proofs.gathered.is_rising_with.Goals as goal
 

@@ -1,7 +1,6 @@
 use Rattle.std.proofs.Common.{rules, ◌≡◌, true, refl, sym, ap, ◌∙◌}
-use Rattle.std.specs.FinMap.{is_sorted}
+use Rattle.grb_market.proofs.Prelude.{is_sorted, cell_cmp, cells_of}
 use Rattle.std.proofs.lemmas.List.Sorted.{answers_always}
-use Rattle.grb_core.specs.Entries.{cell_cmp, cells_of}
 use Rattle.grb_market.proofs.ApartLemmas.{place_of, map_from-same, are_apart-sorted, are_apart-ordered, same_when_stable}
 use Rattle.grb_market.proofs.gathered.put_in_order.Goals as goal
 

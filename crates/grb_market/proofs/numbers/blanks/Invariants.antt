@@ -1,6 +1,5 @@
 use Rattle.std.proofs.Common.{◌≡◌, true, take}
-use Rattle.std.specs.List.{list_all}
-use Rattle.grb_market.specs.Numbers.{is_blank}
+use Rattle.grb_market.proofs.Prelude.{list_all, is_blank}
 use Rattle.grb_market.proofs.numbers.blanks.Given as goal
 
 abbrev pub invariant-loop-b : goal.invariant-loop-b

@@ -1,7 +1,5 @@
 use Rattle.std.proofs.Common.{◌≡◌, ◌≤◌, true, take}
-use Rattle.std.specs.List.{list_all}
-use Rattle.std.specs.Str.Parse.{digits_value}
-use Rattle.grb_market.specs.Numbers.{is_digit}
+use Rattle.grb_market.proofs.Prelude.{list_all, digits_value, is_digit}
 use Rattle.grb_market.proofs.numbers.first_digits.Given as goal
 
 abbrev pub invariant-loop-b : goal.invariant-loop-b

@@ -1,5 +1,5 @@
 use Rattle.std.proofs.Common.{length, ap, ◌∙◌}
-use Rattle.grb_market.specs.Front.{before}
+use Rattle.grb_market.proofs.Prelude.{before}
 use Rattle.grb_market.proofs.FrontLemmas.{three_more, not_empty}
 use Rattle.grb_market.proofs.numbers.three_numbers.Goals as goal
 

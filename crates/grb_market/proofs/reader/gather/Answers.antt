@@ -1,6 +1,5 @@
-use Prim.{search}
-use Rattle.std.proofs.Common.{rules, ◌-◌, sym, ◌∙◌, arith}
-use Rattle.grb_core.specs.Entries.{cells_of}
+use Rattle.std.proofs.Common.{◌-◌, sym, ◌∙◌, arith}
+use Rattle.grb_market.proofs.Prelude.{cells_of}
 use Rattle.grb_market.proofs.MarketLemmas.{gathered_next}
 use Rattle.grb_market.proofs.reader.gather.Goals as goal
 
@@ -13,6 +12,3 @@ loop-rest-preserved c =
           (c.in-Ok.cell, c.in-Ok.value) now.invariant.front here.first here.shorter (omega (arith, c.if-left-eq0.false)) (sym here.is ∙ c.in-Ok.is) c.in_ok-rising-in-Ok.ensures.appended;
       rising = c.in_ok-rising-in-Ok.ensures.rising;
     }
-
-pub returns-then-left-eq0-clause-all : goal.returns-then-left-eq0-clause-all
-returns-then-left-eq0-clause-all c = search rules

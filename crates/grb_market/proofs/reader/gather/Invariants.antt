@@ -1,7 +1,5 @@
 use Rattle.std.proofs.Common.{◌≡◌, length}
-use Rattle.std.specs.FinMap.{is_sorted}
-use Rattle.grb_core.specs.Entries.{cell_cmp, cells_of}
-use Rattle.grb_market.specs.Gathered.{AreGathered}
+use Rattle.grb_market.proofs.Prelude.{is_sorted, cell_cmp, cells_of, AreGathered}
 use Rattle.grb_market.proofs.reader.gather.Given as goal
 
 abbrev pub invariant-loop-rest : goal.invariant-loop-rest

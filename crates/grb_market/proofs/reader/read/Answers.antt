@@ -1,5 +1,5 @@
 use Rattle.std.proofs.Common.{sym, ap, ◌∙◌}
-use Rattle.grb_core.specs.Entries.{cells_of}
+use Rattle.grb_market.proofs.Prelude.{cells_of}
 use Rattle.grb_market.proofs.MarketLemmas.{next_head}
 use Rattle.grb_market.proofs.SpellsLemmas.{spells-read, sorted-read}
 use Rattle.grb_market.proofs.SideLemmas.{lower_read}

@@ -1,8 +1,5 @@
-use Rattle.std.proofs.Common.{◌≡◌, ◌+◌, ◌∙◌, true, [], length, sym, subst, arith}
-use Rattle.grb_core.specs.Entries.{cell_cmp, cells_of, map_from}
-use Rattle.grb_market.specs.Line.{lines_of}
-use Rattle.grb_market.specs.Gathered.{are_apart, IsAtEnd}
-use Rattle.grb_market.specs.Stands.{StandsBehind, IsRead}
+use Rattle.std.proofs.Common.{◌≡◌, ◌+◌, ◌∙◌, true, length, sym, subst, arith, []}
+use Rattle.grb_market.proofs.Prelude.{cell_cmp, cells_of, map_from, lines_of, are_apart, IsAtEnd, StandsBehind, IsRead}
 use Rattle.grb_market.proofs.ApartLemmas.{length-cells_of}
 use Rattle.grb_market.proofs.MarketLemmas.{stands_behind, wrong_fault, is_read}
 use Rattle.grb_market.proofs.reader.read_entries.Goals as goal

@@ -1,6 +1,5 @@
 use Rattle.std.proofs.Common.{◌+◌, ◌≤◌, length}
-use Rattle.grb_market.specs.Fault.{AtSize}
-use Rattle.grb_market.specs.Stands.{Stands}
+use Rattle.grb_market.proofs.Prelude.{AtSize, Stands}
 use Rattle.grb_market.proofs.reader.read_size.Given as goal
 
 abbrev pub invariant-loop-rest : goal.invariant-loop-rest

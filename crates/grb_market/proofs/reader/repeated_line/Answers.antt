@@ -1,8 +1,5 @@
-use Rattle.std.proofs.Common.{rules, ◌≡◌, ◌+◌, ◌∙◌, [], false, Some, ap, sym}
-use Rattle.grb_core.specs.Entries.{cells_of}
-use Rattle.grb_market.specs.Fault.{fault_at}
-use Rattle.grb_market.specs.declared.fault.FaultKind.TheVariants.{Repeated}
-use Rattle.grb_market.specs.Gathered.{count_apart, are_apart}
+use Rattle.std.proofs.Common.{rules, ◌≡◌, ◌+◌, ◌∙◌, false, Some, ap, sym, []}
+use Rattle.grb_market.proofs.Prelude.{cells_of, fault_at, Repeated, count_apart, are_apart}
 use Rattle.grb_market.proofs.ApartLemmas.{apart_fewer}
 use Rattle.grb_market.proofs.MarketLemmas.{same_gathered, repeated_fault}
 use Rattle.grb_market.proofs.reader.repeated_line.Goals as goal

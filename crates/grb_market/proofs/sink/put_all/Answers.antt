@@ -10,15 +10,3 @@ loop-count-preserved g c = record {
   taken = Appends_more _ _ _ _ _ _ c.loop-count.invariant.taken c.in_ok-more.ensures.taken;
   failures = search rules;
 }
-
-pub returns-clause-err : goal.returns-clause-err
-returns-clause-err g c = search rules
-
-pub returns-clause-failures : goal.returns-clause-failures
-returns-clause-failures g c = search rules
-
-pub returns-in-0-clause-failures : goal.returns-in-0-clause-failures
-returns-in-0-clause-failures g c = search rules
-
-pub returns-in-0-clause-ok : goal.returns-in-0-clause-ok
-returns-in-0-clause-ok g c = search rules

@@ -1,5 +1,5 @@
 use Rattle.std.proofs.Common.{◌≡◌, ◌-◌, ◌≤◌, length, take}
-use Rattle.std.specs.Io.KnownBytes.{Appends}
+use Rattle.grb_market.proofs.Prelude.{Appends}
 use Rattle.grb_market.proofs.sink.put_all.Given as goal
 
 abbrev pub invariant-loop-count : goal.invariant-loop-count

@@ -1,6 +1,5 @@
 use Rattle.std.proofs.Common.{◌≡◌}
-use Rattle.std.specs.List.{list_any}
-use Rattle.grb_market.specs.Canonical.{is_false}
+use Rattle.grb_market.proofs.Prelude.{list_any, is_false}
 use Rattle.grb_market.proofs.writing.stores_false.Given as goal
 
 abbrev pub invariant-loop-value : goal.invariant-loop-value

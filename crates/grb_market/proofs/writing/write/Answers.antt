@@ -1,5 +1,5 @@
 use Rattle.std.proofs.Common.{OnOk, IfErr, subst}
-use Rattle.std.specs.Io.KnownBytes.{Appends}
+use Rattle.grb_market.proofs.Prelude.{Appends}
 use Rattle.grb_market.specs.Written.{TakenAtFault}
 use Rattle.grb_market.proofs.CanonicalLemmas.{canonical-parts}
 use Rattle.grb_market.proofs.writing.write.Goals as goal

@@ -1,9 +1,8 @@
 use Rattle.std.proofs.Common.{◌^◌, ◌<◌, ◌++◌, string_bytes, rules, sym, ap, subst, ◌∙◌}
 use Rattle.std.proofs.lemmas.List.Concat.{flat_map-cons}
-use Rattle.std.proofs.lemmas.List.Elements.{All-rest}
+use Rattle.grb_market.proofs.Prelude.{All-rest, line_text, entry_text, entry_lines}
 use Rattle.std.proofs.lemmas.Result.{err_from_is_err_and}
 use Rattle.grb_market.specs.Sink.{AppendsBeginning}
-use Rattle.grb_market.specs.Canonical.{line_text, entry_text, entry_lines}
 use Rattle.grb_market.proofs.WrittenLemmas.{SoFar, SoFar-line, SoFar-put, SoFar-failed, SoFar-front}
 use Rattle.grb_market.proofs.writing.write_entries.Goals as goal
 

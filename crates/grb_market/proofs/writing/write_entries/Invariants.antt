@@ -1,5 +1,5 @@
 use Rattle.std.proofs.Common.{◌≡◌, ◌^◌, ◌<◌, ◌++◌, All, string_bytes}
-use Rattle.grb_market.specs.Canonical.{entry_lines}
+use Rattle.grb_market.proofs.Prelude.{entry_lines}
 use Rattle.grb_market.proofs.WrittenLemmas.{SoFar}
 use Rattle.grb_market.proofs.writing.write_entries.Given as goal
 

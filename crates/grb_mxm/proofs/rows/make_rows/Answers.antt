@@ -8,8 +8,8 @@ pub rows-init : goal.rows-init
 rows-init g c =
     let listed = c.numbers-numbers.ensures in
     record {
-      ready = c.in_ok-work.ensures;
-      making = making_begins g.T.Scalar.value (g.R.RowMaker.makes c.args.maker.now) c.numbers-numbers.result.now listed.rise _ _ _ _ c.new.ensures.items c.new-2.ensures.items c.list_with_room.ensures c.list_with_room-2.ensures (holds _ listed.sorted) listed.all;
+      ready = c.expected_entries-entries.ensures.ready;
+      making = making_begins g.T.Scalar.value (g.R.RowMaker.makes c.args.maker.now) c.numbers-numbers.result.now listed.rise _ _ _ _ c.list_with_room.ensures c.list_with_room-2.ensures c.list_with_room-3.ensures c.list_with_room-4.ensures (holds _ listed.sorted) listed.all;
     }
 
 pub rows-preserved : goal.rows-preserved

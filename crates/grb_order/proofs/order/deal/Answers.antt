@@ -1,5 +1,4 @@
-use Prim.{search}
-use Rattle.std.proofs.Common.{rules, ◌≡◌, ◌+◌, ◌<◌, sym, ap, subst, arith}
+use Rattle.std.proofs.Common.{◌≡◌, ◌+◌, ◌<◌, sym, ap, subst, arith}
 use Rattle.atomic_table.specs.Table.{Splits}
 use Rattle.grb_order.specs.Rule.{Orderly}
 use Rattle.grb_order.specs.Steps.{dealing, dealt}
@@ -17,9 +16,3 @@ split_seat-table_seat-requires c =
       omega arith,
       subst (λ k. Cuts k now.dealer.me.0) (sym c.requires.row.0) (subst (Cuts size) (sym (ap (λ m. m.0) now.invariant.dealer)) (deals size now.dealer.id now.number c.loop-number-test.true)),
     )
-
-pub loop-number-init : goal.loop-number-init
-loop-number-init c = search rules
-
-pub returns : goal.returns
-returns c = search rules

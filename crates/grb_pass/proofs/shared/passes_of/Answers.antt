@@ -1,10 +1,5 @@
-use Rattle.std.proofs.Common.{◌≡◌, ℕ, suc, ◌<◌, ◌≤◌, ◌+◌, ◌∷◌, [], ◌++◌, List, length, drop, add-one, sym, ap, ◌∙◌, subst, arith}
-use Rattle.std.proofs.lemmas.List.{length_push}
-use Rattle.grb_order.specs.View.{fresh}
-use Rattle.grb_order.specs.Holding.{Holding, TableId}
-use Rattle.grb_order.specs.Order.{room_of}
-use Rattle.grb_call.specs.Statuses.{no_rows}
-use Rattle.grb_reader.specs.Known.{Knowing, none_made, AreNew}
+use Rattle.std.proofs.Common.{◌≡◌, ℕ, suc, ◌<◌, ◌≤◌, ◌+◌, [], ◌∷◌, ◌++◌, List, length, drop, add-one, sym, ap, ◌∙◌, subst, arith}
+use Rattle.grb_pass.proofs.Prelude.{length_push, fresh, Holding, TableId, room_of, no_rows, Knowing, none_made, AreNew}
 use Rattle.grb_pass.proofs.Opening.{next_seat, fresh_at, new_at, new_more, all_opened, none_left}
 use Rattle.grb_pass.proofs.shared.passes_of.Goals as goal
 

@@ -1,6 +1,6 @@
 use Rattle.std.proofs.Common.{◌≡◌, ◌≤◌, drop, length}
 use Rattle.std.specs.Prelude.{vec_capacity}
-use Rattle.grb_reader.specs.Known.{AreNew}
+use Rattle.grb_pass.proofs.Prelude.{AreNew}
 use Rattle.grb_pass.proofs.shared.passes_of.Given as goal
 
 abbrev pub invariant-loop-seat : goal.invariant-loop-seat

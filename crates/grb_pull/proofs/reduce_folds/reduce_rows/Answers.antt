@@ -6,8 +6,14 @@ use Rattle.grb_core.specs.Entries.{VectorEntries}
 use Rattle.grb_core.specs.Mask.{is_inside}
 use Rattle.grb_core.specs.Results.{reduce_rows_of, turned}
 use Rattle.grb_pull.specs.Wanted.{is_wanted}
-use Rattle.grb_pull.proofs.WantedPlaces.{written-made}
+use Rattle.grb_pull.proofs.WantedPlaces.{written-made, made-inside}
 use Rattle.grb_pull.proofs.reduce_folds.reduce_rows.Goals as goal
+
+pub write_wanted-requires-clause-inside : goal.write_wanted-requires-clause-inside
+write_wanted-requires-clause-inside c s =
+    let w = c.wanted_of-wanted.result in
+    made-inside c.args.descriptor (option_map (λ m. m.now.vector.entries) c.args.mask) (reduce_rows_of c.args.monoid (turned c.args.descriptor.tran c.args.a.now.matrix.entries))
+    c.in_ok-computed.computed.vector.entries (is_wanted w.among w.names.now) (c.wanted_of-wanted.ensures.inside s) c.in_ok-computed.ensures.entries
 
 pub returns-clause-vector : goal.returns-clause-vector
 returns-clause-vector c =
@@ -15,6 +21,6 @@ returns-clause-vector c =
     let w = c.wanted_of-wanted.result in
     let inside = is_inside nat_cmp d.structure d.comp (option_map (λ m. m.now.vector.entries) c.args.mask) in
     let total = reduce_rows_of c.args.monoid (turned d.tran c.args.a.now.matrix.entries) in
-    subst (λ (f : VectorEntries → VectorEntries). IfOk c.write_masked_vector.result (λ made. made.vector ≡ edited_vector f c.args.output.now.vector))
-    (λ i v. written-made inside d.replace c.args.accum v total c.in_ok-computed.computed.vector.entries (is_wanted w.among w.names.now) c.wanted_of-wanted.ensures.covers c.in_ok-computed.ensures.entries i)
-    c.write_masked_vector.ensures.vector
+    subst (λ (f : VectorEntries → VectorEntries). IfOk c.write_wanted.result (λ made. made.vector ≡ edited_vector f c.args.output.now.vector))
+    (λ i v. written-made inside d.replace c.args.accum v total c.in_ok-computed.computed.vector.entries d.tran (is_wanted w.among w.names.now) c.wanted_of-wanted.ensures.covers c.in_ok-computed.ensures.entries i)
+    c.write_wanted.ensures.vector

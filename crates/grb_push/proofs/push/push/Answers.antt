@@ -28,10 +28,21 @@ returns-then-is_worth_a_place_each g c =
     let f = g.S.Side.makes g.O.Operator.op in
     let u = c.args.u.now in
     let a = decoded c.args.rows.now.lists.now.entries in
-    let rows = c.args.rows.now.lists.now.rows in
     let made = c.in_ok-made-2.made in
     whole_is_bounded (option_map (λ names. names.now) c.args.bound) (pushed_of m f (entries_of tv u.indices.now u.values.now) a) (entries_of tv made.indices.items made.values.items)
-    (c.in_ok-made-2.ensures
+    (c.in_ok-made-2.ensures ∙ built_from-pushed f m (entries_of tv u.indices.now u.values.now) a (holds _ u.rising) (holds _ c.args.rows.now.ordered))
+
+pub returns-then-is_worth_a_place_each-2 : goal.returns-then-is_worth_a_place_each-2
+returns-then-is_worth_a_place_each-2 g c =
+    let tv = g.T.Scalar.value in
+    let m = g.M.MonoidOver.monoid in
+    let f = g.S.Side.makes g.O.Operator.op in
+    let u = c.args.u.now in
+    let a = decoded c.args.rows.now.lists.now.entries in
+    let rows = c.args.rows.now.lists.now.rows in
+    let made = c.in_ok-made-3.made in
+    whole_is_bounded (option_map (λ names. names.now) c.args.bound) (pushed_of m f (entries_of tv u.indices.now u.values.now) a) (entries_of tv made.indices.items made.values.items)
+    (c.in_ok-made-3.ensures
     ∙ ap (built_from nat_cmp m) (ap (λ (ps : List (ℕ × g.row.T.Denot)). pushed f (at_numbers rows (as_entries tv ps)) a) c.as_slice-picks.ensures.value ∙ c.in_ok-picked.ensures.picked f)
     ∙ built_from-pushed f m (entries_of tv u.indices.now u.values.now) a (holds _ u.rising) (holds _ c.args.rows.now.ordered))
 
@@ -42,11 +53,11 @@ returns g c =
     let f = g.S.Side.makes g.O.Operator.op in
     let u = c.args.u.now in
     let a = decoded c.args.rows.now.lists.now.entries in
-    let made = c.in_ok-made-3.made in
+    let made = c.in_ok-made-4.made in
     let rows = c.args.rows.now.lists.now.rows in
     let picked = pushed f (at_numbers rows (as_entries tv c.as_slice-picks.result.now)) a in
     bounded-same (option_map (λ names. names.now) c.args.bound) (built_from nat_cmp m picked) (pushed_of m f (entries_of tv u.indices.now u.values.now) a)
     (entries_of tv made.indices.items made.values.items)
     (ap (built_from nat_cmp m) (ap (λ (ps : List (ℕ × g.row.T.Denot)). pushed f (at_numbers rows (as_entries tv ps)) a) c.as_slice-picks.ensures.value ∙ c.in_ok-picked.ensures.picked f)
     ∙ built_from-pushed f m (entries_of tv u.indices.now u.values.now) a (holds _ u.rising) (holds _ c.args.rows.now.ordered))
-    c.in_ok-made-3.ensures
+    c.in_ok-made-4.ensures

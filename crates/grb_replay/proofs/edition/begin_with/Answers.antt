@@ -1,4 +1,4 @@
-use Rattle.std.proofs.Common.{◌≡◌, ◌≤◌, List, length, map, take, ap, ◌∙◌, arith}
+use Rattle.std.proofs.Common.{◌≡◌, List, length, map, take, ap, ◌∙◌, arith}
 use Rattle.std.proofs.lemmas.List.{length-map, take_all}
 use Rattle.grb_call.specs.declared.call.Call.{Call}
 use Rattle.grb_replay.proofs.Begins.{begin_next, lent_call}

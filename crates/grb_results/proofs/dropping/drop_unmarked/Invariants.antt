@@ -1,5 +1,5 @@
 use Rattle.std.proofs.Common.{◌≡◌, length}
-use Rattle.grb_results.specs.Exchanged.{AreLeft}
+use Rattle.grb_results.proofs.Prelude.{AreLeft}
 use Rattle.grb_results.proofs.dropping.drop_unmarked.Given as goal
 
 abbrev pub invariant-places : goal.invariant-places

@@ -1,7 +1,5 @@
 use Rattle.std.proofs.Common.{◌≡◌, true, subst}
-use Rattle.grb_core.specs.Contents.{is_dimension}
-use Rattle.grb_call.specs.declared.call.Call.{Call}
-use Rattle.grb_call.specs.Refused.{has_valid_values}
+use Rattle.grb_results.proofs.Prelude.{is_dimension, Call, has_valid_values}
 use Rattle.grb_links.proofs.Blank.{both_true}
 use Rattle.grb_results.proofs.made.new_object.Goals as goal
 

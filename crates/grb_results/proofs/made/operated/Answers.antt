@@ -1,6 +1,5 @@
 use Rattle.std.proofs.Common.{◌∙◌, sym, subst}
-use Rattle.grb_call.specs.Store.{Store}
-use Rattle.grb_state.specs.SharedContent.{IsThere}
+use Rattle.grb_results.proofs.Prelude.{Store, IsThere}
 use Rattle.grb_results.proofs.Making.{operation_made}
 use Rattle.grb_results.proofs.made.operated.Goals as goal
 

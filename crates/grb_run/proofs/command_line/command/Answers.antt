@@ -1,11 +1,10 @@
 use Rattle.std.proofs.Common.{◌≡◌, ◌∙◌, ap, ap₂, rules}
-use Rattle.std.specs.Prelude.{Some, pos}
-use Rattle.std.proofs.lemmas.Result.{IfOk-weaker}
-use Rattle.grb_order.specs.declared.limits.TheConstants.{MOST_ROOM}
-use Rattle.clap.specs.Words.{rule_of, with_rule}
+use Rattle.grb_run.proofs.Prelude.{pos, IfOk-weaker, MOST_ROOM, with_rule, room_option, script_argument}
+use Rattle.std.specs.Prelude.{Some}
+use Rattle.clap.specs.Words.{rule_of}
 use Rattle.clap.specs.declared.builder.value_parser.ValueParser.{ValueParser}
 use Rattle.clap.specs.declared.builder.value_parser.ValueParser.TheVariants as parser
-use Rattle.grb_run.specs.CommandLine.{command_line, room_option, script_argument}
+use Rattle.grb_run.specs.CommandLine.{command_line}
 use Rattle.grb_run.proofs.command_line.command.Goals as goal
 
 pub returns : goal.returns

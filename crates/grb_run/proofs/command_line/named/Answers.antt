@@ -1,5 +1,6 @@
 use Rattle.std.proofs.Common.{◌≡◌, ◌∙◌, ap, true}
-use Rattle.clap.specs.Words.{Shape, app_of, new_app}
+use Rattle.grb_run.proofs.Prelude.{Shape, new_app}
+use Rattle.clap.specs.Words.{app_of}
 use Rattle.clap.specs.Simple.{app_of_fields, on_top}
 use Rattle.grb_run.proofs.command_line.named.Goals as goal
 

@@ -1,6 +1,6 @@
 use Rattle.std.proofs.Common.{◌≡◌, ◌∙◌, ℕ, List, Option, ap, arith, refl, sym}
-use Rattle.std.specs.Prelude.{Ok, option_map, unwrap_or}
-use Rattle.std.specs.Borrow.{Bor}
+use Rattle.grb_run.proofs.Prelude.{Ok, unwrap_or, Bor}
+use Rattle.std.specs.Prelude.{option_map}
 use Rattle.grb_run.proofs.CommandLineReads.{fails_as, fails_up, path_given, room_given}
 use Rattle.grb_run.proofs.command_line.options.Goals as goal
 

@@ -1,7 +1,5 @@
-use Rattle.std.specs.Prelude.{IfOk}
+use Rattle.grb_run.proofs.Prelude.{IfOk, steps_listed, AreAnswers}
 use Rattle.std.proofs.Common.{subst}
-use Rattle.grb_run.specs.Loads.{steps_listed}
-use Rattle.grb_run.specs.Sections.{AreAnswers}
 use Rattle.grb_run.proofs.driver.answers_to.Goals as goal
 
 pub returns-clause-answers : goal.returns-clause-answers

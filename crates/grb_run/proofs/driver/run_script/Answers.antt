@@ -1,11 +1,6 @@
 use Prim.{search}
 use Rattle.std.proofs.Common.{◌∙◌, ap, sym, refl, rules}
-use Rattle.std.specs.List.{flat_map}
-use Rattle.std.proofs.lemmas.Result.{err_from_is_err_and}
-use Rattle.grb_run.specs.ReplyLine.{reply_line}
-use Rattle.grb_script.specs.Script.{sections_of}
-use Rattle.grb_script.specs.ScriptFault.{script_fault}
-use Rattle.grb_run.specs.Loads.{steps_listed, all_of}
+use Rattle.grb_run.proofs.Prelude.{flat_map, err_from_is_err_and, reply_line, sections_of, script_fault, steps_listed, all_of}
 use Rattle.grb_run.proofs.LoadLemmas.{AreScriptSteps-of, IsWhyNotLoaded-of, ends}
 use Rattle.grb_run.proofs.ScriptEnds.{stopped, began, crowded, seats_fit}
 use Rattle.grb_run.proofs.Wrote.{wrote}

@@ -1,5 +1,5 @@
 use Rattle.std.proofs.Common.{◌≡◌, ◌++◌, length, refl, subst, rules}
-use Rattle.grb_run.specs.Threads.{AreThreadsRun}
+use Rattle.grb_run.proofs.Prelude.{AreThreadsRun}
 use Rattle.grb_run.proofs.ScriptEnds.{all_answered}
 use Rattle.grb_run.proofs.driver.run_sections.Goals as goal
 

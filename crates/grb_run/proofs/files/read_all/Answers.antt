@@ -1,5 +1,3 @@
-use Rattle.std.proofs.lemmas.Grind.{common_steps}
-use Prim.{grind}
 use Rattle.std.proofs.Common.{arith, sym}
 use Rattle.grb_run.proofs.FileBytes.{whole_below_limit}
 use Rattle.grb_run.proofs.files.read_all.Goals as goal
@@ -11,6 +9,3 @@ returns-clause-given g c = record {
       (sym c.in_ok-map_err.ensures.variant) c.new-bytes.ensures.items
       (rw (c.take.ensures.limit, c.take.ensures.inner) at c.read_to_end.ensures.bytes) (omega arith);
 }
-
-pub returns-then-len-limit-clause-too_long : goal.returns-then-len-limit-clause-too_long
-returns-then-len-limit-clause-too_long g c = grind (arith, common_steps)

@@ -1,9 +1,5 @@
 use Rattle.std.proofs.Common.{◌≡◌, ◌+◌, [], ◌∷◌, ◌++◌, List, length, take, drop, refl, sym, ap, subst, ◌∙◌, append_assoc, arith}
-use Rattle.std.proofs.lemmas.List.{take_all, take_more, take-append-drop}
-use Rattle.std.proofs.lemmas.Result.{err_from_is_err_and}
-use Rattle.grb_script.specs.declared.command.NumberedCommand.{NumberedCommand}
-use Rattle.grb_run.specs.Loads.{AreSteps}
-use Rattle.grb_run.specs.SectionSteps.{commands_of, loads_among, steps_with}
+use Rattle.grb_run.proofs.Prelude.{take_all, take_more, take-append-drop, err_from_is_err_and, NumberedCommand, AreSteps, commands_of, loads_among, steps_with}
 use Rattle.grb_run.proofs.LoadLemmas.{AreSteps-read, IsReadInto-of, StopsWith-of}
 use Rattle.grb_run.proofs.loads.loads_of.Goals as goal
 

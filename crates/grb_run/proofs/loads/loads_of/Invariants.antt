@@ -1,6 +1,5 @@
 use Rattle.std.proofs.Common.{◌≡◌, ℕ, List, length, take}
-use Rattle.grb_run.specs.Loads.{AreSteps}
-use Rattle.grb_run.specs.SectionSteps.{commands_of, loads_among, steps_with}
+use Rattle.grb_run.proofs.Prelude.{AreSteps, commands_of, loads_among, steps_with}
 use Rattle.grb_run.proofs.loads.loads_of.Given as goal
 
 abbrev pub invariant-loop-numbered : goal.invariant-loop-numbered

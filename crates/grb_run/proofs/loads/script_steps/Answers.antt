@@ -1,6 +1,5 @@
 use Rattle.std.proofs.Common.{map, refl, ◌∙◌}
-use Rattle.std.proofs.lemmas.List.{length-map}
-use Rattle.std.proofs.lemmas.Result.{err_from_is_err_and}
+use Rattle.grb_run.proofs.Prelude.{length-map, err_from_is_err_and}
 use Rattle.grb_run.proofs.LoadLemmas.{why_main, why_threads, why_last, AreThreadSteps-of, IsWhyNotLoaded-of, length-AreThreadSteps}
 use Rattle.grb_run.proofs.loads.script_steps.Goals as goal
 

@@ -1,6 +1,5 @@
 use Rattle.std.proofs.Common.{◌≡◌, [], ◌∷◌, ◌++◌, map, refl, sym, ap, subst, ◌∙◌, append_assoc, rules}
-use Rattle.std.proofs.lemmas.Result.{err_from_is_err_and}
-use Rattle.grb_run.specs.Loads.{AreThreadSteps}
+use Rattle.grb_run.proofs.Prelude.{err_from_is_err_and, AreThreadSteps}
 use Rattle.grb_run.proofs.LoadLemmas.{AreThreadSteps-push, AreSteps-of, IsWhyNotLoaded-of, why_one}
 use Rattle.grb_run.proofs.loads.thread_steps.Goals as goal
 

@@ -1,6 +1,5 @@
 use Rattle.std.proofs.Common.{◌≡◌, ℕ, List, ◌++◌, map}
-use Rattle.grb_script.specs.declared.command.NumberedCommand.{NumberedCommand}
-use Rattle.grb_run.specs.Loads.{AreThreadSteps}
+use Rattle.grb_run.proofs.Prelude.{NumberedCommand, AreThreadSteps}
 use Rattle.grb_run.proofs.loads.thread_steps.Given as goal
 
 abbrev pub invariant-loop-commands : goal.invariant-loop-commands

@@ -1,6 +1,5 @@
 use Rattle.std.proofs.Common.{ap, ◌∙◌, subst}
-use Rattle.grb_context.specs.Answered.{Answered}
-use Rattle.grb_run.specs.Calls.{call_of}
+use Rattle.grb_run.proofs.Prelude.{Answered, call_of}
 use Rattle.grb_run.proofs.section.answer_to.Goals as goal
 
 pub returns-clause-answered : goal.returns-clause-answered

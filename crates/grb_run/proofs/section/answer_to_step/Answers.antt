@@ -1,8 +1,6 @@
 use Rattle.std.proofs.Common.{◌≡◌, false, length, subst, sym, rules}
-use Rattle.std.specs.Prelude.{IfOk}
+use Rattle.grb_run.proofs.Prelude.{IfOk, Step, Stage, IsStepTold}
 use Rattle.std.specs.Result.{is_err}
-use Rattle.grb_run.specs.declared.loads.Step.{Step}
-use Rattle.grb_run.specs.Sections.{Stage, IsStepTold}
 use Rattle.grb_run.proofs.Steps.{load_told}
 use Rattle.grb_run.proofs.section.answer_to_step.Goals as goal
 

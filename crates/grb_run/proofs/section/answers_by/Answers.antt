@@ -1,9 +1,6 @@
 use Rattle.std.proofs.Common.{◌≡◌, List, [], ◌∷◌, ◌++◌, refl, sym, ap, ◌∙◌, subst, append-nil, arith, rules}
 use Rattle.std.specs.Vec.Iter.{into_iter_items}
-use Rattle.grb_script.specs.declared.command.NumberedCommand.{NumberedCommand}
-use Rattle.grb_run.specs.declared.loads.Step.{Step}
-use Rattle.grb_run.specs.Sections.{Stage, AreTold}
-use Rattle.grb_run.specs.SectionSteps.{commands_of, loads_among, steps_with}
+use Rattle.grb_run.proofs.Prelude.{NumberedCommand, Step, Stage, AreTold, commands_of, loads_among, steps_with}
 use Rattle.grb_run.proofs.SectionSteps.{loads_among-append}
 use Rattle.grb_run.proofs.Steps.{AreTold-next, none_left}
 use Rattle.grb_run.proofs.section.answers_by.Goals as goal

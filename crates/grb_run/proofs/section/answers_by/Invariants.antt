@@ -1,9 +1,6 @@
 use Rattle.std.proofs.Common.{◌≡◌, List, ◌++◌, length}
 use Rattle.std.specs.Vec.Iter.{into_iter_items}
-use Rattle.grb_context.specs.Known.{IsPassOf}
-use Rattle.grb_context.specs.Explains.{Answer}
-use Rattle.grb_run.specs.Sections.{Stage, AreTold}
-use Rattle.grb_run.specs.SectionSteps.{commands_of, loads_among, steps_with}
+use Rattle.grb_run.proofs.Prelude.{IsPassOf, Answer, Stage, AreTold, commands_of, loads_among, steps_with}
 use Rattle.grb_run.proofs.section.answers_by.Given as goal
 
 abbrev pub invariant-loop-numbered : goal.invariant-loop-numbered

@@ -1,9 +1,6 @@
 use Rattle.std.proofs.Common.{◌≡◌, ◌∷◌, subst, rules}
-use Rattle.std.specs.Prelude.{All, IfOk, Result, Ok}
-use Rattle.std.specs.declared.alloc.AllocError.{AllocError}
-use Rattle.std.proofs.lemmas.List.Elements.{All-tail}
-use Rattle.grb_context.specs.Known.{IsPassOf}
-use Rattle.grb_run.specs.declared.threads.FinishedSection.{FinishedSection}
+use Rattle.grb_run.proofs.Prelude.{IfOk, Result, Ok, AllocError, All-tail, IsPassOf, FinishedSection}
+use Rattle.std.specs.Prelude.{All}
 use Rattle.grb_run.proofs.ThreadLemmas.{AreGathered-next}
 use Rattle.grb_run.proofs.threads.gather_all.Goals as goal
 

@@ -1,8 +1,6 @@
 use Rattle.std.proofs.Common.{List}
-use Rattle.std.specs.Prelude.{All, IfOk}
-use Rattle.grb_context.specs.Explains.{Answer}
-use Rattle.grb_context.specs.Known.{Knowing, IsPassOf}
-use Rattle.grb_run.specs.Threads.{AreGathered}
+use Rattle.grb_run.proofs.Prelude.{IfOk, Answer, Knowing, IsPassOf, AreGathered}
+use Rattle.std.specs.Prelude.{All}
 use Rattle.grb_run.proofs.threads.gather_all.Given as goal
 
 abbrev pub invariant-loop-one : goal.invariant-loop-one

@@ -1,9 +1,6 @@
 use Rattle.std.proofs.Common.{◌≡◌, ◌<◌, [], ◌∷◌, ◌++◌, length, sym, ap, ◌∙◌, subst, append-nil, arith, rules}
 use Rattle.std.specs.Prelude.{All}
-use Rattle.std.proofs.lemmas.List.Elements.{All-tail}
-use Rattle.grb_context.specs.Known.{Knowing, IsPassOf}
-use Rattle.grb_run.specs.Sections.{Stage}
-use Rattle.grb_run.specs.Threads.{IsJob, AreJobs}
+use Rattle.grb_run.proofs.Prelude.{All-tail, Knowing, IsPassOf, Stage, IsJob, AreJobs}
 use Rattle.grb_run.proofs.Steps.{none_left}
 use Rattle.grb_run.proofs.ThreadLemmas.{AreJobs-next, first_removed}
 use Rattle.grb_run.proofs.threads.jobs_of.Goals as goal

@@ -1,8 +1,6 @@
 use Rattle.std.proofs.Common.{◌≡◌, List, ◌++◌, length}
 use Rattle.std.specs.Prelude.{All}
-use Rattle.grb_context.specs.Known.{IsPassOf}
-use Rattle.grb_run.specs.declared.threads.Job.{Job}
-use Rattle.grb_run.specs.Threads.{AreJobs}
+use Rattle.grb_run.proofs.Prelude.{IsPassOf, Job, AreJobs}
 use Rattle.grb_run.proofs.threads.jobs_of.Given as goal
 
 abbrev pub invariant-loop-steps : goal.invariant-loop-steps

@@ -1,8 +1,6 @@
 use Prim.{search}
 use Rattle.std.proofs.Common.{◌≡◌, length, subst, rules}
-use Rattle.grb_context.specs.Known.{Knowing}
-use Rattle.std.proofs.lemmas.Result.{on_ok_weaker}
-use Rattle.grb_run.specs.Threads.{AreGathered, AreThreadsRun}
+use Rattle.grb_run.proofs.Prelude.{Knowing, on_ok_weaker, AreGathered, AreThreadsRun}
 use Rattle.grb_run.proofs.ScriptEnds.{none_run}
 use Rattle.grb_run.proofs.ThreadLemmas.{passes_of, ended_passes, threads_alike, threads_run}
 use Rattle.grb_run.proofs.threads.run_threads.Goals as goal

@@ -1,9 +1,6 @@
 use Rattle.std.proofs.Common.{◌≡◌, List, [], ◌∷◌, ◌++◌, sym, subst, append-nil, rules}
 use Rattle.std.specs.Prelude.{All}
-use Rattle.std.proofs.lemmas.List.Elements.{All-tail}
-use Rattle.grb_context.specs.Known.{IsPassOf}
-use Rattle.grb_run.specs.declared.threads.Job.{Job}
-use Rattle.grb_run.specs.Threads.{AreAsked}
+use Rattle.grb_run.proofs.Prelude.{All-tail, IsPassOf, Job, AreAsked}
 use Rattle.grb_run.proofs.Steps.{none_left}
 use Rattle.grb_run.proofs.ThreadLemmas.{AreAsked-next}
 use Rattle.grb_run.proofs.threads.start_all.Goals as goal

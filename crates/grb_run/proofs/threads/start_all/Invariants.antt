@@ -1,11 +1,8 @@
 use Rattle.std.proofs.Common.{List, ◌++◌}
-use Rattle.std.specs.Prelude.{All, Result}
-use Rattle.std.specs.declared.alloc.AllocError.{AllocError}
+use Rattle.grb_run.proofs.Prelude.{Result, AllocError, IsPassOf, FinishedSection, AreAsked}
+use Rattle.std.specs.Prelude.{All}
 use Rattle.std.specs.declared.thread.PromisedHandle.{PromisedHandle}
-use Rattle.grb_context.specs.Known.{IsPassOf}
 use Rattle.grb_run.specs.declared.threads.ThreadPromise.{ThreadPromise}
-use Rattle.grb_run.specs.declared.threads.FinishedSection.{FinishedSection}
-use Rattle.grb_run.specs.Threads.{AreAsked}
 use Rattle.grb_run.proofs.threads.start_all.Given as goal
 
 abbrev pub invariant-loop-job : goal.invariant-loop-job

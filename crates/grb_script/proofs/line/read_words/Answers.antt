@@ -1,8 +1,6 @@
 use Prim.{search}
 use Rattle.std.proofs.Common.{◌≡◌, false, rules}
-use Rattle.grb_words.specs.Line.{is_section}
-use Rattle.grb_words.proofs.TupleLemmas.{now_of}
-use Rattle.grb_script.specs.Version.{says_nothing}
+use Rattle.grb_script.proofs.Prelude.{is_section, now_of, says_nothing}
 use Rattle.grb_script.proofs.ScopeLemmas.{silent-IsRead, commands-IsRead, commands-IsKept}
 use Rattle.grb_script.proofs.line.read_words.Goals as goal
 

@@ -1,6 +1,5 @@
 use Rattle.std.proofs.Common.{◌∙◌}
-use Rattle.grb_words.specs.Options.{spelled}
-use Rattle.grb_script.specs.Reading.{product_on}
+use Rattle.grb_script.proofs.Prelude.{spelled, product_on}
 use Rattle.grb_script.proofs.FormLemmas.{used-three}
 use Rattle.grb_script.proofs.product.product_of.Goals as goal
 

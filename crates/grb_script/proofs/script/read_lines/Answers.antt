@@ -1,10 +1,7 @@
-use Prim.{search}
-use Rattle.std.proofs.Common.{rules, ◌∙◌, arith}
+use Rattle.std.proofs.Common.{◌∙◌, arith}
 use Rattle.std.proofs.lemmas.Bool.Decides.{nat_tests}
 use Rattle.std.proofs.lemmas.Result.{err_from_is_err_and}
-use Rattle.grb_market.specs.Line.{ended, lines_of}
-use Rattle.grb_script.specs.Scope.{seen}
-use Rattle.grb_script.specs.Script.{listed}
+use Rattle.grb_script.proofs.Prelude.{ended, lines_of, seen, listed}
 use Rattle.grb_script.proofs.ScriptLemmas.{unread, Reached-next, Reached-end}
 use Rattle.grb_script.proofs.script.read_lines.Goals as goal
 
@@ -32,6 +29,3 @@ returns-clause-read c =
     let now = c.loop-rest in
     let p = Reached-end c.args.text.now now.rest.now now.number (seen now.scope) (listed now.script) now.commands.items (grind (arith, nat_tests)) now.invariant.reached in
     (p.0, c.in_ok-end_section.ensures.added ∙ p.1)
-
-pub loop-rest-init : goal.loop-rest-init
-loop-rest-init c = search rules

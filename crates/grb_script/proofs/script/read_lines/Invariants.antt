@@ -1,6 +1,5 @@
 use Rattle.std.proofs.Common.{◌+◌, ◌≤◌, length}
-use Rattle.grb_script.specs.Scope.{seen, IsKept}
-use Rattle.grb_script.specs.Script.{listed}
+use Rattle.grb_script.proofs.Prelude.{seen, IsKept, listed}
 use Rattle.grb_script.proofs.ScriptLemmas.{Reached}
 use Rattle.grb_script.proofs.script.read_lines.Given as goal
 

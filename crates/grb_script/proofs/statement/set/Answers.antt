@@ -1,8 +1,7 @@
 use Rattle.std.proofs.Common.{Err, Some, None, sym, ap, ◌∙◌}
 use Rattle.std.proofs.lemmas.Result.{err_from_is_err_and}
-use Rattle.grb_script.specs.Names.{name_found}
+use Rattle.grb_script.proofs.Prelude.{name_found, now_of}
 use Rattle.grb_script.proofs.FormLemmas.{reading-set_form, some_of_ok, none_of_err}
-use Rattle.grb_words.proofs.TupleLemmas.{now_of}
 use Rattle.grb_script.proofs.statement.set.Goals as goal
 
 pub returns-in_err-name : goal.returns-in_err-name

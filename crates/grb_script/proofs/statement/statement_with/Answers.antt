@@ -1,6 +1,6 @@
 use Rattle.std.proofs.Common.{sym}
 use Rattle.grb_script.proofs.FormLemmas.{names_behind-other}
-use Rattle.grb_words.proofs.TupleLemmas.{now_of}
+use Rattle.grb_script.proofs.Prelude.{now_of}
 use Rattle.grb_script.proofs.statement.statement_with.Goals as goal
 
 pub returns-in_ok-statement_on-in_default-clause-read : goal.returns-in_ok-statement_on-in_default-clause-read

@@ -1,4 +1,3 @@
-use Rattle.std.proofs.lemmas.Grind.{common_steps}
 use Prim.{grind}
 use Rattle.std.proofs.Common.{sym, arith}
 use Rattle.grb_script.proofs.FormLemmas.{reading-total_form}
@@ -11,6 +10,3 @@ returns-in_default c =
     reading-total_form c.args.names.now c.args.name.now c.args.others.now
     (λ l. elim c.in_default.branch [ in_default-via-then-others-lt1 w ↦ absurd (grind arith) | in_default-via-else-others-lt1+else-others-lt2 w ↦ absurd (grind arith) ])
     )
-
-pub returns : goal.returns
-returns c = grind (arith, common_steps)

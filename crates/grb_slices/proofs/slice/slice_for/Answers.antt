@@ -1,12 +1,7 @@
 use Prim.{search}
 use Rattle.std.proofs.Common.{◌≡◌, ◌+◌, ◌-◌, ℕ, suc, length, drop, get_or, List, None, Option, Some, refl, sym, ap, subst, ◌∙◌, arith, rules, ◌<◌, ◌≤◌, set}
-use lib.ListN.{length-drop, length-set}
-use Rattle.std.specs.Prelude.{slice_get}
-use Rattle.std.proofs.lemmas.List.{get_or-drop}
-use Rattle.grb_call.specs.declared.call.Call.{Call}
-use Rattle.grb_call.specs.declared.ids.Object.{Object}
-use Rattle.grb_slices.specs.Slice.{entries}
-use Rattle.grb_slices.specs.Wanted.{is_chosen, is_wanted, wants_before_entry}
+use Rattle.grb_slices.proofs.Prelude.{length-drop, slice_get, get_or-drop, Call, Object, entries, is_chosen, is_wanted, wants_before_entry}
+use lib.ListN.{length-set}
 use Rattle.grb_slices.proofs.Walked.{IsWalked, call_in_rest, call_there, walk_begins, walk_goes, walk_count}
 use Rattle.grb_slices.proofs.slice.slice_for.Goals as goal
 

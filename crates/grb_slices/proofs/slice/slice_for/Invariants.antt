@@ -1,6 +1,5 @@
 use Rattle.std.proofs.Common.{◌≡◌, ◌+◌, ◌-◌, ◌≤◌, drop, length}
-use Rattle.grb_slices.specs.Slice.{entries}
-use Rattle.grb_slices.specs.Wanted.{is_wanted}
+use Rattle.grb_slices.proofs.Prelude.{entries, is_wanted}
 use Rattle.grb_slices.proofs.Walked.{IsWalked}
 use Rattle.grb_slices.proofs.slice.slice_for.Given as goal
 

@@ -1,5 +1,5 @@
 use Rattle.std.proofs.Common.{◌≡◌, ◌<◌, ℕ, true}
-use Rattle.grb_slices.specs.Wanted.{marked}
+use Rattle.grb_slices.proofs.Prelude.{marked}
 use Rattle.grb_slices.proofs.wanted.are_within.Given as goal
 
 abbrev pub invariant-marks : goal.invariant-marks

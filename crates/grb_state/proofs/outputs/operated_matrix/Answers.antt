@@ -1,6 +1,6 @@
 use Rattle.std.proofs.Common.{refl, sym, ◌∙◌, Some}
 use Rattle.grb_call.specs.declared.call.Call.TheVariants as call
-use Rattle.grb_state.specs.State.{stored}
+use Rattle.grb_objects.specs.Stored.{stored}
 use Rattle.grb_state.proofs.Dispatched.{held_output_matrix, matrix_call, matrix_left_as}
 use Rattle.grb_state.proofs.Lent.{if_ok, add_matrix-tests, mult_matrix-tests, matrix_first-there, matrix_second-there, matrix_mask-there, matrix_are, lent_matrix_entries, add_matrix-left, mult_matrix-left}
 use Rattle.grb_state.proofs.LentProducts.{mxm_first-there, mxm_second-there, mxm_mask-there, mxm_are, mxm-left}

@@ -1,6 +1,6 @@
 use Rattle.std.proofs.Common.{refl, sym, ◌∙◌, Some}
 use Rattle.grb_call.specs.declared.call.Call.TheVariants as call
-use Rattle.grb_state.specs.State.{stored}
+use Rattle.grb_objects.specs.Stored.{stored}
 use Rattle.grb_state.proofs.Dispatched.{held_output_vector, vector_call, vector_left_as}
 use Rattle.grb_state.proofs.Lent.{if_ok, add_vector-tests, mult_vector-tests, vector_first-there, vector_second-there, vector_mask-there, vector_are, lent_vector_entries, add_vector-left, mult_vector-left}
 use Rattle.grb_state.proofs.LentProducts.{mxv_matrix-there, mxv_vector-there, mxv_mask-there, mxv_are, mxv-left, vxm_matrix-there, vxm_vector-there, vxm_mask-there, vxm_are, vxm-left, rows_matrix-there, rows_mask-there, rows_are, rows-left}

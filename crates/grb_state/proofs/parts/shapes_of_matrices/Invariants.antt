@@ -2,7 +2,7 @@ use Rattle.std.proofs.Common.{◌≡◌, ◌≤◌, length, map, take}
 use Rattle.std.specs.Prelude.{vec_capacity}
 use Rattle.std.specs.Option.{option_map}
 use Rattle.grb_call.specs.Store.{matrix_shape}
-use Rattle.grb_state.specs.State.{stored_matrices}
+use Rattle.grb_objects.specs.Stored.{stored_matrices}
 use Rattle.grb_state.proofs.parts.shapes_of_matrices.Given as goal
 
 abbrev pub invariant-matrices : goal.invariant-matrices

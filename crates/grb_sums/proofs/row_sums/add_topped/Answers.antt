@@ -1,4 +1,5 @@
-use Rattle.std.proofs.Common.{◌≡◌, ◌<◌, ◌+◌, ◌/◌, ◌∷◌, ap, sym, subst, ◌∙◌, length, get_or, arith}
+use Rattle.std.proofs.Common.{◌≡◌, ◌<◌, ◌+◌, ◌/◌, ◌∷◌, List, Bool, true, false, ap, sym, subst, ◌∙◌, length, get_or, arith}
+use Rattle.std.proofs.lemmas.List.{get_or-set_same}
 use Rattle.std.specs.Prelude.{Some, IsTrue}
 use Rattle.std.specs.List.{AllByRecursion}
 use Rattle.std.specs.Ordering.{nat_cmp}
@@ -34,6 +35,7 @@ row-preserved g c =
     let xv = tv c.args.x in
     let rest = entries_from tv (i + 1) cs vs in
     let inside : i < length cs = c.row-test.true in
+    let word : q / 64 < length ws = omega (arith, c.requires.in_range i 0 inside, c.requires.enough) in
     let front : entries_from tv i cs vs ≡ (q, tv y) ∷ rest = from-read tv cs vs i y inside c.requires.same c.index-values-i.is in
     let ordered : IsTrue (is_sorted nat_cmp ((q, tv y) ∷ rest)) = subst (λ m. IsTrue (is_sorted nat_cmp m)) front c.row.invariant.ordered in
     let product : tv c.read-product.result ≡ mul xv (tv y) = ap tv c.read-product.ensures.same ∙ c.apply-made.ensures in
@@ -52,8 +54,10 @@ row-preserved g c =
           (ap (λ m. either_value add (marked_at tv (marks_of (length ss) ws) ss p) (both_values mul (Some xv) (find nat_cmp p m))) (sym front) ∙ c.row.invariant.added p);
       bits = c.add_at.ensures.bits;
       clear = c.add_at.ensures.clear;
-      tops = tops_marked ws ws2 c.row.tops c.mark.new.words (q / 64) c.row.invariant.tops c.add_at.ensures.touched
-          (c.mark.ensures.marked (touched ws) (omega (arith, length-touched ws, c.requires.in_range i 0 inside, c.requires.enough)) c.row.invariant.tops.bits) (omega arith);
+      tops = tops_marked ws ws2 c.row.tops c.mark_after.new.tops (q / 64) c.row.invariant.tops c.add_at.ensures.touched
+          (c.mark_after.ensures (touched ws) (omega (arith, length-touched ws, word))
+          (λ e. ap (λ w. get_or (touched ws) w false) e ∙ c.row.invariant.before (omega (arith, word, e))) c.row.invariant.tops.bits) (omega arith);
+      before = λ l. ap (λ (m : List Bool). get_or m (q / 64) false) c.add_at.ensures.touched ∙ get_or-set_same (touched ws) (q / 64) true false (omega (arith, length-touched ws, word));
       ordered = rest_ordered q (tv y) rest ordered;
       of_domain = subst (AllByRecursion (λ e. IsValueOf g.T.Scalar.domain (mul xv e.1))) (sym (first-read tv cs vs i y inside c.requires.same c.index-values-i.is))
           (all_and (λ e. IsValueOf g.T.Scalar.domain (mul xv e.1)) (first_entries tv i cs vs) (q, tv y) c.row.invariant.of_domain of);

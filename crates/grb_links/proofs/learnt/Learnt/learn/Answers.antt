@@ -1,4 +1,4 @@
-use Rattle.std.proofs.Common.{◌≡◌, ℕ, ◌≤◌, arith, ap, subst, ◌++◌, ◌∷◌, [], List, length, ◌∙◌}
+use Rattle.std.proofs.Common.{◌≡◌, ℕ, ◌≤◌, arith, ap, subst, ◌++◌, [], ◌∷◌, List, length, ◌∙◌}
 use Rattle.grb_links.specs.declared.node.Node.{Node}
 use Rattle.grb_links.specs.declared.shape.Shape.{Shape}
 use Rattle.grb_links.specs.Overwrites.{shape_noted}

@@ -1,5 +1,4 @@
-use Prim.{search}
-use Rattle.std.proofs.Common.{rules, ◌≡◌, ◌<◌, ◌≤◌, length, sym, refl, ap, ◌∙◌, arith}
+use Rattle.std.proofs.Common.{◌≡◌, ◌<◌, ◌≤◌, length, sym, refl, ap, ◌∙◌, arith}
 use Rattle.grb_order.specs.declared.standing.Standing.{Standing}
 use Rattle.grb_order.proofs.Steps.{looks}
 use Rattle.grb_order.proofs.Seats.{seated_vacant, seated_learns, moved}
@@ -40,6 +39,3 @@ returns-then-found-eq0-clause-sound c = (invariant_of-seat c).sound
 
 pub returns-clause-sound : goal.returns-clause-sound
 returns-clause-sound c = (invariant_of-seat-2 c).sound
-
-pub returns-clause-look : goal.returns-clause-look
-returns-clause-look c = search rules

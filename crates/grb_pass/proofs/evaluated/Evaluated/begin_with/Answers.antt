@@ -1,9 +1,5 @@
 use Rattle.std.proofs.Common.{sym, ap, subst, ◌∙◌}
-use Rattle.grb_call.specs.History.{calls_of, store_of}
-use Rattle.grb_results.specs.Kept.{IsTableOf}
-use Rattle.grb_results.specs.declared.table.Table.{Table}
-use Rattle.grb_pass.specs.Evaluated.{IsEvaluatedFor}
-use Rattle.grb_reader.specs.Known.{Knowing, known}
+use Rattle.grb_pass.proofs.Prelude.{calls_of, store_of, IsTableOf, Table, IsEvaluatedFor, Knowing, known}
 use Rattle.grb_pass.proofs.Evaluating.{evaluated_kept, ok_holds}
 use Rattle.grb_pass.proofs.evaluated.Evaluated.begin_with.Goals as goal
 

@@ -1,11 +1,6 @@
 use Rattle.std.proofs.Common.{sym, subst, ◌∙◌, arith}
-use Rattle.std.specs.Prelude.{IfSome}
+use Rattle.grb_pass.proofs.Prelude.{IfSome, calls_of, store_of, IsTableOf, Table, IsEvaluatedFor, LiesReady, known}
 use Rattle.grb_call.specs.declared.ids.Object.TheVariants as object
-use Rattle.grb_call.specs.History.{calls_of, store_of}
-use Rattle.grb_results.specs.Kept.{IsTableOf}
-use Rattle.grb_results.specs.declared.table.Table.{Table}
-use Rattle.grb_pass.specs.Evaluated.{IsEvaluatedFor, LiesReady}
-use Rattle.grb_reader.specs.Known.{known}
 use Rattle.grb_pass.proofs.Held.{lacks, lacks_unsettled, live_here, vector_live, matched, table_here}
 use Rattle.grb_pass.proofs.evaluated.Evaluated.held_vector.Goals as goal
 

@@ -1,15 +1,7 @@
 use Rattle.std.proofs.Common.{◌≡◌, ℕ, length, sym, ap, subst, ◌∙◌}
-use Rattle.std.specs.Prelude.{IfSome}
-use Rattle.grb_call.specs.History.{calls_of, store_of}
-use Rattle.grb_results.specs.Kept.{IsTableOf, MayReply, ReadsObject}
-use Rattle.grb_results.specs.Results.{IsTable}
+use Rattle.grb_pass.proofs.Prelude.{IfSome, calls_of, store_of, IsTableOf, MayReply, ReadsObject, IsTable, Table, IsEvaluatedFor, LiesReadyAfter, Knowing, known, waited_for, length-calls_of}
 use Rattle.grb_results.specs.declared.Learnt.{Learnt}
-use Rattle.grb_results.specs.declared.table.Table.{Table}
-use Rattle.grb_pass.specs.Evaluated.{IsEvaluatedFor, LiesReadyAfter}
-use Rattle.grb_reader.specs.Known.{Knowing, known}
-use Rattle.grb_reader.specs.Settled.{waited_for}
 use Rattle.grb_pass.proofs.Evaluating.{evaluated_same}
-use Rattle.grb_reader.proofs.Spelling.{length-calls_of}
 use Rattle.grb_pass.proofs.Replying.{given_err, given_ok, kept_settled, live, not_settled}
 use Rattle.grb_pass.proofs.evaluated.Evaluated.reply_of_object.Goals as goal
 

@@ -1,11 +1,5 @@
 use Rattle.std.proofs.Common.{sym, subst, ◌∙◌}
-use Rattle.grb_call.specs.History.{calls_of}
-use Rattle.grb_results.specs.Kept.{IsTableOf}
-use Rattle.grb_results.specs.Results.{IsTable}
-use Rattle.grb_results.specs.declared.table.Table.{Table}
-use Rattle.grb_pass.specs.Evaluated.{IsEvaluatedFor}
-use Rattle.grb_reader.specs.Known.{Knowing, known}
-use Rattle.grb_reader.specs.Laws.{Begins}
+use Rattle.grb_pass.proofs.Prelude.{calls_of, IsTableOf, IsTable, Table, IsEvaluatedFor, Knowing, known, Begins}
 use Rattle.grb_pass.proofs.Evaluating.{begins_on, evaluated_kept, ok_holds}
 use Rattle.grb_pass.proofs.evaluated.Evaluated.take_over.Goals as goal
 

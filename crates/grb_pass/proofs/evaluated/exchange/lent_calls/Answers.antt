@@ -1,10 +1,7 @@
 use Prim.{search}
 use Rattle.std.proofs.Common.{◌≡◌, List, [], ◌∷◌, map, rules, ap, subst, ◌∙◌}
-use Rattle.std.specs.Prelude.{Some, slice_get}
-use Rattle.std.proofs.lemmas.List.{map-append}
-use Rattle.grb_call.specs.declared.call.Call.{Call}
-use Rattle.grb_call.specs.History.{calls_of}
-use Rattle.grb_reader.specs.Known.{Knowing, known}
+use Rattle.grb_pass.proofs.Prelude.{slice_get, map-append, Call, calls_of, Knowing, known}
+use Rattle.std.specs.Prelude.{Some}
 use Rattle.grb_pass.proofs.Evaluating.{lent_next}
 use Rattle.grb_pass.proofs.evaluated.exchange.lent_calls.Goals as goal
 

@@ -1,6 +1,5 @@
 use Rattle.std.proofs.Common.{◌≡◌, ◌≤◌, length, map, take, vec_capacity}
-use Rattle.grb_call.specs.History.{calls_of}
-use Rattle.grb_reader.specs.Known.{known}
+use Rattle.grb_pass.proofs.Prelude.{calls_of, known}
 use Rattle.grb_pass.proofs.evaluated.exchange.lent_calls.Given as goal
 
 abbrev pub invariant-calls : goal.invariant-calls

@@ -1,5 +1,5 @@
 use Rattle.std.proofs.Common.{◌≤◌, length, subst}
-use Rattle.grb_reader.specs.Known.{Knowing, known}
+use Rattle.grb_pass.proofs.Prelude.{Knowing, known}
 use Rattle.grb_pass.proofs.pass.Pass.begin.Goals as goal
 
 pub returns-clause-settled : goal.returns-clause-settled

@@ -1,16 +1,10 @@
 use Rattle.std.proofs.Common.{◌≡◌, true, false, refl, sym, ap, subst, ◌∙◌}
-use Rattle.std.specs.Prelude.{Ok, Err}
-use Rattle.std.proofs.lemmas.Result.{err_from_is_err_and}
+use Rattle.grb_pass.proofs.Prelude.{Ok, Err, err_from_is_err_and, check_of, shapes_of, store_of, Knowing, known, checked_err, checked_plain, checked_build}
 use Rattle.grb_call.specs.declared.checking.Kind.{Kind}
 use Rattle.grb_call.specs.declared.checking.Kind.TheVariants.{Build}
-use Rattle.grb_call.specs.Refused.{check_of}
-use Rattle.grb_call.specs.Store.{shapes_of}
-use Rattle.grb_call.specs.History.{store_of}
 use Rattle.grb_call.proofs.Checked.{by_shapes-ok}
 use Rattle.grb_call.proofs.KindsChecked.{kind-checked}
-use Rattle.grb_reader.specs.Known.{Knowing, known}
 use Rattle.grb_reader.specs.Reading.{IsChecked}
-use Rattle.grb_reader.proofs.Checking.{checked_err, checked_plain, checked_build}
 use Rattle.grb_pass.proofs.pass.Pass.check.Goals as goal
 
 pub returns-in_err-in_bounds-clause-checked : goal.returns-in_err-in_bounds-clause-checked

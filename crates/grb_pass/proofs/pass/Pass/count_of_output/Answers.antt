@@ -1,12 +1,7 @@
 use Rattle.std.proofs.Common.{◌≡◌, ap, sym, subst, ◌∙◌}
-use Rattle.grb_call.specs.declared.call.Call.{Call}
+use Rattle.grb_pass.proofs.Prelude.{Call, reply_of, store_of, known, ReadsStore, count_accepted, count_reads, count_replied}
 use Rattle.grb_call.specs.declared.reply.Reply.TheVariants.{Count}
-use Rattle.grb_call.specs.After.{reply_of}
-use Rattle.grb_call.specs.History.{store_of}
-use Rattle.grb_reader.specs.Known.{known}
 use Rattle.grb_reader.specs.Reading.{count_of_output}
-use Rattle.grb_reader.specs.Replying.{ReadsStore}
-use Rattle.grb_reader.proofs.Checking.{count_accepted, count_reads, count_replied}
 use Rattle.grb_pass.proofs.pass.Pass.count_of_output.Goals as goal
 
 pub reply_of_entries-requires-clause-call : goal.reply_of_entries-requires-clause-call

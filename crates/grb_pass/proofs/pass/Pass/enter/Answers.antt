@@ -1,9 +1,6 @@
 use Rattle.std.proofs.Common.{◌≡◌, length, sym, subst, arith}
-use Rattle.grb_order.specs.Order.{room_of}
-use Rattle.grb_reader.specs.Known.{Knowing}
-use Rattle.grb_reader.specs.Cells.{OwnBelow}
+use Rattle.grb_pass.proofs.Prelude.{room_of, Knowing, OwnBelow, own_tried}
 use Rattle.grb_pass.proofs.Evaluating.{in_step_tried}
-use Rattle.grb_reader.proofs.Cells.{own_tried}
 use Rattle.grb_pass.proofs.pass.Pass.enter.Goals as goal
 
 pub invariant_of-self : goal.invariant_of-self

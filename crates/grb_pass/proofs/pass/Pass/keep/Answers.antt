@@ -1,6 +1,5 @@
 use Rattle.std.proofs.Common.{◌∙◌, ap}
-use Rattle.grb_reader.specs.Known.{Knowing}
-use Rattle.grb_reader.specs.Replying.{statuses_with}
+use Rattle.grb_pass.proofs.Prelude.{Knowing, statuses_with}
 use Rattle.grb_pass.proofs.pass.Pass.keep.Goals as goal
 
 pub returns-clause-statuses : goal.returns-clause-statuses

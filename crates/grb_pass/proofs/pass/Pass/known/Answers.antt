@@ -1,5 +1,5 @@
 use Rattle.std.proofs.Common.{length, ap, ◌∙◌}
-use Rattle.grb_reader.specs.Known.{Knowing, known}
+use Rattle.grb_pass.proofs.Prelude.{Knowing, known}
 use Rattle.grb_pass.proofs.pass.Pass.known.Goals as goal
 
 pub returns : goal.returns

@@ -1,11 +1,6 @@
 use Rattle.std.proofs.Common.{◌≡◌, ap, sym, subst, ◌∙◌}
-use Rattle.std.specs.Prelude.{IfSome}
-use Rattle.grb_order.specs.Order.{room_of}
+use Rattle.grb_pass.proofs.Prelude.{IfSome, room_of, Table, OwnBelow, LiesReady, Knowing, new_pass}
 use Rattle.grb_order.specs.declared.view.View.{View}
-use Rattle.grb_results.specs.declared.table.Table.{Table}
-use Rattle.grb_reader.specs.Cells.{OwnBelow}
-use Rattle.grb_pass.specs.Evaluated.{LiesReady}
-use Rattle.grb_reader.specs.Known.{Knowing, new_pass}
 use Rattle.grb_pass.proofs.Evaluating.{evaluated_opened}
 use Rattle.grb_pass.proofs.pass.Pass.open.Goals as goal
 

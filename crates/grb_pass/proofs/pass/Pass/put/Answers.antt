@@ -1,12 +1,6 @@
-use Prim.{search}
-use Rattle.std.proofs.Common.{rules, subst, arith}
-use Rattle.grb_reader.specs.Cells.{OwnBelow}
-use Rattle.grb_reader.specs.Known.{Knowing}
-use Rattle.grb_reader.proofs.Cells.{fresh_put, own_wider, small_put}
+use Rattle.std.proofs.Common.{subst, arith}
+use Rattle.grb_pass.proofs.Prelude.{OwnBelow, Knowing, fresh_put, own_wider, small_put}
 use Rattle.grb_pass.proofs.pass.Pass.put.Goals as goal
-
-pub returns-clause-put : goal.returns-clause-put
-returns-clause-put c = search rules
 
 pub returns-clause-fresh : goal.returns-clause-fresh
 returns-clause-fresh c =

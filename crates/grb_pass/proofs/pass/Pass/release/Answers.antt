@@ -1,11 +1,5 @@
 use Rattle.std.proofs.Common.{◌≡◌, ap, sym, subst, ◌∙◌}
-use Rattle.std.specs.Prelude.{IfSome}
-use Rattle.grb_call.specs.History.{calls_of}
-use Rattle.grb_results.specs.Results.{IsTable}
-use Rattle.grb_results.specs.declared.table.Table.{Table}
-use Rattle.grb_reader.specs.Cells.{OwnBelow}
-use Rattle.grb_pass.specs.Evaluated.{LiesReady}
-use Rattle.grb_reader.specs.Known.{Knowing, Making, known, none_made}
+use Rattle.grb_pass.proofs.Prelude.{IfSome, calls_of, IsTable, Table, OwnBelow, LiesReady, Knowing, Making, known, none_made}
 use Rattle.grb_pass.proofs.Evaluating.{evaluated_released, table_begun}
 use Rattle.grb_pass.proofs.pass.Pass.release.Goals as goal
 

@@ -1,6 +1,5 @@
 use Rattle.std.proofs.Common.{subst}
-use Rattle.grb_reader.specs.Cells.{OwnBelow}
-use Rattle.grb_reader.specs.Known.{Knowing}
+use Rattle.grb_pass.proofs.Prelude.{OwnBelow, Knowing}
 use Rattle.grb_pass.proofs.pass.Pass.words.Goals as goal
 
 pub returns-clause-own : goal.returns-clause-own

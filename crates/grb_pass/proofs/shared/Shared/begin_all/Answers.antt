@@ -1,11 +1,8 @@
 use Rattle.std.proofs.Common.{◌≡◌, ◌+◌, ℕ, ◌∷◌, length, sym, ap, subst, ◌∙◌, arith}
-use Rattle.grb_call.specs.Store.{empty_store}
-use Rattle.grb_call.specs.History.{after_all}
-use Rattle.grb_rebuild.specs.Rebuilt.{AreTaken}
+use Rattle.grb_pass.proofs.Prelude.{empty_store, after_all, AreTaken, Knowing, known, AreBegun, IsOpened}
 use Rattle.grb_rebuild.proofs.Rebuilding.{rebuild_leaves_the_store}
 use Rattle.grb_rebuild.proofs.Taken.{rebuild_is_taken}
-use Rattle.grb_reader.specs.Known.{Knowing, known}
-use Rattle.grb_pass.specs.Succeeding.{AreBegun, IsOpened, made_by}
+use Rattle.grb_pass.specs.Succeeding.{made_by}
 use Rattle.grb_pass.proofs.Succeeding.{all_begun, are_begun, inserted_first, new_first, new_opened, removed_rest}
 use Rattle.grb_pass.proofs.shared.Shared.begin_all.Goals as goal
 use Rattle.grb_pass.proofs.shared.Shared.begin_all.Goals.{In-Ok}

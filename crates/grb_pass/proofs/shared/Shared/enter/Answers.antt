@@ -1,5 +1,5 @@
 use Rattle.std.proofs.Common.{◌≡◌, true, false, sym, ap, ◌∙◌}
-use Rattle.grb_reader.specs.Known.{Knowing, Making}
+use Rattle.grb_pass.proofs.Prelude.{Knowing, Making}
 use Rattle.grb_pass.proofs.Making.{entered_none}
 use Rattle.grb_pass.proofs.Promised.{answered, pass_kept}
 use Rattle.grb_pass.proofs.Settling.{entered_ready, settled_entered}

@@ -1,9 +1,5 @@
 use Rattle.std.proofs.Common.{◌≡◌, List, [], ◌∷◌, ◌++◌, sym, ap, subst, ◌∙◌, append_assoc}
-use Rattle.grb_call.specs.declared.call.Call.{Call}
-use Rattle.grb_call.specs.Store.{Store}
-use Rattle.grb_call.specs.History.{History, store_of}
-use Rattle.grb_rebuild.specs.Rebuilt.{AreTaken}
-use Rattle.grb_reader.specs.Known.{known}
+use Rattle.grb_pass.proofs.Prelude.{Call, Store, History, store_of, AreTaken, known}
 use Rattle.grb_pass.specs.Succeeding.{made_by}
 use Rattle.grb_pass.proofs.Succeeding.{store_of-push}
 use Rattle.grb_pass.proofs.shared.Shared.enter_all.Goals as goal

@@ -1,7 +1,5 @@
 use Rattle.std.proofs.Common.{◌≡◌, ◌++◌}
-use Rattle.grb_call.specs.History.{store_of}
-use Rattle.grb_rebuild.specs.Rebuilt.{AreTaken}
-use Rattle.grb_reader.specs.Known.{IsPassOf, known}
+use Rattle.grb_pass.proofs.Prelude.{store_of, AreTaken, IsPassOf, known}
 use Rattle.grb_pass.specs.Succeeding.{made_by}
 use Rattle.grb_pass.proofs.shared.Shared.enter_all.Given as goal
 

@@ -1,15 +1,5 @@
 use Rattle.std.proofs.Common.{◌≡◌, false, sym, ap, subst, ◌∙◌}
-use Rattle.std.specs.Prelude.{Err}
-use Rattle.std.proofs.lemmas.Result.{err_from_is_err_and}
-use Rattle.grb_order.specs.Order.{room_of}
-use Rattle.grb_call.specs.declared.call.Call.{Call}
-use Rattle.grb_call.specs.Kinds.{is_build}
-use Rattle.grb_reader.specs.Known.{Knowing}
-use Rattle.grb_reader.specs.Counting.{CountsCall, CountsTries}
-use Rattle.grb_reader.specs.Explains.{ExplainsAnswer, IsCaughtUp, ground_of}
-use Rattle.grb_reader.proofs.Answering.{refused_put, explains_refused, explains_before}
-use Rattle.grb_reader.proofs.Counted.{counts_looked, counts_tried}
-use Rattle.grb_reader.proofs.Rising.{looks_ready}
+use Rattle.grb_pass.proofs.Prelude.{Err, err_from_is_err_and, room_of, Call, is_build, Knowing, CountsCall, CountsTries, ExplainsAnswer, IsCaughtUp, ground_of, refused_put, explains_refused, explains_before, counts_looked, counts_tried, looks_ready}
 use Rattle.grb_pass.proofs.shared.Shared.enter_record.Goals as goal
 
 pub returns-in_err-ready-clause-counts : goal.returns-in_err-ready-clause-counts

@@ -1,25 +1,8 @@
 use Rattle.std.proofs.Common.{◌≡◌, ◌^◌, ◌<◌, ◌≤◌, false, None, refl, sym, subst, ap, arith, ◌∙◌}
-use Rattle.std.proofs.lemmas.Result.{err_from_is_err_and}
+use Rattle.grb_pass.proofs.Prelude.{err_from_is_err_and, TableId, room_of, Shown, IsOf, Call, is_build, refused_by_shapes, shapes_of, reply_of, store_of, Knowing, known, IsRefused, Learns, OwnBelow, unrefused_by_shapes, learns_refl, learns_then, pass_push, explains_refused, explains_won, known_entered, learns_lost, refused_before, counts_then, counts_same, counts_won, counts_lost, lost_again, steps_near, steps_lost, tried_none, own_learns, own_lost}
 use Rattle.grb_order.specs.declared.limits.TheConstants.{MOST_ROOM}
 use Rattle.grb_order.specs.Word.{order_word}
-use Rattle.grb_order.specs.Holding.{TableId}
-use Rattle.grb_order.specs.Order.{room_of}
-use Rattle.grb_records.specs.Token.{Shown, IsOf}
-use Rattle.grb_call.specs.declared.call.Call.{Call}
-use Rattle.grb_call.specs.Kinds.{is_build}
-use Rattle.grb_call.specs.Refused.{refused_by_shapes}
-use Rattle.grb_call.specs.Store.{shapes_of}
-use Rattle.grb_call.specs.After.{reply_of}
-use Rattle.grb_call.specs.History.{store_of}
-use Rattle.grb_reader.specs.Known.{Knowing, known}
-use Rattle.grb_reader.specs.Learning.{IsReady, IsRefused, Learns}
-use Rattle.grb_reader.specs.Cells.{OwnBelow}
-use Rattle.grb_reader.proofs.Checking.{unrefused_by_shapes}
-use Rattle.grb_reader.proofs.Learnt.{learns_refl, learns_then, pass_push}
-use Rattle.grb_reader.proofs.Answering.{explains_refused, explains_won, known_entered, learns_lost, refused_before}
-use Rattle.grb_reader.proofs.Counted.{counts_then, counts_same, counts_won, counts_lost, lost_again, steps_near, steps_lost}
-use Rattle.grb_reader.proofs.Rising.{tried_none}
-use Rattle.grb_reader.proofs.Cells.{own_learns, own_lost}
+use Rattle.grb_reader.specs.Learning.{IsReady}
 use Rattle.grb_pass.proofs.shared.Shared.enter_token.Goals as goal
 
 pub tries-init : goal.tries-init

@@ -1,13 +1,7 @@
 use Rattle.std.proofs.Common.{◌≡◌, ◌<◌, ◌≤◌, ◌-◌, ◌^◌, false, length}
 use Rattle.grb_order.specs.declared.limits.TheConstants.{MOST_ROOM}
-use Rattle.grb_order.specs.Order.{room_of}
-use Rattle.grb_records.specs.Token.{IsOf}
-use Rattle.grb_call.specs.Kinds.{is_build}
-use Rattle.grb_reader.specs.Known.{IsPassOf}
-use Rattle.grb_reader.specs.Counting.{Counts}
-use Rattle.grb_reader.specs.Learning.{IsReady, Learns}
-use Rattle.grb_reader.specs.Cells.{OwnBelow}
-use Rattle.grb_reader.proofs.Counted.{AreLost}
+use Rattle.grb_pass.proofs.Prelude.{room_of, IsOf, is_build, IsPassOf, Counts, Learns, OwnBelow, AreLost}
+use Rattle.grb_reader.specs.Learning.{IsReady}
 use Rattle.grb_pass.proofs.shared.Shared.enter_token.Given as goal
 
 abbrev pub invariant-tries : goal.invariant-tries

@@ -1,9 +1,5 @@
 use Rattle.std.proofs.Common.{◌∙◌, subst}
-use Rattle.std.specs.List.{All}
-use Rattle.grb_order.specs.Order.{room_of}
-use Rattle.grb_records.specs.Token.{IsOf}
-use Rattle.grb_reader.specs.Known.{Shared}
-use Rattle.grb_reader.specs.Learning.{Finds, LooksAtEnd}
+use Rattle.grb_pass.proofs.Prelude.{All, room_of, IsOf, Shared, Finds, LooksAtEnd}
 use Rattle.grb_pass.proofs.shared.Shared.learn.Goals as goal
 
 pub returns-clause-pass : goal.returns-clause-pass

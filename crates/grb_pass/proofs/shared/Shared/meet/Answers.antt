@@ -1,7 +1,5 @@
 use Rattle.std.proofs.Common.{◌≡◌, ap, sym, subst, ◌∙◌}
-use Rattle.std.specs.List.{All}
-use Rattle.grb_records.specs.Token.{IsOf}
-use Rattle.grb_reader.specs.Known.{Shared, Knowing, none_made}
+use Rattle.grb_pass.proofs.Prelude.{All, IsOf, Shared, Knowing, none_made}
 use Rattle.grb_reader.specs.Meeting.{Met}
 use Rattle.grb_reader.proofs.Counted.{begun}
 use Rattle.grb_reader.proofs.Meeting.{met_begun}

@@ -1,6 +1,5 @@
 use Rattle.std.proofs.Common.{ap}
-use Rattle.grb_reader.specs.Known.{Knowing}
-use Rattle.grb_reader.proofs.Learnt.{pass_same}
+use Rattle.grb_pass.proofs.Prelude.{Knowing, pass_same}
 use Rattle.grb_pass.proofs.shared.Shared.prepare.Goals as goal
 
 pub returns-clause-pass : goal.returns-clause-pass

@@ -1,6 +1,5 @@
 use Rattle.std.proofs.Common.{ℕ, sym, ap, subst, ◌∙◌}
-use Rattle.grb_reader.specs.Known.{Knowing, known}
-use Rattle.grb_reader.specs.Made.{ReadsNone}
+use Rattle.grb_pass.proofs.Prelude.{Knowing, known, ReadsNone}
 use Rattle.grb_pass.proofs.Making.{read_only_none}
 use Rattle.grb_pass.proofs.Promised.{answered, pass_kept}
 use Rattle.grb_pass.proofs.shared.Shared.read.Goals as goal

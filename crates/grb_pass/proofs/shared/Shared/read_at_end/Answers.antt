@@ -1,19 +1,7 @@
 use Rattle.std.proofs.Common.{◌≡◌, length, subst, sym, ap, ◌∙◌}
-use Rattle.std.specs.Prelude.{Err, OnOk}
-use Rattle.std.proofs.lemmas.Result.{err_from_is_err_and}
-use Rattle.grb_order.specs.Order.{room_of}
-use Rattle.grb_call.specs.History.{store_of}
+use Rattle.grb_pass.proofs.Prelude.{Err, OnOk, err_from_is_err_and, room_of, store_of, Knowing, Making, known, CountsCall, LooksOnce, Answer, ExplainsAnswer, IsCaughtUp, ground_of, IsRefused, IsSteady, LeavesReady, settled_after, counts_alike, steady_alike, refused_by_check, explains_refused, explains_evaluated, known_evaluated, counts_looked, looks_once, pass_same}
 use Rattle.grb_call.proofs.Checked.{by_shapes-ok}
-use Rattle.grb_reader.specs.Known.{Knowing, Making, known}
-use Rattle.grb_reader.specs.Counting.{CountsCall, LooksOnce}
-use Rattle.grb_reader.specs.Explains.{Answer, ExplainsAnswer, IsCaughtUp, ground_of}
-use Rattle.grb_reader.specs.Learning.{IsRefused, IsSteady}
-use Rattle.grb_reader.specs.Settled.{LeavesReady, settled_after}
-use Rattle.grb_reader.proofs.Alike.{counts_alike, steady_alike}
-use Rattle.grb_reader.proofs.Answering.{refused_by_check, explains_refused, explains_evaluated, known_evaluated}
-use Rattle.grb_reader.proofs.Counted.{counts_looked, looks_once}
 use Rattle.grb_pass.proofs.Evaluating.{state_learns}
-use Rattle.grb_reader.proofs.Learnt.{pass_same}
 use Rattle.grb_pass.proofs.Making.{read_none}
 use Rattle.grb_pass.proofs.Settling.{ready_or, settled_read}
 use Rattle.grb_pass.proofs.shared.Shared.read_at_end.Goals as goal

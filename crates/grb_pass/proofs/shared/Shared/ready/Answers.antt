@@ -1,16 +1,7 @@
-use Prim.{search}
-use Rattle.std.proofs.Common.{rules, sym, ap, subst, ◌∙◌}
-use Rattle.std.specs.Prelude.{Ok}
-use Rattle.std.proofs.lemmas.Result.{err_from_is_err_and}
-use Rattle.grb_core.specs.declared.refusal.Refusal.TheVariants.{OrderFull}
-use Rattle.grb_order.specs.Order.{room_of}
-use Rattle.grb_order.specs.View.{LookedLast}
+use Rattle.std.proofs.Common.{sym, ap, subst, ◌∙◌}
+use Rattle.grb_pass.proofs.Prelude.{Ok, err_from_is_err_and, OrderFull, room_of, LookedLast, Knowing, Finds, IsRefused, IsAtEnd, at_end_after, ready_after, refused_after, refused_checked, refused_by_room}
 use Rattle.grb_reader.specs.declared.learn.End.{End}
 use Rattle.grb_reader.specs.declared.learn.End.TheVariants.{Vacant}
-use Rattle.grb_reader.specs.Known.{Knowing}
-use Rattle.grb_reader.specs.Learning.{Finds, IsRefused}
-use Rattle.grb_reader.proofs.Alike.{IsAtEnd, at_end_after, ready_after, refused_after}
-use Rattle.grb_reader.proofs.Answering.{refused_checked, refused_by_room}
 use Rattle.grb_pass.proofs.Evaluating.{state_learns}
 use Rattle.grb_pass.proofs.shared.Shared.ready.Goals as goal
 
@@ -106,9 +97,6 @@ returns-in-Full-clause-refused c =
     let f = subst (λ (end : End). Finds room c.pass.inside.reader (Ok end) mid) c.in-Full.is c.in_ok-end.ensures.finds in
     subst (λ (old : Knowing). IsRefused room old c.check.new.self call OrderFull) c.pass.view_is
     (refused_after c.args.self.now room c.pass.inside.reader mid c.check.new.self c.check.ensures.same call OrderFull (refused_by_room room c.pass.inside.reader mid call f c.requires.enters c.in_ok-check.ensures.checked))
-
-pub returns-in-Vacant-clause-refused : goal.returns-in-Vacant-clause-refused
-returns-in-Vacant-clause-refused c = search rules
 
 pub invariant_of-pass : goal.invariant_of-pass
 invariant_of-pass c =

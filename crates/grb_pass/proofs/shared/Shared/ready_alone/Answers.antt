@@ -1,5 +1,5 @@
 use Rattle.std.proofs.Common.{sym, ap, ◌∙◌}
-use Rattle.grb_reader.specs.Known.{Knowing}
+use Rattle.grb_pass.proofs.Prelude.{Knowing}
 use Rattle.grb_pass.proofs.Evaluating.{state_learns}
 use Rattle.grb_pass.proofs.shared.Shared.ready_alone.Goals as goal
 

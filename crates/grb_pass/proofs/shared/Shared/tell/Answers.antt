@@ -1,5 +1,5 @@
 use Rattle.std.proofs.Common.{length, sym, ap, ◌∙◌}
-use Rattle.grb_reader.specs.Known.{Knowing, known}
+use Rattle.grb_pass.proofs.Prelude.{Knowing, known}
 use Rattle.grb_pass.proofs.Succeeding.{begins_whole}
 use Rattle.grb_pass.proofs.shared.Shared.tell.Goals as goal
 

@@ -1,7 +1,6 @@
 use Rattle.std.proofs.Common.{◌≡◌, ℕ, ◌+◌, ◌<◌, length}
-use Rattle.std.specs.Prelude.{Some, slice_get}
-use Rattle.grb_reader.specs.Known.{Knowing, known}
-use Rattle.grb_pass.specs.Succeeding.{IsOpenedWith}
+use Rattle.grb_pass.proofs.Prelude.{slice_get, Knowing, known, IsOpenedWith}
+use Rattle.std.specs.Prelude.{Some}
 use Rattle.grb_pass.proofs.shared.Shared.tell_all.Given as goal
 
 abbrev pub invariant-others : goal.invariant-others

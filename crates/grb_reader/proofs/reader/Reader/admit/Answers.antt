@@ -1,6 +1,5 @@
 use Rattle.std.proofs.Common.{◌≡◌, ◌<◌, length, get_or, subst, sym}
-use Rattle.grb_order.specs.Word.{number_of, index_of}
-use Rattle.grb_reader.specs.Known.{Knowing}
+use Rattle.grb_reader.proofs.Prelude.{number_of, index_of, Knowing}
 use Rattle.grb_reader.proofs.Readers.{kept_admit}
 use Rattle.grb_reader.proofs.reader.Reader.admit.Goals as goal
 

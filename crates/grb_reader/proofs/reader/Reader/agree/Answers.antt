@@ -1,7 +1,5 @@
-use Prim.{search}
-use Rattle.std.proofs.Common.{rules, ◌≡◌, ◌<◌, ◌≤◌, length, arith, sym, subst}
-use Rattle.grb_reader.specs.Known.{Knowing, known}
-use Rattle.grb_reader.specs.Meeting.{IsSameRecordAt}
+use Rattle.std.proofs.Common.{◌≡◌, ◌<◌, ◌≤◌, length, arith, sym, subst}
+use Rattle.grb_reader.proofs.Prelude.{Knowing, known, IsSameRecordAt}
 use Rattle.grb_reader.proofs.Spelling.{length_spelled}
 use Rattle.grb_reader.proofs.Meeting.{begins_known, fewer_shown, one_record}
 use Rattle.grb_reader.proofs.reader.Reader.agree.Goals as goal
@@ -36,6 +34,3 @@ returns-clause-begins c =
     let all : length (known q) ≡ length q.shown = length_spelled q.view.words q.shown r.steady_other.few in
     let over : c.known-at-end.result ≤ c.loop-at.at = c.loop-at-test.false in
     begins_known p q r.steady r.steady_other r.words r.all (λ at lt. c.loop-at.invariant.share at (omega (arith, all, lt, over, c.known-at-end.ensures.known)))
-
-pub loop-at-init : goal.loop-at-init
-loop-at-init c = search rules

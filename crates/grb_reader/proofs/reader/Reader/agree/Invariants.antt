@@ -1,5 +1,5 @@
 use Rattle.std.proofs.Common.{◌≡◌, ℕ, ◌<◌}
-use Rattle.grb_reader.specs.Meeting.{SharesCallAt}
+use Rattle.grb_reader.proofs.Prelude.{SharesCallAt}
 use Rattle.grb_reader.proofs.reader.Reader.agree.Given as goal
 
 abbrev pub invariant-loop-at : goal.invariant-loop-at

@@ -1,8 +1,6 @@
-use Prim.{search}
-use Rattle.std.proofs.Common.{rules, List, refl, ap, sym, subst, ◌∙◌}
+use Rattle.std.proofs.Common.{List, refl, ap, sym, subst, ◌∙◌}
 use Rattle.std.specs.List.{All}
-use Rattle.std.proofs.lemmas.List.Elements.{All-push}
-use Rattle.grb_records.specs.Token.{IsOf, Shown}
+use Rattle.grb_reader.proofs.Prelude.{All-push, IsOf, Shown}
 use Rattle.grb_reader.proofs.Learnt.{learns_then, learns_shown, unshown_few}
 use Rattle.grb_reader.proofs.reader.Reader.catch_up.Goals as goal
 
@@ -21,6 +19,3 @@ unshown-preserved c =
       made = ap (λ p. p.made) c.admit.ensures ∙ c.unshown.invariant.made;
       learns = learns_then old mid new c.unshown.invariant.learns (learns_shown mid new token c.in-Some.word c.in-Some.ensures.next c.admit.ensures);
     }
-
-pub admit-requires-clause-index : goal.admit-requires-clause-index
-admit-requires-clause-index c = search rules

@@ -1,7 +1,6 @@
 use Rattle.std.proofs.Common.{◌≡◌, ◌-◌, length}
 use Rattle.std.specs.List.{All}
-use Rattle.grb_records.specs.Token.{IsOf}
-use Rattle.grb_reader.specs.Learning.{Learns}
+use Rattle.grb_reader.proofs.Prelude.{IsOf, Learns}
 use Rattle.grb_reader.proofs.reader.Reader.catch_up.Given as goal
 
 abbrev pub invariant-unshown : goal.invariant-unshown

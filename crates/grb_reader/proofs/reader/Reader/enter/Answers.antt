@@ -1,13 +1,5 @@
-use Rattle.std.proofs.lemmas.Grind.{common_steps}
-use Prim.{grind}
-use Rattle.std.proofs.Common.{◌≡◌, None, length, subst, sym, ap, ◌∙◌, arith}
-use Rattle.grb_order.specs.Word.{order_word}
-use Rattle.grb_order.specs.View.{enters_word}
-use Rattle.grb_call.specs.Refused.{refused_by_shapes}
-use Rattle.grb_call.specs.Shapes.{ObjectShapes}
-use Rattle.grb_call.specs.Store.{shapes_of}
-use Rattle.grb_call.specs.History.{store_of}
-use Rattle.grb_reader.specs.Known.{Knowing, known}
+use Rattle.std.proofs.Common.{◌≡◌, None, length, subst, sym, ap, ◌∙◌}
+use Rattle.grb_reader.proofs.Prelude.{order_word, enters_word, refused_by_shapes, ObjectShapes, shapes_of, store_of, Knowing, known}
 use Rattle.grb_reader.proofs.Readers.{kept_won, kept_lost, kept_order, sound_order, steady}
 use Rattle.grb_reader.proofs.reader.Reader.enter.Goals as goal
 
@@ -42,9 +34,3 @@ returns-in-Won-clause-steady c = steady _ _ _ _ _ _ (invariant_of-self c) _ _ _ 
 
 pub returns-in-Lost-clause-steady : goal.returns-in-Lost-clause-steady
 returns-in-Lost-clause-steady c = steady _ _ _ _ _ _ (invariant_of-self-in-Lost c) _ _ _ _
-
-pub returns-in-Lost-clause-counts : goal.returns-in-Lost-clause-counts
-returns-in-Lost-clause-counts c = grind (arith, common_steps)
-
-pub returns-in-Won-clause-counts : goal.returns-in-Won-clause-counts
-returns-in-Won-clause-counts c = grind (arith, common_steps)

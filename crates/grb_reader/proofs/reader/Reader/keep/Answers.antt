@@ -1,8 +1,6 @@
 use Rattle.std.proofs.Common.{◌≡◌, ap, ◌∙◌}
-use Rattle.grb_order.specs.Order.{room_of}
+use Rattle.grb_reader.proofs.Prelude.{room_of, Knowing, status_at}
 use Rattle.grb_call.specs.Status.{with_status}
-use Rattle.grb_reader.specs.Known.{Knowing}
-use Rattle.grb_call.specs.Statuses.{status_at}
 use Rattle.grb_reader.proofs.reader.Reader.keep.Goals as goal
 
 pub returns-clause-statuses : goal.returns-clause-statuses

@@ -1,6 +1,5 @@
 use Rattle.std.proofs.Common.{◌≤◌, length, sym, ap, subst, ◌∙◌, arith}
-use Rattle.grb_order.specs.Order.{room_of}
-use Rattle.grb_reader.specs.Known.{Knowing, known}
+use Rattle.grb_reader.proofs.Prelude.{room_of, Knowing, known}
 use Rattle.grb_reader.proofs.Spelling.{length_spelled}
 use Rattle.grb_reader.proofs.reader.Reader.known.Goals as goal
 

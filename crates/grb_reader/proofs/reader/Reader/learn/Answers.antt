@@ -1,9 +1,6 @@
-use Prim.{search}
-use Rattle.std.proofs.Common.{rules, ◌≡◌, List, [], ◌∷◌, ◌++◌, length, inl, inr, sym, ap, subst, arith, ◌∙◌}
+use Rattle.std.proofs.Common.{◌≡◌, List, [], ◌∷◌, ◌++◌, length, inl, inr, sym, ap, subst, arith, ◌∙◌}
 use Rattle.std.specs.List.{All}
-use Rattle.grb_order.specs.declared.view.View.{View}
-use Rattle.grb_records.specs.Token.{IsOf, Shown}
-use Rattle.grb_reader.specs.Learning.{Learns}
+use Rattle.grb_reader.proofs.Prelude.{View, IsOf, Shown, Learns}
 use Rattle.grb_reader.proofs.Answering.{length_known}
 use Rattle.grb_reader.proofs.Counted.{counts_same, counts_then, steps_few}
 use Rattle.grb_reader.proofs.Learnt.{learns_then, learns_word, learns_vacant, learns_same}
@@ -58,9 +55,6 @@ returns-in-Full-clause-learns c =
     let old = c.args.self.now in let p = c.catch_up.new.self in let q = c.look.new.self in
     let first : Learns old p = learns_then old _ p c.words.invariant.learns c.catch_up.ensures.learns in
     learns_then old p q first (learns_same p q c.catch_up.ensures.steady.few c.look.ensures.shown c.look.ensures.statuses c.look.ensures.settled c.in-Full.ensures.look.0)
-
-pub returns-in-Full-clause-finds : goal.returns-in-Full-clause-finds
-returns-in-Full-clause-finds c = search rules
 
 pub returns-in_err-catch_up-clause-made : goal.returns-in_err-catch_up-clause-made
 returns-in_err-catch_up-clause-made c = c.catch_up.ensures.made ∙ c.words.invariant.made

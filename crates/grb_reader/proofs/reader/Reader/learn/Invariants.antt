@@ -1,9 +1,6 @@
 use Rattle.std.proofs.Common.{◌≡◌, ◌-◌, length}
 use Rattle.std.specs.List.{All}
-use Rattle.grb_order.specs.Order.{room_of}
-use Rattle.grb_records.specs.Token.{IsOf}
-use Rattle.grb_reader.specs.Counting.{Counts}
-use Rattle.grb_reader.specs.Learning.{Learns}
+use Rattle.grb_reader.proofs.Prelude.{room_of, IsOf, Counts, Learns}
 use Rattle.grb_reader.proofs.reader.Reader.learn.Given as goal
 
 abbrev pub invariant-words : goal.invariant-words

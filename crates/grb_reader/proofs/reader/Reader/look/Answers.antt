@@ -1,6 +1,5 @@
 use Rattle.std.proofs.Common.{◌≡◌, ◌+◌, sym, ap, subst, arith, ◌∙◌}
-use Rattle.grb_reader.specs.Counting.{look_steps, steps_of}
-use Rattle.grb_reader.specs.Known.{Knowing}
+use Rattle.grb_reader.proofs.Prelude.{look_steps, steps_of, Knowing}
 use Rattle.grb_reader.proofs.Counted.{counts_look}
 use Rattle.grb_reader.proofs.Readers.{kept_look, kept_order, sound_order, steady}
 use Rattle.grb_reader.proofs.reader.Reader.look.Goals as goal

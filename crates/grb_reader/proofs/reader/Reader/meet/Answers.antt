@@ -1,11 +1,7 @@
 use Rattle.std.proofs.Common.{List, sym, subst, ◌∙◌}
 use Rattle.std.specs.List.{All}
-use Rattle.std.specs.Prelude.{Err, Ok}
+use Rattle.grb_reader.proofs.Prelude.{Err, Ok, IsOf, Shown, Shared, Knowing, known, IsPassOf, Begins, Met}
 use Rattle.std.proofs.lemmas.Result.{err_from_is_err_and}
-use Rattle.grb_records.specs.Token.{IsOf, Shown}
-use Rattle.grb_reader.specs.Known.{Shared, Knowing, known, IsPassOf}
-use Rattle.grb_reader.specs.Laws.{Begins}
-use Rattle.grb_reader.specs.Meeting.{Met}
 use Rattle.grb_reader.proofs.Answering.{length_known}
 use Rattle.grb_reader.proofs.Meeting.{met}
 use Rattle.grb_reader.proofs.reader.Reader.meet.Goals as goal

@@ -1,6 +1,5 @@
 use Rattle.std.proofs.Common.{◌≡◌, ℕ, ◌<◌, length, get_or, sym, ap, subst, ◌∙◌, arith}
-use Rattle.grb_reader.specs.Known.{Knowing}
-use Rattle.grb_reader.specs.Learning.{IsNextUnshown}
+use Rattle.grb_reader.proofs.Prelude.{Knowing, IsNextUnshown}
 use Rattle.grb_reader.proofs.Readers.{next_is}
 use Rattle.grb_reader.proofs.reader.Reader.next_unshown.Goals as goal
 

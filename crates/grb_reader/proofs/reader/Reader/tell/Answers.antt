@@ -1,5 +1,5 @@
 use Rattle.std.proofs.Common.{◌≡◌, sym, ap, subst, ◌∙◌}
-use Rattle.grb_reader.specs.Learning.{IsSteady}
+use Rattle.grb_reader.proofs.Prelude.{IsSteady}
 use Rattle.grb_reader.proofs.Readers.{kept_told, steady}
 use Rattle.grb_reader.proofs.reader.Reader.tell.Goals as goal
 

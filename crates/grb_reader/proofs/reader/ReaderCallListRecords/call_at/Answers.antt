@@ -1,11 +1,6 @@
 use Rattle.std.proofs.Common.{◌≡◌, ◌<◌, length, sym, ap, subst, ◌∙◌, arith}
-use Rattle.std.specs.Prelude.{All, Some, slice_get}
-use Rattle.std.proofs.lemmas.List.Elements.{All-get_or}
-use Rattle.grb_records.specs.Token.{IsOf}
-use Rattle.grb_call.specs.declared.call.Call.{Call}
-use Rattle.grb_call.specs.History.{calls_of}
-use Rattle.grb_reader.specs.Known.{Knowing, known}
-use Rattle.grb_reader.specs.Reading.{knowing}
+use Rattle.grb_reader.proofs.Prelude.{slice_get, All-get_or, IsOf, Call, calls_of, Knowing, known, knowing}
+use Rattle.std.specs.Prelude.{All, Some}
 use Rattle.grb_reader.proofs.Spelling.{call_known, known_within, length-calls_of}
 use Rattle.grb_reader.proofs.reader.ReaderCallListRecords.call_at.Goals as goal
 

@@ -1,6 +1,6 @@
 use Rattle.std.proofs.Common.{ℕ, ◌<◌}
 use Rattle.grb_call.specs.declared.ids.Object.TheVariants as object
-use Rattle.grb_results.specs.Settling.{IsReadyIfThere}
+use Rattle.grb_results.proofs.Prelude.{IsReadyIfThere}
 use Rattle.grb_results.proofs.table.Table.are_matrices_ready.Given as goal
 
 abbrev pub invariant-loop-n : goal.invariant-loop-n

@@ -1,6 +1,5 @@
 use Rattle.std.proofs.Common.{◌≡◌, length, List}
-use Rattle.grb_call.specs.declared.call.Call.{Call}
-use Rattle.grb_results.specs.Results.{IsTable}
+use Rattle.grb_results.proofs.Prelude.{Call, IsTable}
 use Rattle.grb_results.proofs.table.Table.assemble_read.Given as goal
 
 abbrev pub invariant-links : goal.invariant-links

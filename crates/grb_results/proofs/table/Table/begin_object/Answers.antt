@@ -1,6 +1,5 @@
 use Rattle.std.proofs.Common.{◌-◌, Option, subst, arith}
-use Rattle.grb_state.specs.SharedContent.{IsThere}
-use Rattle.grb_state.specs.declared.shared_content.SharedContent.{SharedContent}
+use Rattle.grb_results.proofs.Prelude.{IsThere, SharedContent}
 use Rattle.grb_results.proofs.Rebuilt.{begun}
 use Rattle.grb_results.proofs.table.Table.begin_object.Goals as goal
 

@@ -1,4 +1,4 @@
-use Rattle.grb_results.specs.Exchanged.{Begins}
+use Rattle.grb_results.proofs.Prelude.{Begins}
 use Rattle.grb_results.proofs.table.Table.begin_with.Given as goal
 
 abbrev pub invariant-objects : goal.invariant-objects

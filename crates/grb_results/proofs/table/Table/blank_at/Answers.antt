@@ -1,6 +1,5 @@
 use Rattle.std.proofs.Common.{Some, sym, ap, ◌∙◌}
-use Rattle.std.specs.Option.{option_map}
-use Rattle.grb_links.specs.Overwrites.{blank_of}
+use Rattle.grb_results.proofs.Prelude.{option_map, blank_of}
 use Rattle.grb_results.proofs.Making.{if_ok, some_of}
 use Rattle.grb_results.proofs.table.Table.blank_at.Goals as goal
 

@@ -1,5 +1,5 @@
 use Rattle.std.proofs.Common.{◌<◌, arith, length, List}
-use Rattle.grb_call.specs.declared.call.Call.{Call}
+use Rattle.grb_results.proofs.Prelude.{Call}
 use Rattle.grb_results.proofs.BlankResults.{cleared_result}
 use Rattle.grb_results.proofs.Making.{if_ok, some_of}
 use Rattle.grb_results.proofs.table.Table.cleared_at.Goals as goal

@@ -1,6 +1,5 @@
 use Rattle.std.proofs.Common.{◌<◌, arith, length, List}
-use Rattle.grb_call.specs.declared.call.Call.{Call}
-use Rattle.grb_links.specs.Learnt.{contents_after}
+use Rattle.grb_results.proofs.Prelude.{Call, contents_after}
 use Rattle.grb_results.proofs.Frame.{result_is}
 use Rattle.grb_results.proofs.Making.{if_ok, some_of}
 use Rattle.grb_results.proofs.table.Table.computed_at.Goals as goal

@@ -1,6 +1,5 @@
 use Rattle.std.proofs.Common.{◌<◌, arith, length, List}
-use Rattle.grb_call.specs.declared.call.Call.{Call}
-use Rattle.grb_links.specs.Learnt.{contents_after}
+use Rattle.grb_results.proofs.Prelude.{Call, contents_after}
 use Rattle.grb_results.proofs.Frame.{edit_held, edit_may, result_is}
 use Rattle.grb_results.proofs.table.Table.edit_next.Goals as goal
 

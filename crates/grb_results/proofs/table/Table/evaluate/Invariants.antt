@@ -1,5 +1,5 @@
 use Rattle.std.proofs.Common.{◌≡◌, length, All}
-use Rattle.grb_results.specs.Results.{IsTable, IsToMake}
+use Rattle.grb_results.proofs.Prelude.{IsTable, IsToMake}
 use Rattle.grb_results.proofs.table.Table.evaluate.Given as goal
 
 abbrev pub invariant-making : goal.invariant-making

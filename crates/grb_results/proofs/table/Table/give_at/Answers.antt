@@ -1,7 +1,7 @@
 use Rattle.std.proofs.Common.{List, [], ◌∷◌, ◌++◌, ap, ◌∙◌}
 use Rattle.std.proofs.lemmas.List.Elements.{All-push, All-same}
 use Rattle.grb_results.specs.declared.exchange.Kept.{Kept}
-use Rattle.grb_results.specs.Kept.{IsKeptOf}
+use Rattle.grb_results.proofs.Prelude.{IsKeptOf}
 use Rattle.grb_results.proofs.Exchanging.{kept_of}
 use Rattle.grb_results.proofs.table.Table.give_at.Goals as goal
 

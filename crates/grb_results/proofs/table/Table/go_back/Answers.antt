@@ -1,7 +1,6 @@
 use Rattle.std.proofs.Common.{◌<◌, ◌+◌, ◌≡◌, ℕ, suc, arith, length, List, subst}
 use Rattle.std.proofs.lemmas.List.Elements.{All-push, All-same}
-use Rattle.grb_call.specs.declared.call.Call.{Call}
-use Rattle.grb_results.specs.Results.{IsToMake, LinksTo}
+use Rattle.grb_results.proofs.Prelude.{Call, IsToMake, LinksTo}
 use Rattle.grb_results.proofs.Frame.{link_leads}
 use Rattle.grb_results.proofs.table.Table.go_back.Goals as goal
 

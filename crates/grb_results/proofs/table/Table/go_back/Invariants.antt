@@ -1,5 +1,5 @@
 use Rattle.std.proofs.Common.{length, All}
-use Rattle.grb_results.specs.Results.{IsToMake}
+use Rattle.grb_results.proofs.Prelude.{IsToMake}
 use Rattle.grb_results.proofs.table.Table.go_back.Given as goal
 
 abbrev pub invariant-back : goal.invariant-back

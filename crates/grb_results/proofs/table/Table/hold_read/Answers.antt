@@ -1,5 +1,5 @@
 use Rattle.std.proofs.Common.{◌++◌, arith, take, List, ◌∙◌}
-use Rattle.grb_call.specs.declared.call.Call.{Call}
+use Rattle.grb_results.proofs.Prelude.{Call}
 use Rattle.grb_results.proofs.Frame.{agree_first, all_agree, among_at, more_agree, read_held}
 use Rattle.grb_results.proofs.Making.{some_at}
 use Rattle.grb_results.proofs.table.Table.hold_read.Goals as goal

@@ -1,10 +1,5 @@
 use Rattle.std.proofs.Common.{◌≡◌, ◌++◌, true, List, take}
-use Rattle.grb_call.specs.Store.{Store}
-use Rattle.grb_call.specs.declared.ids.Object.{Object}
-use Rattle.grb_slices.specs.Content.{content_at}
-use Rattle.grb_slices.specs.Slice.{is_among}
-use Rattle.grb_slices.specs.Steps.{AgreeOn}
-use Rattle.grb_links.specs.Learnt.{contents_after}
+use Rattle.grb_results.proofs.Prelude.{Store, Object, content_at, is_among, AgreeOn, contents_after}
 use Rattle.grb_results.proofs.table.Table.hold_read.Given as goal
 
 abbrev pub invariant-places : goal.invariant-places

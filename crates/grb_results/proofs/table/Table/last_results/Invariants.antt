@@ -1,7 +1,5 @@
 use Rattle.std.proofs.Common.{List}
-use Rattle.grb_call.specs.declared.call.Call.{Call}
-use Rattle.grb_results.specs.Kept.{AreKept}
-use Rattle.grb_results.specs.Results.{IsTable}
+use Rattle.grb_results.proofs.Prelude.{Call, AreKept, IsTable}
 use Rattle.grb_results.proofs.table.Table.last_results.Given as goal
 
 abbrev pub invariant-objects : goal.invariant-objects

@@ -1,5 +1,5 @@
 use Rattle.std.proofs.Common.{◌≡◌, ◌+◌, length}
-use Rattle.grb_results.specs.Results.{IsTable}
+use Rattle.grb_results.proofs.Prelude.{IsTable}
 use Rattle.grb_results.proofs.table.Table.learn_all.Given as goal
 
 abbrev pub invariant-calls : goal.invariant-calls

@@ -1,5 +1,5 @@
 use Rattle.std.proofs.Common.{◌-◌, arith, List, sym, ◌∙◌}
-use Rattle.grb_call.specs.declared.call.Call.{Call}
+use Rattle.grb_results.proofs.Prelude.{Call}
 use Rattle.grb_results.proofs.Frame.{last_leads}
 use Rattle.grb_results.proofs.LastKept.{last_there}
 use Rattle.grb_results.proofs.table.Table.make.Goals as goal

@@ -1,15 +1,6 @@
 use Rattle.std.proofs.Common.{◌≡◌, ◌<◌, [], false, arith, length, List, refl, sym, subst, ◌∙◌}
-use Rattle.grb_call.specs.declared.call.Call.{Call}
-use Rattle.grb_call.specs.declared.ids.Object.{Object}
-use Rattle.grb_slices.specs.Content.{content_at}
-use Rattle.grb_slices.specs.Slice.{is_among}
-use Rattle.grb_slices.specs.Steps.{AgreeOn}
-use Rattle.grb_links.specs.Overwrites.{forgets}
-use Rattle.grb_links.specs.Learnt.{contents_after}
-use Rattle.grb_links.proofs.Frame.{store_before}
+use Rattle.grb_results.proofs.Prelude.{Call, Object, content_at, is_among, AgreeOn, forgets, contents_after, store_before, needs_all, some_same}
 use Rattle.grb_results.proofs.Frame.{agree_none, not_refused, some_result}
-use Rattle.grb_links.proofs.Links.{needs_all}
-use Rattle.grb_links.proofs.Lists.{some_same}
 use Rattle.grb_results.proofs.Making.{if_ok}
 use Rattle.grb_results.proofs.table.Table.operated_on.Goals as goal
 

@@ -1,11 +1,5 @@
 use Rattle.std.proofs.Common.{◌≡◌, ◌<◌, [], ◌∷◌, Some, arith, length, List, sym, ◌∙◌}
-use Rattle.grb_call.specs.declared.call.Call.{Call}
-use Rattle.grb_call.specs.Output.{output_of}
-use Rattle.grb_slices.specs.Content.{content_at}
-use Rattle.grb_slices.specs.Slice.{is_among}
-use Rattle.grb_slices.specs.Steps.{AgreeOn}
-use Rattle.grb_links.specs.Overwrites.{inputs_of}
-use Rattle.grb_results.specs.Results.{IsBlankAt}
+use Rattle.grb_results.proofs.Prelude.{Call, output_of, content_at, is_among, AgreeOn, inputs_of, IsBlankAt}
 use Rattle.grb_results.proofs.BlankResults.{accepts_bare, bare, holds_inputs, overwritten_result, stands_empty}
 use Rattle.grb_results.proofs.Frame.{agree_none}
 use Rattle.grb_results.proofs.Making.{if_ok, some_at}

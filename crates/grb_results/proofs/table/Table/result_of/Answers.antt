@@ -1,8 +1,5 @@
 use Rattle.std.proofs.Common.{length, List, ap, ◌∙◌, Some}
-use Rattle.grb_call.specs.declared.call.Call.{Call}
-use Rattle.grb_state.specs.declared.shared_content.SharedContent.{SharedContent}
-use Rattle.grb_links.specs.declared.learnt.Learnt.{Learnt}
-use Rattle.grb_results.specs.Value.{content_of}
+use Rattle.grb_results.proofs.Prelude.{Call, SharedContent, Learnt, content_of}
 use Rattle.grb_results.proofs.Making.{some_at}
 use Rattle.grb_results.proofs.table.Table.result_of.Goals as goal
 

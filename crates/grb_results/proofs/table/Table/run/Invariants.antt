@@ -1,5 +1,5 @@
 use Rattle.std.proofs.Common.{◌≡◌, ◌<◌, length, All}
-use Rattle.grb_results.specs.Results.{IsResult, IsToMake}
+use Rattle.grb_results.proofs.Prelude.{IsResult, IsToMake}
 use Rattle.grb_results.proofs.table.Table.run.Given as goal
 
 abbrev pub invariant-run : goal.invariant-run

@@ -1,5 +1,5 @@
 use Rattle.std.proofs.Common.{Some, sym, ap, ◌∙◌}
-use Rattle.grb_results.specs.Value.{content_of}
+use Rattle.grb_results.proofs.Prelude.{content_of}
 use Rattle.grb_results.proofs.table.Table.shared.Goals as goal
 
 pub returns-in_ok-share-in-Some : goal.returns-in_ok-share-in-Some

@@ -1,8 +1,5 @@
 use Rattle.std.proofs.Common.{◌≡◌, ◌+◌, ◌<◌, List, length, Option, sym, ap, subst, ◌∙◌, arith}
-use Rattle.std.proofs.lemmas.List.{length_push}
-use Rattle.grb_sparse.specs.Matrix.{SparseMatrixView}
-use Rattle.grb_state.specs.State.{stored_matrices}
-use Rattle.grb_results.specs.Exchanged.{OfEach}
+use Rattle.grb_results.proofs.Prelude.{length_push, SparseMatrixView, stored_matrices, OfEach}
 use Rattle.grb_results.proofs.Lists.{each_push}
 use Rattle.grb_results.proofs.Rebuilt.{matrices_more}
 use Rattle.grb_results.proofs.table.Table.shared_matrices.Goals as goal

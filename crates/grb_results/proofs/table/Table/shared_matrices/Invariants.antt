@@ -1,5 +1,5 @@
 use Rattle.std.proofs.Common.{◌≡◌, length}
-use Rattle.grb_results.specs.Exchanged.{AreMatricesOf, OfEach}
+use Rattle.grb_results.proofs.Prelude.{AreMatricesOf, OfEach}
 use Rattle.grb_results.proofs.table.Table.shared_matrices.Given as goal
 
 abbrev pub invariant-matrices : goal.invariant-matrices

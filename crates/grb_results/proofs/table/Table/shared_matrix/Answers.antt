@@ -1,7 +1,5 @@
 use Rattle.std.proofs.Common.{true, Option, sym, ap, ◌∙◌}
-use Rattle.std.specs.Option.{option_map, option_map_or}
-use Rattle.grb_sparse.specs.Matrix.{SparseMatrixView}
-use Rattle.grb_state.specs.State.{stored_matrix}
+use Rattle.grb_results.proofs.Prelude.{option_map, option_map_or, SparseMatrixView, stored_matrix}
 use Rattle.grb_results.proofs.Making.{if_ok}
 use Rattle.grb_results.proofs.Rebuilt.{matrix_kept, matrix_ready}
 use Rattle.grb_results.proofs.table.Table.shared_matrix.Goals as goal
@@ -16,5 +14,5 @@ pub returns-in-Some-clause-assembled : goal.returns-in-Some-clause-assembled
 returns-in-Some-clause-assembled c =
     if_ok _ _ c.share_matrix.result
     (λ found same. ap (λ (q : Option SparseMatrixView). option_map_or (λ (m : SparseMatrixView). m.assembled) q true) same
-    ∙ matrix_ready c.args.self.now c.requires c.args.a.0 c.in-Some.content.now (sym c.contains.ensures ∙ c.if-not-contains.false) c.in-Some.ensures.kept)
+    ∙ matrix_ready c.args.self.now c.args.a.0 c.in-Some.content.now c.requires (sym c.contains.ensures ∙ c.if-not-contains.false) c.in-Some.ensures.kept)
     c.share_matrix.ensures

@@ -1,7 +1,5 @@
 use Rattle.std.proofs.Common.{true, Option, sym, ap, ◌∙◌}
-use Rattle.std.specs.Option.{option_map, option_map_or}
-use Rattle.grb_sparse.specs.Vector.{SparseVectorView}
-use Rattle.grb_state.specs.State.{stored_vector}
+use Rattle.grb_results.proofs.Prelude.{option_map, option_map_or, SparseVectorView, stored_vector}
 use Rattle.grb_results.proofs.Making.{if_ok}
 use Rattle.grb_results.proofs.Rebuilt.{vector_kept, vector_ready}
 use Rattle.grb_results.proofs.table.Table.shared_vector.Goals as goal
@@ -16,5 +14,5 @@ pub returns-in-Some-clause-assembled : goal.returns-in-Some-clause-assembled
 returns-in-Some-clause-assembled c =
     if_ok _ _ c.share_vector.result
     (λ found same. ap (λ (q : Option SparseVectorView). option_map_or (λ (x : SparseVectorView). x.assembled) q true) same
-    ∙ vector_ready c.args.self.now c.requires c.args.v.0 c.in-Some.content.now (sym c.contains.ensures ∙ c.if-not-contains.false) c.in-Some.ensures.kept)
+    ∙ vector_ready c.args.self.now c.args.v.0 c.in-Some.content.now c.requires (sym c.contains.ensures ∙ c.if-not-contains.false) c.in-Some.ensures.kept)
     c.share_vector.ensures

@@ -1,5 +1,5 @@
 use Rattle.std.proofs.Common.{◌≡◌, length}
-use Rattle.grb_results.specs.Exchanged.{AreVectorsOf, OfEach}
+use Rattle.grb_results.proofs.Prelude.{AreVectorsOf, OfEach}
 use Rattle.grb_results.proofs.table.Table.shared_vectors.Given as goal
 
 abbrev pub invariant-vectors : goal.invariant-vectors

@@ -1,5 +1,5 @@
 use Rattle.std.proofs.Common.{ap}
-use Rattle.grb_results.specs.Value.{content_of}
+use Rattle.grb_results.proofs.Prelude.{content_of}
 use Rattle.grb_results.proofs.table.Table.take_one.Goals as goal
 
 pub returns-in_ok-shared-in-Some-kept-clause-taken : goal.returns-in_ok-shared-in-Some-kept-clause-taken

@@ -1,9 +1,7 @@
 use Rattle.std.proofs.Common.{◌≡◌, suc, ◌+◌, true, false, take, sym, ap, subst, ◌∙◌, arith}
 use Rattle.std.specs.Prelude.{Some, slice_get}
-use Rattle.std.specs.Option.{option_map}
-use Rattle.std.specs.Str.{bytes_eq}
+use Rattle.grb_script.proofs.Prelude.{option_map, bytes_eq, stands}
 use Rattle.std.proofs.lemmas.Option.{slice_get-map}
-use Rattle.grb_script.specs.Names.{stands}
 use Rattle.grb_script.proofs.NamesLemmas.{not_among-next, name_found-at}
 use Rattle.grb_script.proofs.names.Names.find_in_turn.Goals as goal
 

@@ -1,5 +1,5 @@
 use Rattle.std.proofs.Common.{◌≡◌, false, take}
-use Rattle.grb_script.specs.Names.{stands}
+use Rattle.grb_script.proofs.Prelude.{stands}
 use Rattle.grb_script.proofs.names.Names.find_in_turn.Given as goal
 
 abbrev pub invariant-loop-number : goal.invariant-loop-number

@@ -1,4 +1,4 @@
-use Rattle.std.proofs.Common.{rules, ap, ◌∙◌, ◌++◌, ◌∷◌, []}
+use Rattle.std.proofs.Common.{rules, ap, ◌∙◌, ◌++◌, [], ◌∷◌}
 use Rattle.grb_script.proofs.NamesLemmas.{names_in, insert_entry-names_in}
 use Rattle.grb_script.proofs.names.Names.make.Goals as goal
 

@@ -1,5 +1,5 @@
 use Rattle.std.proofs.Common.{sym, ap, ◌∙◌, take}
-use Rattle.std.proofs.lemmas.List.{take-map}
+use Rattle.grb_script.proofs.Prelude.{take-map}
 use Rattle.grb_script.proofs.names.Names.truncate.Goals as goal
 
 pub returns : goal.returns

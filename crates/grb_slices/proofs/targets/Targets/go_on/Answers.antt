@@ -1,7 +1,5 @@
 use Rattle.std.proofs.Common.{◌≡◌, ◌+◌, ◌-◌, ◌<◌, List, length, map, get_or, arith, ap, ◌∙◌, sym}
-use lib.ListN.{length-drop, length-map}
-use Rattle.std.proofs.lemmas.List.{length_push}
-use Rattle.grb_call.specs.declared.call.Call.{Call}
+use Rattle.grb_slices.proofs.Prelude.{length-drop, length-map, length_push, Call}
 use Rattle.grb_slices.proofs.Walked.{lent_call}
 use Rattle.grb_slices.proofs.NextTarget.{walked_further}
 use Rattle.grb_slices.proofs.targets.Targets.go_on.Goals as goal

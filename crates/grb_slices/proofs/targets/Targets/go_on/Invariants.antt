@@ -1,6 +1,5 @@
 use Rattle.std.proofs.Common.{◌≡◌, ◌+◌, List, length, map, drop}
-use Rattle.grb_call.specs.declared.call.Call.{Call}
-use Rattle.grb_call.specs.Store.{Store}
+use Rattle.grb_slices.proofs.Prelude.{Call, Store}
 use Rattle.grb_slices.specs.Targets.{AreTargetsOf}
 use Rattle.grb_slices.proofs.targets.Targets.go_on.Given as goal
 

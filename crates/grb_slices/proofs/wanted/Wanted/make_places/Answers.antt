@@ -1,6 +1,5 @@
 use Rattle.std.proofs.Common.{◌≡◌, ◌-◌, ℕ, suc, List, drop, length, refl, sym, subst, ◌∙◌, arith}
-use Rattle.grb_call.specs.declared.ids.Object.{Object}
-use Rattle.grb_slices.specs.Wanted.{HavePlaces}
+use Rattle.grb_slices.proofs.Prelude.{Object, HavePlaces}
 use Rattle.grb_slices.proofs.Places.{drop_end, have_places_still, keeps_further, keeps_same, places_next}
 use Rattle.grb_slices.proofs.wanted.Wanted.make_places.Goals as goal
 

@@ -1,6 +1,5 @@
 use Rattle.std.proofs.Common.{◌≡◌, ◌≤◌, drop, length}
-use Rattle.grb_call.specs.declared.ids.Object.{Object}
-use Rattle.grb_slices.specs.Wanted.{HavePlaces, KeepsPlaces, is_wanted}
+use Rattle.grb_slices.proofs.Prelude.{Object, HavePlaces, KeepsPlaces, is_wanted}
 use Rattle.grb_slices.proofs.wanted.Wanted.make_places.Given as goal
 
 abbrev pub invariant-places : goal.invariant-places

@@ -1,7 +1,5 @@
 use Rattle.std.proofs.Common.{◌≡◌, ◌-◌, ◌||◌, ℕ, suc, List, drop, sym, subst, arith}
-use Rattle.grb_call.specs.declared.ids.Object.{Object}
-use Rattle.grb_slices.specs.Slice.{is_among}
-use Rattle.grb_slices.specs.Wanted.{is_wanted}
+use Rattle.grb_slices.proofs.Prelude.{Object, is_among, is_wanted}
 use Rattle.grb_slices.proofs.Places.{keeps_further, marks_next}
 use Rattle.grb_slices.proofs.wanted.Wanted.mark_all.Goals as goal
 

@@ -1,7 +1,5 @@
 use Rattle.std.proofs.Common.{◌≡◌, ◌≤◌, ◌||◌, drop, length}
-use Rattle.grb_call.specs.declared.ids.Object.{Object}
-use Rattle.grb_slices.specs.Slice.{is_among}
-use Rattle.grb_slices.specs.Wanted.{KeepsPlaces, is_wanted}
+use Rattle.grb_slices.proofs.Prelude.{Object, is_among, KeepsPlaces, is_wanted}
 use Rattle.grb_slices.proofs.wanted.Wanted.mark_all.Given as goal
 
 abbrev pub invariant-marks : goal.invariant-marks

@@ -3,9 +3,9 @@ use Rattle.std.specs.Prelude.{Some}
 use Rattle.grb_call.specs.declared.ids.Object.{Object}
 use Rattle.grb_call.specs.declared.ids.Object.TheVariants as object
 use Rattle.grb_call.specs.Output.{output_of}
-use Rattle.grb_state.specs.State.{stored}
-use Rattle.grb_state.proofs.Accepted.{fits_matrix, fits_vector, matrix_edited, vector_edited}
-use Rattle.grb_state.proofs.ByNumber.{on_ok}
+use Rattle.grb_objects.specs.Stored.{stored}
+use Rattle.grb_objects.proofs.Accepted.{fits_matrix, fits_vector, matrix_edited, vector_edited}
+use Rattle.grb_objects.proofs.ByNumber.{on_ok}
 use Rattle.grb_state.proofs.objects.Objects.edit_output.Goals as goal
 
 pub edit-requires : goal.edit-requires

@@ -8,7 +8,8 @@ use Rattle.grb_call.specs.declared.checking.Kind.TheVariants.{Build, Enters, Rea
 use Rattle.grb_call.specs.After.{refused, refused_build}
 use Rattle.grb_call.proofs.Checked.{refused-err, refused-ok, refused-none}
 use Rattle.grb_call.proofs.KindsChecked.{kind-checked, no_build-checked}
-use Rattle.grb_state.specs.State.{RoomyStore, stored}
+use Rattle.grb_objects.specs.Stored.{stored}
+use Rattle.grb_state.specs.State.{RoomyStore}
 use Rattle.grb_state.proofs.state.State.refused.Goals as goal
 
 pub refused_build-requires : goal.refused_build-requires

@@ -3,7 +3,8 @@ use Rattle.grb_core.specs.Results.{reduce_of}
 use Rattle.grb_call.specs.declared.call.Call.TheVariants as call
 use Rattle.grb_call.specs.Store.{vector_entries}
 use Rattle.grb_call.specs.After.{refused}
-use Rattle.grb_state.specs.State.{RoomyStore, stored}
+use Rattle.grb_objects.specs.Stored.{stored}
+use Rattle.grb_state.specs.State.{RoomyStore}
 use Rattle.grb_state.proofs.Totals.{vector_total-there, vector_total-domain, vector_total-is}
 use Rattle.grb_state.proofs.state.State.total_of_vector.Goals as goal
 

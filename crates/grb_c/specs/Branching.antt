@@ -1,0 +1,101 @@
+-- believed: What a handle's branch is, and the build of an object of another store (own).
+use Rattle.std.specs.Prelude.{◌≡◌, ◌⊎◌, ◌<◌, ◌^◌, ℕ, ℤ, true, List, map, length, Option, Some, None, Result, Ok, Err, IfOk}
+use Rattle.grb_core.specs.declared.refusal.Refusal.{Refusal}
+use Rattle.grb_sparse.specs.Matrix.{SparseMatrixView}
+use Rattle.grb_sparse.specs.Vector.{SparseVectorView}
+use Rattle.grb_call.specs.declared.call.Call.{Call}
+use Rattle.grb_call.specs.declared.call.Call.TheVariants as call
+use Rattle.grb_call.specs.declared.descriptor.WaitMode.TheVariants.{Complete}
+use Rattle.grb_call.specs.declared.ids.MatrixId.{MatrixId}
+use Rattle.grb_call.specs.declared.ids.VectorId.{VectorId}
+use Rattle.grb_call.specs.History.{store_of}
+use Rattle.grb_call.specs.Store.{Store}
+use Rattle.grb_call.specs.Tuples.{tuples_of}
+use Rattle.grb_rebuild.specs.Rebuilt.{monoid_for}
+use Rattle.grb_rebuild.specs.declared.rebuild.NoSuccessor.{NoSuccessor}
+use Rattle.grb_context.specs.Chosen.{IsNoBranch, chosen_store, room_beside}
+use Rattle.grb_context.specs.Known.{Knowing, known}
+use Rattle.grb_context.specs.Snapshot.{IsSnapshot}
+use Rattle.grb_context.specs.StoredIn.{IsMatrixOf, IsVectorOf}
+use Rattle.grb_c.specs.Codes.{refusal_code, uninitialized_object}
+use Rattle.grb_c.specs.Handles.{Makes, are_none}
+use Rattle.grb_c.specs.Opening.{IsWithin}
+use Rattle.grb_c.specs.Sessions.{Opened}
+use Rattle.grb_c.specs.Succession.{IsSucceeded, needed_out, no_successor_code}
+use Rattle.grb_c.specs.declared.handle.TrbPass.{TrbPass}
+
+-- each array has less than 2^32 numbers
+pub record AreFew (matrices vectors : List ℕ) : Type 0 where
+  pub matrices_are : length matrices < 2 ^ 32
+  pub vectors_are : length vectors < 2 ^ 32
+
+-- a branch may be asked for: a store may have so much room and so many passes, none of the handles has one, and the objects are few
+pub record IsBranchAsked (room : ℕ) (hs : List TrbPass) (matrices vectors : List ℕ) : Type 0 where
+  pub within : IsWithin room (length hs)
+  pub none : are_none hs ≡ true
+  pub few : AreFew matrices vectors
+
+-- the matrices, and the vectors, of these numbers
+abbrev pub matrices_named : List ℕ → List MatrixId
+matrices_named numbers = map (λ n. record { 0 = n }) numbers
+
+abbrev pub vectors_named : List ℕ → List VectorId
+vectors_named numbers = map (λ n. record { 0 = n }) numbers
+
+-- the store of the objects of these numbers that a pass knows
+abbrev pub store_named : Knowing → List ℕ → List ℕ → Store
+store_named p matrices vectors = chosen_store (store_of (known p)) (matrices_named matrices) (vectors_named vectors)
+
+-- there is no branch with this store, for this reason
+pub record IsNotBranched (room passes : ℕ) (s : Store) (code : ℤ) (before after : ℕ) : Type 0 where
+  pub why : NoSuccessor
+  pub holds : IsNoBranch room passes s why
+  pub code_is : code ≡ no_successor_code why
+  pub needed_is : after ≡ needed_out why before
+
+-- all handles have passes that begin with this store, in a history with so much room beside what begins it; or there is none
+abbrev pub GoesApart : ℕ → ℕ → ℕ → Store → ℤ → ℕ → ℕ → List (Option Opened) → Type 0
+GoesApart store room passes s code before after hs = IsSucceeded store (room_beside s room) s code before after hs ⊎ IsNotBranched room passes s code before after
+
+-- the same of the objects of these numbers that the pass of a handle knows; or there is no pass
+abbrev pub GoesApartFrom : ℕ → ℕ → Option Opened → List ℕ → List ℕ → ℤ → ℕ → ℕ → List TrbPass → Type 0
+GoesApartFrom store room (Some s) matrices vectors code before after hs = GoesApart store room (length hs) (store_named s.pass matrices vectors) code before after (map (λ h. h.raw.session) hs)
+GoesApartFrom store room None matrices vectors code before after hs = (code ≡ uninitialized_object) × (after ≡ before)
+
+-- the build of all entries of this matrix, of which no place stands twice
+abbrev pub matrix_build_of : ℕ → SparseMatrixView → Call
+matrix_build_of c m = call.BuildMatrix (record { 0 = c }) (tuples_of m.matrix.entries) (monoid_for m.matrix.domain)
+
+abbrev pub vector_build_of : ℕ → SparseVectorView → Call
+vector_build_of w x = call.BuildVector (record { 0 = w }) x.vector.entries (monoid_for x.vector.domain)
+
+-- what is built of what was handed out: where that was refused, nothing
+abbrev pub BuildsHanded : {X : Type 0} → (X → Call) → TrbPass → TrbPass → Result X Refusal → ℤ → Type 0
+BuildsHanded build old new (Ok x) code = Makes old new (Ok (build x)) code
+BuildsHanded build old new (Err r) code = (code ≡ refusal_code r) × (new.raw.session ≡ old.raw.session)
+
+-- A build of an object of another store: that store hands the object out as a snapshot does, with all that it promises of that, and the
+-- build is made of it
+pub record BuildsFrom {X : Type 0} (wait : Call) (build : X → Call) (IsOf : Store → X → Type 0) (old new : TrbPass) (theirs left : Opened) (code : ℤ) : Type 0 where
+  pub handed : Result X Refusal
+  pub context : left.context ≡ theirs.context
+  pub store : left.store ≡ theirs.store
+  pub snapshot : IsSnapshot theirs.context theirs.pass left.pass wait handed
+  pub is : IfOk handed (IsOf (store_of (known left.pass)))
+  pub builds : BuildsHanded build old new handed code
+
+-- the same by handles, of which each has a pass or none
+abbrev pub BuildsFromHandle : {X : Type 0} → Call → (X → Call) → (Store → X → Type 0) → TrbPass → TrbPass → Option Opened → Option Opened → ℤ → Type 0
+BuildsFromHandle wait build IsOf old new (Some theirs) (Some left) code = BuildsFrom wait build IsOf old new theirs left code
+BuildsFromHandle wait build IsOf old new None None code = (code ≡ uninitialized_object) × (new.raw.session ≡ old.raw.session)
+BuildsFromHandle wait build IsOf old new (Some theirs) None code = ⊥
+BuildsFromHandle wait build IsOf old new None (Some left) code = ⊥
+
+-- of a matrix, and of a vector
+abbrev pub BuildsMatrixFrom : ℕ → ℕ → TrbPass → TrbPass → TrbPass → TrbPass → ℤ → Type 0
+BuildsMatrixFrom c a old new theirs left code =
+    BuildsFromHandle (call.WaitMatrix (record { 0 = a }) Complete) (matrix_build_of c) (λ s m. IsMatrixOf s (record { 0 = a }) m) old new theirs.raw.session left.raw.session code
+
+abbrev pub BuildsVectorFrom : ℕ → ℕ → TrbPass → TrbPass → TrbPass → TrbPass → ℤ → Type 0
+BuildsVectorFrom w v old new theirs left code =
+    BuildsFromHandle (call.WaitVector (record { 0 = v }) Complete) (vector_build_of w) (λ s x. IsVectorOf s (record { 0 = v }) x) old new theirs.raw.session left.raw.session code

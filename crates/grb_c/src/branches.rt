@@ -1,0 +1,141 @@
+//! A store of its own that begins with some objects of another one.
+ghost use Rattle.std.specs.Prelude.{◌≡◌, ◌<◌, ◌^◌, false, true, IfOk, length, map};
+ghost use Rattle.grb_call.specs.History.{store_of};
+ghost use Rattle.grb_context.specs.Chosen.{chosen_store};
+ghost use Rattle.grb_context.specs.Known.{known};
+ghost use Rattle.grb_c.specs.Branching.{AreFew, GoesApart, GoesApartFrom, IsBranchAsked, matrices_named, store_named, vectors_named};
+ghost use Rattle.grb_c.specs.Codes.{invalid_value};
+ghost use Rattle.grb_c.specs.Opening.{IsWithin};
+ghost use Rattle.grb_c.specs.Sessions.{IsSameButMade};
+
+use crate::codes::{INVALID_VALUE, UNINITIALIZED_OBJECT};
+use crate::handle::TrbPass;
+use crate::open::{are_none, hand_out_context, is_within};
+use crate::session::Session;
+use crate::succession::put_needed;
+use grb_call::{MatrixId, VectorId};
+use grb_context::NoSuccessor;
+use std::alloc::{AllocError, Global};
+
+/// The matrices of these numbers. `AllocError` where memory is refused.
+fn matrices_named(alloc: Global, numbers: &[u32]) -> Result<Vec<MatrixId>, AllocError>
+    ensures { IfOk result (λ all. all.items ≡ matrices_named numbers.now) }
+{
+    let mut all = Vec::with_capacity(alloc, numbers.len())?;
+    'numbers: for at in 0..numbers.len() {
+        all.push(MatrixId(numbers[at]))?;
+    }
+    Ok(all)
+}
+
+/// The vectors of these numbers. `AllocError` where memory is refused.
+fn vectors_named(alloc: Global, numbers: &[u32]) -> Result<Vec<VectorId>, AllocError>
+    ensures { IfOk result (λ all. all.items ≡ vectors_named numbers.now) }
+{
+    let mut all = Vec::with_capacity(alloc, numbers.len())?;
+    'numbers: for at in 0..numbers.len() {
+        all.push(VectorId(numbers[at]))?;
+    }
+    Ok(all)
+}
+
+/// Whether each array has less than 2^32 numbers.
+fn are_few(matrices: &[u32], vectors: &[u32]) -> bool
+    ensures few { result ≡ true → AreFew matrices.now vectors.now }
+    ensures many { result ≡ false → AreFew matrices.now vectors.now → ⊥ }
+{
+    matrices.len() <= u32::MAX as usize && vectors.len() <= u32::MAX as usize
+}
+
+/// Opens a branch of these objects that the pass of the session knows, and hands its passes out.
+fn go_apart(
+    alloc: Global,
+    store: u64,
+    room: u32,
+    session: &mut Session,
+    matrices: &[MatrixId],
+    vectors: &[VectorId],
+    needed: &mut u64,
+    passes: &mut [TrbPass],
+) -> i32
+    requires within { IsWithin room (length passes.old) }
+    requires matrices { length matrices.now < 2 ^ 32 }
+    requires vectors { length vectors.now < 2 ^ 32 }
+    ensures same { session.new ≡ record session.old { pass = record session.old.pass { made = session.new.pass.made } } }
+    ensures apart { GoesApart store room (length passes.old) (chosen_store (store_of (known session.old.pass)) matrices.now vectors.now) result needed.old needed.new (map (λ h. h.raw.session) passes.new) }
+    ensures count { length passes.new ≡ length passes.old }
+{
+    match session.branch(alloc, matrices, vectors, room, passes.len() as u32) {
+        Ok((context, opened)) => hand_out_context(alloc, store, context, opened, passes),
+        Err(why) => put_needed(why, needed),
+    }
+}
+
+/// The same of the objects of these numbers.
+fn go_apart_by_numbers(
+    alloc: Global,
+    store: u64,
+    room: u32,
+    session: &mut Session,
+    matrices: &[u32],
+    vectors: &[u32],
+    needed: &mut u64,
+    passes: &mut [TrbPass],
+) -> i32
+    requires within { IsWithin room (length passes.old) }
+    requires matrices { length matrices.now < 2 ^ 32 }
+    requires vectors { length vectors.now < 2 ^ 32 }
+    ensures same { session.new ≡ record session.old { pass = record session.old.pass { made = session.new.pass.made } } }
+    ensures apart { GoesApart store room (length passes.old) (store_named session.old.pass matrices.now vectors.now) result needed.old needed.new (map (λ h. h.raw.session) passes.new) }
+    ensures count { length passes.new ≡ length passes.old }
+{
+    let Ok(matrices) = matrices_named(alloc, matrices) else {
+        return put_needed(NoSuccessor::OutOfMemory, needed);
+    };
+    let Ok(vectors) = vectors_named(alloc, vectors) else {
+        return put_needed(NoSuccessor::OutOfMemory, needed);
+    };
+    go_apart(
+        alloc, store, room, session, &matrices, &vectors, needed, passes,
+    )
+}
+
+/// A new context that begins with the objects of these numbers, just as the pass knows them, and a pass of it in each handle, none of which
+/// has one before. The matrix at place k of its array has the number k there, and so has the vector at place k of its own; one that is not
+/// there is not there. Its history takes `room` calls beside those that make these objects. The number is that of the new store alone,
+/// among those that are open. Where no history has room for all, tells how many calls make the objects.
+#[unsafe(no_mangle)]
+pub extern "C" fn trb_branch(
+    alloc: Global,
+    store: u64,
+    room: u32,
+    pass: &mut TrbPass,
+    matrices: &[u32],
+    vectors: &[u32],
+    needed: &mut u64,
+    passes: &mut [TrbPass],
+) -> i32
+    ensures same { IsSameButMade pass.old.raw.session pass.new.raw.session }
+    ensures apart { IsBranchAsked room passes.old matrices.now vectors.now → GoesApartFrom store room pass.old.raw.session matrices.now vectors.now result needed.old needed.new passes.new }
+    ensures count { length passes.new ≡ length passes.old }
+    ensures outside { (IsBranchAsked room passes.old matrices.now vectors.now → ⊥) → (result ≡ invalid_value) × (needed.new ≡ needed.old) × (passes.new ≡ passes.old) }
+{
+    if !is_within(room, passes.len()) || !are_none(passes) || !are_few(matrices, vectors) {
+        return INVALID_VALUE;
+    }
+    let Some(mut session) = pass.take(alloc) else {
+        return UNINITIALIZED_OBJECT;
+    };
+    let code = go_apart_by_numbers(
+        alloc,
+        store,
+        room,
+        &mut session,
+        matrices,
+        vectors,
+        needed,
+        passes,
+    );
+    pass.put(session);
+    code
+}

@@ -1,8 +1,0 @@
-use Rattle.std.proofs.Common.{◌≡◌}
-use Rattle.std.specs.Cmp.Lexicographic.{pointwise}
-use Rattle.grb_call.proofs.Stored.{eq_entry}
-use Rattle.grb_call.proofs.sources.are_entries_alike.Given as goal
-
--- whether all are the same is whether those left are
-abbrev pub invariant-entries : goal.invariant-entries
-invariant-entries l = pointwise eq_entry l.initial.entry-iterator l.initial.others ≡ pointwise eq_entry l.entry-iterator l.others

@@ -1,0 +1,29 @@
+-- believed: The store of some objects of another one, and the history in which they stand (own): those of the first list are its matrices
+-- and those of the second its vectors, in their order, and what is not there is not there.
+use Rattle.std.specs.Prelude.{◌≡◌, ◌≤◌, ◌+◌, ◌*◌, ℕ, List, length, map}
+use Rattle.grb_order.specs.declared.limits.TheConstants.{MOST_ROOM, MOST_SEATS}
+use Rattle.grb_call.specs.declared.ids.MatrixId.{MatrixId}
+use Rattle.grb_call.specs.declared.ids.VectorId.{VectorId}
+use Rattle.grb_call.specs.Store.{Store, matrix_at, vector_at}
+use Rattle.grb_rebuild.specs.Rebuilt.{rebuilt}
+use Rattle.grb_rebuild.specs.declared.rebuild.NoSuccessor.{NoSuccessor}
+use Rattle.grb_rebuild.specs.declared.rebuild.NoSuccessor.TheVariants as no
+
+abbrev pub chosen_store : Store → List MatrixId → List VectorId → Store
+chosen_store s matrices vectors = record { matrices = map (matrix_at s) matrices; vectors = map (vector_at s) vectors }
+
+-- the room of a history that begins with the calls which make this store, and takes so many more
+abbrev pub room_beside : Store → ℕ → ℕ
+room_beside s room = length (rebuilt s) + room
+
+-- a history that so many passes share may have this room
+pub record MayHaveRoom (room passes : ℕ) : Type 0 where
+  pub room_is : room ≤ MOST_ROOM
+  pub seats : room * passes ≤ MOST_SEATS
+
+-- Why there is no branch with this store and so much room beside the calls that make it: this many calls make it, and no history has
+-- room for all; or memory, or a record, is refused
+abbrev pub IsNoBranch : ℕ → ℕ → Store → NoSuccessor → Type 0
+IsNoBranch room passes s (no.RoomTooSmall needed) = (needed ≡ length (rebuilt s)) × (MayHaveRoom (room_beside s room) passes → ⊥)
+IsNoBranch room passes s no.OutOfMemory = Unit {0}
+IsNoBranch room passes s no.Panic = Unit {0}

@@ -1,7 +1,0 @@
-use Prim.{grind}
-use Rattle.std.proofs.lemmas.Grind.{common_steps}
-use Rattle.std.proofs.Common.{arith}
-use Rattle.grb_script.proofs.statement.dup.Goals as goal
-
-pub returns-clause-read : goal.returns-clause-read
-returns-clause-read c = grind (arith, common_steps)

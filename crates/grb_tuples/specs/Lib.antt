@@ -1,0 +1,3 @@
+pub mod SameDomain
+pub mod Sources
+pub mod Tuples

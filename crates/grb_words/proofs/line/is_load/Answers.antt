@@ -1,7 +1,0 @@
-use Prim.{grind}
-use Rattle.std.proofs.lemmas.Grind.{common_steps}
-use Rattle.std.proofs.Common.{arith}
-use Rattle.grb_words.proofs.line.is_load.Goals as goal
-
-pub returns-in-len1-up : goal.returns-in-len1-up
-returns-in-len1-up c = grind (arith, common_steps)
