@@ -220,7 +220,7 @@ static bool go_on(TrB_Pass *passes, TrB_Pass *next, TrB_Matrix a, long *stores)
 {
     uint64_t needed = 0;
     TrB_Index nvals;
-    ANSWERS(TrB_succeed(&passes[0], &needed, 1, next, PASSES), TrB_INSUFFICIENT_SPACE);
+    ANSWERS(TrB_succeed(&passes[0], &needed, 65536, next, PASSES), TrB_INSUFFICIENT_SPACE);
     HOLDS(needed > 1);
     OK(TrB_succeed(&passes[0], &needed, ROOM, next, PASSES));
     *stores += 1;

@@ -126,8 +126,8 @@ static void of_successors(void)
     UNCHANGED(TrB_INVALID_VALUE, "a successor by a pass that is open", TrB_succeed(&passes[0], &needed, ROOM, &passes[1], 1));
     UNCHANGED(TrB_UNINITIALIZED_OBJECT, "a successor of no pass", TrB_succeed(&none, &needed, ROOM, next, 1));
     HOLDS(needed == UNTOUCHED);
-    UNCHANGED(TrB_INSUFFICIENT_SPACE, "a successor with room for 9 of 10 changes",
-            TrB_succeed(&passes[0], &needed, 9, next, 1));
+    UNCHANGED(TrB_INSUFFICIENT_SPACE, "a successor with room for 65,527 changes, which begins with 10",
+            TrB_succeed(&passes[0], &needed, 65527, next, 1));
     HOLDS(needed == 10);
 
     /* None of these was opened. */

@@ -391,8 +391,9 @@ static inline TrB_Info TrB_is_full(TrB_Pass *pass, bool *full)
  *               dimensions and the entries that `pass` knows. A freed number stays freed, and the next
  *               object is given the next number.
  *   anew        The history begins with the changes that make these objects, one or two for each number
- *               that was ever given; they take room. The new passes know them, and share what is
- *               evaluated of them. No object has a status, and nothing is settled.
+ *               that was ever given. The new passes know them, and share what is evaluated of them. No
+ *               object has a status, and nothing is settled.
+ *   room        The successor has room for `room` changes. Those that make its objects take none of them.
  *   stays       The old store: its passes are valid, and are freed by their owner. Objects are shared
  *               with it until one of the two changes one.
  *
@@ -406,9 +407,9 @@ static inline TrB_Info TrB_is_full(TrB_Pass *pass, bool *full)
  *     TrB_free(&old[1]);
  *
  * Refused: TrB_INVALID_VALUE where room or npasses is out of its range, or one of `passes` is open;
- * TrB_INSUFFICIENT_SPACE where the changes that make the objects need more room, and *needed tells how
- * many they are. It is not written else. Where it is refused, all of `passes` are as before, and so is
- * the old store. */
+ * TrB_INSUFFICIENT_SPACE where no store has room for the changes that make the objects and for `room`
+ * more, and *needed tells how many make the objects. It is not written else. Where it is refused, all of
+ * `passes` are as before, and so is the old store. */
 static inline TrB_Info TrB_succeed(TrB_Pass *pass, uint64_t *needed, uint32_t room, TrB_Pass *passes,
                                    size_t npasses)
 {

@@ -33,11 +33,11 @@ Passes take_all(grb::Store store)
     return passes;
 }
 
-/// How many changes the objects need, as a successor that has too little room tells.
+/// How many changes make the objects, as the refusal tells of a successor whose room no store has beside them.
 std::uint64_t changes_needed(grb::Pass &pass)
 {
     try {
-        static_cast<void>(pass.succeed(1, 1));
+        static_cast<void>(pass.succeed(65536, 1));
     } catch (const grb::RoomTooSmall &refusal) {
         return refusal.needed();
     }

@@ -138,7 +138,7 @@ inline unsigned long long digits(std::uint64_t number) noexcept
 
 } // namespace detail
 
-/// The refusal of a successor whose room is too small, with Status::insufficient_space.
+/// The refusal of a successor or a branch whose room no store has beside its objects, with Status::insufficient_space.
 class RoomTooSmall : public Refusal {
 public:
     /// The refusal where so many changes make the objects. Takes no memory.
@@ -150,8 +150,8 @@ public:
     {
     }
 
-    /// How many changes make the objects, which is the least room of a successor. In a branch, room and these have to
-    /// be at most most_room.
+    /// How many changes make the objects. Room and these have to be at most most_room, and times the passes at most
+    /// 1,048,576.
     [[nodiscard]] std::uint64_t needed() const noexcept { return needed_; }
 
 private:
@@ -637,8 +637,8 @@ public:
     }
 
     /// Opens the successor of the store, which begins with what this pass knows: each object of this store means
-    /// the same there. As TrB_succeed, with room and passes as of Store. Throws RoomTooSmall where the changes
-    /// that make the objects need more room.
+    /// the same there. As TrB_succeed, with room and passes as of Store. Throws RoomTooSmall where no store has room for
+    /// the changes that make the objects and for `room` more.
     [[nodiscard]] Store succeed(std::uint32_t room, std::uint32_t passes);
 
     /// Opens a branch: a store of its own that begins with these objects, all of them as this pass knows them, at one

@@ -14,12 +14,12 @@ SEED = 8
 
 
 def calls_needed(store: Store) -> int:
-    """How many calls make the objects of the store, as a successor with too little room tells."""
+    """How many calls make the objects of the store, as the refusal tells of room that no store has beside them."""
     try:
-        store.main.succeed(room=1).close()
+        store.main.succeed(room=65_536).close()
     except RoomTooSmall as refusal:
         return refusal.needed
-    return 1
+    raise SystemExit("no store has so much room")
 
 
 def go_on(store: Store, graph: Matrix) -> Store:

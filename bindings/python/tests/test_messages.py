@@ -185,8 +185,8 @@ class Messages(StoreCase):
             ],
         )
         with self.assertRaises(RoomTooSmall) as caught:
-            self.p.succeed(1)
-        self.assertEqual((caught.exception.needed, caught.exception.detail), (2, "a room of 1 was asked for"))
+            self.p.succeed(65_535)
+        self.assertEqual((caught.exception.needed, caught.exception.detail), (2, "a room of 65,535 was asked for"))
 
     def test_objects_that_were_freed(self) -> None:
         a, gone = self.p.matrix(2, 2), self.p.matrix(2, 2)

@@ -287,7 +287,7 @@ class Branching(StoreCase):
 
     def test_what_it_begins_with(self) -> None:
         v = self.p.vector(3)
-        with self.assertRaisesRegex(RoomTooSmall, "Give room for the 1 calls"):
+        with self.assertRaisesRegex(RoomTooSmall, "beside the 1 calls"):
             self.p.branch(v, room=65_536)
         self.assertEqual(self.branch(room=1).main.facts().room_left, 1)
         self.assertEqual(self.branch(v, v).main.facts().known, 1)
@@ -322,7 +322,7 @@ class Succession(StoreCase):
         self.assertEqual(repr(store), "<Store of room 10, 3 passes>")
         for number, pass_ in enumerate(store.passes):
             facts = pass_.facts()
-            self.assertEqual((facts.number, facts.known, facts.room_left, facts.settled), (number, 4, 6, 0))
+            self.assertEqual((facts.number, facts.known, facts.room_left, facts.settled), (number, 4, 10, 0))
             self.assertFalse(pass_.is_full())
         w = v.using(store.main)
         self.assertEqual((w.number, w.dtype, w.size), (v.number, int, 3))
@@ -344,13 +344,13 @@ class Succession(StoreCase):
         v[0] = 5
         self.assertEqual((v.to_dict(), v.using(store.main).to_dict()), ({0: 5}, {}))
 
-    def test_too_little_room_is_refused_with_what_is_needed(self) -> None:
+    def test_room_that_no_store_has_is_refused_with_what_is_needed(self) -> None:
         v = self.p.vector(3)
         v[0] = 5
-        with self.assertRaisesRegex(RoomTooSmall, "Give room for the 2 calls") as caught:
-            self.p.succeed(1)
+        with self.assertRaisesRegex(RoomTooSmall, "beside the 2 calls") as caught:
+            self.p.succeed(MOST_ROOM - 1)
         self.assertEqual(caught.exception.needed, 2)
-        self.assertEqual(self.succeed(2).main.facts().room_left, 0)
+        self.assertEqual(self.succeed(1).main.facts().room_left, 1)
 
     def test_ranges_are_refused_outside(self) -> None:
         for room, passes in (0, 1), (1, 0), (MOST_ROOM + 1, 1), (1, MOST_PASSES + 1), (4097, 256):

@@ -19,12 +19,12 @@ fn go_on(passes: &mut [Pass], graph: Matrix<u64>) -> Result<(Vec<Pass>, Matrix<u
     assert!(own.is_full()?);
     let edges = own.nvals(graph)?;
 
-    // Too little room is refused, and tells how much is needed.
-    match own.succeed(1, PASSES) {
+    // Room that no store has beside these changes is refused, and tells how many they are.
+    match own.succeed(65_536, PASSES) {
         Err(Error::RoomTooSmall { needed }) => {
             println!("full with {edges} edges; a successor begins with {needed} changes")
         }
-        other => panic!("a room of 1 is too small: {other:?}"),
+        other => panic!("no store has so much room: {other:?}"),
     }
     let mut next = own.succeed(ROOM, PASSES)?;
 

@@ -35,10 +35,9 @@ pub enum Error {
     /// Arrays are too short for the entries of an object (`GrB_INSUFFICIENT_SPACE`). [`Pass::entries`](crate::Pass::entries) makes longer ones, so
     /// it does not answer this.
     InsufficientSpace,
-    /// The room of a successor is below the number of calls that make the objects, of which so many are needed (`GrB_INSUFFICIENT_SPACE`); or
-    /// these and the room of a branch are more than any store takes.
+    /// The room of a successor or a branch, and the calls that make its objects, are more than any store takes (`GrB_INSUFFICIENT_SPACE`).
     RoomTooSmall {
-        /// The least room of a successor.
+        /// How many calls make the objects.
         needed: u64,
     },
     /// An object of the call, its mask too, is of another store than the pass. It would be taken for the object of the same number.
@@ -129,7 +128,7 @@ impl Error {
             Error::OutOfMemory => "Nothing has changed: free memory, and make the call again.",
             Error::Panic => "The call did nothing: make it again.",
             Error::InsufficientSpace => "Give arrays with a place for each entry.",
-            Error::RoomTooSmall { .. } => "Give room for the calls that make the objects.",
+            Error::RoomTooSmall { .. } => "Give less room, or begin with fewer objects: no store has it beside the calls that make them.",
             Error::ForeignObject => "Give objects of the store that the pass is of.",
             Error::ForeignPass => "Give two passes of one store.",
             Error::OtherVersion { .. } | Error::Unknown(_) => {

@@ -213,7 +213,7 @@ impl Pass {
     ///
     /// Every object goes over, with its number, and [`inherited`](Pass::inherited) gives its handle there. A freed number stays freed, and the
     /// next object is given the next number. The history begins with the calls that make these objects, one or two for each number that
-    /// was ever given; they take room. The new passes know them, and share what is evaluated of them. No object has a status, and nothing
+    /// was ever given, and takes `room` calls beside these. The new passes know them, and share what is evaluated of them. No object has a status, and nothing
     /// is settled. This store stays as it is, and ends with its last pass; objects are shared until one of the two changes one.
     ///
     /// Where [`is_full`](Pass::is_full) holds, nothing is lost. Called earlier it makes a store beside this one: what is changed here later is
@@ -222,7 +222,7 @@ impl Pass {
     /// # Errors
     ///
     /// - [`Error::InvalidValue`]: as of [`Store::open`].
-    /// - [`Error::RoomTooSmall`]: the calls that make the objects need more room.
+    /// - [`Error::RoomTooSmall`]: no store has room for the calls that make the objects, and for `room` more.
     /// - [`Error::OutOfMemory`]: memory was refused.
     /// - [`Error::Panic`]: the record of a call was not shown. Ask again.
     ///

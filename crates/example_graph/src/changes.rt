@@ -1,9 +1,7 @@
-//! The changes that the workers of the service make, as a matrix of the store.
-ghost use Rattle.grb_context.specs.Known.{IsPassOf};
-
-use grb_call::{MatrixId, Reply};
-use grb_context::{Context, Pass};
+//! The changes that the workers of the service make, as a matrix of the chain.
+use grb_call::{Call, MatrixId, Reply};
 use grb_core::{Domain, Refusal, Value};
+use grb_generations::Member;
 
 /// The workers: there is a row for each.
 pub(crate) const WORKERS: usize = 4;
@@ -11,75 +9,61 @@ pub(crate) const WORKERS: usize = 4;
 /// The changes that each worker makes in all: there is a column for each.
 pub(crate) const CHANGES: u64 = 100;
 
-/// The matrix of the changes. Any thread may copy it: it is a number, which it has in each store of the service.
+/// How often a change is tried that found no room. It was made nowhere then, since the next store was not to be had just now.
+const TRIES: u32 = 1000;
+
+/// The matrix of the changes. Any thread may copy it: it is a number, which the matrix keeps for as long as the chain goes on.
 #[derive(Clone, Copy)]
 pub(crate) struct Changes {
     matrix: MatrixId,
 }
 
 impl Changes {
-    /// No changes yet. The call that makes a matrix replies with its number, by its contract.
-    pub(crate) fn new(context: &Context, pass: &mut Pass) -> Result<Changes, Refusal>
-        requires { IsPassOf context.now pass.old }
-        ensures { IsPassOf context.now pass.new }
-    {
-        let reply = context.new_matrix(pass, Domain::Uint64, WORKERS as u64, CHANGES)?;
-        let matrix = reply.matrix().unwrap();
-        Ok(Changes { matrix })
+    /// No changes yet. None where the call is answered by anything but the number of a matrix.
+    pub(crate) fn new(member: &mut Member) -> Result<Option<Changes>, Refusal> {
+        let reply = member.call(Call::NewMatrix {
+            domain: Domain::Uint64,
+            nrows: WORKERS as u64,
+            ncols: CHANGES,
+        })?;
+        Ok(reply.matrix().map(|matrix| Changes { matrix }))
     }
 
-    /// Makes a worker's change of this number: an entry in that column, with that value. Whether it was answered `Done`; it is refused
-    /// where the store is full.
-    fn make(
-        self,
-        context: &Context,
-        pass: &mut Pass,
-        worker: u64,
-        number: u64,
-    ) -> Result<bool, Refusal>
-        requires { IsPassOf context.now pass.old }
-        ensures { IsPassOf context.now pass.new }
-    {
-        match context.set_matrix(pass, self.matrix, worker, number, Value::Uint64(number)) {
-            Ok(_) => Ok(true),
-            Err(Refusal::OrderFull) => Ok(false),
-            Err(refusal) => Err(refusal),
-        }
-    }
-
-    /// Makes a worker's changes one after another, from where so many were answered `Done`, until the store is full or all are made; how
-    /// many were answered `Done` by then.
-    pub(crate) fn make_on(
-        self,
-        context: &Context,
-        pass: &mut Pass,
-        worker: u64,
-        done: u64,
-    ) -> Result<u64, Refusal>
-        requires { IsPassOf context.now pass.old }
-        ensures { IsPassOf context.now pass.new }
-    {
-        'changes: for number in done..CHANGES {
-            if !self.make(context, pass, worker, number)? {
-                return Ok(number);
+    /// Makes a worker's change of this number: an entry in that column, with that value.
+    fn make(self, member: &mut Member, worker: u64, number: u64) -> Result<(), Refusal> {
+        'tries: for _ in 0..TRIES {
+            let answer = member.call(Call::SetMatrix {
+                a: self.matrix,
+                i: worker,
+                j: number,
+                value: Value::Uint64(number),
+            });
+            match answer {
+                Ok(_) => return Ok(()),
+                Err(Refusal::OrderFull) => {}
+                Err(refusal) => return Err(refusal),
             }
+        }
+        Err(Refusal::OrderFull)
+    }
+
+    /// Makes all changes of a worker, one after another; how many were answered `Done`.
+    pub(crate) fn make_all(self, member: &mut Member, worker: u64) -> Result<u64, Refusal> {
+        'changes: for number in 0..CHANGES {
+            self.make(member, worker, number)?;
         }
         Ok(CHANGES)
     }
 
-    /// How many of a worker's changes the store has, each in its column and with its value.
-    pub(crate) fn kept(
-        self,
-        context: &Context,
-        pass: &mut Pass,
-        worker: u64,
-    ) -> Result<u64, Refusal>
-        requires { IsPassOf context.now pass.old }
-        ensures { IsPassOf context.now pass.new }
-    {
+    /// How many of a worker's changes there are, each in its column and with its value.
+    pub(crate) fn kept(self, member: &mut Member, worker: u64) -> Result<u64, Refusal> {
         let mut kept = 0u64;
         'changes: for number in 0..CHANGES {
-            let reply = context.get_matrix(pass, self.matrix, worker, number)?;
+            let reply = member.call(Call::GetMatrix {
+                a: self.matrix,
+                i: worker,
+                j: number,
+            })?;
             if reply == Reply::Value(Value::Uint64(number)) {
                 kept = kept.saturating_add(1);
             }

@@ -1,12 +1,12 @@
 //! An example to read, outside the product: a graph that five threads share. Four of them change it, the fifth asks for degrees and
-//! neighbours meanwhile, and at the end one pass reads what they made. Each thread has a pass of its own, and each call takes effect
-//! at one moment between its start and its reply; so what the program prints is the same in every run.
+//! neighbours meanwhile, each time in a branch, so of one moment, and at the end one pass reads what they made. Each thread has a pass of
+//! its own, and each call takes effect at one moment between its start and its reply; so what the program prints is the same in every run.
 //!
 //! The graph is a ring of 32 vertices, each of which an edge ties to the hub in the middle; one of the four threads cuts its edges to
 //! the hub again.
 //!
-//! The second part is a service that never stops: four threads change a store that has room for few calls. Where it is full its
-//! successor goes on with what it held, thirteen times, and each change that was answered is in the last store.
+//! The second part is a service that never stops: four threads change a chain of stores, of which each takes few changes. Where one is full
+//! the next goes on with what it held, twelve times, and each change that was answered is in the last store.
 #![tactic(auto)]
 
 ghost use Rattle.std.specs.Prelude.{◌≡◌, ◌<◌, ◌++◌, ◌∷◌, [], All, length};
@@ -14,10 +14,12 @@ ghost use Rattle.grb_context.specs.Known.{IsPassOf};
 
 mod changes;
 mod graph;
+mod moment;
 mod service;
 mod work;
 
 use crate::graph::{Failure, Graph, HUB, RING};
+use crate::moment::Moment;
 use crate::service::{Served, run_service};
 use crate::work::work;
 use grb_context::{Context, Pass};
@@ -27,8 +29,8 @@ use std::io;
 use std::test::Fail;
 use std::thread::{Threads, map_vec};
 
-/// The calls that the history has room for; a run enters some three hundred.
-const ROOM: u32 = 1024;
+/// The calls that the history has room for; a run enters 145. What is asked takes none.
+const ROOM: u32 = 256;
 
 /// A pass for each of the five threads.
 const THREADS: u32 = 5;
@@ -43,17 +45,8 @@ struct Summary {
 }
 
 /// Puts a vertex after those that were found, if it has an edge to the hub.
-fn keep_neighbour(
-    context: &Context,
-    pass: &mut Pass,
-    graph: Graph,
-    i: u64,
-    found: &mut Vec<u64>,
-) -> Result<(), Refusal>
-    requires { IsPassOf context.now pass.old }
-    ensures { IsPassOf context.now pass.new }
-{
-    if !graph.is_neighbour(context, pass, HUB, i)? {
+fn keep_neighbour(moment: &mut Moment, i: u64, found: &mut Vec<u64>) -> Result<(), Refusal> {
+    if !moment.is_neighbour(HUB, i)? {
         return Ok(());
     }
     match found.push(i) {
@@ -63,41 +56,30 @@ fn keep_neighbour(
 }
 
 /// The vertices of the ring that have an edge to the hub, in rising order.
-fn neighbours(
-    alloc: Global,
-    context: &Context,
-    pass: &mut Pass,
-    graph: Graph,
-) -> Result<Vec<u64>, Refusal>
-    requires { IsPassOf context.now pass.old }
-    ensures { IsPassOf context.now pass.new }
-{
+fn neighbours(alloc: Global, moment: &mut Moment) -> Result<Vec<u64>, Refusal> {
     let mut found = Vec::new(alloc);
     'vertices: for i in 0..RING {
-        keep_neighbour(context, pass, graph, i, &mut found)?;
+        keep_neighbour(moment, i, &mut found)?;
     }
     Ok(found)
 }
 
-/// Reads it.
+/// Reads it, all of one moment.
 fn read(alloc: Global, context: &Context, pass: &mut Pass, graph: Graph) -> Result<Summary, Failure>
     requires { IsPassOf context.now pass.old }
     ensures { IsPassOf context.now pass.new }
 {
-    let edges = graph.edges(context, pass)?;
-    let degree = graph.degree(context, pass, HUB)?;
-    let neighbours = neighbours(alloc, context, pass, graph)?;
-    let triangles = graph.triangles(context, pass)?;
+    let mut moment = graph.now(alloc, context, pass)?;
     Ok(Summary {
-        edges,
-        degree,
-        neighbours,
-        triangles,
+        edges: moment.edges()?,
+        degree: moment.degree(HUB)?,
+        neighbours: neighbours(alloc, &mut moment)?,
+        triangles: moment.triangles()?,
     })
 }
 
 /// Takes the pass of the highest number out of these.
-fn last_pass(context: &Context, passes: &mut Vec<Pass>) -> Pass
+pub(crate) fn last_pass(context: &Context, passes: &mut Vec<Pass>) -> Pass
     requires ours { All (IsPassOf context.now) passes.old.items }
     requires some { 0 < length passes.old.items }
     ensures pass { IsPassOf context.now result }
@@ -125,7 +107,8 @@ fn work_at_once<R: Threads + Sync + AllocGlobal>(
 ) -> Result<u32, Failure>
     requires { All (IsPassOf context.now) passes.items }
 {
-    match map_vec(rt, passes, &|pass| work(context, pass, graph)) {
+    let alloc = rt.alloc();
+    match map_vec(rt, passes, &|pass| work(alloc, context, pass, graph)) {
         Ok(ends) => all_wrong(&ends),
         Err(_) => Err(Failure::Refused(Refusal::OutOfMemory)),
     }
@@ -194,6 +177,7 @@ fn main(rt: HostRuntime) -> Result<(), Fail> {
         Err(Failure::Refused(refusal)) => {
             println!(&rt; "refused: {}. {}", refusal.name(), refusal.hint())?;
         }
+        Err(Failure::NoBranch(why)) => println!(&rt; "no branch: {why:?}")?,
         Err(Failure::NoNumber) => println!(&rt; "the graph holds no numbers")?,
     }
     write_served(&rt, &run_service(&rt)?)?;

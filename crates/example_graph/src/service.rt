@@ -1,239 +1,93 @@
-//! A service that never stops: its workers change a store that is soon full, and then the successor of that, and so on.
+//! A service that never stops: its workers change a chain of stores, of which each takes few changes.
 //!
-//! A worker makes changes until one is answered `OrderFull`, and hands its pass back. The owner meets the passes of all workers, opens the
-//! successor of the store, and deals new passes out; the change that was refused is made there. This service ends after four hundred
-//! changes, so that there is something to print. Else it would end only where a call is refused for another reason than a full store.
+//! A worker makes its changes as though there were one store without an end. Where a store is full, one of the workers makes the next,
+//! which begins with what the full one held, and the others follow. This service ends after four hundred changes, so that there is something
+//! to print.
 //!
-//! Contracts alone carry that no change is lost which was answered `Done`:
-//!
-//! - `each` of `map_vec`: what each worker handed back is there, and its pass is one of this store, by the `ensures` of `work`;
-//! - `met` of [`Context::meet`], and so of `meet_workers`: what each of these passes knows begins what the owner's pass then knows;
-//! - the law `full_knows_all` of the context: where [`Pass::is_at_end`] holds of the owner's pass, no pass knows more of this store, now or
-//!   later;
-//! - `begun` of [`Context::succeed`], and so `goes_on` of [`Service::go_on`]: the next store is the one that all these calls leave.
-ghost use Rattle.std.specs.Prelude.{◌≡◌, All, IfOk, OnOk, length};
-ghost use Rattle.grb_order.specs.Order.{room_of};
-ghost use Rattle.grb_call.specs.History.{store_of};
-ghost use Rattle.grb_context.specs.Known.{IsPassOf, known};
-ghost use Rattle.grb_context.specs.Laws.{Begins};
-
-use crate::changes::{CHANGES, Changes, WORKERS};
-use crate::last_pass;
-use grb_context::{Context, Pass};
+//! What carries that no change is lost which was answered `Done`: `calls` of [`Member::call`], by which a change is entered where the member
+//! then sits, and in one store alone; and `goes_on` of what a member moves to, by which a store goes on from one that was full.
+use crate::changes::{Changes, WORKERS};
 use grb_core::Refusal;
+use grb_generations::{Generations, Member};
 use std::alloc::{AllocError, Global};
-use std::marker::Model;
-use std::mem;
 use std::test::Fail;
 use std::thread::{Threads, map_vec};
 
-/// The calls that each store has room for. One call makes the matrix in the first store, two make it anew in each other one: so the first
-/// takes 31 changes and each other one 30, whichever workers make them.
+/// The changes that each store takes.
 const ROOM: u32 = 32;
 
-/// A pass for each worker, and the owner's.
-const PASSES: u32 = 5;
-
-/// More stores than the changes fill.
-const MOST_STORES: u32 = 100;
+/// A member for each worker, and the owner's.
+const MEMBERS: u32 = 5;
 
 /// What the service did.
 #[derive(Clone, Copy)]
 pub(crate) struct Served {
     /// How many stores it went through.
-    pub(crate) stores: u32,
+    pub(crate) stores: u64,
     /// How many changes each worker was answered `Done`, as it counted them.
     pub(crate) done: [u64; WORKERS],
     /// How many changes of each worker the last store has.
     pub(crate) kept: [u64; WORKERS],
 }
 
-/// What a worker hands back: its pass, and how many of its changes were answered `Done`, in all stores up to this one.
-type Handed = (Pass, u64);
-
-/// What a worker does in one store, from where it was in the one before.
-fn work(
-    context: &Context,
-    mut pass: Pass,
-    changes: Changes,
-    done: &[u64; WORKERS],
-) -> Result<Handed, Refusal>
-    requires { IsPassOf context.now pass }
-    ensures { IfOk result (λ handed. IsPassOf context.now handed.0) }
-{
-    let worker = pass.number();
-    let before = done.get(worker as usize).copied().unwrap_or(0);
-    let done = changes.make_on(context, &mut pass, u64::from(worker), before)?;
-    Ok((pass, done))
+/// What a worker does: its number, and how many of its changes were answered `Done`.
+fn work(mut member: Member, changes: Changes) -> Result<(u32, u64), Refusal> {
+    let number = member.number();
+    let done = changes.make_all(&mut member, u64::from(number))?;
+    Ok((number, done))
 }
 
-/// Has a worker change the store with each of these passes, and waits for all of them.
+/// Has a worker make its changes by each of these members, and waits for all of them.
 fn work_at_once<R: Threads + Sync + AllocGlobal>(
     rt: &R,
-    context: &Context,
-    passes: Vec<Pass>,
+    members: Vec<Member>,
     changes: Changes,
-    done: &[u64; WORKERS],
-) -> Result<Vec<Result<Handed, Refusal>>, AllocError>
-    requires { All (IsPassOf context.now) passes.items }
-    ensures { IfOk result (λ ends. All (λ end. IfOk end (λ handed. IsPassOf context.now handed.0)) ends.items) }
-{
-    map_vec(rt, passes, &|pass| work(context, pass, changes, done))
+) -> Result<Vec<Result<(u32, u64), Refusal>>, AllocError> {
+    map_vec(rt, members, &|member| work(member, changes))
 }
 
-/// Lets the owner's pass learn all that a worker's pass knows, and notes how many changes that worker counted.
-fn meet_worker(
-    context: &Context,
-    own: &mut Pass,
-    end: Result<Handed, Refusal>,
-    done: &mut [u64; WORKERS],
-) -> Result<(), Refusal>
-    requires own { IsPassOf context.now own.old }
-    requires end { IfOk end (λ handed. IsPassOf context.now handed.0) }
-    ensures own { IsPassOf context.now own.new }
-    ensures met { OnOk result (IfOk end (λ handed. Begins (known handed.0) (known own.new))) }
-    ensures grows { OnOk result (Begins (known own.old) (known own.new)) }
-{
-    let (mut pass, count) = end?;
-    context.meet(own, &mut pass)?;
-    if let Some(place) = done.get_mut(pass.number() as usize) {
-        *place = count;
-    }
-    Ok(())
-}
-
-/// The same of all workers; how many changes each counted.
-fn meet_workers(
-    context: &Context,
-    own: &mut Pass,
-    ends: Vec<Result<Handed, Refusal>>,
-) -> Result<[u64; WORKERS], Refusal>
-    requires own { IsPassOf context.now own.old }
-    requires ends { All (λ end. IfOk end (λ handed. IsPassOf context.now handed.0)) ends.items }
-    ensures own { IsPassOf context.now own.new }
-    ensures met { OnOk result (All (λ end. IfOk end (λ handed. Begins (known handed.0) (known own.new))) ends.items) }
-{
+/// How many changes each worker counted.
+fn counted(ends: &[Result<(u32, u64), Refusal>]) -> Result<[u64; WORKERS], Refusal> {
     let mut done = [0u64; WORKERS];
     'ends: for end in ends {
-        meet_worker(context, own, end, &mut done)?;
+        let (number, count) = (*end)?;
+        if let Some(place) = done.get_mut(number as usize) {
+            *place = count;
+        }
     }
     Ok(done)
 }
 
-/// How many changes of each worker the store has.
-fn kept(context: &Context, own: &mut Pass, changes: Changes) -> Result<[u64; WORKERS], Refusal>
-    requires { IsPassOf context.now own.old }
-    ensures { IsPassOf context.now own.new }
-{
+/// How many changes of each worker there are.
+fn kept(own: &mut Member, changes: Changes) -> Result<[u64; WORKERS], Refusal> {
     let mut kept = [0u64; WORKERS];
     'workers: for worker in 0..WORKERS {
-        kept[worker] = changes.kept(context, own, worker as u64)?;
+        kept[worker] = changes.kept(own, worker as u64)?;
     }
     Ok(kept)
 }
 
-/// The store in which the service is, with its passes. A contract sees what the owner's pass knows of it.
-#[derive(Drop)]
-struct Service {
-    context: Context,
-    own: Pass,
-    /// The workers' passes, as long as no worker has them.
-    passes: Vec<Pass>,
-    changes: Changes,
-    /// How many changes of each worker were answered `Done`.
-    done: [u64; WORKERS],
-    /// How many stores there were, this one included.
-    stores: u32,
-}
-
-impl Model for Service {
-    ghost use Rattle.std.specs.Prelude.{All};
-    ghost use Rattle.grb_context.specs.Known.{IsPassOf, Knowing};
-
-    ghost Value = { Knowing };
-
-    ghost view = { λ s. s.own };
-
-    ghost invariant = { λ s. (IsPassOf s.context s.own) × (All (IsPassOf s.context) s.passes.items) };
-}
-
-impl Service {
-    /// The service in its first store.
-    fn open(alloc: Global) -> Result<Service, Fail> {
-        let (context, mut passes) = Context::open(alloc, ROOM, PASSES)?;
-        let mut own = last_pass(&context, &mut passes);
-        let changes = Changes::new(&context, &mut own)?;
-        Ok(Service {
-            context,
-            own,
-            passes,
-            changes,
-            done: [0; WORKERS],
-            stores: 1,
-        })
-    }
-
-    /// Whether each worker has made all its changes.
-    fn is_done(&self) -> bool {
-        self.done.iter().all(|done| *done >= CHANGES)
-    }
-
-    /// Has the workers change the store until it is full, or all is done. Then the owner's pass knows all that theirs know.
-    fn fill<R: Threads + Sync + AllocGlobal>(&mut self, rt: &R) -> Result<(), Fail> {
-        let passes = mem::replace(&mut self.passes, Vec::new(rt.alloc()));
-        let ends = work_at_once(rt, &self.context, passes, self.changes, &self.done)?;
-        self.done = meet_workers(&self.context, &mut self.own, ends)?;
-        Ok(())
-    }
-
-    /// Goes on in the successor of the store, with new passes; what the full store held is there. The full store itself ends here.
-    fn go_on(&mut self, alloc: Global) -> Result<(), Fail>
-        ensures full { OnOk result (length (known self.old) ≡ room_of self.old.order) }
-        ensures goes_on { OnOk result (store_of (known self.new) ≡ store_of (known self.old)) }
-    {
-        if !self.own.is_at_end() {
-            return Err(Fail::new("the store is not full"));
-        }
-        let (next, mut passes) = self.context.succeed(alloc, &mut self.own, ROOM, PASSES)?;
-        let own = last_pass(&next, &mut passes);
-        *self = Service {
-            context: next,
-            own,
-            passes,
-            changes: self.changes,
-            done: self.done,
-            stores: self.stores.saturating_add(1),
-        };
-        Ok(())
-    }
-
-    /// Serves in one store, and goes on in the next where something is left to do.
-    fn serve<R: Threads + Sync + AllocGlobal>(&mut self, rt: &R) -> Result<(), Fail> {
-        self.fill(rt)?;
-        if self.is_done() {
-            return Ok(());
-        }
-        self.go_on(rt.alloc())
-    }
-
-    /// Reads what the store has at the end.
-    fn read(&mut self) -> Result<Served, Fail> {
-        Ok(Served {
-            stores: self.stores,
-            done: self.done,
-            kept: kept(&self.context, &mut self.own, self.changes)?,
-        })
+/// A chain with a member for each worker, and the owner's member.
+fn open(alloc: Global) -> Result<(Member, Vec<Member>), Fail> {
+    let (_, mut members) = Generations::open(alloc, ROOM, MEMBERS)?;
+    match members.pop() {
+        Some(own) => Ok((own, members)),
+        None => Err(Fail::new("the chain has no member")),
     }
 }
 
-/// Runs the service, and reads what its last store has.
+/// Runs the service, and reads what there is at its end.
 pub(crate) fn run_service<R: Threads + Sync + AllocGlobal>(rt: &R) -> Result<Served, Fail> {
-    let mut service = Service::open(rt.alloc())?;
-    'stores: for _ in 0..MOST_STORES {
-        if service.is_done() {
-            break;
-        }
-        service.serve(rt)?;
-    }
-    service.read()
+    let (mut own, members) = open(rt.alloc())?;
+    let Some(changes) = Changes::new(&mut own)? else {
+        return Err(Fail::new("no matrix was made"));
+    };
+    let ends = work_at_once(rt, members, changes)?;
+    let done = counted(&ends)?;
+    let kept = kept(&mut own, changes)?;
+    Ok(Served {
+        stores: own.generation().saturating_add(1),
+        done,
+        kept,
+    })
 }

@@ -1,5 +1,5 @@
 -- believed: What a handle's branch is, and the build of an object of another store (own).
-use Rattle.std.specs.Prelude.{◌≡◌, ◌⊎◌, ◌<◌, ◌^◌, ℕ, ℤ, true, List, map, length, Option, Some, None, Result, Ok, Err, IfOk}
+use Rattle.std.specs.Prelude.{◌≡◌, ◌<◌, ◌^◌, ℕ, ℤ, true, List, map, length, Option, Some, None, Result, Ok, Err, IfOk}
 use Rattle.grb_core.specs.declared.refusal.Refusal.{Refusal}
 use Rattle.grb_sparse.specs.Matrix.{SparseMatrixView}
 use Rattle.grb_sparse.specs.Vector.{SparseVectorView}
@@ -12,8 +12,7 @@ use Rattle.grb_call.specs.History.{store_of}
 use Rattle.grb_call.specs.Store.{Store}
 use Rattle.grb_call.specs.Tuples.{tuples_of}
 use Rattle.grb_rebuild.specs.Rebuilt.{monoid_for}
-use Rattle.grb_rebuild.specs.declared.rebuild.NoSuccessor.{NoSuccessor}
-use Rattle.grb_context.specs.Chosen.{IsNoBranch, chosen_store, room_beside}
+use Rattle.grb_context.specs.Chosen.{chosen_store}
 use Rattle.grb_context.specs.Known.{Knowing, known}
 use Rattle.grb_context.specs.Snapshot.{IsSnapshot}
 use Rattle.grb_context.specs.StoredIn.{IsMatrixOf, IsVectorOf}
@@ -21,7 +20,7 @@ use Rattle.grb_c.specs.Codes.{refusal_code, uninitialized_object}
 use Rattle.grb_c.specs.Handles.{Makes, are_none}
 use Rattle.grb_c.specs.Opening.{IsWithin}
 use Rattle.grb_c.specs.Sessions.{Opened}
-use Rattle.grb_c.specs.Succession.{IsSucceeded, needed_out, no_successor_code}
+use Rattle.grb_c.specs.Succession.{GoesOn}
 use Rattle.grb_c.specs.declared.handle.TrbPass.{TrbPass}
 
 -- each array has less than 2^32 numbers
@@ -46,20 +45,9 @@ vectors_named numbers = map (λ n. record { 0 = n }) numbers
 abbrev pub store_named : Knowing → List ℕ → List ℕ → Store
 store_named p matrices vectors = chosen_store (store_of (known p)) (matrices_named matrices) (vectors_named vectors)
 
--- there is no branch with this store, for this reason
-pub record IsNotBranched (room passes : ℕ) (s : Store) (code : ℤ) (before after : ℕ) : Type 0 where
-  pub why : NoSuccessor
-  pub holds : IsNoBranch room passes s why
-  pub code_is : code ≡ no_successor_code why
-  pub needed_is : after ≡ needed_out why before
-
--- all handles have passes that begin with this store, in a history with so much room beside what begins it; or there is none
-abbrev pub GoesApart : ℕ → ℕ → ℕ → Store → ℤ → ℕ → ℕ → List (Option Opened) → Type 0
-GoesApart store room passes s code before after hs = IsSucceeded store (room_beside s room) s code before after hs ⊎ IsNotBranched room passes s code before after
-
--- the same of the objects of these numbers that the pass of a handle knows; or there is no pass
+-- handles go on from the store of the objects of these numbers that the pass of a handle knows; or there is no pass
 abbrev pub GoesApartFrom : ℕ → ℕ → Option Opened → List ℕ → List ℕ → ℤ → ℕ → ℕ → List TrbPass → Type 0
-GoesApartFrom store room (Some s) matrices vectors code before after hs = GoesApart store room (length hs) (store_named s.pass matrices vectors) code before after (map (λ h. h.raw.session) hs)
+GoesApartFrom store room (Some s) matrices vectors code before after hs = GoesOn store room (length hs) (store_named s.pass matrices vectors) code before after (map (λ h. h.raw.session) hs)
 GoesApartFrom store room None matrices vectors code before after hs = (code ≡ uninitialized_object) × (after ≡ before)
 
 -- the build of all entries of this matrix, of which no place stands twice

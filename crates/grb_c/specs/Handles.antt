@@ -1,5 +1,5 @@
 -- believed: What an export does with the handles that it is given, of which each has a pass or none (own).
-use Rattle.std.specs.Prelude.{◌≡◌, ◌⊎◌, ℕ, ℤ, Bool, not, is_some, List, map, Result, Ok, Err}
+use Rattle.std.specs.Prelude.{◌≡◌, ◌⊎◌, ℕ, ℤ, Bool, not, is_some, List, length, map, Result, Ok, Err}
 use Rattle.std.specs.List.{list_all}
 use Rattle.grb_core.specs.declared.domain.Domain.TheVariants as domain
 use Rattle.grb_call.specs.declared.call.Call.{Call}
@@ -45,4 +45,4 @@ ReadsBoolsOfVector old new = ReadsAllOfVector domain.Bool bool_in old.raw.sessio
 
 -- handles go on from the store that all calls leave which the pass of another knows
 abbrev pub Succeeds : ℕ → ℕ → TrbPass → ℤ → ℕ → ℕ → List TrbPass → Type 0
-Succeeds store room old code before after hs = GoesOnFrom store room old.raw.session code before after (map (λ h. h.raw.session) hs)
+Succeeds store room old code before after hs = GoesOnFrom store room (length hs) old.raw.session code before after (map (λ h. h.raw.session) hs)

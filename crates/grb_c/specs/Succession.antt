@@ -5,7 +5,7 @@ use Rattle.grb_call.specs.History.{store_of}
 use Rattle.grb_rebuild.specs.declared.rebuild.NoSuccessor.{NoSuccessor}
 use Rattle.grb_rebuild.specs.declared.rebuild.NoSuccessor.TheVariants as no
 use Rattle.grb_context.specs.Known.{known}
-use Rattle.grb_context.specs.Rebuilding.{IsNoSuccessor}
+use Rattle.grb_context.specs.Chosen.{IsNoSuccessor, room_beside}
 use Rattle.grb_context.specs.Succeeding.{BeginsWith}
 use Rattle.grb_c.specs.Codes.{insufficient_space, out_of_memory, panic, success, uninitialized_object}
 use Rattle.grb_c.specs.Opening.{AreHandedOut}
@@ -15,9 +15,10 @@ use Rattle.grb_c.specs.Sessions.{Opened}
 abbrev pub no_successor_code : NoSuccessor → ℤ
 no_successor_code (no.RoomTooSmall needed) = insufficient_space
 no_successor_code no.OutOfMemory = out_of_memory
+no_successor_code (no.Unmade o) = out_of_memory
 no_successor_code no.Panic = panic
 
--- how many calls are needed, where the room is too small
+-- how many calls make the new store, where no history has room for all
 abbrev pub needed_out : NoSuccessor → ℕ → ℕ
 needed_out (no.RoomTooSmall needed) before = needed
 needed_out _ before = before
@@ -29,17 +30,17 @@ pub record IsSucceeded (store room : ℕ) (s : Store) (code : ℤ) (before after
   pub passes : AreHandedOut (λ context. BeginsWith context s) store room hs
 
 -- there is no successor, for this reason
-pub record IsNotSucceeded (room : ℕ) (s : Store) (code : ℤ) (before after : ℕ) : Type 0 where
+pub record IsNotSucceeded (room passes : ℕ) (s : Store) (code : ℤ) (before after : ℕ) : Type 0 where
   pub why : NoSuccessor
-  pub holds : IsNoSuccessor room s why
+  pub holds : IsNoSuccessor room passes s why
   pub code_is : code ≡ no_successor_code why
   pub needed_is : after ≡ needed_out why before
 
--- the one or the other
-abbrev pub GoesOn : ℕ → ℕ → Store → ℤ → ℕ → ℕ → List (Option Opened) → Type 0
-GoesOn store room s code before after hs = IsSucceeded store room s code before after hs ⊎ IsNotSucceeded room s code before after
+-- the one, in a history with so much room beside what begins it, or the other
+abbrev pub GoesOn : ℕ → ℕ → ℕ → Store → ℤ → ℕ → ℕ → List (Option Opened) → Type 0
+GoesOn store room passes s code before after hs = IsSucceeded store (room_beside s room) s code before after hs ⊎ IsNotSucceeded room passes s code before after
 
 -- the same of the store that all calls leave which the pass of a handle knows; or there is no pass
-abbrev pub GoesOnFrom : ℕ → ℕ → Option Opened → ℤ → ℕ → ℕ → List (Option Opened) → Type 0
-GoesOnFrom store room (Some s) code before after hs = GoesOn store room (store_of (known s.pass)) code before after hs
-GoesOnFrom store room None code before after hs = (code ≡ uninitialized_object) × (after ≡ before)
+abbrev pub GoesOnFrom : ℕ → ℕ → ℕ → Option Opened → ℤ → ℕ → ℕ → List (Option Opened) → Type 0
+GoesOnFrom store room passes (Some s) code before after hs = GoesOn store room passes (store_of (known s.pass)) code before after hs
+GoesOnFrom store room passes None code before after hs = (code ≡ uninitialized_object) × (after ≡ before)

@@ -3,10 +3,11 @@ ghost use Rattle.std.specs.Prelude.{◌≡◌, ◌<◌, ◌^◌, false, true, If
 ghost use Rattle.grb_call.specs.History.{store_of};
 ghost use Rattle.grb_context.specs.Chosen.{chosen_store};
 ghost use Rattle.grb_context.specs.Known.{known};
-ghost use Rattle.grb_c.specs.Branching.{AreFew, GoesApart, GoesApartFrom, IsBranchAsked, matrices_named, store_named, vectors_named};
+ghost use Rattle.grb_c.specs.Branching.{AreFew, GoesApartFrom, IsBranchAsked, matrices_named, store_named, vectors_named};
 ghost use Rattle.grb_c.specs.Codes.{invalid_value};
 ghost use Rattle.grb_c.specs.Opening.{IsWithin};
 ghost use Rattle.grb_c.specs.Sessions.{IsSameButMade};
+ghost use Rattle.grb_c.specs.Succession.{GoesOn};
 
 use crate::codes::{INVALID_VALUE, UNINITIALIZED_OBJECT};
 use crate::handle::TrbPass;
@@ -62,7 +63,7 @@ fn go_apart(
     requires matrices { length matrices.now < 2 ^ 32 }
     requires vectors { length vectors.now < 2 ^ 32 }
     ensures same { session.new ≡ record session.old { pass = record session.old.pass { made = session.new.pass.made } } }
-    ensures apart { GoesApart store room (length passes.old) (chosen_store (store_of (known session.old.pass)) matrices.now vectors.now) result needed.old needed.new (map (λ h. h.raw.session) passes.new) }
+    ensures apart { GoesOn store room (length passes.old) (chosen_store (store_of (known session.old.pass)) matrices.now vectors.now) result needed.old needed.new (map (λ h. h.raw.session) passes.new) }
     ensures count { length passes.new ≡ length passes.old }
 {
     match session.branch(alloc, matrices, vectors, room, passes.len() as u32) {
@@ -86,7 +87,7 @@ fn go_apart_by_numbers(
     requires matrices { length matrices.now < 2 ^ 32 }
     requires vectors { length vectors.now < 2 ^ 32 }
     ensures same { session.new ≡ record session.old { pass = record session.old.pass { made = session.new.pass.made } } }
-    ensures apart { GoesApart store room (length passes.old) (store_named session.old.pass matrices.now vectors.now) result needed.old needed.new (map (λ h. h.raw.session) passes.new) }
+    ensures apart { GoesOn store room (length passes.old) (store_named session.old.pass matrices.now vectors.now) result needed.old needed.new (map (λ h. h.raw.session) passes.new) }
     ensures count { length passes.new ≡ length passes.old }
 {
     let Ok(matrices) = matrices_named(alloc, matrices) else {

@@ -4,11 +4,10 @@ ghost use Rattle.grb_order.specs.Order.{room_of};
 ghost use Rattle.grb_call.specs.declared.call.Call.TheVariants as Call;
 ghost use Rattle.grb_call.specs.declared.descriptor.WaitMode.TheVariants as WaitMode;
 ghost use Rattle.grb_call.specs.History.{store_of};
-ghost use Rattle.grb_context.specs.Chosen.{IsNoBranch, chosen_store, room_beside};
+ghost use Rattle.grb_context.specs.Chosen.{IsNoSuccessor, chosen_store, room_beside};
 ghost use Rattle.grb_context.specs.Known.{IsPassOf, known, none_made};
 ghost use Rattle.grb_context.specs.Answered.{Answered};
 ghost use Rattle.grb_context.specs.Meeting.{Met};
-ghost use Rattle.grb_context.specs.Rebuilding.{IsNoSuccessor};
 ghost use Rattle.grb_context.specs.Snapshot.{IsSnapshot};
 ghost use Rattle.grb_context.specs.StoredIn.{IsMatrixOf, IsVectorOf};
 ghost use Rattle.grb_context.specs.Succeeding.{AreBegun};
@@ -110,10 +109,10 @@ impl Session {
         ensures context { self.new.context ≡ self.old.context }
         ensures store { self.new.store ≡ self.old.store }
         ensures same { self.new.pass ≡ record self.old.pass { made = self.new.pass.made } }
-        ensures room { IfOk result (λ opened. room_of opened.0.order ≡ room) }
+        ensures room { IfOk result (λ opened. room_of opened.0.order ≡ room_beside (store_of (known self.old.pass)) room) }
         ensures begun { IfOk result (λ opened. AreBegun opened.0 (store_of (known self.old.pass)) passes opened.1.items) }
         ensures ours { IfOk result (λ opened. All (IsPassOf opened.0) opened.1.items) }
-        ensures refused { IfErr result (IsNoSuccessor room (store_of (known self.old.pass))) }
+        ensures refused { IfErr result (IsNoSuccessor room passes (store_of (known self.old.pass))) }
     {
         self.context.succeed(alloc, &mut self.pass, room, passes)
     }
@@ -136,7 +135,7 @@ impl Session {
         ensures room { IfOk result (λ opened. room_of opened.0.order ≡ room_beside (chosen_store (store_of (known self.old.pass)) matrices.now vectors.now) room) }
         ensures begun { IfOk result (λ opened. AreBegun opened.0 (chosen_store (store_of (known self.old.pass)) matrices.now vectors.now) passes opened.1.items) }
         ensures ours { IfOk result (λ opened. All (IsPassOf opened.0) opened.1.items) }
-        ensures refused { IfErr result (IsNoBranch room passes (chosen_store (store_of (known self.old.pass)) matrices.now vectors.now)) }
+        ensures refused { IfErr result (IsNoSuccessor room passes (chosen_store (store_of (known self.old.pass)) matrices.now vectors.now)) }
     {
         self.context
             .branch(alloc, &mut self.pass, matrices, vectors, room, passes)

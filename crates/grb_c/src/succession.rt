@@ -18,13 +18,13 @@ use crate::session::Session;
 use grb_context::NoSuccessor;
 use std::alloc::Global;
 
-/// Why there is no successor, and how many calls are needed, where the room is too small.
+/// Why there is no successor, and how many calls make it, where no history has room for all.
 pub(crate) fn put_needed(why: NoSuccessor, needed: &mut u64) -> i32
     ensures code { result ≡ no_successor_code why }
     ensures needed { needed.new ≡ needed_out why needed.old }
 {
     match why {
-        NoSuccessor::OutOfMemory => OUT_OF_MEMORY,
+        NoSuccessor::OutOfMemory | NoSuccessor::Unmade { .. } => OUT_OF_MEMORY,
         NoSuccessor::RoomTooSmall { needed: calls } => {
             *needed = calls;
             INSUFFICIENT_SPACE
@@ -44,7 +44,8 @@ fn go_on(
 ) -> i32
     requires within { IsWithin room (length passes.old) }
     ensures same { session.new ≡ record session.old { pass = record session.old.pass { made = session.new.pass.made } } }
-    ensures goes_on { GoesOn store room (store_of (known session.old.pass)) result needed.old needed.new (map (λ h. h.raw.session) passes.new) }
+    ensures goes_on { GoesOn store room (length passes.old) (store_of (known session.old.pass)) result needed.old needed.new (map (λ h. h.raw.session) passes.new) }
+    ensures count { length passes.new ≡ length passes.old }
 {
     match session.succeed(alloc, room, passes.len() as u32) {
         Ok((context, opened)) => hand_out_context(alloc, store, context, opened, passes),
@@ -52,9 +53,9 @@ fn go_on(
     }
 }
 
-/// A new context that goes on where the pass ends, and a pass of it in each handle, none of which has one before: its history takes `room`
-/// calls, and begins with those that make just the store that all calls leave which the pass knows. The number is that of the new store
-/// alone, among those that are open. Where the room is too small, tells how many calls are needed.
+/// A new context that goes on where the pass ends, and a pass of it in each handle, none of which has one before: its history begins with
+/// the calls that make just the store that all calls leave which the pass knows, and takes `room` calls beside these. The number is that of
+/// the new store alone, among those that are open. Where no history has room for all, tells how many calls make the store.
 #[unsafe(no_mangle)]
 pub extern "C" fn trb_succeed(
     alloc: Global,
@@ -66,6 +67,7 @@ pub extern "C" fn trb_succeed(
 ) -> i32
     ensures same { IsSameButMade pass.old.raw.session pass.new.raw.session }
     ensures succeeds { IsWithin room (length passes.old) → are_none passes.old ≡ true → Succeeds store room pass.old result needed.old needed.new passes.new }
+    ensures count { length passes.new ≡ length passes.old }
     ensures outside { (IsWithin room (length passes.old) → ⊥) → (result ≡ invalid_value) × (needed.new ≡ needed.old) × (passes.new ≡ passes.old) }
     ensures taken { are_none passes.old ≡ false → (result ≡ invalid_value) × (needed.new ≡ needed.old) × (passes.new ≡ passes.old) }
 {

@@ -11,6 +11,8 @@ pub use Rattle.grb_pass.specs.Learning
 pub use Rattle.grb_pass.specs.Meeting
 pub use Rattle.grb_pass.specs.Point
 pub use Rattle.grb_pass.specs.Live
+pub use Rattle.grb_pass.specs.LiveNumbers
+pub use Rattle.grb_pass.specs.Looking
 pub use Rattle.grb_pass.specs.Rebuilding
 pub use Rattle.grb_pass.specs.Rebuilt
 pub use Rattle.grb_pass.specs.Renumbered

@@ -1,12 +1,12 @@
 //! A context that goes on where another ends.
-ghost use Rattle.std.specs.Prelude.{◌≡◌, ◌<◌, ◌≤◌, ◌*◌, All, IfErr, IfOk};
-ghost use Rattle.grb_order.specs.declared.limits.TheConstants.{MOST_PASSES, MOST_ROOM, MOST_SEATS};
+ghost use Rattle.std.specs.Prelude.{◌≡◌, ◌<◌, ◌≤◌, All, IfErr, IfOk};
+ghost use Rattle.grb_order.specs.declared.limits.TheConstants.{MOST_PASSES, MOST_ROOM};
 ghost use Rattle.grb_order.specs.Order.{room_of};
 ghost use Rattle.grb_records.specs.Token.{HasRows};
 ghost use Rattle.grb_call.specs.History.{store_of};
+ghost use Rattle.grb_context.specs.Chosen.{IsNoSuccessor, NamesLive, room_beside};
 ghost use Rattle.grb_context.specs.Known.{IsPassOf, known};
 ghost use Rattle.grb_context.specs.Live.{live_store};
-ghost use Rattle.grb_context.specs.Rebuilding.{IsNoSuccessor};
 ghost use Rattle.grb_context.specs.Renumbered.{AreRenumbered};
 ghost use Rattle.grb_context.specs.Succeeding.{AreBegun};
 
@@ -15,17 +15,20 @@ use grb_pass::{NoSuccessor, Pass, Renumbered};
 use std::alloc::Global;
 
 impl Context {
-    /// A context that goes on where this one ends, and its passes: its history takes `room` calls and begins with calls of its pass 0 that
-    /// make just the store that all calls leave which this pass knows. So each number means the same object, freed numbers stay freed, and
-    /// the next object is given the next number. Each new pass knows just these calls and how many passes there are, shares what is
-    /// evaluated of the calls, has no status, settled no call, and has counted no step and no call that it made; the one at index k has the
-    /// number k. This context and its passes are as before, but for what the pass has evaluated.
+    /// A context that goes on where this one ends, and its passes: its history begins with calls of its pass 0 that make just the store that
+    /// all calls leave which this pass knows, two at most for each number, and takes `room` calls beside these; then it is full. So each
+    /// number means the same object, freed numbers stay freed, and the next object is given the next number. Each new pass knows just these
+    /// calls and how many passes there are, shares what is evaluated of the calls, has no status, settled no call, and has counted no step
+    /// and no call that it made; the one at index k has the number k. This context and its passes are as before, but for what the pass has
+    /// evaluated.
     ///
     /// Where [`Pass::is_at_end`] holds of the pass, nothing is lost by going on. Called earlier it makes a store beside this one: what is
     /// entered here later is not there. Of some objects alone [`Context::branch`] makes one.
     ///
-    /// Objects are shared with this context until one of the two changes one; no entry is copied. `RoomTooSmall` tells how many calls are
-    /// needed, two at most for each number. `OutOfMemory` where memory is refused, and `Panic` where a record of the new context is not taken. In each case no context is made (own).
+    /// Objects are shared with this context until one of the two changes one; no entry is copied. `RoomTooSmall` tells how many calls make the
+    /// store, where these and `room` are more than `MOST_ROOM`, or times `passes` more than `MOST_SEATS`. `Unmade` names an object to which
+    /// memory is refused: free it, or leave it out of a branch. `OutOfMemory` where memory is refused to anything else, and `Panic` where a
+    /// record of the new context is not taken. In each case no context is made (own).
     pub fn succeed(
         &self,
         alloc: Global,
@@ -36,22 +39,22 @@ impl Context {
         requires pass { IsPassOf self.now pass.old }
         requires room { (0 < room) × (room ≤ MOST_ROOM) }
         requires passes { (0 < passes) × (passes ≤ MOST_PASSES) }
-        requires seats { room * passes ≤ MOST_SEATS }
         ensures pass { IsPassOf self.now pass.new }
         ensures same { pass.new ≡ record pass.old { made = pass.new.made } }
-        ensures room { IfOk result (λ opened. room_of opened.0.order ≡ room) }
-        ensures records { IfOk result (λ opened. HasRows passes room opened.0.records) }
+        ensures room { IfOk result (λ opened. room_of opened.0.order ≡ room_beside (store_of (known pass.old)) room) }
+        ensures records { IfOk result (λ opened. HasRows passes (room_beside (store_of (known pass.old)) room) opened.0.records) }
         ensures begun { IfOk result (λ opened. AreBegun opened.0 (store_of (known pass.old)) passes opened.1.items) }
         ensures ours { IfOk result (λ opened. All (IsPassOf opened.0) opened.1.items) }
-        ensures refused { IfErr result (IsNoSuccessor room (store_of (known pass.old))) }
+        ensures refused { IfErr result (IsNoSuccessor room passes (store_of (known pass.old))) }
+        ensures named { IfErr result (NamesLive (store_of (known pass.old))) }
     {
         let (shared, opened) = self.shared.succeed(alloc, pass, room, passes)?;
         Ok((Context { shared, alloc }, opened))
     }
 
     /// The same without the numbers of freed objects: the matrices that are there have the numbers 0, 1, 2 .. in their order, and so have
-    /// the vectors. Beside it stands which number became which. A service that makes objects for each request goes on so for as long as
-    /// what it keeps fits into `room` (own).
+    /// the vectors. Beside it stands which number became which; `Unmade` names an object by its old one. A service that makes objects for
+    /// each request goes on so for as long as a history has room for what it keeps (own).
     pub fn succeed_live(
         &self,
         alloc: Global,
@@ -62,15 +65,15 @@ impl Context {
         requires pass { IsPassOf self.now pass.old }
         requires room { (0 < room) × (room ≤ MOST_ROOM) }
         requires passes { (0 < passes) × (passes ≤ MOST_PASSES) }
-        requires seats { room * passes ≤ MOST_SEATS }
         ensures pass { IsPassOf self.now pass.new }
         ensures same { pass.new ≡ record pass.old { made = pass.new.made } }
-        ensures room { IfOk result (λ opened. room_of opened.0.order ≡ room) }
-        ensures records { IfOk result (λ opened. HasRows passes room opened.0.records) }
+        ensures room { IfOk result (λ opened. room_of opened.0.order ≡ room_beside (live_store (store_of (known pass.old))) room) }
+        ensures records { IfOk result (λ opened. HasRows passes (room_beside (live_store (store_of (known pass.old))) room) opened.0.records) }
         ensures begun { IfOk result (λ opened. AreBegun opened.0 (live_store (store_of (known pass.old))) passes opened.1.items) }
         ensures ours { IfOk result (λ opened. All (IsPassOf opened.0) opened.1.items) }
         ensures numbers { IfOk result (λ opened. AreRenumbered (store_of (known pass.old)) opened.2) }
-        ensures refused { IfErr result (IsNoSuccessor room (live_store (store_of (known pass.old)))) }
+        ensures refused { IfErr result (IsNoSuccessor room passes (live_store (store_of (known pass.old)))) }
+        ensures named { IfErr result (NamesLive (store_of (known pass.old))) }
     {
         let (shared, opened, numbers) = self.shared.succeed_live(alloc, pass, room, passes)?;
         Ok((Context { shared, alloc }, opened, numbers))

@@ -1,3 +1,6 @@
+mod AtEnd
 mod Chained
+mod Keeping
+mod Living
 mod Moving
 mod Opening

@@ -2,14 +2,14 @@
 use Rattle.std.specs.Prelude.{ℕ, ◌<◌, ◌≤◌, ◌*◌}
 use Rattle.grb_order.specs.declared.limits.TheConstants.{MOST_PASSES, MOST_ROOM, MOST_SEATS}
 
--- how many calls each generation takes, and for how many members
+-- how many calls each generation takes beside those that begin it, and for how many members
 pub record Chain : Type 0 where
   pub room : ℕ
   pub members : ℕ
 
 -- a store may have this room, and so many passes
 pub record IsChain (room members : ℕ) : Type 0 where
-  pub some_room : 1 < room
+  pub some_room : 0 < room
   pub most_room : room ≤ MOST_ROOM
   pub some : 0 < members
   pub most : members ≤ MOST_PASSES

@@ -1,4 +1,9 @@
 pub mod Attempts
+pub mod Branched
 pub mod Chain
+pub mod Keeping
 pub mod Lossless
+pub mod Meeting
+pub mod Reasons
 pub mod Seated
+pub mod Snapped

@@ -1,17 +1,20 @@
 //! A generation that goes on where the one before ends: a seat in it for each member, until that member takes it.
-ghost use Rattle.std.specs.Prelude.{◌≡◌, All};
-ghost use Rattle.grb_order.specs.Order.{room_of};
+ghost use Rattle.std.specs.Prelude.{All};
 ghost use Rattle.grb_generations.specs.Seated.{GoesOn};
 
 use grb_context::{Context, Pass};
+use grb_numbers::Numbers;
 use std::alloc::{AllocError, Global};
 use std::marker::Model;
 use std::sync::{Arc, Mutex};
 
-/// A pass that no one has yet, of a store that goes on where one before it ends, and the number of the generation.
+/// A pass that no one has yet, of a store that goes on where one before it ends, with its numbers, the chain's room and the number of the
+/// generation.
 #[derive(Drop)]
 pub(crate) struct Seat {
+    pub(crate) room: u32,
     pub(crate) context: Arc<Context>,
+    pub(crate) numbers: Arc<Numbers>,
     pub(crate) pass: Pass,
     pub(crate) generation: u64,
 }
@@ -21,30 +24,39 @@ impl Model for Seat {
 
     ghost Value = { Vacant };
 
-    ghost view = { λ s. record { context = s.context.value; pass = s.pass; generation = s.generation } };
+    ghost view = { λ s. record { room = s.room; context = s.context.value; numbers = s.numbers.value; pass = s.pass; generation = s.generation } };
 
-    ghost invariant = { λ s. GoesOn s.context.value s.pass };
+    ghost invariant = { λ s. GoesOn s.room s.context.value s.numbers.value s.pass };
 }
 
-impl Seat {
-    /// How many calls its store takes. Takes no memory.
-    pub(crate) fn room(&self) -> u64
-        ensures { result ≡ room_of self.now.context.order }
-    {
-        u64::from(self.pass.room_left()) + u64::from(self.pass.words())
-    }
+/// A generation that is to be shown: its number, the chain's room, its store, and the numbers by which that is seen.
+#[derive(Drop)]
+pub(crate) struct Next {
+    pub(crate) room: u32,
+    pub(crate) context: Arc<Context>,
+    pub(crate) numbers: Arc<Numbers>,
+    pub(crate) generation: u64,
 }
 
-/// A seat that has this pass.
-fn seat_with(context: Arc<Context>, pass: Pass, generation: u64) -> Seat
-    requires { GoesOn context.value pass }
-    ensures { result ≡ record { context = context.value; pass = pass; generation = generation } }
+impl Model for Next {
+    ghost use Rattle.grb_generations.specs.Seated.{Standing};
+
+    ghost Value = { Standing };
+
+    ghost view = { λ s. record { room = s.room; context = s.context.value; numbers = s.numbers.value; generation = s.generation } };
+}
+
+/// A seat that has this pass. `AllocError` where 2^63 - 1 hold the store.
+fn seat_with(next: &Next, pass: Pass) -> Result<Seat, AllocError>
+    requires { GoesOn next.now.room next.now.context next.now.numbers pass }
 {
-    Seat {
-        context,
+    Ok(Seat {
+        room: next.room,
+        context: Arc::try_clone(&next.context)?,
+        numbers: Arc::try_clone(&next.numbers)?,
         pass,
-        generation,
-    }
+        generation: next.generation,
+    })
 }
 
 /// A generation after the first: the seats that no one has taken. The seat of a member is at the member's number.
@@ -54,19 +66,18 @@ pub(crate) struct Generation {
 }
 
 impl Generation {
-    /// A generation of this number, with a seat for each of the passes. `AllocError` where memory is refused.
+    /// A generation with a seat for each of the passes. `AllocError` where memory is refused.
     pub(crate) fn open(
         alloc: Global,
-        number: u64,
-        context: &Arc<Context>,
+        next: &Next,
         passes: Vec<Pass>,
     ) -> Result<Generation, AllocError>
-        requires { All (GoesOn context.now.value) passes.items }
+        requires { All (GoesOn next.now.room next.now.context next.now.numbers) passes.items }
     {
         let mut seats = Vec::with_capacity(alloc, passes.len())?;
         'passes: for pass in passes {
-            let context = Arc::try_clone(context)?;
-            seats.push(Mutex::new(Some(seat_with(context, pass, number))))?;
+            let seat = seat_with(next, pass)?;
+            seats.push(Mutex::new(Some(seat)))?;
         }
         Ok(Generation { seats })
     }

@@ -7,12 +7,19 @@
 //! full, so no call is lost from one to the next: [`laws`] says so.
 #![tactic(auto)]
 
+mod branches;
+mod desk;
 mod generation;
 mod generations;
 mod latest;
 pub mod laws;
+mod making;
 mod member;
+mod reason;
+mod snapshots;
+mod work;
 
-pub use generations::{Generations, MOST_WAITS};
+pub use generations::{Generations, MOST_WAITS, MOST_WAITS_IN_ALL};
 pub use latest::MOST_LOOKS;
 pub use member::{MOST_MOVES, Member};
+pub use reason::NoGeneration;

@@ -1,20 +1,26 @@
 //! A member: one thread's seat in a chain of stores.
-ghost use Rattle.std.specs.Prelude.{◌≡◌, ◌<◌, ◌≤◌, ◌-◌, ◌⊎◌, Ok, true, false, All, IfErr, IfOk, MatchOption, OnErr};
+ghost use Rattle.std.specs.Prelude.{◌≡◌, ◌<◌, ◌≤◌, ◌-◌, ◌⊎◌, Ok, Err, None, Some, is_some, true, false, All, IfErr, IfOk, IfSome, MatchOption, OnErr};
+ghost use Rattle.grb_core.specs.declared.refusal.Refusal.TheVariants as Refusal;
 ghost use Rattle.grb_order.specs.Order.{room_of};
-ghost use Rattle.grb_call.specs.History.{store_of};
+ghost use Rattle.grb_order.specs.declared.limits.TheConstants.{MOST_ROOM};
 ghost use Rattle.grb_context.specs.Known.{IsPassOf, known};
+ghost use Rattle.grb_call.specs.Kinds.{enters};
+ghost use Rattle.grb_numbers.specs.Inside.{inside};
+ghost use Rattle.grb_numbers.specs.Numbers.{first_numbers};
 ghost use Rattle.grb_context.specs.Explains.{is_entered};
 ghost use Rattle.grb_context.specs.Answered.{Answered};
-ghost use Rattle.grb_context.specs.Rebuilding.{IsNoSuccessor};
-ghost use Rattle.grb_context.specs.Succeeding.{AreBegun};
 ghost use Rattle.grb_generations.specs.Attempts.{Attempts};
-ghost use Rattle.grb_generations.specs.Seated.{Calls, Comes, GoesOn, IsAtEnd, Moves, Stays};
+ghost use Rattle.grb_generations.specs.Reasons.{IsNoGeneration};
+ghost use Rattle.grb_generations.specs.Seated.{Calls, CallsHere, Comes, IsAtEnd, IsThere, Moves, Stays};
 
+use crate::desk::Left;
 use crate::generation::Seat;
 use crate::generations::Generations;
-use grb_call::{Call, Reply};
-use grb_context::{Context, NoSuccessor, Pass};
+use crate::reason::NoGeneration;
+use grb_call::{Call, MatrixId, Reply};
+use grb_context::{Context, Pass};
 use grb_core::Refusal;
+use grb_numbers::Numbers;
 use std::marker::Model;
 use std::sync::Arc;
 
@@ -33,7 +39,7 @@ pub(crate) enum Attempt {
 }
 
 /// What an attempt comes to that was not entered, after a try to go on.
-fn went(on: Result<bool, NoSuccessor>) -> Attempt
+fn went(on: Result<bool, NoGeneration>) -> Attempt
     ensures { (result ≡ Attempt.Moved) ⊎ (result ≡ Attempt.Stayed) }
 {
     match on {
@@ -44,38 +50,99 @@ fn went(on: Result<bool, NoSuccessor>) -> Attempt
 }
 
 /// One thread's seat in a chain of stores: the store of the generation in which it sits, and the pass of it that has the member's number.
-/// It may go to another thread.
-#[derive(Drop)]
+/// It may go to another thread. Where it is dropped, another one may take its seat by [`Generations::member`]; so a member that will be idle
+/// for long is dropped, and holds no store then.
 pub struct Member {
-    generations: Arc<Generations>,
-    context: Arc<Context>,
-    pass: Pass,
-    generation: u64,
+    pub(crate) generations: Arc<Generations>,
+    pub(crate) context: Arc<Context>,
+    pub(crate) numbers: Arc<Numbers>,
+    pub(crate) pass: Pass,
+    pub(crate) generation: u64,
+    // Why its last try to go on from there failed.
+    reason: Option<NoGeneration>,
 }
 
 impl Model for Member {
     ghost use Rattle.grb_context.specs.Known.{IsPassOf};
+    ghost use Rattle.grb_generations.specs.Reasons.{IsMember};
     ghost use Rattle.grb_generations.specs.Seated.{Seated};
 
     ghost Value = { Seated };
 
-    ghost view = { λ m. record { chain = m.generations.value; context = m.context.value; pass = m.pass; generation = m.generation } };
+    ghost view = { λ m. record { chain = m.generations.value; context = m.context.value; numbers = m.numbers.value; pass = m.pass; generation = m.generation; reason = m.reason } };
 
-    ghost invariant = { λ m. IsPassOf m.context.value m.pass };
+    ghost invariant = { λ m. IsMember (record { chain = m.generations.value; context = m.context.value; numbers = m.numbers.value; pass = m.pass; generation = m.generation; reason = m.reason }) };
+}
+
+impl Drop for Member {
+    fn drop(self) {
+        let Member {
+            generations,
+            context,
+            numbers,
+            pass,
+            generation,
+            reason: _,
+        } = self;
+        generations.leave(Left {
+            room: generations.room,
+            members: generations.members,
+            context,
+            numbers,
+            pass,
+            generation,
+        });
+    }
 }
 
 impl Member {
     /// A member that sits in the first generation.
-    pub(crate) fn new(generations: Arc<Generations>, context: Arc<Context>, pass: Pass) -> Member
-        requires { IsPassOf context.value pass }
-        ensures { result ≡ record { chain = generations.value; context = context.value; pass = pass; generation = 0 } }
+    pub(crate) fn new(
+        generations: Arc<Generations>,
+        context: Arc<Context>,
+        numbers: Arc<Numbers>,
+        pass: Pass,
+    ) -> Member
+        requires pass { IsPassOf context.value pass }
+        requires numbers { numbers.value ≡ first_numbers }
+        requires room { generations.value.room ≡ room_of context.value.order }
+        requires most { generations.value.room ≤ MOST_ROOM }
+        ensures { result ≡ record { chain = generations.value; context = context.value; numbers = first_numbers; pass = pass; generation = 0; reason = None } }
     {
         Member {
             generations,
             context,
+            numbers,
             pass,
             generation: 0,
+            reason: None,
         }
+    }
+
+    /// A member that has the seat which another one left. None where 2^63 - 1 hold the chain.
+    pub(crate) fn again(generations: &Arc<Generations>, left: Left) -> Option<Member>
+        requires { left.chain ≡ generations.now.value }
+        ensures { IfSome result (λ m. m ≡ left) }
+    {
+        let Ok(generations) = Arc::try_clone(generations) else {
+            return None;
+        };
+        let Left {
+            room: _,
+            members: _,
+            context,
+            numbers,
+            pass,
+            generation,
+        } = left;
+        Some(Member {
+            generations,
+            context,
+            numbers,
+            pass,
+            generation,
+            reason: None,
+        })
     }
 
     /// The number of the generation in which the member sits, from 0. Takes no memory.
@@ -106,12 +173,30 @@ impl Member {
         &self.context
     }
 
-    /// The member's pass in the generation in which it sits: what it knows there, its last statuses and counts, and objects that lie ready.
-    /// A move to another generation begins all of these anew: no object has a status, and no call is settled.
+    /// The member's pass in the generation in which it sits: what it knows there, its last statuses and counts, and objects that lie ready, all
+    /// by the numbers of [`Member::numbers`]. A move to another generation begins all of these anew: no object has a status, and no call is
+    /// settled.
     pub fn pass(&self) -> &Pass
         ensures { result.now ≡ self.now.pass }
     {
         &self.pass
+    }
+
+    /// Which number an object of the generation has in its store, and which its users have. Takes no memory.
+    pub fn numbers(&self) -> &Arc<Numbers>
+        ensures { result.now.value ≡ self.now.numbers }
+    {
+        &self.numbers
+    }
+
+    /// Why the member's last try to go on from the generation in which it sits failed; none where it did not. After an answer `OrderFull` it is
+    /// there. A member that stands at the end of its generation learns nothing more there, so what it says of the store stays true. Takes no
+    /// memory (own).
+    pub fn reason(&self) -> Option<NoGeneration>
+        ensures reason { result ≡ self.now.reason }
+        ensures holds { IfSome result (IsNoGeneration self.now.chain self.now.numbers self.now.pass) }
+    {
+        self.reason
     }
 
     /// Makes one call, as on one store that never ends. It waits for no other thread without a bound.
@@ -125,16 +210,18 @@ impl Member {
     ///
     /// A change that finds its generation full has the member make the next one, or wait a bounded time for another member that makes it,
     /// and is made there. `OrderFull` says that it was made nowhere, since the generation is full and the next one was not to be had: the
-    /// room takes no call beside those that make the store anew, memory or a record is refused, or a bound was reached. [`Member::go_on`]
+    /// room takes no call beside those that make the store anew, memory or a record is refused, or a bound was reached. [`Member::reason`]
     /// tells which, and a later call tries again. All other refusals are as of [`Context::call`].
     ///
-    /// The numbers of freed objects are kept, and each costs two calls in every generation. Who makes and frees objects for ever fills any
-    /// room in this way, and is then answered `OrderFull` for good: choose a larger room, and clear or resize objects in place of new ones.
+    /// Objects keep the numbers that they were given, in all generations, and no number is given twice; one that was freed names no object
+    /// for good. The store of a generation numbers what was there anew, so what was freed costs nothing. Of each sort some 4,294,900,000
+    /// numbers are given: all but as many as one history takes.
     ///
     /// Takes memory as a call of a context does, and for a generation that it makes (own).
     pub fn call(&mut self, call: Call) -> Result<Reply, Refusal>
         ensures later { self.old.generation ≤ self.new.generation }
         ensures calls { Calls self.old self.new call result }
+        ensures full { result ≡ Err Refusal.OrderFull → is_some self.new.reason ≡ true }
     {
         match self.attempts(&call) {
             Some(answer) => answer,
@@ -147,6 +234,7 @@ impl Member {
     fn attempts(&mut self, call: &Call) -> Option<Result<Reply, Refusal>>
         ensures later { self.old.generation ≤ self.new.generation }
         ensures calls { MatchOption result (Comes self.old self.new) (λ answer. Calls self.old self.new call.now answer) }
+        ensures full { result ≡ Some (Err Refusal.OrderFull) → is_some self.new.reason ≡ true }
     {
         'moves: for _ in 0..MOST_MOVES {
             match self.attempt(call) {
@@ -163,11 +251,12 @@ impl Member {
     fn attempt(&mut self, call: &Call) -> Attempt
         ensures later { self.old.generation ≤ self.new.generation }
         ensures attempts { Attempts self.old self.new call.now result }
+        ensures full { result ≡ Attempt.Answered (Err Refusal.OrderFull) → is_some self.new.reason ≡ true }
     {
         let Ok(copy) = call.try_clone() else {
             return Attempt::Stayed;
         };
-        let _moved = self.move_on();
+        self.follow();
         let answer = self.call_in_place(copy);
         if !self.is_behind(call, &answer) {
             return Attempt::Answered(answer);
@@ -175,14 +264,52 @@ impl Member {
         went(self.go_on())
     }
 
-    /// Makes one call in the generation in which the member sits. `OutOfMemory` as of `Context::call`.
-    fn call_in_place(&mut self, call: Call) -> Result<Reply, Refusal>
-        ensures chain { self.new.chain ≡ self.old.chain }
-        ensures context { self.new.context ≡ self.old.context }
-        ensures generation { self.new.generation ≡ self.old.generation }
+    /// Makes one call in the generation in which the member sits, by the numbers of its store. `OutOfMemory` as of `Context::call`.
+    fn call_inside(&mut self, call: Call) -> Result<Reply, Refusal>
+        ensures there { IsThere self.old self.new }
         ensures answered { Answered self.new.context self.old.pass self.new.pass call result }
+        ensures full { result ≡ Err Refusal.OrderFull → is_some self.new.reason ≡ true }
     {
-        self.context.call(&mut self.pass, call)
+        let answer = self.context.call(&mut self.pass, call);
+        if answer == Err(Refusal::OrderFull) && self.reason.is_none() {
+            self.reason = Some(NoGeneration::Busy);
+        }
+        answer
+    }
+
+    /// The same, of a call and with an answer by the numbers that users have.
+    fn call_in_place(&mut self, call: Call) -> Result<Reply, Refusal>
+        ensures calls { CallsHere self.old self.new call result }
+        ensures full { result ≡ Err Refusal.OrderFull → is_some self.new.reason ≡ true }
+    {
+        let inner = self.numbers.inside(call);
+        let answer = self.call_inside(inner);
+        self.numbers.outside_reply(answer)
+    }
+
+    /// Learns the newest words, by a call that is refused and has no status.
+    fn look(&mut self)
+        ensures comes { Comes self.old self.new }
+        ensures generation { self.new.generation ≡ self.old.generation }
+    {
+        let none = MatrixId(u32::MAX);
+        let _refused = self.call_inside(Call::SizeMatrix { a: none });
+    }
+
+    /// Whether others have left its generation, as far as it looks.
+    fn is_left(&self) -> bool {
+        self.generations.latest() != self.generation
+    }
+
+    /// Looks, where others have left its generation, and moves on where it can.
+    pub(crate) fn follow(&mut self)
+        ensures comes { Comes self.old self.new }
+        ensures later { self.old.generation ≤ self.new.generation }
+    {
+        if self.is_left() {
+            self.look();
+        }
+        let _moved = self.move_on();
     }
 
     /// Whether the answer to a call may be of a store that others have left, or the call found no room: the generation is full, and the
@@ -225,32 +352,36 @@ impl Member {
         requires end { IsAtEnd self.old.pass }
         requires later { self.old.generation < seat.generation }
         requires number { seat.pass.view.number ≡ self.old.pass.view.number }
-        requires room { room_of seat.context.order ≡ self.old.chain.room }
+        requires room { seat.room ≡ self.old.chain.room }
         ensures { Moves self.old self.new }
     {
         let Seat {
+            room: _,
             context,
+            numbers,
             pass,
             generation,
         } = seat;
         self.context = context;
+        self.numbers = numbers;
         self.pass = pass;
         self.generation = generation;
+        self.reason = None;
     }
 
     /// Goes to a later generation, where the member's own is full and it knows all of that; whether it moved. Where none stands it makes
     /// the next one of all that it knows, or waits a bounded time for another member that set out to make it.
     ///
-    /// `RoomTooSmall` tells how many calls make the store anew, where the room takes no call beside them; then no entry was copied.
-    /// `OutOfMemory` where memory is refused, and `Panic` where a record of the next generation is not taken. The member then sits where it
-    /// sat, and may try again. `false` too where a bound was reached. A call that finds no room does this by itself: it is for who was
-    /// answered `OrderFull` and asks why, and for who makes the next generation ahead of the call that needs it (own).
-    pub fn go_on(&mut self) -> Result<bool, NoSuccessor>
+    /// [`NoGeneration`] says why there is none, and [`Member::reason`] says it until the member moves. The member then sits where it sat, and may
+    /// try again. A call that finds no room does this by itself: it is for who was answered `OrderFull`, and for who makes the next
+    /// generation ahead of the call that needs it (own).
+    pub fn go_on(&mut self) -> Result<bool, NoGeneration>
         ensures moved { result ≡ Ok true → Moves self.old self.new }
         ensures stayed { result ≡ Ok false → Stays self.old self.new }
         ensures err { OnErr result (Stays self.old self.new) }
         ensures end { OnErr result (IsAtEnd self.old.pass) }
-        ensures refused { IfErr result (IsNoSuccessor (self.old.chain.room - 1) (store_of (known self.old.pass))) }
+        ensures refused { IfErr result (IsNoGeneration self.old.chain self.old.numbers self.old.pass) }
+        ensures reason { IfErr result (λ why. self.new.reason ≡ Some why) }
         ensures later { self.old.generation ≤ self.new.generation }
     {
         if self.move_on() {
@@ -260,15 +391,29 @@ impl Member {
             return Ok(false);
         }
         self.provide_next()?;
-        Ok(self.move_on())
+        if self.move_on() {
+            return Ok(true);
+        }
+        Err(self.because(NoGeneration::Busy))
+    }
+
+    /// Keeps why there is no next generation.
+    fn because(&mut self, why: NoGeneration) -> NoGeneration
+        requires { IsNoGeneration self.old.chain self.old.numbers self.old.pass why }
+        ensures same { self.new ≡ record self.old { reason = Some why } }
+        ensures why { result ≡ why }
+    {
+        self.reason = Some(why);
+        why
     }
 
     /// Has the next generation made: by another member that set out to make it, in a bounded time, or by this one. Whether it then stands,
     /// no clause says.
-    fn provide_next(&mut self) -> Result<(), NoSuccessor>
+    fn provide_next(&mut self) -> Result<(), NoGeneration>
         requires end { IsAtEnd self.old.pass }
         ensures stays { Stays self.old self.new }
-        ensures refused { IfErr result (IsNoSuccessor (self.old.chain.room - 1) (store_of (known self.old.pass))) }
+        ensures refused { IfErr result (IsNoGeneration self.old.chain self.old.numbers self.old.pass) }
+        ensures reason { IfErr result (λ why. self.new.reason ≡ Some why) }
     {
         let number = self.generation.wrapping_add(1);
         if !self.generations.is_to_make(number) {
@@ -276,62 +421,9 @@ impl Member {
         }
         let made = self.make(number);
         self.generations.ends(number);
-        made
-    }
-
-    /// Makes the generation after its own, which has this number, of all that the member knows, and shows it unless another stands by then.
-    fn make(&mut self, number: u64) -> Result<(), NoSuccessor>
-        requires end { IsAtEnd self.old.pass }
-        ensures stays { Stays self.old self.new }
-        ensures refused { IfErr result (IsNoSuccessor (self.old.chain.room - 1) (store_of (known self.old.pass))) }
-    {
-        self.ask_room()?;
-        let (context, passes) = self.succeed()?;
-        self.generations
-            .show(number, context, passes)
-            .or(Err(NoSuccessor::OutOfMemory))
-    }
-
-    /// Whether the room takes a call beside those that make the store anew. It asks for a successor with room for one call: the refusal
-    /// tells how many are needed, before any entry is copied.
-    fn ask_room(&mut self) -> Result<(), NoSuccessor>
-        ensures stays { Stays self.old self.new }
-        ensures refused { IfErr result (IsNoSuccessor (self.old.chain.room - 1) (store_of (known self.old.pass))) }
-    {
-        let generations: &Generations = &self.generations;
-        let trial = self
-            .context
-            .succeed(generations.alloc, &mut self.pass, 1, 1);
-        match trial {
-            Err(NoSuccessor::RoomTooSmall { needed }) => {
-                if needed < u64::from(generations.room) {
-                    return Ok(());
-                }
-                Err(NoSuccessor::RoomTooSmall { needed })
-            }
-            Err(NoSuccessor::OutOfMemory) => Err(NoSuccessor::OutOfMemory),
-            Err(NoSuccessor::Panic) => Err(NoSuccessor::Panic),
-            Ok(_) => Ok(()),
+        match made {
+            Ok(()) => Ok(()),
+            Err(why) => Err(self.because(why)),
         }
-    }
-
-    /// The store that goes on where the member's ends, and its passes, which begin with the store that all calls leave which its pass
-    /// knows. That is all that its generation takes, so no call is left out.
-    fn succeed(&mut self) -> Result<(Context, Vec<Pass>), NoSuccessor>
-        requires end { IsAtEnd self.old.pass }
-        ensures stays { Stays self.old self.new }
-        ensures room { IfOk result (λ next. room_of next.0.order ≡ self.old.chain.room) }
-        ensures begun { IfOk result (λ next. AreBegun next.0 (store_of (known self.old.pass)) self.old.chain.members next.1.items) }
-        ensures goes_on { IfOk result (λ next. All (GoesOn next.0) next.1.items) }
-        ensures refused { IfErr result (IsNoSuccessor (self.old.chain.room - 1) (store_of (known self.old.pass))) }
-    {
-        let generations: &Generations = &self.generations;
-        let next = self.context.succeed(
-            generations.alloc,
-            &mut self.pass,
-            generations.room,
-            generations.members,
-        )?;
-        Ok(next)
     }
 }

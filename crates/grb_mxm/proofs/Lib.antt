@@ -7,3 +7,4 @@ pub mod MaskedSums
 pub mod States
 pub mod MaskedProduct
 pub mod Names
+pub mod TrueRows

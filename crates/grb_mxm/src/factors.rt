@@ -13,6 +13,7 @@ ghost use Rattle.grb_sums.specs.Naming.{name_in};
 use crate::mask_rows::MaskRows;
 use crate::masked_rows::multiply_masked;
 use crate::rows::MadeRows;
+use crate::true_rows::InBits;
 use crate::whole_rows::multiply_whole;
 use grb_ewise::{Stored, distinct, is_worth_opening, ranks_of};
 use grb_kernels::{Operator, Scalar};
@@ -45,7 +46,7 @@ fn columns_of(mask: Option<&FlatRows>) -> &[u32]
     }
 }
 
-impl<'a, T: Stored + Drop> Factors<'a, T> {
+impl<'a, T: InBits + Drop> Factors<'a, T> {
     /// The product, where the columns of the second and of the mask have these ranks by these names. `AllocError` where memory is refused;
     /// then nothing is made.
     fn multiply_ranked<M: MonoidOver<T>, O: Operator<T>>(
@@ -85,7 +86,7 @@ impl<'a, T: Stored + Drop> Factors<'a, T> {
     }
 }
 
-impl<'a, T: Stored + Drop> BySemiring<T> for Factors<'a, T> {
+impl<'a, T: InBits + Drop> BySemiring<T> for Factors<'a, T> {
     type Output = Result<MadeRows<T>, AllocError>;
 
     ghost Gives = { λ f semiring result. IfOk result (λ made. AreRows T.value made.rows.items made.starts.items made.columns.items made.values.items (selected_product semiring f.structure (option_map (λ m. decoded m.now.entries) f.mask) (decoded f.a.lists.now.entries) (decoded f.b.lists.now.entries))) };

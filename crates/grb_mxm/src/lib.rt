@@ -11,6 +11,7 @@ mod mask_rows;
 mod masked_rows;
 mod mxm_product;
 mod rows;
+mod true_rows;
 mod whole_rows;
 
 pub use mxm_product::mxm;

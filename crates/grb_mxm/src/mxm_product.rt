@@ -16,6 +16,7 @@ ghost use Rattle.grb_mxm.specs.Rows.{AreRows, selected_product, bounding};
 
 use crate::factors::Factors;
 use crate::rows::MadeRows;
+use crate::true_rows::InBits;
 use grb_call::Descriptor;
 use grb_core::{BinaryOp, Domain, Semiring};
 use grb_ewise::{Stored, transposed, write_inside_matrix, write_masked_matrix};
@@ -26,7 +27,7 @@ use std::alloc::{AllocError, Global};
 
 /// The product of two matrices whose values are of one Rust type, at the cells that a mask selects; at all cells, where there is no mask.
 /// `AllocError` where memory is refused; then nothing is made.
-fn multiply_by<T: Stored + Folded + Drop>(
+fn multiply_by<T: InBits + Folded + Drop>(
     alloc: Global,
     semiring: Semiring,
     structure: bool,
@@ -156,7 +157,8 @@ fn turned_product(
 /// proportion to the products that there are. A row of `a` with one entry takes no more than that, as rows of a permutation or of a
 /// diagonal matrix do. For another with few products one step for 4096 columns is added: where there are more than 65,536 columns, and
 /// rows of `b` are found by a list, for the columns from the least to the greatest with a product alone. For one with many products one
-/// step for 64 columns is added.
+/// step for 64 columns is added. Where all values of `a` and `b` are true, and so is what the semiring makes of true and true, columns are
+/// marked and nothing is added up, if there are no more than 8 products for each entry of both.
 ///
 /// Work arrays of one place for each column are made where that is no more than 8 times the entries of `a` and `b`; else the columns in
 /// which `b` or the mask stores something are numbered first, by a sort and a binary search for each entry. A row is found by a list of

@@ -17,6 +17,7 @@ ghost use Rattle.grb_sums.specs.Marks.{IsCleared, AreNoTops};
 ghost use Rattle.grb_sums.specs.Reach.{IsOutside};
 
 use crate::rows::{MadeRows, RowMaker, make_rows};
+use crate::true_rows::InBits;
 use grb_ewise::Stored;
 use grb_kernels::Operator;
 use grb_semirings::{MatrixRows, MonoidOver};
@@ -83,7 +84,7 @@ fn widened(places: &[u32], from: usize, upto: usize) -> (usize, usize)
 
 /// Where the words of `tops` stand that the rows of these columns may mark: from one place up to another. It is all words where there are
 /// no more than are looked at together, and where rows are found by search.
-fn reached<T: Stored>(columns: &[u32], b: &RankedRows<T>, tops: usize) -> (usize, usize)
+pub(crate) fn reached<T: Stored>(columns: &[u32], b: &RankedRows<T>, tops: usize) -> (usize, usize)
     requires enough { length b.now.names.now ≤ 4096 * tops }
     ensures up { result.0 ≤ result.1 }
     ensures within { result.1 ≤ tops }
@@ -109,7 +110,7 @@ fn reached<T: Stored>(columns: &[u32], b: &RankedRows<T>, tops: usize) -> (usize
 /// The row of a product where the row of the first matrix has one entry, `x` in the column `number`: writes the second's row of that number
 /// to the front of `columns` and `values`, with each value multiplied by `x`. No two products meet, so there are no sums. Answers how many
 /// entries there are.
-fn scale_row<T: Stored, O: Operator<T>>(
+pub(crate) fn scale_row<T: Stored, O: Operator<T>>(
     number: u32,
     x: T,
     b: &RankedRows<T>,
@@ -206,9 +207,9 @@ impl<'a, T: Stored + Drop, M: MonoidOver<T>, O: Operator<T>> RowMaker<T>
     }
 }
 
-/// The product of two matrices by a monoid and an operator as types. Takes memory to work in, some places for each name, and for the
-/// result. `AllocError` where that is refused; then nothing is made.
-pub(crate) fn multiply_whole<T: Stored + Drop, M: MonoidOver<T>, O: Operator<T>>(
+/// The product of two matrices by a monoid and an operator as types: by bits alone, where that is possible and there are not many products.
+/// Takes memory to work in, some places for each name, and for the result. `AllocError` where that is refused; then nothing is made.
+pub(crate) fn multiply_whole<T: InBits + Drop, M: MonoidOver<T>, O: Operator<T>>(
     alloc: Global,
     a: &MatrixRows<T>,
     b: &RankedRows<T>,
@@ -217,6 +218,12 @@ pub(crate) fn multiply_whole<T: Stored + Drop, M: MonoidOver<T>, O: Operator<T>>
 {
     let most = (a.lists.len() + b.lists.len()).saturating_mul(RESERVED_FOR_ONE_ENTRY);
     let room = products_up_to(a.lists.columns(), b, most);
+    if room < most {
+        let in_bits = T::multiply_in_bits::<M, O>(alloc, a, b, room)?;
+        if let Some(made) = in_bits {
+            return Ok(made);
+        }
+    }
     let rows: WholeRows<T, M, O> = WholeRows {
         a,
         b,

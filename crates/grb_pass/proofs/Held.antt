@@ -1,5 +1,5 @@
 -- Where an object lies that a wait had the changes done of.
-use Rattle.std.proofs.Common.{◌≡◌, ℕ, ◌<◌, ◌≤◌, ◌⊎◌, inl, inr, true, length, is_some, refl, ap, subst, ◌∙◌, arith, Option, Some, None, option_map, List}
+use Rattle.std.proofs.Common.{◌≡◌, ℕ, ◌<◌, ◌≤◌, ◌⊎◌, inl, inr, true, false, length, is_some, refl, sym, ap, subst, ◌∙◌, arith, Option, Some, None, option_map, List}
 use Rattle.grb_pass.proofs.Prelude.{IfNone, IfSome, MatchOption, Object, ObjectShapes, is_live, Store, empty_store, matrix_at, shapes_of, vector_at, after_all, calls_of, Call, IsTableOf, Table, IsEvaluatedFor, LiesReady, LiesReadyAfter, Knowing, known, IsLeftReady, length-calls_of}
 use Rattle.grb_call.specs.declared.ids.Object.TheVariants as object
 use Rattle.grb_call.specs.declared.ids.MatrixId.{MatrixId}
@@ -47,3 +47,14 @@ module _ (p : Knowing) (t : Table) (is : IsEvaluatedFor p t) (ready : IfSome p.m
 pub matched : {X : Type 0} (P : X → Type 0) (Q N : Type 0) (x : Option X) → IfSome x P → IfNone x N → (N → Q) → MatchOption x Q P
 matched P Q N (Some m) some none then = some
 matched P Q N None some none then = then none
+
+none_map : {X Y : Type 0} (f : X → Y) (x : Option X) → is_some (option_map f x) ≡ false → None ≡ x
+none_map f None there = refl
+none_map f (Some x) there = cc
+
+-- where the table has no object, the store has none
+pub matrix_gone : (s : Store) (a : MatrixId) → is_live (shapes_of s) (object.Matrix a) ≡ false → None ≡ matrix_at s a
+matrix_gone s a gone = none_map MatrixContent (matrix_at s a) (sym (live_by s (object.Matrix a)) ∙ gone)
+
+pub vector_gone : (s : Store) (v : VectorId) → is_live (shapes_of s) (object.Vector v) ≡ false → None ≡ vector_at s v
+vector_gone s v gone = none_map VectorContent (vector_at s v) (sym (live_by s (object.Vector v)) ∙ gone)

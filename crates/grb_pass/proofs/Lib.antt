@@ -1,6 +1,7 @@
 mod Choosing
 mod Evaluating
 mod Held
+mod Looking
 mod Making
 mod Opening
 mod Prelude

@@ -67,7 +67,7 @@ enters_no_wait _ e = refl
 no_wait : (p : Knowing) (c : Call) → waited_for c ≡ None → LeavesReady p c
 no_wait p c none = subst (λ (o : Option Object). IfSome o (IsLeftReady p)) (sym none) tt
 
-if_ok : {A E : Type 0} {P : Type 0} (r : Result A E) → P → OnOk r P
+pub if_ok : {A E : Type 0} {P : Type 0} (r : Result A E) → P → OnOk r P
 if_ok (Ok x) p = p
 if_ok (Err e) p = tt
 

@@ -1,10 +1,13 @@
 -- believed: The store of some objects of another one, and the history in which they stand (own): those of the first list are its matrices
 -- and those of the second its vectors, in their order, and what is not there is not there.
-use Rattle.std.specs.Prelude.{◌≡◌, ◌≤◌, ◌+◌, ◌*◌, ℕ, List, length, map}
+use Rattle.std.specs.Prelude.{◌≡◌, ◌≤◌, ◌+◌, ◌*◌, ℕ, true, List, length, map, Contains}
 use Rattle.grb_order.specs.declared.limits.TheConstants.{MOST_ROOM, MOST_SEATS}
 use Rattle.grb_call.specs.declared.ids.MatrixId.{MatrixId}
+use Rattle.grb_call.specs.declared.ids.Object.{Object}
+use Rattle.grb_call.specs.declared.ids.Object.TheVariants as object
 use Rattle.grb_call.specs.declared.ids.VectorId.{VectorId}
-use Rattle.grb_call.specs.Store.{Store, matrix_at, vector_at}
+use Rattle.grb_call.specs.Shapes.{is_live}
+use Rattle.grb_call.specs.Store.{Store, matrix_at, shapes_of, vector_at}
 use Rattle.grb_rebuild.specs.Rebuilt.{rebuilt}
 use Rattle.grb_rebuild.specs.declared.rebuild.NoSuccessor.{NoSuccessor}
 use Rattle.grb_rebuild.specs.declared.rebuild.NoSuccessor.TheVariants as no
@@ -21,9 +24,21 @@ pub record MayHaveRoom (room passes : ℕ) : Type 0 where
   pub room_is : room ≤ MOST_ROOM
   pub seats : room * passes ≤ MOST_SEATS
 
--- Why there is no branch with this store and so much room beside the calls that make it: this many calls make it, and no history has
+-- Why there is no new store with these objects and so much room beside the calls that make it: this many calls make it, and no history has
 -- room for all; or memory, or a record, is refused
-abbrev pub IsNoBranch : ℕ → ℕ → Store → NoSuccessor → Type 0
-IsNoBranch room passes s (no.RoomTooSmall needed) = (needed ≡ length (rebuilt s)) × (MayHaveRoom (room_beside s room) passes → ⊥)
-IsNoBranch room passes s no.OutOfMemory = Unit {0}
-IsNoBranch room passes s no.Panic = Unit {0}
+abbrev pub IsNoSuccessor : ℕ → ℕ → Store → NoSuccessor → Type 0
+IsNoSuccessor room passes s (no.RoomTooSmall needed) = (needed ≡ length (rebuilt s)) × (MayHaveRoom (room_beside s room) passes → ⊥)
+IsNoSuccessor room passes s no.OutOfMemory = Unit {0}
+IsNoSuccessor room passes s (no.Unmade o) = Unit {0}
+IsNoSuccessor room passes s no.Panic = Unit {0}
+
+-- an object to which memory was refused is there in this store
+abbrev pub NamesLive : Store → NoSuccessor → Type 0
+NamesLive s (no.Unmade o) = is_live (shapes_of s) o ≡ true
+NamesLive s _ = Unit {0}
+
+-- and is one of those that were chosen
+abbrev pub NamesChosen : Store → List MatrixId → List VectorId → NoSuccessor → Type 0
+NamesChosen s matrices vectors (no.Unmade (object.Matrix a)) = Contains matrices a × (is_live (shapes_of s) (object.Matrix a) ≡ true)
+NamesChosen s matrices vectors (no.Unmade (object.Vector v)) = Contains vectors v × (is_live (shapes_of s) (object.Vector v) ≡ true)
+NamesChosen s matrices vectors _ = Unit {0}

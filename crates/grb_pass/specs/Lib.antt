@@ -2,6 +2,8 @@ pub mod Answered
 pub mod Chosen
 pub mod Evaluated
 pub mod Given
+pub mod Looking
+pub mod Making
 pub mod Succeeding
 pub use Rattle.grb_call.specs.Statuses
 pub use Rattle.grb_reader.specs.BackOff
@@ -11,6 +13,7 @@ pub use Rattle.grb_reader.specs.Explains
 pub use Rattle.grb_reader.specs.Known
 pub use Rattle.grb_reader.specs.Laws
 pub use Rattle.grb_reader.specs.Learning
+pub use Rattle.grb_reader.specs.LiveNumbers
 pub use Rattle.grb_reader.specs.Made
 pub use Rattle.grb_reader.specs.Meeting
 pub use Rattle.grb_reader.specs.Point

@@ -17,6 +17,7 @@ mod read;
 mod shared;
 mod succeed;
 
+pub use grb_reader::LiveObjects;
 pub use grb_rebuild::{NoSuccessor, Renumbered};
 pub use pass::Pass;
 pub use shared::Shared;

@@ -13,15 +13,16 @@ ghost use Rattle.grb_call.specs.Status.{object_of};
 ghost use Rattle.grb_call.specs.Statuses.{status_at};
 ghost use Rattle.grb_state.specs.Live.{live_store};
 ghost use Rattle.grb_state.specs.StoredIn.{IsMatrixOf, IsVectorOf};
-ghost use Rattle.grb_rebuild.specs.Rebuilding.{IsNoSuccessor, IsRebuild};
+ghost use Rattle.grb_rebuild.specs.Rebuilding.{IsRebuild};
 ghost use Rattle.grb_rebuild.specs.Renumbered.{AreRenumbered};
-ghost use Rattle.grb_pass.specs.Chosen.{IsNoBranch, MayHaveRoom, chosen_store, room_beside};
+ghost use Rattle.grb_pass.specs.Chosen.{IsNoSuccessor, MayHaveRoom, NamesChosen, NamesLive, chosen_store, room_beside};
 ghost use Rattle.grb_pass.specs.Evaluated.{IsAssembled};
 ghost use Rattle.grb_reader.specs.Known.{known, new_pass, none_made};
 ghost use Rattle.grb_reader.specs.Counting.{Counts};
 ghost use Rattle.grb_reader.specs.Laws.{Begins};
 ghost use Rattle.grb_reader.specs.Learning.{Enters, IsSteady};
 ghost use Rattle.grb_reader.specs.Cells.{OwnBelow};
+ghost use Rattle.grb_reader.specs.LiveNumbers.{AreLiveObjects};
 ghost use Rattle.grb_reader.specs.Reading.{IsBuildChecked, IsChecked, count_call, count_of_output};
 ghost use Rattle.grb_reader.specs.Replying.{IsReplied, ReadsStore, statuses_with};
 ghost use Rattle.grb_reader.specs.Settled.{is_materialize, waited_for, LeavesReady, MayLackMatrix, MayLackVector};
@@ -30,7 +31,7 @@ use crate::evaluated::Evaluated;
 use grb_call::{Call, Class, Kind, MatrixId, Object, Reply, VectorId, WaitMode};
 use grb_core::{Info, Refusal};
 use grb_order::{Order, Seat};
-use grb_reader::{BackOff, Reader, RecordRow};
+use grb_reader::{BackOff, LiveObjects, Reader, RecordRow};
 use grb_rebuild::{NoSuccessor, Rebuild, Renumbered};
 use grb_records::{Records, Token};
 use grb_replay::Versions;
@@ -201,6 +202,15 @@ impl Pass {
         self.evaluated.held_vector(&self.reader, v)
     }
 
+    /// The objects that are there after all calls that the pass knows, by their numbers: for who goes on with all of them by
+    /// [`Shared::branch`](crate::Shared::branch). It takes one step for each number that was given, evaluates nothing and learns nothing.
+    /// `AllocError` where memory for the lists is refused (own).
+    pub fn live(&self, alloc: Global) -> Result<LiveObjects, AllocError>
+        ensures { IfOk result (AreLiveObjects (store_of (known self.now))) }
+    {
+        self.reader.live(alloc)
+    }
+
     /// Keeps the status that this answer leaves on the target of its call, which is about that object.
     pub(crate) fn keep(&mut self, object: Option<Object>, answer: &Result<Reply, Refusal>)
         ensures same { self.new ≡ record self.old { statuses = self.new.statuses } }
@@ -233,48 +243,56 @@ impl Pass {
         self.reader.known() == self.reader.room()
     }
 
-    /// The store that all known calls leave, with the calls that make it anew, as [`grb_rebuild::rebuild_all`] has them. It evaluates what
-    /// is not evaluated.
+    /// The store that all known calls leave, with the calls that make it anew and room for so many more, where a history that so many passes
+    /// share may have it. It evaluates what is not evaluated.
     pub(crate) fn rebuild(
         &mut self,
         alloc: Global,
         records: &Records,
         room: u32,
+        passes: u32,
     ) -> Result<Rebuild, NoSuccessor>
         requires records { All (IsOf records.now) self.old.shown }
         requires room { room ≤ MOST_ROOM }
+        requires passes { (0 < passes) × (passes ≤ MOST_PASSES) }
         ensures same { self.new ≡ record self.old { made = self.new.made } }
-        ensures rebuild { IfOk result (λ r. IsRebuild room r.calls.items r.state) }
+        ensures rebuild { IfOk result (λ r. IsRebuild (room_beside r.state.store room) r.calls.items r.state) }
+        ensures fits { IfOk result (λ r. MayHaveRoom (room_beside r.state.store room) passes) }
         ensures store { IfOk result (λ r. r.state.store ≡ store_of (known self.old)) }
-        ensures refused { IfErr result (IsNoSuccessor room (store_of (known self.old))) }
+        ensures refused { IfErr result (IsNoSuccessor room passes (store_of (known self.old))) }
+        ensures named { IfErr result (NamesLive (store_of (known self.old))) }
     {
         self.evaluated.begin();
         let rebuild = self
             .evaluated
-            .rebuild(alloc, records, &mut self.reader, room);
+            .rebuild(alloc, records, &mut self.reader, room, passes);
         self.reader.note_made(self.evaluated.made());
         rebuild
     }
 
-    /// The same of the objects that are there alone, as [`grb_rebuild::rebuild_live`] has it.
+    /// The same of the objects that are there alone, and which number each has then.
     pub(crate) fn rebuild_live(
         &mut self,
         alloc: Global,
         records: &Records,
         room: u32,
+        passes: u32,
     ) -> Result<(Rebuild, Renumbered), NoSuccessor>
         requires records { All (IsOf records.now) self.old.shown }
         requires room { room ≤ MOST_ROOM }
+        requires passes { (0 < passes) × (passes ≤ MOST_PASSES) }
         ensures same { self.new ≡ record self.old { made = self.new.made } }
-        ensures rebuild { IfOk result (λ r. IsRebuild room r.0.calls.items r.0.state) }
+        ensures rebuild { IfOk result (λ r. IsRebuild (room_beside r.0.state.store room) r.0.calls.items r.0.state) }
+        ensures fits { IfOk result (λ r. MayHaveRoom (room_beside r.0.state.store room) passes) }
         ensures store { IfOk result (λ r. r.0.state.store ≡ live_store (store_of (known self.old))) }
         ensures numbers { IfOk result (λ r. AreRenumbered (store_of (known self.old)) r.1) }
-        ensures refused { IfErr result (IsNoSuccessor room (live_store (store_of (known self.old)))) }
+        ensures refused { IfErr result (IsNoSuccessor room passes (live_store (store_of (known self.old)))) }
+        ensures named { IfErr result (NamesLive (store_of (known self.old))) }
     {
         self.evaluated.begin();
         let rebuild = self
             .evaluated
-            .rebuild_live(alloc, records, &mut self.reader, room);
+            .rebuild_live(alloc, records, &mut self.reader, room, passes);
         self.reader.note_made(self.evaluated.made());
         rebuild
     }
@@ -299,7 +317,8 @@ impl Pass {
         ensures rebuild { IfOk result (λ r. IsRebuild (room_beside r.state.store room) r.calls.items r.state) }
         ensures fits { IfOk result (λ r. MayHaveRoom (room_beside r.state.store room) passes) }
         ensures store { IfOk result (λ r. r.state.store ≡ chosen_store (store_of (known self.old)) matrices.now vectors.now) }
-        ensures refused { IfErr result (IsNoBranch room passes (chosen_store (store_of (known self.old)) matrices.now vectors.now)) }
+        ensures refused { IfErr result (IsNoSuccessor room passes (chosen_store (store_of (known self.old)) matrices.now vectors.now)) }
+        ensures named { IfErr result (NamesChosen (store_of (known self.old)) matrices.now vectors.now) }
     {
         self.evaluated.begin();
         let rebuild = self.evaluated.rebuild_chosen(

@@ -1,6 +1,6 @@
 //! A new store that begins as an old one ends.
-ghost use Rattle.std.specs.Prelude.{◌≡◌, ◌<◌, ◌≤◌, ◌+◌, ◌^◌, ◌*◌, ◌∷◌, ◌++◌, ◌⊎◌, ℕ, true, [], Some, None, length, slice_get, All, IfOk, IfErr, OnOk};
-ghost use Rattle.grb_order.specs.declared.limits.TheConstants.{MOST_PASSES, MOST_ROOM, MOST_SEATS};
+ghost use Rattle.std.specs.Prelude.{◌≡◌, ◌<◌, ◌≤◌, ◌+◌, ◌^◌, ◌∷◌, ◌++◌, ◌⊎◌, ℕ, true, [], Some, None, length, slice_get, All, IfOk, IfErr, OnOk};
+ghost use Rattle.grb_order.specs.declared.limits.TheConstants.{MOST_PASSES, MOST_ROOM};
 ghost use Rattle.grb_order.specs.View.{LookedLast};
 ghost use Rattle.grb_order.specs.Order.{room_of};
 ghost use Rattle.grb_records.specs.Token.{HasRows};
@@ -9,11 +9,12 @@ ghost use Rattle.grb_call.specs.Store.{empty_store};
 ghost use Rattle.grb_call.specs.After.{refused};
 ghost use Rattle.grb_call.specs.History.{after_all, store_of};
 ghost use Rattle.grb_state.specs.Live.{live_store};
-ghost use Rattle.grb_rebuild.specs.Rebuilding.{IsNoSuccessor, IsRebuild};
+ghost use Rattle.grb_rebuild.specs.Rebuilding.{IsRebuild};
 ghost use Rattle.grb_rebuild.specs.Rebuilt.{AreTaken};
 ghost use Rattle.grb_rebuild.specs.Renumbered.{AreRenumbered};
 ghost use Rattle.grb_reader.specs.Known.{AreNew, IsPassOf, Knowing, known, none_made};
 ghost use Rattle.grb_reader.specs.Learning.{IsSteady};
+ghost use Rattle.grb_pass.specs.Chosen.{IsNoSuccessor, MayHaveRoom, NamesLive, room_beside};
 ghost use Rattle.grb_pass.specs.Succeeding.{made_by, AreBegun, IsOpenedWith};
 
 use crate::pass::Pass;
@@ -195,36 +196,37 @@ impl Shared {
         Ok(others)
     }
 
-    /// A new store with room for so many calls and so many passes, which begins with this one.
-    pub(crate) fn begin(
+    /// A new store that begins with this one, and so many passes of it. Its history takes `room` calls beside those that make the store anew.
+    pub(crate) fn begin_beside(
         alloc: Global,
         rebuild: Rebuild,
         room: u32,
         passes: u32,
     ) -> Result<(Shared, Vec<Pass>), NoSuccessor>
-        requires room { (0 < room) × (room ≤ MOST_ROOM) }
+        requires room { 0 < room }
         requires passes { (0 < passes) × (passes ≤ MOST_PASSES) }
-        requires seats { room * passes ≤ MOST_SEATS }
-        requires rebuild { IsRebuild room rebuild.calls.items rebuild.state }
-        ensures room { IfOk result (λ opened. room_of opened.0.order ≡ room) }
-        ensures records { IfOk result (λ opened. HasRows passes room opened.0.records) }
+        requires rebuild { IsRebuild (room_beside rebuild.state.store room) rebuild.calls.items rebuild.state }
+        requires fits { MayHaveRoom (room_beside rebuild.state.store room) passes }
+        ensures room { IfOk result (λ opened. room_of opened.0.order ≡ room_beside rebuild.state.store room) }
+        ensures records { IfOk result (λ opened. HasRows passes (room_beside rebuild.state.store room) opened.0.records) }
         ensures begun { IfOk result (λ opened. AreBegun opened.0 rebuild.state.store passes opened.1.items) }
         ensures ours { IfOk result (λ opened. All (IsPassOf opened.0) opened.1.items) }
         ensures refused { IfErr result (λ no. (no ≡ NoSuccessor.OutOfMemory) ⊎ (no ≡ NoSuccessor.Panic)) }
     {
-        let Ok((next, opened)) = Shared::open(alloc, room, passes) else {
+        let whole = rebuild.calls.len() as u32 + room;
+        let Ok((next, opened)) = Shared::open(alloc, whole, passes) else {
             return Err(NoSuccessor::OutOfMemory);
         };
         let begun = next.begin_all(opened, rebuild)?;
         Ok((next, begun))
     }
 
-    /// A new store whose history takes `room` calls and which so many passes share: it begins with calls of its first pass that make just
-    /// the store that all calls leave which this pass knows. Objects have their numbers, those that were freed stay freed, and the next one
-    /// is given the next number. All new passes know these calls and share what is evaluated of them; none has counted a step, or a call
-    /// that it made. The pass evaluates the calls that it knows; nothing else of it or of this store changes. No entry is copied.
-    /// `RoomTooSmall` tells how many calls are needed; `OutOfMemory` where memory is refused, `Panic` where a record of the new store is not
-    /// taken.
+    /// A new store that so many passes share: it begins with calls of its first pass that make just the store that all calls leave which this
+    /// pass knows, and its history takes `room` calls beside these. Objects have their numbers, those that were freed stay freed, and the
+    /// next one is given the next number. All new passes know these calls and share what is evaluated of them; none has counted a step, or a
+    /// call that it made. The pass evaluates the calls that it knows; nothing else of it or of this store changes. No entry is copied.
+    /// `RoomTooSmall` tells how many calls make the store, where no history has room for all; `Unmade` names an object to which memory is
+    /// refused, `OutOfMemory` where memory is refused to anything else, and `Panic` where a record of the new store is not taken.
     pub fn succeed(
         &self,
         alloc: Global,
@@ -235,20 +237,20 @@ impl Shared {
         requires pass { IsPassOf self.now pass.old }
         requires room { (0 < room) × (room ≤ MOST_ROOM) }
         requires passes { (0 < passes) × (passes ≤ MOST_PASSES) }
-        requires seats { room * passes ≤ MOST_SEATS }
         ensures same { pass.new ≡ record pass.old { made = pass.new.made } }
-        ensures room { IfOk result (λ opened. room_of opened.0.order ≡ room) }
-        ensures records { IfOk result (λ opened. HasRows passes room opened.0.records) }
+        ensures room { IfOk result (λ opened. room_of opened.0.order ≡ room_beside (store_of (known pass.old)) room) }
+        ensures records { IfOk result (λ opened. HasRows passes (room_beside (store_of (known pass.old)) room) opened.0.records) }
         ensures begun { IfOk result (λ opened. AreBegun opened.0 (store_of (known pass.old)) passes opened.1.items) }
         ensures ours { IfOk result (λ opened. All (IsPassOf opened.0) opened.1.items) }
-        ensures refused { IfErr result (IsNoSuccessor room (store_of (known pass.old))) }
+        ensures refused { IfErr result (IsNoSuccessor room passes (store_of (known pass.old))) }
+        ensures named { IfErr result (NamesLive (store_of (known pass.old))) }
     {
-        let rebuild = pass.rebuild(alloc, &self.records, room)?;
-        Shared::begin(alloc, rebuild, room, passes)
+        let rebuild = pass.rebuild(alloc, &self.records, room, passes)?;
+        Shared::begin_beside(alloc, rebuild, room, passes)
     }
 
     /// The same without the numbers of freed objects: the matrices have the numbers 0, 1, 2 .. in their order, and so have the vectors.
-    /// Beside it stands which number became which.
+    /// Beside it stands which number became which. `Unmade` names an object by its old number.
     pub fn succeed_live(
         &self,
         alloc: Global,
@@ -259,17 +261,17 @@ impl Shared {
         requires pass { IsPassOf self.now pass.old }
         requires room { (0 < room) × (room ≤ MOST_ROOM) }
         requires passes { (0 < passes) × (passes ≤ MOST_PASSES) }
-        requires seats { room * passes ≤ MOST_SEATS }
         ensures same { pass.new ≡ record pass.old { made = pass.new.made } }
-        ensures room { IfOk result (λ opened. room_of opened.0.order ≡ room) }
-        ensures records { IfOk result (λ opened. HasRows passes room opened.0.records) }
+        ensures room { IfOk result (λ opened. room_of opened.0.order ≡ room_beside (live_store (store_of (known pass.old))) room) }
+        ensures records { IfOk result (λ opened. HasRows passes (room_beside (live_store (store_of (known pass.old))) room) opened.0.records) }
         ensures begun { IfOk result (λ opened. AreBegun opened.0 (live_store (store_of (known pass.old))) passes opened.1.items) }
         ensures ours { IfOk result (λ opened. All (IsPassOf opened.0) opened.1.items) }
         ensures numbers { IfOk result (λ opened. AreRenumbered (store_of (known pass.old)) opened.2) }
-        ensures refused { IfErr result (IsNoSuccessor room (live_store (store_of (known pass.old)))) }
+        ensures refused { IfErr result (IsNoSuccessor room passes (live_store (store_of (known pass.old)))) }
+        ensures named { IfErr result (NamesLive (store_of (known pass.old))) }
     {
-        let (rebuild, numbers) = pass.rebuild_live(alloc, &self.records, room)?;
-        let (next, begun) = Shared::begin(alloc, rebuild, room, passes)?;
+        let (rebuild, numbers) = pass.rebuild_live(alloc, &self.records, room, passes)?;
+        let (next, begun) = Shared::begin_beside(alloc, rebuild, room, passes)?;
         Ok((next, begun, numbers))
     }
 }

@@ -2,7 +2,6 @@ pub mod Asked
 pub mod Full
 pub mod RowLists
 pub mod RowSums
-pub mod WantedPlaces
 pub mod WantedResults
 pub mod WantedRows
 pub mod WholeRows

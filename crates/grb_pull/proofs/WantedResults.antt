@@ -12,7 +12,7 @@ use Rattle.grb_core.specs.Semiring.{SemiringParts}
 use Rattle.grb_core.specs.Results.{mxv_of, reduce_rows_of, turned}
 use Rattle.grb_core.specs.ResultLaws.{IsBelow, AreEntries}
 use Rattle.grb_core.proofs.ResultLaws.{mxv_makes_entries, reduce_rows_makes_entries}
-use Rattle.grb_pull.specs.Wanted.{IsMade}
+use Rattle.grb_push.specs.Wanted.{IsMade}
 use Rattle.grb_push.proofs.WholePushes.{restricted_entries}
 use Rattle.grb_push.proofs.WholeResults.{matrix_entries, turned_entries, turned_rows, whole}
 

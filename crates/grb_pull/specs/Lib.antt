@@ -1,2 +1,1 @@
 pub mod RowSums
-pub mod Wanted

@@ -11,7 +11,6 @@ mod reduce_folds;
 mod row_products;
 mod row_sums;
 mod rows;
-mod wanted;
 
 pub use mxv_product::mxv;
 pub use reduce_folds::reduce_rows;

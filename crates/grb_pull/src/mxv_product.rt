@@ -10,18 +10,17 @@ ghost use Rattle.grb_ewise.specs.Premises.{IsMatrixInput, IsVectorInput, IsVecto
 ghost use Rattle.grb_ewise.specs.Written.{written_into_vector};
 ghost use Rattle.grb_lists.specs.Cells.{decoded};
 ghost use Rattle.grb_semirings.specs.Products.{products};
-ghost use Rattle.grb_pull.specs.Wanted.{is_wanted, IsMade};
+ghost use Rattle.grb_push.specs.Wanted.{is_wanted, IsMade};
 
 use crate::lookup::{Few, Full, Lookup, Many, Open, scatter};
 use crate::row_products::RowTimesVector;
 use crate::rows::{made_rows, seem_unlike, summed_rows, tells_differences, whole_rows};
-use crate::wanted::{Wanted, wanted_of, write_wanted};
 use grb_call::Descriptor;
 use grb_core::{BinaryOp, Domain, Semiring};
 use grb_ewise::{Stored, is_worth_opening, keep_bools, keep_numbers};
 use grb_kernels::{EntryList, EntrySlice, Operator, Scalar};
 use grb_lists::FlatRows;
-use grb_push::{MatrixFirst, pushed_product};
+use grb_push::{MatrixFirst, Wanted, pushed_product, wanted_of, write_wanted};
 use grb_semirings::{BySemiring, Folded, MatrixRows, MonoidOver, by_semiring, lend_matrix};
 use grb_sparse::{SparseMatrix, SparseVector};
 use std::alloc::{AllocError, Global};
@@ -209,7 +208,8 @@ fn product(
 }
 
 /// The product of a matrix, transposed or not, and a vector; the matrix's value comes first. Rows that are not wanted are left out; with
-/// `tran` they need not be. `AllocError` where memory is refused; then nothing is made.
+/// `tran` they need not be, and beside the product is whether they may be among it. `AllocError` where memory is refused; then nothing is
+/// made.
 fn turned_product(
     alloc: Global,
     semiring: Semiring,
@@ -217,18 +217,19 @@ fn turned_product(
     a: &SparseMatrix,
     u: &SparseVector,
     tran: bool,
-) -> Result<SparseVector, AllocError>
+) -> Result<(SparseVector, bool), AllocError>
     requires a { IsMatrixInput tran (op_domain semiring.op) (if tran then a.now.matrix.ncols else a.now.matrix.nrows) u.now.vector.size a.now }
     requires u { IsVectorInput (op_domain semiring.op) u.now.vector.size u.now }
-    ensures domain { IfOk result (λ made. made.vector.domain ≡ a.now.matrix.domain) }
-    ensures size { IfOk result (λ made. made.vector.size ≡ (if tran then a.now.matrix.ncols else a.now.matrix.nrows)) }
-    ensures entries { IfOk result (λ made. IsMade tran (is_wanted wanted.now.among wanted.now.names.now) (mxv_of semiring (turned tran a.now.matrix.entries) u.now.vector.entries) made.vector.entries) }
-    ensures assembled { IfOk result (λ made. made.assembled ≡ true) }
+    ensures domain { IfOk result (λ made. made.0.vector.domain ≡ a.now.matrix.domain) }
+    ensures size { IfOk result (λ made. made.0.vector.size ≡ (if tran then a.now.matrix.ncols else a.now.matrix.nrows)) }
+    ensures entries { IfOk result (λ made. IsMade made.1 (is_wanted wanted.now.among wanted.now.names.now) (mxv_of semiring (turned tran a.now.matrix.entries) u.now.vector.entries) made.0.vector.entries) }
+    ensures assembled { IfOk result (λ made. made.0.assembled ≡ true) }
 {
     if tran {
-        return pushed_product::<MatrixFirst>(alloc, semiring, wanted.bound(), u, a);
+        return pushed_product::<MatrixFirst>(alloc, semiring, wanted, u, a);
     }
-    product(alloc, semiring, wanted, a, u)
+    let made = product(alloc, semiring, wanted, a, u)?;
+    Ok((made, false))
 }
 
 /// The product of a matrix and a vector: at each row the fold, by the semiring's monoid, of what its operator makes of the row's and the
@@ -273,6 +274,6 @@ pub fn mxv(
     ensures assembled { IfOk result (λ made. made.assembled ≡ true) }
 {
     let wanted = wanted_of(mask, descriptor);
-    let computed = turned_product(alloc, semiring, &wanted, a, u, descriptor.tran)?;
-    write_wanted(alloc, output, mask, accum, descriptor, computed)
+    let (computed, whole) = turned_product(alloc, semiring, &wanted, a, u, descriptor.tran)?;
+    write_wanted(alloc, output, mask, accum, descriptor, whole, computed)
 }

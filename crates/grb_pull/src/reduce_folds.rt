@@ -9,18 +9,17 @@ ghost use Rattle.grb_kernels.specs.Typed.{entries_of};
 ghost use Rattle.grb_ewise.specs.Premises.{IsMatrixInput, IsVectorOutput};
 ghost use Rattle.grb_ewise.specs.Written.{written_into_vector};
 ghost use Rattle.grb_lists.specs.Cells.{decoded};
-ghost use Rattle.grb_pull.specs.Wanted.{is_wanted, IsMade};
+ghost use Rattle.grb_push.specs.Wanted.{is_wanted, IsMade};
 
 use crate::rows::{
     RowRule, SumRule, WholeRule, seem_unlike, summed_rows, tells_differences, whole_rows,
 };
-use crate::wanted::{Wanted, wanted_of, write_wanted};
 use grb_call::Descriptor;
 use grb_core::{BinaryOp, Domain, Monoid};
 use grb_ewise::{Stored, keep_bools, keep_numbers};
 use grb_folds::{fold_part, fold_row};
 use grb_kernels::{EntryList, Scalar};
-use grb_push::fold_columns;
+use grb_push::{Wanted, fold_columns, wanted_of, write_wanted};
 use grb_semirings::{ByMonoid, Folded, MatrixRows, MonoidOver, lend_matrix};
 use grb_sparse::{SparseMatrix, SparseVector};
 use std::alloc::{AllocError, Global};
@@ -233,5 +232,13 @@ pub fn reduce_rows(
 {
     let wanted = wanted_of(mask, descriptor);
     let computed = row_folds(alloc, monoid, &wanted, descriptor.tran, a)?;
-    write_wanted(alloc, output, mask, accum, descriptor, computed)
+    write_wanted(
+        alloc,
+        output,
+        mask,
+        accum,
+        descriptor,
+        descriptor.tran,
+        computed,
+    )
 }

@@ -12,12 +12,12 @@ ghost use Rattle.grb_core.specs.Results.{each_row};
 ghost use Rattle.grb_kernels.specs.Typed.{kept, entries_of, first_entries};
 ghost use Rattle.grb_lists.specs.Cells.{decoded};
 ghost use Rattle.grb_pull.specs.RowSums.{added, AreSums};
-ghost use Rattle.grb_pull.specs.Wanted.{is_wanted};
+ghost use Rattle.grb_push.specs.Wanted.{is_wanted};
 
-use crate::wanted::Wanted;
 use grb_ewise::Stored;
 use grb_kernels::{EntryList, Scalar, emit};
 use grb_lists::FlatRows;
+use grb_push::Wanted;
 use grb_semirings::MonoidOver;
 use std::alloc::{AllocError, Global};
 

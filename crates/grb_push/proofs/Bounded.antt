@@ -20,7 +20,7 @@ use Rattle.grb_core.proofs.Maps.{find-before, is_sorted-map_on_indices, same_ent
 use Rattle.grb_core.proofs.Written.{find-masked, is_sorted-masked, find-accumulated, accumulated_value}
 use Rattle.grb_ewise.specs.Ranks.{Rise}
 use Rattle.grb_sums.specs.ColumnSums.{column_folds}
-use Rattle.grb_push.specs.Pushes.{is_among, Covers, IsBounded}
+use Rattle.grb_push.specs.Wanted.{is_among, IsMade}
 use Rattle.grb_sums.proofs.ColumnFolds.{find-built}
 use Rattle.grb_sums.proofs.RowByRow.{below-map_on, is_sorted-map_rising, rise_rest}
 
@@ -81,13 +81,9 @@ column_folds-bounded m names added rise =
     folds : ℕ → Option Value
     folds j = fold_of_some m (values_at nat_cmp j added)
 
-pub whole_is_bounded : (bound : Option (List ℕ)) (total made : VectorEntries) → made ≡ total → IsBounded bound total made
-whole_is_bounded None total made e = e
-whole_is_bounded (Some places) total made e = inl e
-
 -- of an equal result
-pub bounded-same : (bound : Option (List ℕ)) (total other made : VectorEntries) → total ≡ other → IsBounded bound total made → IsBounded bound other made
-bounded-same bound total other made e h = subst (λ (m : VectorEntries). IsBounded bound m made) e h
+pub made-same : (whole : Bool) (wanted : ℕ → Bool) (total other made : VectorEntries) → total ≡ other → IsMade whole wanted total made → IsMade whole wanted other made
+made-same whole wanted total other made e h = subst (λ (m : VectorEntries). IsMade whole wanted m made) e h
 
 -- the indices of a mask are those at which it selects
 pub among_places : (q : ℕ) (m : VectorEntries) → is_some (find nat_cmp q m) ≡ is_among q (map (λ e. e.0) m)
@@ -123,14 +119,3 @@ module _ (inside : ℕ → Bool) (replace : Bool) (accum : Option BinaryOp) (c t
       at q u =
           find-masked nat_cmp_total nat_cmp-IsAntisymmetric inside replace q c (accumulated nat_cmp accum c u)
           ∙ ap (λ w. written_value (inside q) replace (find nat_cmp q c) w) (find-accumulated nat_cmp_total nat_cmp-IsAntisymmetric accum q c u)
-
-  -- so a bounded result is written as the whole one
-  pub written-bounded : (bound : Option (List ℕ)) (made : VectorEntries) → Covers inside bound → IsBounded bound t made → written nat_cmp inside replace accum c made ≡ written nat_cmp inside replace accum c t
-  written-bounded None made covers e = ap (written nat_cmp inside replace accum c) e
-  written-bounded (Some places) made covers (inl e) = ap (written nat_cmp inside replace accum c) e
-  written-bounded (Some places) made covers (inr e) = ap (written nat_cmp inside replace accum c) e ∙ written-restricted (λ j. is_among j places) covers
-
--- what holds of each value that there is holds of the one that there may be
-pub if_some : {X : Type 0} (P : X → Type 0) (o : Option X) → ((x : X) → o ≡ Some x → P x) → IfSome o P
-if_some P None of = tt
-if_some P (Some x) of = of x refl

@@ -2,6 +2,7 @@ pub mod Bounded
 pub mod ByColumn
 pub mod Columns
 pub mod EachRow
+pub mod KeptMarks
 pub mod LoneRows
 pub mod Ordered
 pub mod PushedColumns
@@ -9,5 +10,6 @@ pub mod Pushing
 pub mod RunFolds
 pub mod Searching
 pub mod Unmarked
+pub mod WantedPlaces
 pub mod WholePushes
 pub mod WholeResults

@@ -17,8 +17,9 @@ use Rattle.grb_core.specs.Written.{pointwise, both_values}
 use Rattle.grb_core.specs.Results.{column_of, columns_of}
 use Rattle.grb_core.specs.ResultLaws.{IsBelow, IsCellBelow, AreEntries}
 use Rattle.grb_core.proofs.Made.{Holds, all-weaker, holds_both, holds_fold, of-column, of-map_on, of-pointwise, of-values, within-columns, within-map_on}
-use Rattle.grb_push.specs.Pushes.{pushed_of, is_among, IsBounded}
-use Rattle.grb_push.proofs.Bounded.{all-restricted, bounded-same, is_sorted-restricted}
+use Rattle.grb_push.specs.Pushes.{pushed_of}
+use Rattle.grb_push.specs.Wanted.{IsMade}
+use Rattle.grb_push.proofs.Bounded.{all-restricted, made-same, is_sorted-restricted}
 use Rattle.grb_push.proofs.Columns.{is_sorted-each_column}
 use Rattle.grb_push.proofs.WholeResults.{matrix_entries, whole}
 
@@ -37,12 +38,11 @@ module _ (n : ℕ) (d : Domain) where
     of_domain = All-from_recursion (λ (e : ℕ × Value). IsValueOf d e.1) _ (all-restricted (λ e. IsValueOf d e.1) t m (recursion_from_All _ m h.of_domain));
   }
 
-  -- a bounded result is in order, within the same places and of the same domain
-  bounded_entries : (bound : Option (List ℕ)) (total made : VectorEntries) → IsBounded bound total made → AreEntries nat_cmp (IsBelow n) d total → AreEntries nat_cmp (IsBelow n) d made
-  bounded_entries None total made e h = subst (λ (x : VectorEntries). AreEntries nat_cmp (IsBelow n) d x) (sym e) h
-  bounded_entries (Some places) total made (inl e) h = subst (λ (x : VectorEntries). AreEntries nat_cmp (IsBelow n) d x) (sym e) h
-  bounded_entries (Some places) total made (inr e) h =
-      subst (λ (x : VectorEntries). AreEntries nat_cmp (IsBelow n) d x) (sym e) (restricted_entries (λ j. is_among j places) total h)
+  -- what is made is in order, within the same places and of the same domain
+  pub made_entries : (whole : Bool) (wanted : ℕ → Bool) (total made : VectorEntries) → IsMade whole wanted total made → AreEntries nat_cmp (IsBelow n) d total → AreEntries nat_cmp (IsBelow n) d made
+  made_entries true wanted total made (inl e) h = subst (λ (x : VectorEntries). AreEntries nat_cmp (IsBelow n) d x) (sym e) h
+  made_entries true wanted total made (inr e) h = subst (λ (x : VectorEntries). AreEntries nat_cmp (IsBelow n) d x) (sym e) (restricted_entries wanted total h)
+  made_entries false wanted total made e h = subst (λ (x : VectorEntries). AreEntries nat_cmp (IsBelow n) d x) (sym e) (restricted_entries wanted total h)
 
 module _ (m : Monoid) (f : Value → Value → Value) (d : Domain) (closed : (x y : Value) → IsValueOf d x → IsValueOf d y → IsValueOf d (f x y)) (md : monoid_domain m ≡ d) where
   pushed_is : (u c : VectorEntries) → AllByRecursion (λ e. IsValueOf d e.1) u → AllByRecursion (λ e. IsValueOf d e.1) c → Holds (IsValueOf d) (fold_of_some m (values_of (pointwise nat_cmp (both_values f) u c)))
@@ -64,10 +64,10 @@ module _ (m : Monoid) (f : Value → Value → Value) (d : Domain) (closed : (x 
             (of-map_on (IsValueOf d) made (λ j. pushed_is u (column_of j a) g (of-column (IsValueOf d) j a (recursion_from_All _ a h.of_domain))) (columns_of a));
       }
 
-  pub pushed_whole : (bound : Option (List ℕ)) (e : Domain) (size : ℕ) (u : Vector) (a : Matrix) (v : VectorEntries) (k : MatrixEntries) (made : VectorEntries) → IsVector u → IsMatrix a → u.domain ≡ d
-      → a.domain ≡ d → e ≡ d → size ≡ a.ncols → v ≡ u.entries → k ≡ a.entries → IsBounded bound (pushed_of m f v k) made → IsVector (record { domain = e; size = size; entries = made })
-  pushed_whole bound e size u a v k made g h ud ad ed z r p q =
+  pub pushed_whole : (by : Bool) (wanted : ℕ → Bool) (e : Domain) (size : ℕ) (u : Vector) (a : Matrix) (v : VectorEntries) (k : MatrixEntries) (made : VectorEntries) → IsVector u → IsMatrix a → u.domain ≡ d
+      → a.domain ≡ d → e ≡ d → size ≡ a.ncols → v ≡ u.entries → k ≡ a.entries → IsMade by wanted (pushed_of m f v k) made → IsVector (record { domain = e; size = size; entries = made })
+  pushed_whole by wanted e size u a v k made g h ud ad ed z r p q =
       let total : pushed_of m f v k ≡ pushed_of m f u.entries a.entries = ap (λ (x : MatrixEntries). pushed_of m f v x) p ∙ ap (λ (x : VectorEntries). pushed_of m f x a.entries) r in
       whole e d size a.ncols made made h.ncols z ed refl
-      (bounded_entries a.ncols d bound (pushed_of m f u.entries a.entries) made (bounded-same bound (pushed_of m f v k) (pushed_of m f u.entries a.entries) made total q)
+      (made_entries a.ncols d by wanted (pushed_of m f u.entries a.entries) made (made-same by wanted (pushed_of m f v k) (pushed_of m f u.entries a.entries) made total q)
       (pushed_makes_entries a.nrows a.ncols u.entries a.entries (recursion_from_All _ u.entries (subst (λ x. All (λ e. IsValueOf x e.1) u.entries) ud g.of_domain)) (matrix_entries a d h ad)))

@@ -1,7 +1,6 @@
 //! The product of a vector and a matrix by the rows that the vector picks: each is read once and added by column.
 ghost use Rattle.std.specs.Prelude.{◌≡◌, ◌-◌, ◌*◌, ◌<◌, ◌≤◌, ◌^◌, ℕ, true, false, [], length, map, min, slice_index, All, IfOk, IfSome, IsTrue};
 ghost use Rattle.std.specs.FinMap.{is_sorted};
-ghost use Rattle.std.specs.Option.{option_map};
 ghost use Rattle.std.specs.Ordering.{nat_cmp};
 ghost use Rattle.grb_core.specs.declared.value.Value.{Value};
 ghost use Rattle.grb_core.specs.Value.{IsValueOf};
@@ -12,12 +11,15 @@ ghost use Rattle.grb_lists.specs.Cells.{decoded};
 ghost use Rattle.grb_ewise.specs.Ranks.{Rise};
 ghost use Rattle.grb_sums.specs.Bits.{AreMarked};
 ghost use Rattle.grb_sums.specs.ColumnSums.{AreSums, as_entries, column_folds, with_values};
-ghost use Rattle.grb_push.specs.Pushes.{pushed, pushed_of, at_numbers, columns_at, is_among, IsBounded};
+ghost use Rattle.grb_push.specs.Pushes.{pushed, pushed_of, at_numbers, columns_at};
+ghost use Rattle.grb_push.specs.Wanted.{is_among, is_wanted, IsMade};
 
+use crate::kept::close_wanted;
 use crate::late::{seem_near, sum_unmarked};
 use crate::picks::pick_rows;
 use crate::runs::{folds_of, push_row};
 use crate::sides::{Product, Side};
+use crate::wanted::Wanted;
 use grb_ewise::{Stored, place_of};
 use grb_kernels::{EntryList, EntrySlice, Operator, Scalar};
 use grb_lists::FlatRows;
@@ -131,22 +133,29 @@ fn sum_rows<T: Stored + Drop, M: MonoidOver<T>, O: Operator<T>, S: Side, C: Colu
     close_sums(alloc, columns, words.as_slice(), sums.as_slice())
 }
 
-/// The sums of the picked rows, by a place for each of `ncols` columns: no more for each entry of these rows than the type is worth.
-/// `AllocError` where memory is refused; then nothing is made.
+/// The sums of the picked rows, which have `count` entries, by a place for each of `ncols` columns: no more for each entry of these rows
+/// than the type is worth. Beside them is whether places that are not wanted may be among them. `AllocError` where memory is refused; then
+/// nothing is made.
 fn sum_all<T: Stored + Placed + Drop, M: MonoidOver<T>, O: Operator<T>, S: Side>(
     alloc: Global,
     ncols: u32,
+    wanted: &Wanted,
     lists: &FlatRows,
     picks: &[(usize, T)],
-) -> Result<EntryList<T>, AllocError>
+    count: usize,
+) -> Result<(EntryList<T>, bool), AllocError>
     requires domain { lists.now.domain ≡ T.domain }
     requires within { All (λ p. p.0 < length lists.now.rows) picks.now }
     requires in_range { All (λ e. e.0.1 < ncols) (decoded lists.now.entries) }
     requires short { ncols ≤ T.places * length (columns_at lists.now.rows picks.now (decoded lists.now.entries)) }
-    ensures { IfOk result (λ made. entries_of T.value made.indices.items made.values.items ≡ built_from nat_cmp M.monoid (pushed (S.makes O.op) (at_numbers lists.now.rows (as_entries T.value picks.now)) (decoded lists.now.entries))) }
+    ensures { IfOk result (λ made. IsMade made.1 (is_wanted wanted.now.among wanted.now.names.now) (built_from nat_cmp M.monoid (pushed (S.makes O.op) (at_numbers lists.now.rows (as_entries T.value picks.now)) (decoded lists.now.entries))) (entries_of T.value made.0.indices.items made.0.values.items)) }
 {
     let all = AllColumns { ncols };
-    let made = sum_rows::<T, M, O, S, AllColumns>(alloc, &all, lists, picks)?;
+    let mut open = open_sums::<T, M>(alloc, all.count())?;
+    let words = open.words.as_mut_slice();
+    let sums = open.sums.as_mut_slice();
+    add_rows::<T, M, O, S, AllColumns>(&all, lists, picks, words, sums);
+    let made = close_wanted(alloc, &all, wanted, words, sums, count)?;
     Ok(made)
 }
 
@@ -213,29 +222,27 @@ fn sum_bounded<T: Stored + Drop, M: MonoidOver<T>, O: Operator<T>, S: Side>(
     Ok(made)
 }
 
-/// The sums of the picked rows where no place for each column of the matrix is kept: at the columns that bound the result, if they are no
-/// more than the `count` entries of these rows, and else at those of the rows. `AllocError` where memory is refused; then nothing is made.
+/// The sums of the picked rows where no place for each column of the matrix is kept: at the columns that are wanted, if they are known and
+/// no more than the `count` entries of these rows, and else at those of the rows. Beside them is whether columns that are not wanted may be
+/// among them. `AllocError` where memory is refused; then nothing is made.
 fn sum_few<T: Stored + Drop, M: MonoidOver<T>, O: Operator<T>, S: Side>(
     alloc: Global,
-    bound: Option<&[u32]>,
+    wanted: &Wanted,
     lists: &FlatRows,
     picks: &[(usize, T)],
     count: usize,
-) -> Result<EntryList<T>, AllocError>
-    requires rising { IfSome bound (λ names. Rise names.now) }
+) -> Result<(EntryList<T>, bool), AllocError>
     requires domain { lists.now.domain ≡ T.domain }
     requires within { All (λ p. p.0 < length lists.now.rows) picks.now }
     requires in_range { All (λ e. e.0.1 < 2 ^ 32) (decoded lists.now.entries) }
-    ensures { IfOk result (λ made. IsBounded (option_map (λ names. names.now) bound.entry) (built_from nat_cmp M.monoid (pushed (S.makes O.op) (at_numbers lists.now.rows (as_entries T.value picks.now)) (decoded lists.now.entries))) (entries_of T.value made.indices.items made.values.items)) }
+    ensures { IfOk result (λ made. IsMade made.1 (is_wanted wanted.now.among wanted.now.names.now) (built_from nat_cmp M.monoid (pushed (S.makes O.op) (at_numbers lists.now.rows (as_entries T.value picks.now)) (decoded lists.now.entries))) (entries_of T.value made.0.indices.items made.0.values.items)) }
 {
-    if let Some(names) = bound {
-        if names.len() <= count {
-            let made = sum_bounded::<T, M, O, S>(alloc, names, lists, picks)?;
-            return Ok(made);
-        }
+    if wanted.among && wanted.names.len() <= count {
+        let named = sum_bounded::<T, M, O, S>(alloc, wanted.names, lists, picks)?;
+        return Ok((named, false));
     }
-    let made = sum_named::<T, M, O, S>(alloc, lists, picks, count)?;
-    Ok(made)
+    let all = sum_named::<T, M, O, S>(alloc, lists, picks, count)?;
+    Ok((all, true))
 }
 
 /// Writes to `made` what the term makes of each of these values.
@@ -352,24 +359,26 @@ fn add_each_row<T: Stored, M: MonoidOver<T>, O: Operator<T>, S: Side, C: Columns
 
 /// The sums of all rows, of which the vector has one value for each, by a place for each of `ncols` columns: no more for each entry than
 /// the type is worth. No row is searched or listed. Where columns seem to stand near each other they are summed without marks first, and
-/// again with marks where a sum of them is the identity. `AllocError` where memory is refused; then nothing is made.
+/// again with marks where a sum of them is the identity. Beside the sums is whether places that are not wanted may be among them.
+/// `AllocError` where memory is refused; then nothing is made.
 fn sum_each_row<T: Stored + Folded + Placed + Drop, M: MonoidOver<T>, O: Operator<T>, S: Side>(
     alloc: Global,
     ncols: u32,
+    wanted: &Wanted,
     lists: &FlatRows,
     u: &EntrySlice<T>,
-) -> Result<EntryList<T>, AllocError>
+) -> Result<(EntryList<T>, bool), AllocError>
     requires domain { lists.now.domain ≡ T.domain }
     requires own { (i : ℕ) → i < length u.now.indices.now → slice_index u.now.indices.now i ≡ i }
     requires within { (k : ℕ) → k < length lists.now.rows → slice_index lists.now.rows k < length u.now.indices.now }
     requires in_range { All (λ e. e.0.1 < ncols) (decoded lists.now.entries) }
     requires short { ncols ≤ T.places * length lists.now.entries }
-    ensures { IfOk result (λ made. entries_of T.value made.indices.items made.values.items ≡ built_from nat_cmp M.monoid (pushed (S.makes O.op) (entries_of T.value u.now.indices.now u.now.values.now) (decoded lists.now.entries))) }
+    ensures { IfOk result (λ made. IsMade made.1 (is_wanted wanted.now.among wanted.now.names.now) (built_from nat_cmp M.monoid (pushed (S.makes O.op) (entries_of T.value u.now.indices.now u.now.values.now) (decoded lists.now.entries))) (entries_of T.value made.0.indices.items made.0.values.items)) }
 {
     if ncols as usize <= u.indices.len() && seem_near(lists, ncols) {
         let unmarked = sum_unmarked::<T, M, O, S>(alloc, ncols, lists, u)?;
         if let Some(found) = unmarked {
-            return Ok(found);
+            return Ok((found, true));
         }
     }
     let all = AllColumns { ncols };
@@ -377,31 +386,31 @@ fn sum_each_row<T: Stored + Folded + Placed + Drop, M: MonoidOver<T>, O: Operato
     let words = open.words.as_mut_slice();
     let sums = open.sums.as_mut_slice();
     add_each_row::<T, M, O, S, AllColumns>(&all, lists, u, words, sums);
-    let made = close_sums(alloc, &all, words, sums)?;
+    let made = close_wanted(alloc, &all, wanted, words, sums, lists.len())?;
     Ok(made)
 }
 
 /// The product of a vector and a matrix by a monoid and an operator as types: at each column the fold of the products where both store
-/// something. Where columns bound it, others may be left out. Time and memory are in proportion to the entries of the vector and of the
-/// rows that it picks; of a vector that stores one value memory is taken for the result alone, and of one that stores a value for each row
-/// no row is listed. `AllocError` where memory is refused; then nothing is made.
+/// something. Columns that are not wanted may be left out; beside the product is whether they may be among it. Time and memory are in
+/// proportion to the entries of the vector and of the rows that it picks, and to what is wanted where that bounds the product; of a vector
+/// that stores one value memory is taken for the result alone, and of one that stores a value for each row no row is listed. `AllocError`
+/// where memory is refused; then nothing is made.
 pub(crate) fn push<T: Stored + Folded + Placed + Drop, M: MonoidOver<T>, O: Operator<T>, S: Side>(
     alloc: Global,
-    bound: Option<&[u32]>,
+    wanted: &Wanted,
     u: &EntrySlice<T>,
     rows: &MatrixRows<T>,
-) -> Result<EntryList<T>, AllocError>
-    requires rising { IfSome bound (λ names. Rise names.now) }
-    ensures { IfOk result (λ made. IsBounded (option_map (λ names. names.now) bound.entry) (pushed_of M.monoid (S.makes O.op) (entries_of T.value u.now.indices.now u.now.values.now) (decoded rows.now.lists.now.entries)) (entries_of T.value made.indices.items made.values.items)) }
+) -> Result<(EntryList<T>, bool), AllocError>
+    ensures { IfOk result (λ made. IsMade made.1 (is_wanted wanted.now.among wanted.now.names.now) (pushed_of M.monoid (S.makes O.op) (entries_of T.value u.now.indices.now u.now.values.now) (decoded rows.now.lists.now.entries)) (entries_of T.value made.0.indices.items made.0.values.items)) }
 {
     let lists = rows.lists;
     if u.indices.len() == 1 {
         let made = push_one::<T, M, O, S>(alloc, u, lists)?;
-        return Ok(made);
+        return Ok((made, true));
     }
     if has_each_row(u, lists) {
         if T::is_worth_a_place_each(rows.ncols, lists.len()) {
-            let made = sum_each_row::<T, M, O, S>(alloc, rows.ncols as u32, lists, u)?;
+            let made = sum_each_row::<T, M, O, S>(alloc, rows.ncols as u32, wanted, lists, u)?;
             return Ok(made);
         }
     }
@@ -409,9 +418,9 @@ pub(crate) fn push<T: Stored + Folded + Placed + Drop, M: MonoidOver<T>, O: Oper
     let picks = picked.as_slice();
     let count = picked_len(lists, picks);
     if T::is_worth_a_place_each(rows.ncols, count) {
-        let made = sum_all::<T, M, O, S>(alloc, rows.ncols as u32, lists, picks)?;
+        let made = sum_all::<T, M, O, S>(alloc, rows.ncols as u32, wanted, lists, picks, count)?;
         return Ok(made);
     }
-    let made = sum_few::<T, M, O, S>(alloc, bound, lists, picks, count)?;
+    let made = sum_few::<T, M, O, S>(alloc, wanted, lists, picks, count)?;
     Ok(made)
 }

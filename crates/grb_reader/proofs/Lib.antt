@@ -6,6 +6,7 @@ pub mod Cells
 pub mod Checking
 pub mod Counted
 pub mod Learnt
+pub mod LiveNumbers
 pub mod Meeting
 pub mod Owning
 pub mod Prelude

@@ -5,6 +5,7 @@ pub mod Explains
 pub mod Known
 pub mod Laws
 pub mod Learning
+pub mod LiveNumbers
 pub mod Made
 pub mod Meeting
 pub mod Point

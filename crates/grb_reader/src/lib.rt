@@ -8,11 +8,13 @@
 
 mod back_off;
 mod learn;
+mod live;
 mod meet;
 mod reader;
 mod row;
 
 pub use back_off::BackOff;
 pub use learn::End;
+pub use live::LiveObjects;
 pub use reader::Reader;
 pub use row::RecordRow;

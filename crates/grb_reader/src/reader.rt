@@ -37,7 +37,8 @@ ghost use Rattle.grb_reader.specs.Meeting.{IsSameRecordAt, SharesCallAt};
 ghost use Rattle.grb_reader.specs.Replying.{statuses_with};
 
 use grb_call::{
-    Call, Class, Kind, MatrixId, Object, Reply, Statuses, VectorId, check, info_of, target_of,
+    Call, Class, Kind, MatrixId, Object, Reply, Shapes, Statuses, VectorId, check, info_of,
+    target_of,
 };
 use grb_core::{Info, Refusal};
 use grb_order::{Entered, Look, Order, Seat};
@@ -320,6 +321,13 @@ impl Reader {
         ensures other { other.new ≡ other.old }
     {
         records.agree(&mut self.tokens[at], &mut other.tokens[at]);
+    }
+
+    /// The shapes of all objects after all known calls. Takes no memory.
+    pub fn shapes(&self) -> &Shapes
+        ensures { result.now.objects ≡ shapes_of (store_of (known self.now)) }
+    {
+        self.targets.shapes()
     }
 
     /// What becomes of the call after all known ones, or its refusal.

@@ -15,15 +15,9 @@ pub record IsRebuild (room : ℕ) (calls : List Call) (state : RoomyStore) : Typ
   pub assembled : AreAllAssembled (is_assembled state.matrices state.vectors)
   pub room_is : state.room + length calls ≡ room
 
--- Why there is no successor of this store with so much room: it is too small, and this many calls are needed; or memory, or a record, is
--- refused
-abbrev pub IsNoSuccessor : ℕ → Store → NoSuccessor → Type 0
-IsNoSuccessor room s (no.RoomTooSmall needed) = (needed ≡ length (rebuilt s)) × (room < needed)
-IsNoSuccessor room s no.OutOfMemory = Unit {0}
-IsNoSuccessor room s no.Panic = Unit {0}
-
--- the same before any record is put
+-- Why a store is not made anew with so much room: it is too small, and this many calls are needed; or memory is refused
 abbrev pub IsNotRebuilt : ℕ → Store → NoSuccessor → Type 0
 IsNotRebuilt room s (no.RoomTooSmall needed) = (needed ≡ length (rebuilt s)) × (room < needed)
 IsNotRebuilt room s no.OutOfMemory = Unit {0}
+IsNotRebuilt room s (no.Unmade o) = ⊥
 IsNotRebuilt room s no.Panic = ⊥

@@ -10,15 +10,17 @@ ghost use Rattle.grb_rebuild.specs.Renumbered.{AreRenumbered};
 
 use crate::renumbered::Renumbered;
 use crate::store::{calls_for, needed};
-use grb_call::Call;
+use grb_call::{Call, Object};
 use grb_state::State;
 use std::alloc::{AllocError, Global};
 
 /// Why there is no successor.
 #[derive(Clone, Copy, Debug, PartialEq, Eq)]
 pub enum NoSuccessor {
-    /// Memory was refused.
+    /// Memory was refused, but not to what one object holds.
     OutOfMemory,
+    /// Memory was refused to what this object holds: free it, or leave it out of a branch.
+    Unmade { object: Object },
     /// The room is too small: so many calls make the store anew.
     RoomTooSmall { needed: u64 },
     /// A record could not be put or is not shown.
@@ -56,8 +58,9 @@ pub fn rebuild_all(alloc: Global, state: &State, room: u32) -> Result<Rebuild, N
     Ok(Rebuild { calls, state })
 }
 
-/// The store of the objects that are there, and which number each has in it. `AllocError` where memory is refused.
-fn renumbered(alloc: Global, state: &State) -> Result<(State, Renumbered), AllocError>
+/// The store of the objects that are there, in which the matrices have the numbers 0, 1, 2 .. in their order, and so have the vectors, and
+/// which number each has in it. No entry is copied. `AllocError` where memory is refused (own).
+pub fn live_state(alloc: Global, state: &State) -> Result<(State, Renumbered), AllocError>
     ensures store { IfOk result (λ r. r.0.store ≡ live_store state.now.store) }
     ensures assembled { IfOk result (λ r. AreAllAssembled (is_assembled state.now.matrices state.now.vectors) → AreAllAssembled (is_assembled r.0.matrices r.0.vectors)) }
     ensures numbers { IfOk result (λ r. AreRenumbered state.now.store r.1) }
@@ -65,24 +68,4 @@ fn renumbered(alloc: Global, state: &State) -> Result<(State, Renumbered), Alloc
     let live = state.live()?;
     let numbers = Renumbered::of(alloc, state)?;
     Ok((live, numbers))
-}
-
-/// The same of the objects that are there alone: the matrices have the numbers 0, 1, 2 .. in their order, and so have the vectors. Beside
-/// it stands which number became which (own).
-pub fn rebuild_live(
-    alloc: Global,
-    state: &State,
-    room: u32,
-) -> Result<(Rebuild, Renumbered), NoSuccessor>
-    requires assembled { AreAllAssembled (is_assembled state.now.matrices state.now.vectors) }
-    requires room { room < 2 ^ 31 }
-    ensures rebuild { IfOk result (λ r. IsRebuild room r.0.calls.items r.0.state) }
-    ensures store { IfOk result (λ r. r.0.state.store ≡ live_store state.now.store) }
-    ensures numbers { IfOk result (λ r. AreRenumbered state.now.store r.1) }
-    ensures refused { IfErr result (IsNotRebuilt room (live_store state.now.store)) }
-{
-    let Ok((live, numbers)) = renumbered(alloc, state) else {
-        return Err(NoSuccessor::OutOfMemory);
-    };
-    Ok((rebuild_all(alloc, &live, room)?, numbers))
 }

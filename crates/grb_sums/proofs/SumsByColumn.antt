@@ -56,7 +56,7 @@ apart names rise p at l h n e =
     ]
 
 -- words without bits mark nothing
-nothing_marked : (k p : ℕ) → is_marked (replicate k 0) p ≡ false
+pub nothing_marked : (k p : ℕ) → is_marked (replicate k 0) p ≡ false
 nothing_marked k p = no_bit (get_or (replicate k 0) (p / 64) 0) (p % 64) (each_zero k (p / 64))
   where
     each_zero : (k w : ℕ) → ◌≡◌ {A = ℕ} (get_or (replicate k 0) w 0) 0

@@ -3,8 +3,8 @@ ghost use Rattle.std.specs.Prelude.{◌≡◌, ◌≢◌, ◌*◌, ◌/◌, ◌^
 ghost use Rattle.grb_sums.specs.Bits.{is_marked};
 ghost use Rattle.grb_sums.specs.Marks.{touched, AreMarks};
 
-/// Marks a place: each list of marks that the words have is marked there.
-pub(crate) fn mark(words: &mut [u64], at: usize)
+/// Marks a place: each list of marks that the words have is marked there. Takes no memory.
+pub fn mark(words: &mut [u64], at: usize)
     requires in_range { at < 64 * length words.old }
     ensures here { is_marked words.new at ≡ true }
     ensures others { (p : ℕ) → (p ≢ at) → is_marked words.new p ≡ is_marked words.old p }

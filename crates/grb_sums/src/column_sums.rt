@@ -159,7 +159,8 @@ pub fn close_sums<T: Stored + Drop, C: Columns>(
     sums: &[T],
 ) -> Result<EntryList<T>, AllocError>
     requires marked { AreMarked (length (C.names columns.now)) words.now sums.now }
-    ensures { IfOk result (λ made. (m : Monoid) (added : VectorEntries) → AreSums T.value m (C.names columns.now) added words.now sums.now → entries_of T.value made.indices.items made.values.items ≡ column_folds m (C.names columns.now) added) }
+    ensures values { IfOk result (λ made. entries_of T.value made.indices.items made.values.items ≡ marked_values T.value (C.names columns.now) words.now sums.now) }
+    ensures folds { IfOk result (λ made. (m : Monoid) (added : VectorEntries) → AreSums T.value m (C.names columns.now) added words.now sums.now → entries_of T.value made.indices.items made.values.items ≡ column_folds m (C.names columns.now) added) }
 {
     let count = count_marks(words);
     let mut indices = vec![in alloc; 0u32; count]?;

@@ -14,6 +14,7 @@ mod ranked;
 mod row_sums;
 mod spans;
 
+pub use bits::mark;
 pub use column_sums::{
     AllColumns, Columns, NamedColumns, Term, add_entries, close_sums, open_sums,
 };

@@ -9,6 +9,7 @@ mod chosen;
 mod full;
 mod kinds;
 mod live;
+mod now;
 mod passes;
 mod refused;
 mod same;

@@ -186,22 +186,21 @@ class InsufficientSpace(Refusal):
 
 
 class RoomTooSmall(Refusal, ValueError):
-    """The room of a successor is below the number of calls that make its objects, or these and the room of a branch
-    are more than any store takes.
+    """The room of a successor or a branch, and the calls that make its objects, are more than any store takes.
 
     Attributes:
-        needed: how many calls make the objects, which is the least room of a successor.
+        needed: how many calls make the objects.
     """
 
     code = Info.INSUFFICIENT_SPACE
     name = "GrB_INSUFFICIENT_SPACE"
-    hint = "Give room for the calls that make the objects."
+    hint = "Give less room, or begin with fewer objects."
     needed: int
 
     def __init__(self, needed: int, room: Optional[int] = None) -> None:
-        """The refusal where so many calls make the objects, and room for fewer was asked for."""
+        """The refusal where so many calls make the objects, and no store has this room beside them."""
         detail = None if room is None else f"a room of {room:,} was asked for"
-        super().__init__(f"Give room for the {needed:,} calls that make the objects.", detail)
+        super().__init__(f"No store has it beside the {needed:,} calls that make the objects.", detail)
         self.args = (needed,)
         self.needed = needed
 

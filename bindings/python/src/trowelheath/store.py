@@ -437,20 +437,20 @@ class Pass:
 
         Every object goes over, with its number: `A.using(pass_)` gives it by a pass of the successor. A freed number
         stays freed, and the next object is given the next number. The history begins with the calls that make these
-        objects, one or two for each number that was ever given; they take room. The new passes know them, and share
-        what is evaluated of them. No object has a `last_info`, and nothing is settled. This store stays as it is,
+        objects, one or two for each number that was ever given. The new passes know them, and share what is
+        evaluated of them. No object has a `last_info`, and nothing is settled. This store stays as it is,
         and is closed by its owner; objects are shared until one of the two stores changes one.
 
         Where `is_full` holds, nothing is lost. Called earlier it makes a branch: what is changed here later is not
         there.
 
         Args:
-            room: how many calls that change it the successor takes, as of `Store`.
+            room: how many calls that change it the successor takes, as of `Store`, next to those that make its objects.
             passes: how many passes it has, as of `Store`.
 
         Raises:
             InvalidValue: the room or the number of passes is out of its range, or their product is too large.
-            RoomTooSmall: the calls that make the objects need more room.
+            RoomTooSmall: no store has room for the calls that make the objects, and for `room` more.
             OutOfMemory: memory was refused.
             Panic: the record of a call was not shown; call again.
             StoreClosed: the store is closed.

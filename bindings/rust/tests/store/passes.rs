@@ -198,7 +198,7 @@ fn a_full_store_has_a_successor() {
     for (number, pass) in (0..).zip(&mut next) {
         let facts = pass.facts().unwrap();
         assert_eq!((facts.number, facts.known), (number, 4));
-        assert_eq!((facts.room_left, facts.settled), (6, 0));
+        assert_eq!((facts.room_left, facts.settled), (10, 0));
         assert_eq!(pass.is_full(), Ok(false));
     }
     let (w, lost) = (
@@ -234,7 +234,7 @@ fn a_successor_is_refused_with_its_reason() {
     let mut pass = open();
     let v = pass.new_vector::<u64>(3).unwrap();
     pass.set(v, 0, 5).unwrap();
-    let refusal = pass.succeed(1, 1).map(|_| ()).unwrap_err();
+    let refusal = pass.succeed(65_535, 1).map(|_| ()).unwrap_err();
     assert_eq!(refusal, Error::RoomTooSmall { needed: 2 });
     assert_eq!(refusal.status(), Some(-103));
     assert!(refusal.to_string().ends_with("They are 2."), "{refusal}");
@@ -246,7 +246,8 @@ fn a_successor_is_refused_with_its_reason() {
             "room {room}, passes {passes}"
         );
     }
-    assert_eq!(pass.succeed(2, 1).map(|passes| passes.len()), Ok(1));
+    let mut next = pass.succeed(1, 1).unwrap();
+    assert_eq!(next[0].facts().map(|facts| facts.room_left), Ok(1));
 }
 
 #[test]

@@ -1,17 +1,18 @@
 //! Some objects, evaluated for who goes on with them, and nothing else.
-ghost use Rattle.std.specs.Prelude.{◌≡◌, ◌<◌, ◌≤◌, ◌+◌, ◌*◌, ◌^◌, false, true, length, map, All, IfOk, IfErr, IfSome, IfNone, OnOk};
+ghost use Rattle.std.specs.Prelude.{◌≡◌, ◌<◌, ◌≤◌, ◌+◌, ◌*◌, ◌^◌, false, true, [], length, map, All, Contains, IfOk, IfErr, IfSome, IfNone, OnErr, OnOk};
 ghost use Rattle.std.specs.Option.{option_map, option_map_or};
 ghost use Rattle.grb_order.specs.declared.limits.TheConstants.{MOST_PASSES, MOST_ROOM, MOST_SEATS};
 ghost use Rattle.grb_records.specs.Token.{IsOf};
 ghost use Rattle.grb_call.specs.History.{calls_of, store_of};
 ghost use Rattle.grb_call.specs.Shapes.{is_live};
-ghost use Rattle.grb_call.specs.Store.{matrix_at, vector_at};
+ghost use Rattle.grb_call.specs.Store.{matrix_at, shapes_of, vector_at};
 ghost use Rattle.grb_replay.specs.Stored.{stored_matrices, stored_matrix, stored_vector, stored_vectors};
 ghost use Rattle.grb_results.specs.Exchanged.{OfEach};
 ghost use Rattle.grb_results.specs.Kept.{IsReady, IsReadyIfThere, IsTableOf};
 ghost use Rattle.grb_rebuild.specs.Rebuilding.{IsRebuild};
-ghost use Rattle.grb_pass.specs.Chosen.{IsNoBranch, MayHaveRoom, chosen_store, room_beside};
+ghost use Rattle.grb_pass.specs.Chosen.{IsNoSuccessor, MayHaveRoom, NamesChosen, chosen_store, room_beside};
 ghost use Rattle.grb_pass.specs.Evaluated.{IsAssembled, IsEvaluatedFor};
+ghost use Rattle.grb_pass.specs.Making.{IsForMemory, IsNotBegun};
 ghost use Rattle.grb_reader.specs.Known.{known};
 
 use super::Evaluated;
@@ -44,7 +45,7 @@ fn room_with(needed: u64, room: u32, passes: u32) -> Option<u32>
 
 /// The calls that make the store anew, and the store with room for `room` more, where a history that so many passes share may have room for
 /// all. `RoomTooSmall` tells how many calls make the store, where it may not; then no call was made. `OutOfMemory` where memory is refused.
-fn rebuild_beside(
+pub(super) fn rebuild_beside(
     alloc: Global,
     state: &State,
     room: u32,
@@ -56,7 +57,7 @@ fn rebuild_beside(
     ensures rebuild { IfOk result (λ r. IsRebuild (room_beside state.now.store room) r.calls.items r.state) }
     ensures fits { IfOk result (λ r. MayHaveRoom (room_beside state.now.store room) passes) }
     ensures store { IfOk result (λ r. r.state.store ≡ state.now.store) }
-    ensures refused { IfErr result (IsNoBranch room passes state.now.store) }
+    ensures refused { IfErr result (IsNotBegun room passes state.now.store) }
 {
     let needed = needed(state);
     let Some(whole) = room_with(needed, room, passes) else {
@@ -66,18 +67,9 @@ fn rebuild_beside(
 }
 
 impl Evaluated {
-    /// Whether the object is there and does not lie ready. Takes no memory.
-    fn lacks(&self, object: Object) -> bool
-        ensures there { result ≡ true → is_live self.now.learnt.shapes.objects object ≡ true }
-        ensures lacks { result ≡ true → IsReady self.now object → ⊥ }
-        ensures ready { result ≡ false → IsReadyIfThere self.now object }
-    {
-        self.table.is_there(object) && !self.table.is_ready(object)
-    }
-
-    /// Makes what the object holds after all known calls, which were learnt, and has the changes done that wait in it, if it is there. Nothing
-    /// is done where it lies ready. `AllocError` where memory is refused; what was made stays so.
-    fn make_ready_if_there(
+    /// Makes what the object holds after all known calls, which were learnt, and has the changes done that wait in it. It is there. Nothing is
+    /// done where it lies ready. `AllocError` where memory is refused; what was made stays so.
+    fn make_one_ready(
         &mut self,
         records: &Records,
         reader: &mut Reader,
@@ -86,12 +78,13 @@ impl Evaluated {
         requires evaluated { IsEvaluatedFor reader.old self.old }
         requires of { All (IsOf records.now) reader.old.shown }
         requires table { IsTableOf (calls_of (known reader.old)) self.old }
+        requires live { is_live self.old.learnt.shapes.objects object ≡ true }
         ensures same { reader.new ≡ reader.old }
         ensures evaluated { IsEvaluatedFor reader.new self.new }
         ensures table { IsTableOf (calls_of (known reader.new)) self.new }
         ensures ready { OnOk result (IsReadyIfThere self.new object) }
     {
-        if !self.lacks(object) {
+        if self.table.is_ready(object) {
             return Ok(());
         }
         self.make_and_share(records, reader, object)?;
@@ -114,8 +107,13 @@ impl Evaluated {
         ensures table { IsTableOf (calls_of (known reader.new)) self.new }
         ensures stored { IfOk result (λ found. option_map stored_matrix found ≡ matrix_at (store_of (known reader.old)) a) }
         ensures assembled { IfOk result (λ found. option_map_or (λ m. m.assembled) found true ≡ true) }
+        ensures there { OnErr result (is_live (shapes_of (store_of (known reader.old))) (Object.Matrix a) ≡ true) }
     {
-        self.make_ready_if_there(records, reader, Object::Matrix(a))?;
+        let object = Object::Matrix(a);
+        if !self.table.is_there(object) {
+            return Ok(None);
+        }
+        self.make_one_ready(records, reader, object)?;
         self.table.shared_matrix(a)
     }
 
@@ -134,19 +132,24 @@ impl Evaluated {
         ensures table { IsTableOf (calls_of (known reader.new)) self.new }
         ensures stored { IfOk result (λ found. option_map stored_vector found ≡ vector_at (store_of (known reader.old)) v) }
         ensures assembled { IfOk result (λ found. option_map_or (λ x. x.assembled) found true ≡ true) }
+        ensures there { OnErr result (is_live (shapes_of (store_of (known reader.old))) (Object.Vector v) ≡ true) }
     {
-        self.make_ready_if_there(records, reader, Object::Vector(v))?;
+        let object = Object::Vector(v);
+        if !self.table.is_there(object) {
+            return Ok(None);
+        }
+        self.make_one_ready(records, reader, object)?;
         self.table.shared_vector(v)
     }
 
-    /// These matrices, in turn, as [`Evaluated::chosen_matrix`] gives one. `AllocError` where memory is refused.
+    /// These matrices, in turn, as [`Evaluated::chosen_matrix`] gives one. `Unmade` names one to which memory is refused.
     fn chosen_matrices(
         &mut self,
         alloc: Global,
         records: &Records,
         reader: &mut Reader,
         chosen: &[MatrixId],
-    ) -> Result<Vec<Option<SharedObject<SparseMatrix>>>, AllocError>
+    ) -> Result<Vec<Option<SharedObject<SparseMatrix>>>, NoSuccessor>
         requires evaluated { IsEvaluatedFor reader.old self.old }
         requires of { All (IsOf records.now) reader.old.shown }
         requires table { IsTableOf (calls_of (known reader.old)) self.old }
@@ -156,23 +159,30 @@ impl Evaluated {
         ensures stored { IfOk result (λ all. stored_matrices all.items ≡ map (matrix_at (store_of (known reader.old))) chosen.now) }
         ensures assembled { IfOk result (λ all. OfEach (λ m. m.assembled) all.items) }
         ensures count { IfOk result (λ all. length all.items ≡ length chosen.now) }
+        ensures memory { IfErr result IsForMemory }
+        ensures named { IfErr result (NamesChosen (store_of (known reader.old)) chosen.now []) }
     {
         let mut all = Vec::new(alloc);
         'chosen: for at in 0..chosen.len() {
-            let matrix = self.chosen_matrix(records, reader, chosen[at])?;
-            all.push(matrix)?;
+            let Ok(matrix) = self.chosen_matrix(records, reader, chosen[at]) else {
+                let object = Object::Matrix(chosen[at]);
+                return Err(NoSuccessor::Unmade { object });
+            };
+            let Ok(()) = all.push(matrix) else {
+                return Err(NoSuccessor::OutOfMemory);
+            };
         }
         Ok(all)
     }
 
-    /// These vectors, in turn, as [`Evaluated::chosen_vector`] gives one. `AllocError` where memory is refused.
+    /// These vectors, in turn, as [`Evaluated::chosen_vector`] gives one. `Unmade` names one to which memory is refused.
     fn chosen_vectors(
         &mut self,
         alloc: Global,
         records: &Records,
         reader: &mut Reader,
         chosen: &[VectorId],
-    ) -> Result<Vec<Option<SharedObject<SparseVector>>>, AllocError>
+    ) -> Result<Vec<Option<SharedObject<SparseVector>>>, NoSuccessor>
         requires evaluated { IsEvaluatedFor reader.old self.old }
         requires of { All (IsOf records.now) reader.old.shown }
         requires table { IsTableOf (calls_of (known reader.old)) self.old }
@@ -182,25 +192,33 @@ impl Evaluated {
         ensures stored { IfOk result (λ all. stored_vectors all.items ≡ map (vector_at (store_of (known reader.old))) chosen.now) }
         ensures assembled { IfOk result (λ all. OfEach (λ x. x.assembled) all.items) }
         ensures count { IfOk result (λ all. length all.items ≡ length chosen.now) }
+        ensures memory { IfErr result IsForMemory }
+        ensures named { IfErr result (NamesChosen (store_of (known reader.old)) [] chosen.now) }
     {
         let mut all = Vec::new(alloc);
         'chosen: for at in 0..chosen.len() {
-            let vector = self.chosen_vector(records, reader, chosen[at])?;
-            all.push(vector)?;
+            let Ok(vector) = self.chosen_vector(records, reader, chosen[at]) else {
+                let object = Object::Vector(chosen[at]);
+                return Err(NoSuccessor::Unmade { object });
+            };
+            let Ok(()) = all.push(vector) else {
+                return Err(NoSuccessor::OutOfMemory);
+            };
         }
         Ok(all)
     }
 
-    /// The store of these objects as they are after all known calls, with no change left that waits: nothing else is made, and no entry is
-    /// copied. `AllocError` where memory is refused; what was made stays so.
-    fn chosen(
+    /// The store of these objects as they are after all known calls, which were learnt, with no change left that waits: nothing else is made,
+    /// and no entry is copied. `Unmade` names an object to which memory is refused, and `OutOfMemory` is of memory for the lists; what was made
+    /// stays so.
+    pub(super) fn chosen(
         &mut self,
         alloc: Global,
         records: &Records,
         reader: &mut Reader,
         matrices: &[MatrixId],
         vectors: &[VectorId],
-    ) -> Result<State, AllocError>
+    ) -> Result<State, NoSuccessor>
         requires evaluated { IsEvaluatedFor reader.old self.old }
         requires of { All (IsOf records.now) reader.old.shown }
         requires matrices { length matrices.now < 2 ^ 32 }
@@ -209,11 +227,18 @@ impl Evaluated {
         ensures evaluated { IsEvaluatedFor reader.new self.new }
         ensures store { IfOk result (λ state. state.store ≡ chosen_store (store_of (known reader.old)) matrices.now vectors.now) }
         ensures assembled { IfOk result IsAssembled }
+        ensures memory { IfErr result IsForMemory }
+        ensures named { IfErr result (NamesChosen (store_of (known reader.old)) matrices.now vectors.now) }
     {
-        self.learn(records, reader)?;
+        let Ok(()) = self.learn(records, reader) else {
+            return Err(NoSuccessor::OutOfMemory);
+        };
         let matrices = self.chosen_matrices(alloc, records, reader, matrices)?;
         let vectors = self.chosen_vectors(alloc, records, reader, vectors)?;
-        State::of(alloc, matrices, vectors)
+        match State::of(alloc, matrices, vectors) {
+            Ok(state) => Ok(state),
+            Err(_refused) => Err(NoSuccessor::OutOfMemory),
+        }
     }
 
     /// The store of these objects, with the calls that make it anew and room for so many more, where a history that so many passes share may
@@ -239,11 +264,10 @@ impl Evaluated {
         ensures rebuild { IfOk result (λ r. IsRebuild (room_beside r.state.store room) r.calls.items r.state) }
         ensures fits { IfOk result (λ r. MayHaveRoom (room_beside r.state.store room) passes) }
         ensures store { IfOk result (λ r. r.state.store ≡ chosen_store (store_of (known reader.old)) matrices.now vectors.now) }
-        ensures refused { IfErr result (IsNoBranch room passes (chosen_store (store_of (known reader.old)) matrices.now vectors.now)) }
+        ensures refused { IfErr result (IsNoSuccessor room passes (chosen_store (store_of (known reader.old)) matrices.now vectors.now)) }
+        ensures named { IfErr result (NamesChosen (store_of (known reader.old)) matrices.now vectors.now) }
     {
-        let Ok(state) = self.chosen(alloc, records, reader, matrices, vectors) else {
-            return Err(NoSuccessor::OutOfMemory);
-        };
+        let state = self.chosen(alloc, records, reader, matrices, vectors)?;
         rebuild_beside(alloc, &state, room, passes)
     }
 }

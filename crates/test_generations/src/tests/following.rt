@@ -3,9 +3,9 @@ ghost use Rattle.std.specs.Prelude.{◌<◌};
 
 use crate::tests::same::same;
 use grb_call::{Call, Reply, VectorId};
-use grb_context::NoSuccessor;
+use grb_context::MOST_ROOM;
 use grb_core::{Domain, Refusal, Value};
-use grb_generations::{Generations, Member};
+use grb_generations::{Generations, Member, NoGeneration};
 use std::alloc::{AllocError, Global};
 use std::process::Abort;
 
@@ -85,7 +85,7 @@ fn expect_idle_to_follow<R: Abort>(rt: &R, busy: &mut Member, idle: &mut Member)
 
 #[test]
 fn a_member_that_was_idle_reads_the_latest_generation(rt: HostRuntime) -> Result<(), AllocError> {
-    let (mut busy, mut idle) = two(&rt, rt.alloc(), 8)?;
+    let (mut busy, mut idle) = two(&rt, rt.alloc(), 4)?;
     expect_idle_to_follow(&rt, &mut busy, &mut idle);
     Ok(())
 }
@@ -170,35 +170,28 @@ fn a_member_stays_while_its_generation_takes_calls(rt: HostRuntime) -> Result<()
     Ok(())
 }
 
-/// Two members fill a generation with vectors, which leave no room for a call in a next one.
-fn expect_full_for_good<R: Abort>(rt: &R, one: &mut Member, other: &mut Member) {
-    for n in 0..4u32 {
-        let made = new_vector(one);
-        same(rt, made, Ok(Reply::MadeVector(VectorId(n))), n);
-    }
-    let none = Err(NoSuccessor::RoomTooSmall { needed: 4 });
-    same(rt, one.go_on(), none, "no generation");
-    same(rt, new_vector(one), Err(Refusal::OrderFull), "a change");
+/// A member fills a history that is as long as any, which leaves no room for another one with its vector.
+fn expect_full_for_good<R: Abort>(rt: &R, one: &mut Member) {
     same(
         rt,
-        set(other, FIRST, 1),
-        Err(Refusal::OrderFull),
-        "a change by the other",
+        new_vector(one),
+        Ok(Reply::MadeVector(FIRST)),
+        "a vector",
     );
-    same(rt, get(other, FIRST), Ok(Reply::NoValue), "a read");
-    same(
-        rt,
-        (one.generation(), other.generation()),
-        (0, 0),
-        "the generations",
-    );
+    set_often(rt, one, u64::from(MOST_ROOM - 1));
+    same(rt, one.reason(), None, "no try was made");
+    same(rt, set(one, FIRST, 1), Err(Refusal::OrderFull), "a change");
+    let why = NoGeneration::RoomTooSmall { needed: 2 };
+    same(rt, one.reason(), Some(why), "the reason");
+    same(rt, one.go_on(), Err(why), "no generation");
+    same(rt, one.generation(), 0, "the generation");
 }
 
 #[test]
-fn a_room_that_takes_no_more_than_the_store_needs_is_full_for_good(
-    rt: HostRuntime,
-) -> Result<(), AllocError> {
-    let (mut one, mut other) = two(&rt, rt.alloc(), 4)?;
-    expect_full_for_good(&rt, &mut one, &mut other);
+fn a_chain_says_why_it_is_full(rt: HostRuntime) -> Result<(), AllocError> {
+    let (_generations, mut members) = Generations::open(rt.alloc(), MOST_ROOM, 1)?;
+    if let Some(member) = members.first_mut() {
+        expect_full_for_good(&rt, member);
+    }
     Ok(())
 }

@@ -8,8 +8,8 @@ use std::process::Abort;
 use std::sync::atomic::{AtomicU64, Ordering};
 use std::thread::{Threads, map_vec, yield_now};
 
-/// How many calls each generation takes, of which two make the store anew.
-const ROOM: u32 = 8;
+/// How many calls each generation takes.
+const ROOM: u32 = 6;
 
 /// The entry is set to 1, 2 and so on up to this.
 const LAST: u64 = 700;

@@ -14,7 +14,7 @@ const THREADS: u32 = 8;
 const ROUNDS: u64 = 128;
 
 /// How many calls each generation takes.
-const ROOM: u32 = 48;
+const ROOM: u32 = 24;
 
 /// Each round of a thread sets an entry of its own in it.
 const CELLS: VectorId = VectorId(0);

@@ -1,8 +1,8 @@
 //! A successor or a branch with ever more memory, from none on, each time of a store of its own, until it is not refused. No contract says
-//! that memory is refused, or what the old pass and the new ones answer then. And one of a large object, with less memory than its entries
+//! that memory is refused, what the old pass and the new ones answer then, or that each object which takes memory is named. And one of a large object, with less memory than its entries
 //! take, and a large result of a branch that comes back: no contract says that they are shared.
 ghost use Rattle.std.specs.Prelude.{◌≡◌, ◌<◌, ◌≤◌, ◌^◌, true, length, IfOk};
-ghost use Rattle.grb_order.specs.declared.limits.TheConstants.{MOST_PASSES, MOST_ROOM, MOST_SEATS};
+ghost use Rattle.grb_order.specs.declared.limits.TheConstants.{MOST_PASSES, MOST_ROOM};
 ghost use Rattle.grb_context.specs.Known.{IsPassOf};
 
 use crate::tests::calls::calls_in;
@@ -10,7 +10,7 @@ use crate::tests::memory::{STEP, TRIALS, hold_all, leave, leave_ample};
 use crate::tests::same::same;
 use crate::tests::shown::Shown;
 use crate::tests::stores::{Answer, Store, answers_to, make_all, open, with_two};
-use grb_call::{Call, MatrixId, Reply, VectorId, VectorTuples};
+use grb_call::{Call, MatrixId, Object, Reply, VectorId, VectorTuples};
 use grb_context::{Context, NoSuccessor, Pass};
 use grb_core::{Domain, Monoid, Refusal, Value};
 use grb_scarcity::{Hoard, SPARE};
@@ -21,7 +21,7 @@ use std::process::Abort;
 use std::sync::Arc;
 use std::test::Fail;
 
-/// How many calls the stores take, the successors too.
+/// How many calls the stores take, and the successors beside those that make them.
 const ROOM: u32 = 16;
 
 /// How many spares there are: a trial uses four.
@@ -101,6 +101,32 @@ enum Numbers {
     Lowest,
     /// Those of their places, in a branch.
     Chosen,
+}
+
+/// How often a successor was refused before it was not, and how often for the product and for the vector that is there.
+#[derive(Clone, Copy, Debug, PartialEq, Eq)]
+struct Refusals {
+    all: usize,
+    product: usize,
+    vector: usize,
+}
+
+impl Refusals {
+    /// One more.
+    fn with(self, no: NoSuccessor) -> Refusals {
+        let mut more = self;
+        more.all = self.all.saturating_add(1);
+        match no {
+            NoSuccessor::Unmade { object } if object == Object::Matrix(MatrixId(1)) => {
+                more.product = self.product.saturating_add(1);
+            }
+            NoSuccessor::Unmade { object } if object == Object::Vector(VectorId(1)) => {
+                more.vector = self.vector.saturating_add(1);
+            }
+            _ => {}
+        }
+        more
+    }
 }
 
 /// The calls of all trials: those that make the old store, those that read it, and those that read a successor.
@@ -215,29 +241,30 @@ fn expect_answers<R: Abort>(
     same(rt, answers.as_slice(), &ANSWERS, numbers);
 }
 
-/// Whether memory was refused to a successor; one that was made answers the reads.
-fn is_refused<R: Abort>(
+/// How memory was refused to a successor, if it was; one that was made answers the reads.
+fn refusal_of<R: Abort>(
     rt: &R,
     made: Result<Store, NoSuccessor>,
     reads: &[Call],
     numbers: Numbers,
-) -> bool
+) -> Option<NoSuccessor>
     requires { IfOk made (λ next. IsPassOf next.context next.q) }
 {
     match made {
         Ok(mut next) => {
             expect_answers(rt, &next.context, &mut next.q, reads, numbers);
-            false
+            None
         }
         Err(no) => {
-            same(rt, no, NoSuccessor::OutOfMemory, numbers);
-            true
+            let is_memory = matches!(no, NoSuccessor::OutOfMemory | NoSuccessor::Unmade { .. });
+            assert!(rt; is_memory, "{numbers:?}: {no:?}");
+            Some(no)
         }
     }
 }
 
-/// Whether a successor is refused with so many bytes. The pass then shows of itself what it did before.
-fn is_refused_with<R: Abort>(
+/// How a successor is refused with so many bytes, if it is. The pass then shows of itself what it did before.
+fn refusal_with<R: Abort>(
     rt: &R,
     alloc: Global,
     hoard: &mut Hoard,
@@ -246,7 +273,7 @@ fn is_refused_with<R: Abort>(
     reads: &[Call],
     numbers: Numbers,
     bytes: usize,
-) -> bool
+) -> Option<NoSuccessor>
     requires { IsPassOf context.now pass.old }
     ensures { IsPassOf context.now pass.new }
 {
@@ -259,11 +286,11 @@ fn is_refused_with<R: Abort>(
     };
     leave_ample(rt, hoard);
     same(rt, Shown::of(pass), before, numbers);
-    is_refused(rt, made, reads, numbers)
+    refusal_of(rt, made, reads, numbers)
 }
 
 /// The same of this store, which then answers the reads. Where it was refused, it goes with ample memory.
-fn is_refused_first<R: Abort>(
+fn first_refusal<R: Abort>(
     rt: &R,
     alloc: Global,
     hoard: &mut Hoard,
@@ -272,30 +299,30 @@ fn is_refused_first<R: Abort>(
     frame: &Frame,
     numbers: Numbers,
     bytes: usize,
-) -> bool
+) -> Option<NoSuccessor>
     requires { IsPassOf context.now pass.old }
 {
     let new = &frame.new;
     make_all(rt, context, pass, &frame.history);
-    let first = is_refused_with(rt, alloc, hoard, context, pass, new, numbers, bytes);
+    let first = refusal_with(rt, alloc, hoard, context, pass, new, numbers, bytes);
     expect_answers(rt, context, pass, &frame.old, numbers);
-    let then = is_refused_with(rt, alloc, hoard, context, pass, new, numbers, SPARE);
-    same(rt, then, false, numbers);
+    let then = refusal_with(rt, alloc, hoard, context, pass, new, numbers, SPARE);
+    same(rt, then, None, numbers);
     first
 }
 
 /// The same of a new store.
-fn is_refused_once<R: Abort>(
+fn refusal_once<R: Abort>(
     rt: &R,
     alloc: Global,
     hoard: &mut Hoard,
     frame: &Frame,
     numbers: Numbers,
     bytes: usize,
-) -> bool {
+) -> Option<NoSuccessor> {
     let mut store = open(rt, alloc, ROOM);
     let (context, pass) = (&store.context, &mut store.p);
-    is_refused_first(rt, alloc, hoard, context, pass, frame, numbers, bytes)
+    first_refusal(rt, alloc, hoard, context, pass, frame, numbers, bytes)
 }
 
 /// How often a successor is refused before it is not.
@@ -305,10 +332,16 @@ fn refusals_of<R: Abort>(
     hoard: &mut Hoard,
     frame: &Frame,
     numbers: Numbers,
-) -> usize {
-    for refusals in 0..TRIALS {
-        if !is_refused_once(rt, alloc, hoard, frame, numbers, refusals * STEP) {
-            return refusals;
+) -> Refusals {
+    let mut refusals = Refusals {
+        all: 0,
+        product: 0,
+        vector: 0,
+    };
+    for trial in 0..TRIALS {
+        match refusal_once(rt, alloc, hoard, frame, numbers, trial * STEP) {
+            Some(no) => refusals = refusals.with(no),
+            None => return refusals,
         }
     }
     panic!(rt; "{numbers:?}: refused at each trial")
@@ -321,8 +354,9 @@ fn sweep<R: Abort + Files + AllocGlobal + Print>(rt: &R, numbers: Numbers) -> Re
     leave_ample(rt, &mut hoard);
     let refusals = refusals_of(rt, rt.alloc(), &mut hoard, &frame, numbers);
     hoard.release();
-    println!(rt; "{numbers:?}: refused {refusals} times")?;
-    same(rt, refusals > LEAST, true, refusals);
+    println!(rt; "{numbers:?}: {refusals:?}")?;
+    let many = refusals.all > LEAST && refusals.product > 0 && refusals.vector > 0;
+    same(rt, many, true, refusals);
     Ok(())
 }
 

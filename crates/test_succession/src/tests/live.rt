@@ -1,4 +1,6 @@
-//! A store goes on without the numbers of freed objects: the others keep their order, and what is told of their numbers is right.
+//! A store goes on without the numbers of freed objects: the others keep their order, and what is told of their numbers is right. So does a
+//! branch of all objects that a pass says are there.
+ghost use Rattle.std.specs.Prelude.{◌<◌, ◌^◌, length};
 ghost use Rattle.grb_context.specs.Known.{IsPassOf};
 
 use crate::tests::asked::Asked::{
@@ -11,7 +13,7 @@ use crate::tests::steps::Step::{Asks, Does, Finds, Knows, Misses};
 use crate::tests::steps::{Step, expect_of_next, expect_steps, next_pass};
 use grb_call::Reply::{Count, Dims, MadeMatrix, MadeVector, Size};
 use grb_call::{MatrixId, VectorId};
-use grb_context::{Context, Pass, Renumbered};
+use grb_context::{Context, LiveObjects, Pass, Renumbered};
 use grb_core::Value::{Bool, Uint64};
 use grb_core::{Domain, Monoid};
 use std::alloc::Global;
@@ -124,10 +126,55 @@ fn go_on<R: Abort>(rt: &R, alloc: Global, context: &Context, pass: &mut Pass)
     }
 }
 
+/// What the pass says is there is right.
+fn expect_live<R: Abort>(rt: &R, live: &LiveObjects) {
+    same(rt, live.matrices.as_slice(), &[A0, A2], "the matrices");
+    same(rt, live.vectors.as_slice(), &[V1, V3], "the vectors");
+    let counts = (live.matrix_count, live.vector_count);
+    same(rt, counts, (3, 4), "the numbers");
+}
+
+/// A branch of these is as the successor without freed numbers.
+fn part<R: Abort>(
+    rt: &R,
+    alloc: Global,
+    context: &Context,
+    pass: &mut Pass,
+    matrices: &[MatrixId],
+    vectors: &[VectorId],
+)
+    requires pass { IsPassOf context.now pass.old }
+    requires matrices { length matrices.now < 2 ^ 32 }
+    requires vectors { length vectors.now < 2 ^ 32 }
+    ensures { IsPassOf context.now pass.new }
+{
+    match context.branch(alloc, pass, matrices, vectors, ROOM, 1) {
+        Ok((next, mut passes)) => {
+            expect_of_next(rt, alloc, &next, &mut passes, 0, &RENUMBERED, 1);
+        }
+        Err(none) => panic!(rt; "no branch: {none:?}"),
+    }
+}
+
+/// The pass tells what is there, and makes a branch of it.
+fn part_of_live<R: Abort>(rt: &R, alloc: Global, context: &Context, pass: &mut Pass)
+    requires { IsPassOf context.now pass.old }
+    ensures { IsPassOf context.now pass.new }
+{
+    match pass.live(alloc) {
+        Ok(live) => {
+            expect_live(rt, &live);
+            part(rt, alloc, context, pass, &[A0, A2], &[V1, V3]);
+        }
+        Err(_) => panic!(rt; "no memory for the numbers"),
+    }
+}
+
 fn tell<R: Abort>(rt: &R, alloc: Global, context: &Context, pass: &mut Pass)
     requires { IsPassOf context.now pass.old }
 {
     expect_steps(rt, alloc, context, pass, &BEFORE, 0);
+    part_of_live(rt, alloc, context, pass);
     go_on(rt, alloc, context, pass);
     expect_steps(rt, alloc, context, pass, &AFTER, 0);
 }

@@ -1,4 +1,5 @@
-//! A room that is too small: what is needed is told, just so much is enough, and the old store goes on.
+//! A room that no history has beside the calls that make a store: how many these are is told, and the old store goes on. Room for one call is
+//! room for one call.
 ghost use Rattle.std.specs.Prelude.{◌<◌, ◌≤◌};
 ghost use Rattle.grb_context.specs.Known.{IsPassOf};
 
@@ -39,21 +40,25 @@ static BEFORE: [Step; 7] = [
     Asks(NewVector(Domain::Bool, 6), Ok(MadeVector(EMPTY))),
 ];
 
-/// A successor whose room is just enough.
-static JUST: [Step; 5] = [
+/// A successor with room for one call.
+static JUST: [Step; 7] = [
     Knows(NEEDED),
-    IsAtEnd(true),
+    IsAtEnd(false),
     Finds(TotalMatrix(A, Monoid::Plus), Uint64(3)),
     Asks(SizeVector(EMPTY), Ok(Size(6))),
+    Does(SetMatrix(A, 0, 0, Uint64(8))),
+    IsAtEnd(true),
     Asks(SetMatrix(A, 0, 0, Uint64(9)), Err(Refusal::OrderFull)),
 ];
 
 /// The same of the objects that are there.
-static JUST_LIVE: [Step; 5] = [
+static JUST_LIVE: [Step; 7] = [
     Knows(NEEDED_LIVE),
-    IsAtEnd(true),
+    IsAtEnd(false),
     Finds(TotalMatrix(A, Monoid::Plus), Uint64(3)),
     Asks(SizeVector(FREED), Ok(Size(6))),
+    Does(SetMatrix(A, 0, 0, Uint64(8))),
+    IsAtEnd(true),
     Asks(SetMatrix(A, 0, 0, Uint64(9)), Err(Refusal::OrderFull)),
 ];
 
@@ -66,35 +71,51 @@ static AFTER: [Step; 6] = [
     Knows(8),
 ];
 
-/// So much room is too small, and this is told.
-fn expect_none<R: Abort>(rt: &R, alloc: Global, context: &Context, pass: &mut Pass, room: u32)
+/// No history takes so many calls beside those that make the store, shared by so many passes.
+fn expect_none<R: Abort>(
+    rt: &R,
+    alloc: Global,
+    context: &Context,
+    pass: &mut Pass,
+    room: u32,
+    passes: u32,
+)
     requires pass { IsPassOf context.now pass.old }
-    requires room { (0 < room) × (room ≤ 64) }
+    requires room { (0 < room) × (room ≤ 65536) }
+    requires passes { (0 < passes) × (passes ≤ 256) }
     ensures { IsPassOf context.now pass.new }
 {
-    let none = context.succeed(alloc, pass, room, 1).err();
+    let none = context.succeed(alloc, pass, room, passes).err();
     let needed = u64::from(NEEDED);
     let wanted = Some(NoSuccessor::RoomTooSmall { needed });
-    same(rt, none, wanted, ("the room", room));
+    same(rt, none, wanted, ("the room", room, passes));
 }
 
 /// The same of the objects that are there.
-fn expect_none_live<R: Abort>(rt: &R, alloc: Global, context: &Context, pass: &mut Pass, room: u32)
+fn expect_none_live<R: Abort>(
+    rt: &R,
+    alloc: Global,
+    context: &Context,
+    pass: &mut Pass,
+    room: u32,
+    passes: u32,
+)
     requires pass { IsPassOf context.now pass.old }
-    requires room { (0 < room) × (room ≤ 64) }
+    requires room { (0 < room) × (room ≤ 65536) }
+    requires passes { (0 < passes) × (passes ≤ 256) }
     ensures { IsPassOf context.now pass.new }
 {
-    let none = context.succeed_live(alloc, pass, room, 1).err();
+    let none = context.succeed_live(alloc, pass, room, passes).err();
     let needed = u64::from(NEEDED_LIVE);
     let wanted = Some(NoSuccessor::RoomTooSmall { needed });
-    same(rt, none, wanted, ("the room", room));
+    same(rt, none, wanted, ("the room", room, passes));
 }
 
 fn go_on<R: Abort>(rt: &R, alloc: Global, context: &Context, pass: &mut Pass)
     requires { IsPassOf context.now pass.old }
     ensures { IsPassOf context.now pass.new }
 {
-    match context.succeed(alloc, pass, NEEDED, 1) {
+    match context.succeed(alloc, pass, 1, 1) {
         Ok((next, mut passes)) => {
             expect_of_next(rt, alloc, &next, &mut passes, 0, &JUST, 1);
         }
@@ -106,7 +127,7 @@ fn go_on_live<R: Abort>(rt: &R, alloc: Global, context: &Context, pass: &mut Pas
     requires { IsPassOf context.now pass.old }
     ensures { IsPassOf context.now pass.new }
 {
-    match context.succeed_live(alloc, pass, NEEDED_LIVE, 1) {
+    match context.succeed_live(alloc, pass, 1, 1) {
         Ok((next, mut passes, _numbers)) => {
             expect_of_next(rt, alloc, &next, &mut passes, 0, &JUST_LIVE, 1);
         }
@@ -118,16 +139,17 @@ fn tell<R: Abort>(rt: &R, alloc: Global, context: &Context, pass: &mut Pass)
     requires { IsPassOf context.now pass.old }
 {
     expect_steps(rt, alloc, context, pass, &BEFORE, 0);
-    expect_none(rt, alloc, context, pass, 1);
-    expect_none(rt, alloc, context, pass, NEEDED - 1);
+    expect_none(rt, alloc, context, pass, 65_532, 1);
+    expect_none(rt, alloc, context, pass, 4_092, 256);
     go_on(rt, alloc, context, pass);
-    expect_none_live(rt, alloc, context, pass, NEEDED_LIVE - 1);
+    expect_none_live(rt, alloc, context, pass, 65_534, 1);
+    expect_none_live(rt, alloc, context, pass, 4_094, 256);
     go_on_live(rt, alloc, context, pass);
     expect_steps(rt, alloc, context, pass, &AFTER, 0);
 }
 
 #[test]
-fn a_room_that_is_too_small_makes_no_successor_and_just_enough_does(rt: HostRuntime) {
+fn a_room_that_no_history_has_makes_no_successor_and_a_small_one_does(rt: HostRuntime) {
     match Context::open(rt.alloc(), ROOM, 1) {
         Ok((context, mut passes)) => {
             let mut pass = next_pass(&rt, &context, &mut passes);

@@ -17,7 +17,7 @@ passes-preserved c =
     let more : length (members ++ c.new.result ∷ []) ≡ length members + 1 = length-append members (c.new.result ∷ []) in
     let items : c.push.new.self.items ≡ members ++ c.new.result ∷ [] = c.in_ok-push.ensures.items in
     let member : IsNewMember chain context (length members) c.new.result = subst (IsNewMember chain context (length members)) (sym c.new.ensures)
-    (record { chain_is = c.in_ok-generations.ensures; context_is = c.in_ok-context.ensures; number_is = head.0; generation = refl; none = head.1 }) in
+    (record { chain_is = c.in_ok-generations.ensures; context_is = c.in_ok-context.ensures; number_is = head.0; generation = refl; numbers = refl; none = head.1 }) in
     record {
       ours = All-tail (IsPassOf context) pass rest ours;
       left = subst (λ (n : ℕ). AreLeft n rest) (sym (ap length items ∙ more)) (left_tail (length members) pass rest left);

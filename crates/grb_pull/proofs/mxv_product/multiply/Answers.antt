@@ -5,7 +5,7 @@ use Rattle.std.specs.FinMap.{find}
 use Rattle.grb_core.specs.Entries.{restricted}
 use Rattle.grb_kernels.specs.Typed.{entries_of}
 use Rattle.grb_lists.specs.Cells.{decoded}
-use Rattle.grb_pull.specs.Wanted.{is_wanted}
+use Rattle.grb_push.specs.Wanted.{is_wanted}
 use Rattle.grb_push.proofs.Ordered.{mxv_of-products}
 use Rattle.grb_pull.proofs.mxv_product.multiply.Goals as goal
 

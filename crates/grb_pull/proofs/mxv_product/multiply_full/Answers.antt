@@ -4,7 +4,7 @@ use Rattle.grb_kernels.specs.Typed.{entries_of}
 use Rattle.grb_lists.specs.Cells.{decoded}
 use Rattle.grb_sums.specs.Bits.{value_at}
 use Rattle.grb_pull.proofs.Full.{stored_full}
-use Rattle.grb_pull.specs.Wanted.{is_wanted}
+use Rattle.grb_push.specs.Wanted.{is_wanted}
 use Rattle.grb_push.proofs.Ordered.{mxv_of-products}
 use Rattle.grb_pull.proofs.mxv_product.multiply_full.Goals as goal
 

@@ -4,7 +4,7 @@ use Rattle.grb_kernels.specs.Typed.{entries_of}
 use Rattle.grb_lists.specs.Cells.{decoded}
 use Rattle.grb_semirings.specs.Open.{marked_at}
 use Rattle.grb_semirings.proofs.Marks.{nothing_marked}
-use Rattle.grb_pull.specs.Wanted.{is_wanted}
+use Rattle.grb_push.specs.Wanted.{is_wanted}
 use Rattle.grb_push.proofs.Ordered.{mxv_of-products}
 use Rattle.grb_pull.proofs.mxv_product.multiply_open.Goals as goal
 

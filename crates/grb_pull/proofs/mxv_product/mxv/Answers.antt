@@ -5,14 +5,14 @@ use Rattle.grb_core.specs.Contents.{edited_vector}
 use Rattle.grb_core.specs.Entries.{VectorEntries}
 use Rattle.grb_core.specs.Mask.{is_inside}
 use Rattle.grb_core.specs.Results.{mxv_of, turned}
-use Rattle.grb_pull.specs.Wanted.{is_wanted}
-use Rattle.grb_pull.proofs.WantedPlaces.{written-made, made-inside}
+use Rattle.grb_push.specs.Wanted.{is_wanted}
+use Rattle.grb_push.proofs.WantedPlaces.{written-made, made-inside}
 use Rattle.grb_pull.proofs.mxv_product.mxv.Goals as goal
 
 pub write_wanted-requires-clause-inside : goal.write_wanted-requires-clause-inside
 write_wanted-requires-clause-inside c s =
     let w = c.wanted_of-wanted.result in
-    made-inside c.args.descriptor (option_map (λ m. m.now.vector.entries) c.args.mask) (mxv_of c.args.semiring (turned c.args.descriptor.tran c.args.a.now.matrix.entries) c.args.u.now.vector.entries)
+    made-inside c.args.descriptor (option_map (λ m. m.now.vector.entries) c.args.mask) c.in_ok-computed.whole (mxv_of c.args.semiring (turned c.args.descriptor.tran c.args.a.now.matrix.entries) c.args.u.now.vector.entries)
     c.in_ok-computed.computed.vector.entries (is_wanted w.among w.names.now) (c.wanted_of-wanted.ensures.inside s) c.in_ok-computed.ensures.entries
 
 pub returns-clause-vector : goal.returns-clause-vector
@@ -22,5 +22,5 @@ returns-clause-vector c =
     let inside = is_inside nat_cmp d.structure d.comp (option_map (λ m. m.now.vector.entries) c.args.mask) in
     let total = mxv_of c.args.semiring (turned d.tran c.args.a.now.matrix.entries) c.args.u.now.vector.entries in
     subst (λ (f : VectorEntries → VectorEntries). IfOk c.write_wanted.result (λ made. made.vector ≡ edited_vector f c.args.output.now.vector))
-    (λ i v. written-made inside d.replace c.args.accum v total c.in_ok-computed.computed.vector.entries d.tran (is_wanted w.among w.names.now) c.wanted_of-wanted.ensures.covers c.in_ok-computed.ensures.entries i)
+    (λ i v. written-made inside d.replace c.args.accum v total c.in_ok-computed.computed.vector.entries c.in_ok-computed.whole (is_wanted w.among w.names.now) c.wanted_of-wanted.ensures.covers c.in_ok-computed.ensures.entries i)
     c.write_wanted.ensures.vector

@@ -3,7 +3,7 @@ use Rattle.grb_core.specs.declared.domain.Domain.TheVariants as domain
 use Rattle.grb_core.specs.declared.value.Value.TheVariants as value
 use Rattle.grb_kernels.specs.Typed.{entries_of}
 use Rattle.grb_lists.specs.Cells.{decoded}
-use Rattle.grb_pull.specs.Wanted.{is_wanted}
+use Rattle.grb_push.specs.Wanted.{is_wanted}
 use Rattle.grb_pull.proofs.WantedResults.{mxv_made}
 use Rattle.grb_pull.proofs.mxv_product.product.Goals as goal
 

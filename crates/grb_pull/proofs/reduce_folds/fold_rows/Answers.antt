@@ -2,8 +2,8 @@ use Rattle.std.proofs.Common.{ap, sym, ◌∙◌}
 use Rattle.grb_core.specs.Entries.{restricted}
 use Rattle.grb_core.specs.Results.{reduce_rows_of, turned}
 use Rattle.grb_lists.specs.Cells.{decoded}
-use Rattle.grb_pull.specs.Wanted.{is_wanted}
-use Rattle.grb_pull.proofs.WantedPlaces.{whole_made, wanted_made}
+use Rattle.grb_push.specs.Wanted.{is_wanted}
+use Rattle.grb_push.proofs.WantedPlaces.{whole_made, wanted_made}
 use Rattle.grb_pull.proofs.reduce_folds.fold_rows.Goals as goal
 
 pub returns-then-tran : goal.returns-then-tran

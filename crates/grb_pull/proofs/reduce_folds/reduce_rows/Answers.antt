@@ -5,14 +5,14 @@ use Rattle.grb_core.specs.Contents.{edited_vector}
 use Rattle.grb_core.specs.Entries.{VectorEntries}
 use Rattle.grb_core.specs.Mask.{is_inside}
 use Rattle.grb_core.specs.Results.{reduce_rows_of, turned}
-use Rattle.grb_pull.specs.Wanted.{is_wanted}
-use Rattle.grb_pull.proofs.WantedPlaces.{written-made, made-inside}
+use Rattle.grb_push.specs.Wanted.{is_wanted}
+use Rattle.grb_push.proofs.WantedPlaces.{written-made, made-inside}
 use Rattle.grb_pull.proofs.reduce_folds.reduce_rows.Goals as goal
 
 pub write_wanted-requires-clause-inside : goal.write_wanted-requires-clause-inside
 write_wanted-requires-clause-inside c s =
     let w = c.wanted_of-wanted.result in
-    made-inside c.args.descriptor (option_map (λ m. m.now.vector.entries) c.args.mask) (reduce_rows_of c.args.monoid (turned c.args.descriptor.tran c.args.a.now.matrix.entries))
+    made-inside c.args.descriptor (option_map (λ m. m.now.vector.entries) c.args.mask) c.args.descriptor.tran (reduce_rows_of c.args.monoid (turned c.args.descriptor.tran c.args.a.now.matrix.entries))
     c.in_ok-computed.computed.vector.entries (is_wanted w.among w.names.now) (c.wanted_of-wanted.ensures.inside s) c.in_ok-computed.ensures.entries
 
 pub returns-clause-vector : goal.returns-clause-vector

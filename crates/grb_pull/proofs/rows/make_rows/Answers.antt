@@ -4,7 +4,7 @@ use Rattle.grb_core.specs.Entries.{VectorEntries, map_on}
 use Rattle.grb_core.specs.Results.{row_of}
 use Rattle.grb_kernels.specs.Typed.{kept, entries_of, first_entries}
 use Rattle.grb_lists.specs.Cells.{decoded, in_row}
-use Rattle.grb_pull.specs.Wanted.{is_wanted}
+use Rattle.grb_push.specs.Wanted.{is_wanted}
 use Rattle.grb_sums.proofs.RowByRow.{row_step}
 use Rattle.grb_pull.proofs.RowLists.{columns_long, row_lists}
 use Rattle.grb_pull.proofs.WantedRows.{made_at, wanted_rows, wanted_rising}

@@ -2,7 +2,7 @@ use Rattle.std.proofs.Common.{◌≡◌, ◌≤◌, ◌<◌, ◌++◌, ℕ, leng
 use Rattle.grb_core.specs.Entries.{map_on}
 use Rattle.grb_kernels.specs.Typed.{first_entries}
 use Rattle.grb_lists.specs.Cells.{decoded}
-use Rattle.grb_pull.specs.Wanted.{is_wanted}
+use Rattle.grb_push.specs.Wanted.{is_wanted}
 use Rattle.grb_pull.proofs.WantedRows.{made_at}
 use Rattle.grb_pull.proofs.rows.make_rows.Given as goal
 

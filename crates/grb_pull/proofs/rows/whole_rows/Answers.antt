@@ -4,7 +4,7 @@ use Rattle.std.proofs.lemmas.List.{with_items_is}
 use Rattle.grb_core.specs.Results.{each_row}
 use Rattle.grb_kernels.specs.Typed.{entries_of}
 use Rattle.grb_lists.specs.Cells.{decoded}
-use Rattle.grb_pull.specs.Wanted.{is_wanted}
+use Rattle.grb_push.specs.Wanted.{is_wanted}
 use Rattle.grb_pull.proofs.WantedRows.{wanted_rising}
 use Rattle.grb_pull.proofs.WholeRows.{rows_copied}
 use Rattle.grb_pull.proofs.rows.whole_rows.Goals as goal

@@ -24,5 +24,5 @@ returns g c =
     let opened : AreSums tv m names [] ws.result.now ss.result.now =
     subst (λ (us : List ℕ). AreSums tv m names [] us ss.result.now) (sym ws.ensures.value)
     (subst (λ (vs : List g.row.T.Denot). AreSums tv m names [] c.in_ok-opened.opened.words.items vs) (sym ss.ensures.value) (c.in_ok-opened.ensures.none names (sym c.count.ensures))) in
-    c.in_ok-made.ensures m _ (c.add_entries.ensures.added [] opened)
+    c.in_ok-made.ensures.folds m _ (c.add_entries.ensures.added [] opened)
     ∙ ap (column_folds m names) (with_own_values _ ∙ lent_by_column tv c.columns.result.now c.of_lists.result.now k c.columns.ensures.columns c.of_lists.ensures)

@@ -34,14 +34,17 @@ invariant_of-result g c =
       rising = subst (λ (m : VectorEntries). IsTrue (is_sorted nat_cmp m)) (sym made) (marked_values-rise tv names c.args.words.now c.args.sums.now (g.met.C.Columns.rising c.args.columns.now));
     }
 
-pub returns : goal.returns
-returns g c m added are =
+pub returns-clause-values : goal.returns-clause-values
+returns-clause-values g c =
     let tv = g.T.Scalar.value in
-    let names = g.C.Columns.names c.args.columns.now in
     let indices = c.close_into.new.indices in
     let values = c.close_into.new.values in
     let indices_long : length indices ≡ c.in_ok-indices.indices.len = omega (arith, c.close_into.auto.indices, ap length c.as_mut_slice.ensures.value) in
     let values_long : length values ≡ c.in_ok-values.values.len = omega (arith, c.close_into.auto.values, ap length c.as_mut_slice-2.ensures.value) in
     entries-same tv _ _ _ _ (with_items_is c.in_ok-indices.indices indices indices_long) (with_items_is c.in_ok-values.values values values_long)
     ∙ c.close_into.ensures
-    ∙ marked_values-sums tv names c.args.words.now c.args.sums.now m added are
+
+pub returns-clause-folds : goal.returns-clause-folds
+returns-clause-folds g c m added are =
+    returns-clause-values g c
+    ∙ marked_values-sums g.T.Scalar.value (g.C.Columns.names c.args.columns.now) c.args.words.now c.args.sums.now m added are

@@ -1,10 +1,10 @@
 use Rattle.std.proofs.Common.{IfErr, subst}
 use Rattle.grb_call.specs.History.{store_of}
-use Rattle.grb_context.specs.Chosen.{IsNoBranch, chosen_store}
+use Rattle.grb_context.specs.Chosen.{IsNoSuccessor, chosen_store}
 use Rattle.grb_context.specs.Known.{known}
 use Rattle.grb_c.specs.Sessions.{Opened}
 use Rattle.grb_c.proofs.session.Session.branch.Goals as goal
 
 pub returns-clause-refused : goal.returns-clause-refused
 returns-clause-refused c =
-    subst (λ (s : Opened). IfErr c.branch-deref.result (IsNoBranch c.args.room c.args.passes (chosen_store (store_of (known s.pass)) c.args.matrices.now c.args.vectors.now))) c.self.view_is c.branch-deref.ensures.refused
+    subst (λ (s : Opened). IfErr c.branch-deref.result (IsNoSuccessor c.args.room c.args.passes (chosen_store (store_of (known s.pass)) c.args.matrices.now c.args.vectors.now))) c.self.view_is c.branch-deref.ensures.refused

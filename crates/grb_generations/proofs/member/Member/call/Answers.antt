@@ -3,6 +3,5 @@ use Rattle.grb_generations.proofs.member.Member.call.Goals as goal
 
 pub returns-in-None-clause-calls : goal.returns-in-None-clause-calls
 returns-in-None-clause-calls c =
-    let called = c.call_in_place.ensures in
     calls_after c.args.self.now c.attempts.new.self c.call_in_place.new.self c.args.call c.call_in_place.result c.in-None.ensures.calls
-    (calls_here c.attempts.new.self c.call_in_place.new.self c.args.call c.call_in_place.result (record { chain = called.chain; context = called.context; generation = called.generation }) called.answered)
+    (calls_here c.attempts.new.self c.call_in_place.new.self c.args.call c.call_in_place.result c.call_in_place.ensures.calls)

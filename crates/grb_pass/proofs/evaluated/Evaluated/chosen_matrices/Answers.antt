@@ -12,7 +12,7 @@ use Rattle.grb_pass.proofs.evaluated.Evaluated.chosen_matrices.Goals as goal
 
 pub chosen-preserved : goal.chosen-preserved
 chosen-preserved c =
-    let p : Knowing = c.args.reader.now in let all = c.chosen.all.items in let at = c.chosen.at in let q = c.in_ok-matrix.matrix in let items = c.in_ok-push.ensures.items in
+    let p : Knowing = c.args.reader.now in let all = c.chosen.all.items in let at = c.chosen.at in let q = c.in-Ok.matrix in let items = c.in-Ok-push.ensures.items in
     let near : at < length c.args.chosen.now = omega (arith, c.chosen-test.true, c.chosen.auto.at-end) in
     let more : length c.push.new.self.items ≡ length all + 1 = ap length items ∙ length_push all q in
     record {
@@ -21,8 +21,8 @@ chosen-preserved c =
       table = c.chosen_matrix.ensures.table;
       stored = ap (λ (ys : List (Option SparseMatrixView)). stored_matrices ys) items
           ∙ chosen_more stored_matrix (matrix_at (store_of (known p))) all q c.args.chosen.now at (record { 0 = 0 }) c.chosen.invariant.stored near
-          (c.in_ok-matrix.ensures.stored ∙ ap (λ (k : Knowing). matrix_at (store_of (known k)) (get_or c.args.chosen.now at (record { 0 = 0 }))) c.chosen.invariant.same);
+          (c.in-Ok.ensures.stored ∙ ap (λ (k : Knowing). matrix_at (store_of (known k)) (get_or c.args.chosen.now at (record { 0 = 0 }))) c.chosen.invariant.same);
       assembled = subst (λ (ys : List (Option SparseMatrixView)). OfEach (λ (m : SparseMatrixView). m.assembled) ys) (sym items)
-          (each_push (λ (m : SparseMatrixView). m.assembled) all q c.chosen.invariant.assembled c.in_ok-matrix.ensures.assembled);
+          (each_push (λ (m : SparseMatrixView). m.assembled) all q c.chosen.invariant.assembled c.in-Ok.ensures.assembled);
       count = omega (arith, more, c.chosen.invariant.count);
     }

@@ -1,5 +1,0 @@
-use Rattle.grb_context.specs.Known.{IsPassOf}
-use Rattle.example_graph.proofs.work.ask.Given as goal
-
-abbrev pub invariant-vertices : goal.invariant-vertices
-invariant-vertices l = IsPassOf l.context l.pass

@@ -1,0 +1,242 @@
+//! The next generation of a chain, as the member makes it that knows the end of its own.
+ghost use Rattle.std.specs.Prelude.{◌≡◌, ◌<◌, ◌^◌, false, true, Some, length, slice_get, IfErr, IfOk};
+ghost use Rattle.grb_order.specs.Order.{room_of};
+ghost use Rattle.grb_call.specs.History.{store_of};
+ghost use Rattle.grb_context.specs.Chosen.{IsNoSuccessor, NamesLive, room_beside};
+ghost use Rattle.grb_context.specs.Known.{Knowing, known};
+ghost use Rattle.grb_context.specs.LiveNumbers.{AreLiveObjects};
+ghost use Rattle.grb_context.specs.Succeeding.{AreBegun};
+ghost use Rattle.grb_numbers.specs.Inside.{outwards, renamed_object};
+ghost use Rattle.grb_generations.specs.Keeping.{Suffice, kept_numbers, kept_store};
+ghost use Rattle.grb_generations.specs.Reasons.{IsNoGeneration};
+ghost use Rattle.grb_generations.specs.Seated.{IsAtEnd, Stays};
+
+use crate::generation::Next;
+use crate::generations::Generations;
+use crate::member::Member;
+use crate::reason::NoGeneration;
+use grb_call::{MatrixId, Object, VectorId};
+use grb_context::{Context, LiveObjects, NoSuccessor, Pass};
+use grb_numbers::Numbers;
+use grb_numbers::laws::next_numbers_show_the_same;
+use std::alloc::AllocError;
+use std::sync::Arc;
+
+/// How many calls the history of the first of these passes takes.
+fn room_of_first(passes: &Vec<Pass>) -> u64
+    requires { 0 < length passes.now.items }
+    ensures some { 0 < length passes.now.items }
+    ensures room { (p : Knowing) → slice_get passes.now.items 0 ≡ Some p → result ≡ room_of p.order }
+{
+    let pass = &passes[0];
+    u64::from(pass.room_left()) + u64::from(pass.words())
+}
+
+/// Whether a history of so many calls gives no number that no object may have.
+fn suffice(numbers: &Numbers, room: u64) -> bool
+    ensures enough { result ≡ true → Suffice numbers.now room }
+    ensures few { result ≡ false → Suffice numbers.now room → ⊥ }
+{
+    numbers.are_numbers();
+    if room > u64::from(u32::MAX) {
+        return false;
+    }
+    let a = numbers.outer_matrix(MatrixId(room as u32));
+    let v = numbers.outer_vector(VectorId(room as u32));
+    a.0 < u32::MAX && v.0 < u32::MAX
+}
+
+/// Whether there are less than 2^32 objects of each sort.
+fn are_few(live: &LiveObjects) -> bool
+    ensures matrices { result ≡ true → length live.now.matrices.items < 2 ^ 32 }
+    ensures vectors { result ≡ true → length live.now.vectors.items < 2 ^ 32 }
+{
+    live.matrices.len() <= u32::MAX as usize && live.vectors.len() <= u32::MAX as usize
+}
+
+impl Member {
+    /// Makes the generation after its own, which has this number, of all that the member knows, and shows it unless another stands by then.
+    pub(crate) fn make(&mut self, number: u64) -> Result<(), NoGeneration>
+        requires end { IsAtEnd self.old.pass }
+        ensures stays { Stays self.old self.new }
+        ensures refused { IfErr result (IsNoGeneration self.old.chain self.old.numbers self.old.pass) }
+    {
+        let Ok(live) = self.pass.live(self.generations.alloc) else {
+            return Err(NoGeneration::OutOfMemory);
+        };
+        self.make_matrices(&live.matrices);
+        self.make_vectors(&live.vectors);
+        let (context, passes) = self.succeed(&live)?;
+        self.show(number, &live, context, passes)
+    }
+
+    /// Evaluates what this matrix holds, where it does not lie ready, and tells who waits for the member that it goes on.
+    fn make_matrix(&mut self, a: MatrixId)
+        ensures { Stays self.old self.new }
+    {
+        let generations: &Generations = &self.generations;
+        generations.progresses();
+        if self.pass.matrix(a).is_none() {
+            let _branch = self
+                .context
+                .branch(generations.alloc, &mut self.pass, &[a], &[], 1, 1);
+        }
+    }
+
+    /// The same of a vector.
+    fn make_vector(&mut self, v: VectorId)
+        ensures { Stays self.old self.new }
+    {
+        let generations: &Generations = &self.generations;
+        generations.progresses();
+        if self.pass.vector(v).is_none() {
+            let _branch = self
+                .context
+                .branch(generations.alloc, &mut self.pass, &[], &[v], 1, 1);
+        }
+    }
+
+    /// The same of these matrices, one after another.
+    fn make_matrices(&mut self, matrices: &[MatrixId])
+        ensures { Stays self.old self.new }
+    {
+        'matrices: for at in 0..matrices.len() {
+            self.make_matrix(matrices[at]);
+        }
+    }
+
+    /// The same of these vectors.
+    fn make_vectors(&mut self, vectors: &[VectorId])
+        ensures { Stays self.old self.new }
+    {
+        'vectors: for at in 0..vectors.len() {
+            self.make_vector(vectors[at]);
+        }
+    }
+
+    /// The store of the objects that are there at the end of the member's generation, and its passes. That is all that its generation
+    /// takes, so no call is left out.
+    fn succeed(&mut self, live: &LiveObjects) -> Result<(Context, Vec<Pass>), NoGeneration>
+        requires end { IsAtEnd self.old.pass }
+        requires live { AreLiveObjects (store_of (known self.old.pass)) live.now }
+        ensures stays { Stays self.old self.new }
+        ensures room { IfOk result (λ next. room_of next.0.order ≡ room_beside (kept_store (store_of (known self.old.pass))) self.old.chain.room) }
+        ensures begun { IfOk result (λ next. AreBegun next.0 (kept_store (store_of (known self.old.pass))) self.old.chain.members next.1.items) }
+        ensures refused { IfErr result (IsNoGeneration self.old.chain self.old.numbers self.old.pass) }
+    {
+        if !are_few(live) {
+            return Err(NoGeneration::OutOfMemory);
+        }
+        let generations: &Generations = &self.generations;
+        let next = self.context.branch(
+            generations.alloc,
+            &mut self.pass,
+            &live.matrices,
+            &live.vectors,
+            generations.room,
+            generations.members,
+        );
+        match next {
+            Ok(next) => Ok(next),
+            Err(why) => Err(self.no_generation(why)),
+        }
+    }
+
+    /// Why there is no next generation, where there is no store of the objects that are there; by the numbers that users have.
+    fn no_generation(&self, why: NoSuccessor) -> NoGeneration
+        requires end { IsAtEnd self.now.pass }
+        requires why { IsNoSuccessor self.now.chain.room self.now.chain.members (kept_store (store_of (known self.now.pass))) why }
+        requires named { NamesLive (store_of (known self.now.pass)) why }
+        ensures { IsNoGeneration self.now.chain self.now.numbers self.now.pass result }
+    {
+        match why {
+            NoSuccessor::RoomTooSmall { needed } => NoGeneration::RoomTooSmall { needed },
+            NoSuccessor::Unmade { object } => NoGeneration::Unmade {
+                object: self.outer_object(object),
+            },
+            NoSuccessor::OutOfMemory => NoGeneration::OutOfMemory,
+            NoSuccessor::Panic => NoGeneration::Panic,
+        }
+    }
+
+    /// The object by the number that users have.
+    fn outer_object(&self, object: Object) -> Object
+        ensures { result ≡ renamed_object (outwards self.now.numbers) object }
+    {
+        match object {
+            Object::Matrix(a) => Object::Matrix(self.numbers.outer_matrix(a)),
+            Object::Vector(v) => Object::Vector(self.numbers.outer_vector(v)),
+        }
+    }
+
+    /// The numbers by which the next generation is seen as this one. `AllocError` where memory is refused.
+    fn next_numbers(&self, live: &LiveObjects) -> Result<Numbers, AllocError>
+        requires end { IsAtEnd self.now.pass }
+        requires live { AreLiveObjects (store_of (known self.now.pass)) live.now }
+        ensures { IfOk result (λ n. n ≡ kept_numbers self.now.numbers (store_of (known self.now.pass))) }
+    {
+        self.numbers.are_numbers();
+        self.numbers.next(
+            self.generations.alloc,
+            &live.matrices,
+            live.matrix_count,
+            &live.vectors,
+            live.vector_count,
+        )
+    }
+
+    /// Shows the store of the objects that are there as the generation of this number, unless another stands by then.
+    fn show(
+        &self,
+        number: u64,
+        live: &LiveObjects,
+        context: Context,
+        passes: Vec<Pass>,
+    ) -> Result<(), NoGeneration>
+        requires end { IsAtEnd self.now.pass }
+        requires live { AreLiveObjects (store_of (known self.now.pass)) live.now }
+        requires room { room_of context.order ≡ room_beside (kept_store (store_of (known self.now.pass))) self.now.chain.room }
+        requires begun { AreBegun context (kept_store (store_of (known self.now.pass))) self.now.chain.members passes.items }
+        ensures refused { IfErr result (IsNoGeneration self.now.chain self.now.numbers self.now.pass) }
+    {
+        let Ok(numbers) = self.next_numbers(live) else {
+            return Err(NoGeneration::OutOfMemory);
+        };
+        if passes.is_empty() {
+            return Err(NoGeneration::Busy);
+        }
+        if !suffice(&numbers, room_of_first(&passes)) {
+            return Err(NoGeneration::NumbersSpent);
+        }
+        match self.show_with(number, numbers, context, passes) {
+            Ok(()) => Ok(()),
+            Err(AllocError) => Err(NoGeneration::OutOfMemory),
+        }
+    }
+
+    /// The same, with these numbers. `AllocError` where memory is refused.
+    fn show_with(
+        &self,
+        number: u64,
+        numbers: Numbers,
+        context: Context,
+        passes: Vec<Pass>,
+    ) -> Result<(), AllocError>
+        requires end { IsAtEnd self.now.pass }
+        requires numbers { numbers ≡ kept_numbers self.now.numbers (store_of (known self.now.pass)) }
+        requires suffice { Suffice numbers (room_of context.order) }
+        requires room { room_of context.order ≡ room_beside (kept_store (store_of (known self.now.pass))) self.now.chain.room }
+        requires begun { AreBegun context (kept_store (store_of (known self.now.pass))) self.now.chain.members passes.items }
+    {
+        self.numbers.are_numbers();
+        next_numbers_show_the_same();
+        let generations: &Generations = &self.generations;
+        let next = Next {
+            room: generations.room,
+            context: Arc::new(generations.alloc, context)?,
+            numbers: Arc::new(generations.alloc, numbers)?,
+            generation: number,
+        };
+        generations.show(next, passes)
+    }
+}

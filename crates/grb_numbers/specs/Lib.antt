@@ -1,0 +1,4 @@
+pub mod Inside
+pub mod Laws
+pub mod Numbers
+pub mod Seen
