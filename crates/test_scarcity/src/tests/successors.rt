@@ -1,6 +1,7 @@
 //! A successor or a branch with ever more memory, from none on, each time of a store of its own, until it is not refused. No contract says
-//! that memory is refused, what the old pass and the new ones answer then, or that each object which takes memory is named. And one of a large object, with less memory than its entries
-//! take, and a large result of a branch that comes back: no contract says that they are shared.
+//! that memory is refused, what the old pass and the new ones answer then, or that each object which takes memory is named. And one of a
+//! large object, with less memory than its entries take, and a large result of a branch that comes back: no contract says that they are
+//! shared.
 ghost use Rattle.std.specs.Prelude.{◌≡◌, ◌<◌, ◌≤◌, ◌^◌, true, length, IfOk};
 ghost use Rattle.grb_order.specs.declared.limits.TheConstants.{MOST_PASSES, MOST_ROOM};
 ghost use Rattle.grb_context.specs.Known.{IsPassOf};
