@@ -15,7 +15,10 @@ invariant_of-self c =
     member_met old c.adopt.new.pass c.other.inside.pass c.adopt.result c.self.invariant met
 
 pub returns-clause-apart : goal.returns-clause-apart
-returns-clause-apart c = λ not. (refl, elim c.if-self-other-2.branch as (λ _. Comes c.args.self.now c.if-self-other-2.self) [
-  | then-self-other-2 w ↦ subst (Comes c.args.self.now) (sym w.self-is) w.follow.ensures.comes
-  | else-self-other-2 w ↦ stayed (stays_same c.args.self.now c.if-self-other-2.self w.self-is)
-])
+returns-clause-apart c = λ not. (
+  refl,
+  elim c.if-self-other-2.branch as (λ _. Comes c.args.self.now c.if-self-other-2.self) [
+    | then-self-other-2 w ↦ subst (Comes c.args.self.now) (sym w.self-is) w.follow.ensures.comes
+    | else-self-other-2 w ↦ stayed (stays_same c.args.self.now c.if-self-other-2.self w.self-is)
+  ],
+)
