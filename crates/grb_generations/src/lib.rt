@@ -1,10 +1,10 @@
 //! A chain of stores that goes on for as long as its store fits: where the history of one is full, the next goes on with what it holds.
 //!
-//! A generation is one [`Context`](grb_context::Context). Its history takes a fixed number of calls next to those that begin
-//! it; where it is full, a member makes the next generation of the objects that are there, and the others follow. A member is one thread's way in, and has the pass of its number in
-//! the generation in which it sits. It calls as on one store that never ends, and objects keep their numbers. No call waits for a lock, or
-//! for another thread without a bound. A store that all members have left is freed. No generation is made before the one before it is
-//! full, so no call is lost from one to the next: [`laws`] says so.
+//! A generation is one [`Context`](grb_context::Context). Its history takes a fixed number of calls next to those that begin it; where it
+//! is full, a member makes the next generation of the objects that are there, and the others follow. A member is one thread's way in, and
+//! has the pass of its number in the generation in which it sits. It calls as on one store that never ends, and objects keep their numbers.
+//! No call waits for a lock, or for another thread without a bound. A store that all members have left is freed. No generation is made
+//! before the one before it is full, so no call is lost from one to the next: [`laws`] says so.
 #![tactic(auto)]
 
 mod branches;
