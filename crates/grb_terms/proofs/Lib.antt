@@ -1,0 +1,4 @@
+pub mod Diagonals
+pub mod Each
+pub mod Products
+pub mod Pulls
