@@ -1,0 +1,5 @@
+pub mod Bound
+pub mod Changed
+pub mod Placed
+pub mod Runs
+pub mod Turned
