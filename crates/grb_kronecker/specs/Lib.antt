@@ -1,0 +1,4 @@
+pub mod Crossing
+pub mod Factors
+pub mod Product
+pub mod Rows
