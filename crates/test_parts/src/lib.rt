@@ -18,6 +18,8 @@ mod histories;
 #[cfg(test)]
 mod listed;
 #[cfg(test)]
+mod maps;
+#[cfg(test)]
 mod memory;
 #[cfg(test)]
 mod objects;
@@ -25,6 +27,8 @@ mod objects;
 mod operations;
 #[cfg(test)]
 mod plain;
+#[cfg(test)]
+mod plain_maps;
 #[cfg(test)]
 mod results;
 #[cfg(test)]

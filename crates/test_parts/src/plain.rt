@@ -1,5 +1,6 @@
 //! The operations of the standard by plain loops over tables: at each place the definition in words, with operators of its own.
 use crate::calls::{Choice, Operation};
+use grb_call::Descriptor;
 use grb_core::{BinaryOp, Monoid};
 use std::alloc::{AllocError, Global};
 
@@ -55,7 +56,7 @@ fn logical(op: BinaryOp, x: u64, y: u64) -> u64 {
 }
 
 /// What an operator makes of two numbers.
-fn applied(op: BinaryOp, x: u64, y: u64) -> u64 {
+pub(crate) fn applied(op: BinaryOp, x: u64, y: u64) -> u64 {
     match op {
         BinaryOp::Plus => x.wrapping_add(y),
         BinaryOp::Times => x.wrapping_mul(y),
@@ -123,7 +124,7 @@ pub(crate) fn total(monoid: Monoid, table: &[Option<u64>]) -> u64 {
 }
 
 /// What a table of so many columns stores at a row and a column.
-fn at_cell(table: &[Option<u64>], columns: u64, i: u64, j: u64) -> Option<u64> {
+pub(crate) fn at_cell(table: &[Option<u64>], columns: u64, i: u64, j: u64) -> Option<u64> {
     stored(table, i.wrapping_mul(columns).wrapping_add(j))
 }
 
@@ -176,28 +177,41 @@ fn computed(choice: Choice, dims: Dims, tables: &Tables, at: u64) -> Option<u64>
 }
 
 /// Whether a place is inside, by what the mask stores there.
-fn is_inside(choice: Choice, tables: &Tables, at: u64) -> bool {
-    let selected = match &tables.mask {
+fn is_inside(descriptor: Descriptor, mask: Option<&Table>, at: u64) -> bool {
+    let selected = match mask {
         None => true,
         Some(mask) => match stored(mask, at) {
-            Some(number) => choice.descriptor.structure || number != 0,
+            Some(number) => descriptor.structure || number != 0,
             None => false,
         },
     };
-    selected != choice.descriptor.comp
+    selected != descriptor.comp
+}
+
+/// What the output stores at a place after an operation that computed this there.
+pub(crate) fn written(
+    descriptor: Descriptor,
+    accum: Option<BinaryOp>,
+    mask: Option<&Table>,
+    at: u64,
+    old: Option<u64>,
+    computed: Option<u64>,
+) -> Option<u64> {
+    if !is_inside(descriptor, mask, at) {
+        return if descriptor.replace { None } else { old };
+    }
+    match accum {
+        None => computed,
+        Some(accum) => either(accum, old, computed),
+    }
 }
 
 /// What the output stores at a place after the operation.
 fn wanted_at(choice: Choice, dims: Dims, tables: &Tables, at: u64) -> Option<u64> {
     let old = stored(&tables.output, at);
-    if !is_inside(choice, tables, at) {
-        return if choice.descriptor.replace { None } else { old };
-    }
     let computed = computed(choice, dims, tables, at);
-    match choice.accum {
-        None => computed,
-        Some(accum) => either(accum, old, computed),
-    }
+    let mask = tables.mask.as_ref();
+    written(choice.descriptor, choice.accum, mask, at, old, computed)
 }
 
 /// What the output stores after the operation.
