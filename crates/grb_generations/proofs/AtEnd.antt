@@ -1,10 +1,9 @@
 -- A pass that knows a full history learns nothing more, so what was said of its store stays true.
-use Rattle.std.proofs.Common.{◌≡◌, ℕ, ◌+◌, ◌≤◌, Bool, true, false, if◌then◌else◌, IfSome, Option, None, Some, Result, List, [], ◌∷◌, ◌++◌, length, refl, sym, ap, subst, ◌∙◌, arith, append_assoc, append-nil, length-append}
+use Rattle.std.proofs.Common.{◌≡◌, ℕ, ◌≤◌, Bool, true, false, if◌then◌else◌, IfSome, Option, None, Some, Result, [], ◌∷◌, ◌++◌, length, refl, sym, ap, subst, ◌∙◌, arith, append_assoc, append-nil, length-append}
 use Rattle.grb_core.specs.declared.refusal.Refusal.{Refusal}
 use Rattle.grb_order.specs.Order.{room_of}
 use Rattle.grb_order.specs.Holding.{TableId}
 use Rattle.grb_call.specs.declared.call.Call.{Call}
-use Rattle.grb_call.specs.declared.ids.Object.{Object}
 use Rattle.grb_call.specs.History.{Entry, History, after_all, calls_of, store_of}
 use Rattle.grb_call.specs.Store.{Store}
 use Rattle.grb_call.proofs.ObjectsAfter.{matrix_counts-all, vector_counts-all}
@@ -27,7 +26,7 @@ empty_rest [] e = refl
 empty_rest (x ∷ h) e = absurd (omega arith)
 
 -- a history that begins with a full one and is within the room is that one
-full_stays : (room : ℕ) (g rest h : History) → h ≡ g ++ rest → length g ≡ room → length h ≤ room → h ≡ g
+pub full_stays : (room : ℕ) (g rest h : History) → h ≡ g ++ rest → length g ≡ room → length h ≤ room → h ≡ g
 full_stays room g rest h is full within =
     let n = ap length is ∙ length-append g rest in
     let nothing : rest ≡ [] = empty_rest rest (omega (arith, n, full, within)) in
@@ -104,6 +103,7 @@ still_numbered n p q on are =
 -- a member that sits where it sat, and whose pass went on, is one
 pub member_further : (old new : Seated) (reason : Option NoGeneration) → IsMember old → new ≡ record old { pass = new.pass; reason = reason } → IsPassOf old.context new.pass → GoesFurther old.pass new.pass → IfSome reason (IsNoGeneration old.chain old.numbers new.pass) → IsMember new
 member_further old new reason is same pass on why = subst IsMember (sym same) (record {
+  placed = is.placed;
   pass = pass;
   room = is.room;
   numbers = still_numbered old.numbers old.pass new.pass on is.numbers;
@@ -116,6 +116,7 @@ reason_called old q c r is pass made = still_so old.chain old.numbers old.pass q
 
 pub member_called : (old : Seated) (q : Knowing) (reason : Option NoGeneration) (c : Call) (r : Answer) → IsMember old → IsPassOf old.context q → Answered old.context old.pass q c r → IfSome reason (IsNoGeneration old.chain old.numbers q) → IsMember (record old { pass = q; reason = reason })
 member_called old q reason c r is pass made why = record {
+  placed = is.placed;
   pass = pass;
   room = is.room;
   numbers = still_numbered old.numbers old.pass q (called_further old.context old.pass q c r is.pass.order pass.order made) is.numbers;
@@ -125,10 +126,10 @@ member_called old q reason c r is pass made why = record {
 pub member_met : (old : Seated) (q other : Knowing) (r : Result (Unit {0}) Refusal) → IsMember old → Met old.context old.pass q other r → IsMember (record old { pass = q })
 member_met old q other r is met =
     let on = met_further old.context old.pass q other r is.pass.order met in
-    record { pass = met.pass; room = is.room; numbers = still_numbered old.numbers old.pass q on is.numbers; reason = still_so old.chain old.numbers old.pass q old.reason on is.reason }
+    record { placed = is.placed; pass = met.pass; room = is.room; numbers = still_numbered old.numbers old.pass q on is.numbers; reason = still_so old.chain old.numbers old.pass q old.reason on is.reason }
 
 -- a pass with the same calls
 pub member_same : (old : Seated) (q : Knowing) → IsMember old → IsPassOf old.context q → q.order ≡ old.pass.order → known q ≡ known old.pass → IsMember (record old { pass = q })
 member_same old q is pass order same =
     let on = same_further old.pass q order same in
-    record { pass = pass; room = is.room; numbers = still_numbered old.numbers old.pass q on is.numbers; reason = still_so old.chain old.numbers old.pass q old.reason on is.reason }
+    record { placed = is.placed; pass = pass; room = is.room; numbers = still_numbered old.numbers old.pass q on is.numbers; reason = still_so old.chain old.numbers old.pass q old.reason on is.reason }

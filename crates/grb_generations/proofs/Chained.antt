@@ -1,19 +1,19 @@
 -- What is entered after objects were made anew is entered after the calls that left them, as users see it.
-use Rattle.std.proofs.Common.{◌≡◌, ℕ, ◌<◌, ◌≤◌, ◌+◌, List, [], ◌∷◌, ◌++◌, length, map, refl, sym, ap, ◌∙◌, subst, arith, ◌⊎◌, inl, inr, append-nil}
+use Rattle.std.proofs.Common.{◌≡◌, ℕ, ◌≤◌, List, [], ◌∷◌, ◌++◌, length, map, refl, sym, ap, ◌∙◌, subst, arith, inl, inr}
 use Rattle.std.proofs.lemmas.Bool.{cases_lt}
 use Rattle.grb_call.specs.declared.call.Call.{Call}
 use Rattle.grb_call.specs.After.{after}
 use Rattle.grb_call.specs.Store.{Store, empty_store}
-use Rattle.grb_call.specs.History.{Entry, History, calls_of, after_all, store_of}
+use Rattle.grb_call.specs.History.{History, calls_of, after_all, store_of}
 use Rattle.grb_call.proofs.ObjectsAfter.{matrix_counts-all, vector_counts-all}
 use Rattle.grb_call.proofs.Runs.{after_all-append}
 use Rattle.grb_context.specs.Known.{known}
 use Rattle.grb_numbers.specs.Inside.{inside}
 use Rattle.grb_numbers.specs.Laws.{CallsLeaveTheSame, FirstNumbersShowTheStore, NextNumbersShowTheSame}
-use Rattle.grb_numbers.specs.Numbers.{AreCarried, CarriedNumbers, NumbersSeen, AreNumbers, AreNumbered, first_numbers, outer_number}
+use Rattle.grb_numbers.specs.Numbers.{AreCarried, CarriedNumbers, NumbersSeen, first_numbers, outer_number}
 use Rattle.grb_numbers.specs.Seen.{AreNumbersOf, seen_store}
 use Rattle.grb_numbers.proofs.Numbering.{outer-rising}
-use Rattle.grb_generations.specs.Keeping.{kept_numbers, kept_store}
+use Rattle.grb_generations.specs.Keeping.{kept_store}
 use Rattle.grb_generations.specs.Lossless.{Later, GoesOnFrom, AreChained, all_entered, entries_inside, history_of, last_seen}
 use Rattle.grb_generations.proofs.Living.{kept_shows}
 

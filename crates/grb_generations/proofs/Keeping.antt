@@ -1,5 +1,5 @@
 -- The passes of a generation that was made of the objects of the one before.
-use Rattle.std.proofs.Common.{◌≡◌, ℕ, zero, suc, ◌+◌, ◌<◌, ◌≤◌, IfSome, Option, None, List, [], ◌∷◌, length, refl, sym, ap, subst, ◌∙◌, arith}
+use Rattle.std.proofs.Common.{◌≡◌, ℕ, zero, suc, ◌<◌, ◌≤◌, IfSome, Option, None, List, [], ◌∷◌, length, refl, sym, ap, subst, ◌∙◌, arith}
 use Rattle.std.proofs.lemmas.List.{length-map}
 use Rattle.std.specs.List.{All}
 use Rattle.std.specs.Prelude.{Some, slice_get, slice_index_or}
@@ -12,7 +12,7 @@ use Rattle.grb_call.specs.History.{History, calls_of, store_of}
 use Rattle.grb_call.specs.Store.{Store, empty_store}
 use Rattle.grb_call.proofs.Counted.{matrices_after_all, vectors_after_all}
 use Rattle.grb_context.specs.Chosen.{room_beside}
-use Rattle.grb_context.specs.Known.{IsPassOf, Knowing, Shared, known}
+use Rattle.grb_context.specs.Known.{Knowing, Shared, known}
 use Rattle.grb_context.specs.Rebuilt.{rebuilt}
 use Rattle.grb_context.specs.Succeeding.{AreBegun, BeginsWith}
 use Rattle.grb_numbers.specs.Laws.{NextNumbersShowTheSame}
@@ -20,6 +20,7 @@ use Rattle.grb_numbers.specs.Numbers.{AreCarried, AreNumbers, CarriedNumbers, Nu
 use Rattle.grb_numbers.specs.Seen.{AreNumbersOf, seen_store}
 use Rattle.grb_numbers.proofs.Numbering.{outer-here, outer-rising}
 use Rattle.grb_generations.specs.Keeping.{AreNumbersFor, Suffice, kept_numbers, kept_store}
+use Rattle.grb_generations.specs.Placed.{IsPlaced}
 use Rattle.grb_generations.specs.Reasons.{IsMember, IsNoGeneration}
 use Rattle.grb_generations.specs.declared.reason.NoGeneration.{NoGeneration}
 use Rattle.grb_generations.specs.Seated.{GoesOn, IsAtEnd, Seated}
@@ -88,8 +89,9 @@ module _ (show : NextNumbersShowTheSame) (room : ℕ) (context : Shared) (number
   all_go_on passes opened begun = λ k d lt. goes_on k (slice_index_or opened k d) (begun.each k (slice_index_or opened k d) (slice_get-get_or opened k d lt))
 
 -- who takes a seat of a generation is a member
-pub sits : (m : Seated) → GoesOn m.chain.room m.context m.numbers m.pass → m.reason ≡ None → IsMember m
-sits m on none = record {
+pub sits : (m : Seated) → IsPlaced m.chain.book m.context m.numbers m.generation m.page → GoesOn m.chain.room m.context m.numbers m.pass → m.reason ≡ None → IsMember m
+sits m placed on none = record {
+  placed = placed;
   pass = on.begins.opened.pass;
   room = omega (arith, on.room_is);
   numbers = on.numbered;

@@ -4,3 +4,4 @@ mod Keeping
 mod Living
 mod Moving
 mod Opening
+pub mod Ending

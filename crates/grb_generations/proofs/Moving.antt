@@ -1,5 +1,5 @@
 -- A member that stayed, moved, or called, one after another.
-use Rattle.std.proofs.Common.{◌≡◌, ℕ, Bool, true, false, List, refl, sym, ap, ◌∙◌, subst, OnErr, Result, Ok, Err, ◌⊎◌, inl, inr}
+use Rattle.std.proofs.Common.{◌≡◌, Bool, true, false, refl, sym, ap, ◌∙◌, subst, OnErr, Result, Ok, Err, ◌⊎◌, inl, inr}
 use Rattle.grb_call.specs.declared.call.Call.{Call}
 use Rattle.grb_call.specs.declared.call.Call.TheVariants as call
 use Rattle.grb_call.specs.declared.ids.MatrixId.{MatrixId}
@@ -22,7 +22,7 @@ stays_on old mid new s t = subst (λ (x : Seated). new ≡ record x { pass = rec
 pub moves_on : (old mid new : Seated) → Stays old mid → Moves mid new → Moves old new
 moves_on old mid new s m =
     let r : Moves (record old { pass = record old.pass { made = mid.pass.made }; reason = mid.reason }) new = subst (λ (x : Seated). Moves x new) s m in
-    record { end = r.end; later = r.later; number = r.number; goes_on = r.goes_on; chain = r.chain }
+    record { end = r.end; later = r.later; number = r.number; goes_on = r.goes_on; chain = r.chain; brings = record { begins = r.brings.begins; next = r.brings.next; at = r.brings.at; all = r.brings.all } }
 
 pub came_along : (b : Bool) (old new : Seated) → (b ≡ true → Moves old new) → (b ≡ false → new ≡ old) → Comes old new
 came_along true old new m s = moved (m refl)

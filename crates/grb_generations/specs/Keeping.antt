@@ -27,3 +27,7 @@ pub record AreNumbersFor (n : NumbersSeen) (p : Knowing) : Type 0 where
   pub matrices : length n.matrices.carried ≤ length (store_of (known p)).matrices
   pub vectors : length n.vectors.carried ≤ length (store_of (known p)).vectors
   pub suffice : Suffice n (room_of p.order)
+
+-- the pass knows as many calls as its history takes
+abbrev pub IsAtEnd : Knowing → Type 0
+IsAtEnd p = length (known p) ≡ room_of p.order

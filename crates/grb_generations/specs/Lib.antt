@@ -1,9 +1,14 @@
 pub mod Attempts
 pub mod Branched
 pub mod Chain
+pub mod Follows
 pub mod Keeping
 pub mod Lossless
 pub mod Meeting
+pub mod Placed
 pub mod Reasons
 pub mod Seated
+pub mod Sites
 pub mod Snapped
+pub use Rattle.grb_chronicle.specs.Linked
+pub use Rattle.grb_chronicle.specs.Pages

@@ -7,12 +7,12 @@ use Rattle.grb_call.specs.Store.{shapes_of}
 use Rattle.grb_call.specs.declared.ids.Object.{Object}
 use Rattle.grb_context.specs.Chosen.{IsNoSuccessor, room_beside}
 use Rattle.grb_context.specs.Known.{IsPassOf, Knowing, known}
-use Rattle.grb_context.specs.declared.NoSuccessor.{NoSuccessor}
 use Rattle.grb_context.specs.declared.NoSuccessor.TheVariants as no
 use Rattle.grb_numbers.specs.Inside.{outwards, renamed_object}
 use Rattle.grb_numbers.specs.Numbers.{NumbersSeen}
 use Rattle.grb_generations.specs.Chain.{Chain}
 use Rattle.grb_generations.specs.Keeping.{AreNumbersFor, Suffice, kept_numbers, kept_store}
+use Rattle.grb_generations.specs.Placed.{IsPlaced}
 use Rattle.grb_generations.specs.declared.reason.NoGeneration.{NoGeneration}
 use Rattle.grb_generations.specs.declared.reason.NoGeneration.TheVariants as none
 use Rattle.grb_generations.specs.Seated.{IsAtEnd, Seated}
@@ -40,17 +40,20 @@ IsNoGeneration chain n p none.OutOfMemory = Unit {0}
 IsNoGeneration chain n p none.Panic = Unit {0}
 IsNoGeneration chain n p none.Busy = Unit {0}
 
--- what each member keeps: its pass is one of the store of its generation, which takes at least the chain's room; its numbers are those of
--- the objects there; and why it did not go on from there is still true
+-- what each member keeps: its generation stands in the chain's chronicle; its pass is one of the store of that, which takes at least the
+-- chain's room; its numbers are those of the objects there; and why it did not go on from there is still true
 pub record IsMember (m : Seated) : Type 0 where
+  pub placed : IsPlaced m.chain.book m.context m.numbers m.generation m.page
   pub pass : IsPassOf m.context m.pass
   pub room : m.chain.room ≤ room_of m.context.order
   pub numbers : AreNumbersFor m.numbers m.pass
   pub reason : IfSome m.reason (IsNoGeneration m.chain m.numbers m.pass)
 
--- a member that takes the seat of this number anew
+-- a member that takes the seat of this number anew: that of a generation that stands in the chain's chronicle
 pub record TakesSeat (chain : Chain) (number : ℕ) (m : Seated) : Type 0 where
   pub chain_is : m.chain ≡ chain
   pub number_is : m.pass.view.number ≡ number
+  pub placed : IsPlaced chain.book m.context m.numbers m.generation m.page
+  pub pass : IsPassOf m.context m.pass
   pub room : chain.room ≤ room_of m.context.order
   pub reason : m.reason ≡ None

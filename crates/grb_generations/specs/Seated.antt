@@ -1,5 +1,7 @@
 -- believed: What a contract sees of a member of a chain of stores, and what stands behind its move to a later generation (own).
 use Rattle.std.specs.Prelude.{◌≡◌, ℕ, ◌<◌, ◌+◌, false, List, [], length, Option, Some, slice_get}
+use mathlib.Core.List.{IsPrefix}
+use Rattle.grb_chronicle.specs.Linked.{Reached}
 use Rattle.grb_order.specs.Order.{room_of}
 use Rattle.grb_call.specs.declared.call.Call.{Call}
 use Rattle.grb_call.specs.History.{store_of}
@@ -11,37 +13,36 @@ use Rattle.grb_numbers.specs.Inside.{inside, outside_reply}
 use Rattle.grb_numbers.specs.Numbers.{NumbersSeen, first_numbers}
 use Rattle.grb_numbers.specs.Seen.{seen_store}
 use Rattle.grb_generations.specs.Chain.{Chain}
+pub use Rattle.grb_generations.specs.Keeping.{IsAtEnd}
 use Rattle.grb_generations.specs.Keeping.{AreNumbersFor, kept_numbers, kept_store}
 use Rattle.grb_generations.specs.declared.reason.NoGeneration.{NoGeneration}
+use Rattle.grb_generations.specs.declared.site.Site.{Site}
+use Rattle.grb_generations.specs.declared.told.Told.{Told}
 
--- where a member sits: the chain, the store of the generation, the numbers by which it is seen, its pass of that store, the generation's
--- number, and why its last try to go on from there failed
+-- where a member sits: the chain, a page of its chronicle with the generations up to its own, the store of that, the numbers by which it
+-- is seen, the member's pass of that store, the generation's number, and why its last try to go on from there failed
 pub record Seated : Type 0 where
   pub chain : Chain
+  pub page : Reached Told
   pub context : Shared
   pub numbers : NumbersSeen
   pub pass : Knowing
   pub generation : ℕ
   pub reason : Option NoGeneration
 
--- a seat that no one has taken: the chain's room, the store, its numbers, a pass of it, and the number of the generation
-pub record Vacant : Type 0 where
-  pub room : ℕ
-  pub context : Shared
-  pub numbers : NumbersSeen
-  pub pass : Knowing
-  pub generation : ℕ
-
--- what all seats of a generation share
+-- what the members of one generation share: the chain's room, the store, its numbers, the number of the generation, and the site of its
+-- slots
 pub record Standing : Type 0 where
   pub room : ℕ
   pub context : Shared
   pub numbers : NumbersSeen
   pub generation : ℕ
+  pub site : Site
 
--- the pass knows as many calls as its history takes
-abbrev pub IsAtEnd : Knowing → Type 0
-IsAtEnd p = length (known p) ≡ room_of p.order
+-- a generation that the chain shows, with a page whose last it is
+pub record Showing : Type 0 where
+  pub next : Standing
+  pub page : Reached Told
 
 -- The pass goes on where one ends that was at its end: it is one of this context, and knows the calls that make the objects anew which were
 -- there, and no others. The store, as it is seen by these numbers, is the one which all calls leave that the last one knew, as that was seen.
@@ -77,9 +78,25 @@ pub record ShareTheFirst (chain : Chain) (opened : List Seated) : Type 0 where
   pub room_is : room_of context.order ≡ chain.room
   pub members : AreNewMembers chain context opened chain.members
 
+-- on this page of the member's chain the generation after its own stands, which was made of just what its pass knows; used inside the crate
+-- alone
+pub record IsEnded (m : Seated) (page : Reached Told) : Type 0 where
+  pub chain : page.chain ≡ m.chain.book
+  pub next : Told
+  pub at : slice_get page.told (m.generation + 1) ≡ Some next
+  pub all : known next.last ≡ known m.pass
+
 -- a member that did not move: it is as before, but for how many calls its pass has made to evaluate, and for why it did not
 abbrev pub Stays : Seated → Seated → Type 0
 Stays old new = new ≡ record old { pass = record old.pass { made = new.pass.made }; reason = new.reason }
+
+-- No call of the member's generation is left out of what is on this page: it begins with the generations up to that, and the one after
+-- these was made of just what the member's pass knows. Each generation on a page comes after the one before it
+pub record Brings (old : Seated) (page : Reached Told) : Type 0 where
+  pub begins : IsPrefix old.page.told page.told
+  pub next : Told
+  pub at : slice_get page.told (old.generation + 1) ≡ Some next
+  pub all : known next.last ≡ known old.pass
 
 -- A member that moved: its generation was full and it knew all of that; it has the pass of its number in a later generation, which goes on
 -- where one ends and takes the chain's room
@@ -89,10 +106,12 @@ pub record Moves (old new : Seated) : Type 0 where
   pub number : new.pass.view.number ≡ old.pass.view.number
   pub goes_on : GoesOn new.chain.room new.context new.numbers new.pass
   pub chain : new.chain ≡ old.chain
+  pub brings : Brings old new.page
 
 -- a member that sits where it sat
 pub record IsThere (old new : Seated) : Type 0 where
   pub chain : new.chain ≡ old.chain
+  pub page : new.page ≡ old.page
   pub context : new.context ≡ old.context
   pub numbers : new.numbers ≡ old.numbers
   pub generation : new.generation ≡ old.generation

@@ -1,93 +1,98 @@
-//! A generation that goes on where the one before ends: a seat in it for each member, until that member takes it.
-ghost use Rattle.std.specs.Prelude.{All};
-ghost use Rattle.grb_generations.specs.Seated.{GoesOn};
+//! A generation that goes on where the one before ends: a pass for each member, until that member takes it.
+ghost use Rattle.std.specs.Prelude.{◌≡◌, IfSome};
 
+use crate::ended::Ended;
+use crate::site::Site;
+use crate::told::Told;
+use counted_slot::Fits;
+use grb_chronicle::Page;
 use grb_context::{Context, Pass};
 use grb_numbers::Numbers;
-use std::alloc::{AllocError, Global};
+use grb_slots::Slots;
 use std::marker::Model;
-use std::sync::{Arc, Mutex};
+use std::sync::Arc;
 
-/// A pass that no one has yet, of a store that goes on where one before it ends, with its numbers, the chain's room and the number of the
-/// generation.
+/// A pass that no one has yet, of a store that goes on where one before it ends.
 #[derive(Drop)]
 pub(crate) struct Seat {
-    pub(crate) room: u32,
-    pub(crate) context: Arc<Context>,
-    pub(crate) numbers: Arc<Numbers>,
     pub(crate) pass: Pass,
-    pub(crate) generation: u64,
 }
 
-impl Model for Seat {
-    ghost use Rattle.grb_generations.specs.Seated.{Vacant, GoesOn};
+impl Fits for Seat {
+    type Tag = Site;
 
-    ghost Value = { Vacant };
+    ghost use Rattle.grb_generations.specs.Sites.{IsSeatAt};
 
-    ghost view = { λ s. record { room = s.room; context = s.context.value; numbers = s.numbers.value; pass = s.pass; generation = s.generation } };
-
-    ghost invariant = { λ s. GoesOn s.room s.context.value s.numbers.value s.pass };
+    ghost fits = { IsSeatAt };
 }
 
-/// A generation that is to be shown: its number, the chain's room, its store, and the numbers by which that is seen.
+/// What the members of one generation share: its store, the numbers by which that is seen, where the pass lies that knew its end, and the
+/// passes that no one has taken, that of a member at the member's number; the chain's room, and the number of the generation.
 #[derive(Drop)]
 pub(crate) struct Next {
     pub(crate) room: u32,
+    pub(crate) generation: u64,
     pub(crate) context: Arc<Context>,
     pub(crate) numbers: Arc<Numbers>,
-    pub(crate) generation: u64,
+    pub(crate) ending: Arc<Slots<Ended>>,
+    pub(crate) seats: Arc<Slots<Seat>>,
 }
 
 impl Model for Next {
+    ghost use Rattle.std.specs.Prelude.{◌≡◌};
     ghost use Rattle.grb_generations.specs.Seated.{Standing};
+    ghost use Rattle.grb_generations.specs.Sites.{IsSiteOf};
 
     ghost Value = { Standing };
 
-    ghost view = { λ s. record { room = s.room; context = s.context.value; numbers = s.numbers.value; generation = s.generation } };
+    ghost view = { λ s. record { room = s.room; context = s.context.value; numbers = s.numbers.value; generation = s.generation; site = s.ending.value.tag } };
+
+    ghost invariant = { λ s. IsSiteOf s.ending.value.tag s.context.value s.numbers.value s.generation × (s.seats.value.tag ≡ s.ending.value.tag) × (s.ending.value.tag.room ≡ s.room) };
 }
 
-/// A seat that has this pass. `AllocError` where 2^63 - 1 hold the store.
-fn seat_with(next: &Next, pass: Pass) -> Result<Seat, AllocError>
-    requires { GoesOn next.now.room next.now.context next.now.numbers pass }
-{
-    Ok(Seat {
-        room: next.room,
-        context: Arc::try_clone(&next.context)?,
-        numbers: Arc::try_clone(&next.numbers)?,
-        pass,
-        generation: next.generation,
-    })
-}
-
-/// A generation after the first: the seats that no one has taken. The seat of a member is at the member's number.
-#[derive(Drop)]
-pub(crate) struct Generation {
-    seats: Vec<Mutex<Option<Seat>>>,
-}
-
-impl Generation {
-    /// A generation with a seat for each of the passes. `AllocError` where memory is refused.
-    pub(crate) fn open(
-        alloc: Global,
-        next: &Next,
-        passes: Vec<Pass>,
-    ) -> Result<Generation, AllocError>
-        requires { All (GoesOn next.now.room next.now.context next.now.numbers) passes.items }
+impl Next {
+    /// Another hold of the same. `None` where 2^63 - 1 have it.
+    pub(crate) fn try_clone(&self) -> Option<Next>
+        ensures { IfSome result (λ next. next ≡ self.now) }
     {
-        let mut seats = Vec::with_capacity(alloc, passes.len())?;
-        'passes: for pass in passes {
-            let seat = seat_with(next, pass)?;
-            seats.push(Mutex::new(Some(seat)))?;
-        }
-        Ok(Generation { seats })
+        Some(Next {
+            room: self.room,
+            generation: self.generation,
+            context: Arc::try_clone(&self.context).ok()?,
+            numbers: Arc::try_clone(&self.numbers).ok()?,
+            ending: Arc::try_clone(&self.ending).ok()?,
+            seats: Arc::try_clone(&self.seats).ok()?,
+        })
     }
+}
 
-    /// The seat of the member of this number, if it has not taken it. No other thread asks for it, so it does not wait. Takes no memory.
-    pub(crate) fn take(&self, number: u32) -> Option<Seat> {
-        let seat = self.seats.get(number as usize)?;
-        match seat.try_lock() {
-            Some(mut guard) => guard.take(),
-            None => None,
-        }
+/// A generation after the first that the chain shows, with a page whose last generation it is.
+#[derive(Drop)]
+pub(crate) struct Shown {
+    pub(crate) next: Next,
+    pub(crate) page: Page<Told>,
+}
+
+impl Model for Shown {
+    ghost use Rattle.grb_generations.specs.Placed.{IsPlaced};
+    ghost use Rattle.grb_generations.specs.Seated.{Showing};
+
+    ghost Value = { Showing };
+
+    ghost view = { λ s. record { next = s.next; page = s.page } };
+
+    ghost invariant = { λ s. IsPlaced s.next.site.page.chain s.next.context s.next.numbers s.next.generation s.page };
+}
+
+impl Shown {
+    /// Another hold of the same. `None` where 2^63 - 1 have it.
+    pub(crate) fn try_clone(&self) -> Option<Shown>
+        ensures { IfSome result (λ shown. shown ≡ self.now) }
+    {
+        let next = self.next.try_clone()?;
+        Some(Shown {
+            next,
+            page: self.page.again(),
+        })
     }
 }

@@ -1,27 +1,36 @@
 //! What the members of a chain of stores share.
-ghost use Rattle.std.specs.Prelude.{◌≡◌, ◌<◌, ◌≤◌, ◌*◌, ◌+◌, [], length, All, IfOk, IfSome};
+ghost use Rattle.std.specs.Prelude.{◌≡◌, ◌<◌, ◌≤◌, ◌*◌, length, All, IfOk, IfSome};
+ghost use mathlib.Core.List.{IsPrefix};
 ghost use Rattle.grb_order.specs.Order.{room_of};
 ghost use Rattle.grb_order.specs.declared.limits.TheConstants.{MOST_PASSES, MOST_ROOM, MOST_SEATS};
 ghost use Rattle.grb_context.specs.Known.{AreNew, IsPassOf};
+ghost use Rattle.grb_generations.specs.Chain.{IsChain};
+ghost use Rattle.grb_generations.specs.Placed.{IsPlaced};
 ghost use Rattle.grb_generations.specs.Reasons.{TakesSeat};
 ghost use Rattle.grb_generations.specs.Seated.{AreNewMembers, GoesOn, ShareTheFirst};
+ghost use Rattle.grb_generations.specs.Sites.{IsSiteIn, chain_of};
 ghost use Rattle.grb_numbers.specs.Numbers.{first_numbers};
 
-use crate::desk::{Desk, Left};
-use crate::generation::{Generation, Next, Seat};
+use crate::desk::{Desks, Left};
+use crate::ended::Ended;
+use crate::generation::{Next, Seat, Shown};
 use crate::latest::Latest;
 use crate::member::Member;
+use crate::site::Site;
+use crate::told::{Founded, Founding, Told};
+use grb_chronicle::{Chronicle, Mark, Page};
 use grb_context::{Context, Pass};
 use grb_numbers::Numbers;
+use grb_slots::Slots;
 use std::alloc::{AllocError, Global};
+use std::hint::spin_loop;
 use std::marker::Model;
 use std::sync::Arc;
 use std::sync::atomic::{AtomicU64, Ordering};
-use std::thread::yield_now;
 
-/// How often a member that needs the next generation looks, with other threads let run between, and finds that the member which makes it has
-/// made no object more and not shown it, before it makes one itself (own).
-pub const MOST_WAITS: u32 = 65_536;
+/// How often a member that needs the next generation looks, with a hint to the processor between, and finds that the member which makes it
+/// has made no object more and not shown it, before it makes one itself: some ten milliseconds (own).
+pub const MOST_WAITS: u32 = 1_048_576;
 
 /// How often it looks at most, whatever the other member makes (own).
 pub const MOST_WAITS_IN_ALL: u64 = 0x1_0000_0000;
@@ -29,25 +38,26 @@ pub const MOST_WAITS_IN_ALL: u64 = 0x1_0000_0000;
 /// A chain of stores: the latest of them, and the sizes that all have. Threads share it by the members that they have.
 #[derive(Drop)]
 pub struct Generations {
-    latest: Latest,
+    pub(crate) latest: Latest,
     // The number of the latest generation that a member set out to make.
     being_made: AtomicU64,
     // Raised by who makes the next generation, at each object.
     progress: AtomicU64,
-    desks: Vec<Desk>,
+    desks: Desks,
     pub(crate) alloc: Global,
     pub(crate) room: u32,
     pub(crate) members: u32,
 }
 
 impl Model for Generations {
+    ghost use Rattle.std.specs.Prelude.{◌≡◌};
     ghost use Rattle.grb_generations.specs.Chain.{Chain, IsChain};
 
     ghost Value = { Chain };
 
-    ghost view = { λ g. record { room = g.room; members = g.members } };
+    ghost view = { λ g. record { room = g.room; members = g.members; book = g.latest.book } };
 
-    ghost invariant = { λ g. IsChain g.room g.members };
+    ghost invariant = { λ g. IsChain g.room g.members × (g.latest ≡ record { room = g.room; members = g.members; book = g.latest.book }) × (g.desks ≡ g.latest) };
 }
 
 /// A member for each of the passes, by their numbers, all of which share this context and know no call of it. `AllocError` where memory is
@@ -55,11 +65,15 @@ impl Model for Generations {
 fn members_of(
     alloc: Global,
     generations: &Arc<Generations>,
+    page: &Page<Told>,
     context: &Arc<Context>,
     numbers: &Arc<Numbers>,
+    ending: &Arc<Slots<Ended>>,
     passes: Vec<Pass>,
 ) -> Result<Vec<Member>, AllocError>
     requires numbers { numbers.now.value ≡ first_numbers }
+    requires placed { IsPlaced generations.now.value.book context.now.value numbers.now.value 0 page.now }
+    requires site { IsSiteIn ending.now.value.tag generations.now.value.book context.now.value 0 }
     requires room { generations.now.value.room ≡ room_of context.now.value.order }
     requires most { generations.now.value.room ≤ MOST_ROOM }
     requires ours { All (IsPassOf context.now.value) passes.items }
@@ -72,18 +86,50 @@ fn members_of(
         let generations = Arc::try_clone(generations)?;
         let context = Arc::try_clone(context)?;
         let numbers = Arc::try_clone(numbers)?;
-        members.push(Member::new(generations, context, numbers, pass))?;
+        let ending = Arc::try_clone(ending)?;
+        let page = page.again();
+        members.push(Member::new(generations, page, context, numbers, ending, pass))?;
     }
     Ok(members)
 }
 
-/// A desk for each of so many numbers, all of which a member has. `AllocError` where memory is refused.
-fn desks_of(alloc: Global, members: u32) -> Result<Vec<Desk>, AllocError> {
-    let mut desks = Vec::with_capacity(alloc, members as usize)?;
-    'desks: for _ in 0..members {
-        desks.push(Desk::new())?;
-    }
-    Ok(desks)
+/// A slot for the pass that will know the end of the site's generation. `AllocError` where memory is refused.
+pub(crate) fn ending_at(alloc: Global, site: &Site) -> Result<Arc<Slots<Ended>>, AllocError>
+    ensures { IfOk result (λ ending. ending.value.tag ≡ site.now) }
+{
+    let mut none = Vec::with_capacity(alloc, 1)?;
+    none.push(None)?;
+    let ending = Arc::new(alloc, Slots::open(alloc, none, site)?)?;
+    Ok(ending)
+}
+
+/// The site of the first generation of a chain of these sizes, and the chronicle that begins with it.
+fn first_site(
+    room: u32,
+    members: u32,
+    context: &Arc<Context>,
+    numbers: &Arc<Numbers>,
+    last: &Pass,
+) -> (Site, Chronicle<Told>)
+    ensures sizes { (result.0.room ≡ room) × (result.0.members ≡ members) × (result.0.generation ≡ 0) }
+    ensures context { result.0.mark.context ≡ context.now.value }
+    ensures placed { IsPlaced result.1 context.now.value numbers.now.value 0 result.0.page }
+{
+    let mark = Mark::of::<Founding<'_>, Founded>(&Founding {
+        context,
+        numbers,
+        last,
+    });
+    let (chronicle, page) = Chronicle::open(&mark);
+    let _linked = page.number();
+    let site = Site {
+        room,
+        members,
+        page,
+        generation: 0,
+        mark,
+    };
+    (site, chronicle)
 }
 
 impl Generations {
@@ -101,72 +147,86 @@ impl Generations {
         requires room { (0 < room) × (room ≤ MOST_ROOM) }
         requires members { (0 < members) × (members ≤ MOST_PASSES) }
         requires seats { room * members ≤ MOST_SEATS }
-        ensures chain { IfOk result (λ opened. opened.0.value ≡ record { room = room; members = members }) }
+        ensures chain { IfOk result (λ opened. (opened.0.value.room ≡ room) × (opened.0.value.members ≡ members)) }
         ensures count { IfOk result (λ opened. length opened.1.items ≡ members) }
         ensures members { IfOk result (λ opened. ShareTheFirst opened.0.value opened.1.items) }
     {
         let (context, passes) = Context::open(alloc, room, members)?;
         let context = Arc::new(alloc, context)?;
         let numbers = Arc::new(alloc, Numbers::first(alloc))?;
-        let generations = Arc::new(
+        let (site, chronicle) = first_site(room, members, &context, &numbers, &passes[0]);
+        let ending = ending_at(alloc, &site)?;
+        let generations = Generations::at(alloc, &site, chronicle)?;
+        let generations = Arc::new(alloc, generations)?;
+        let opened = members_of(
             alloc,
-            Generations {
-                latest: Latest::new(),
-                being_made: AtomicU64::new(0),
-                progress: AtomicU64::new(0),
-                desks: desks_of(alloc, members)?,
-                alloc,
-                room,
-                members,
-            },
+            &generations,
+            &site.page,
+            &context,
+            &numbers,
+            &ending,
+            passes,
         )?;
-        let opened = members_of(alloc, &generations, &context, &numbers, passes)?;
         Ok((generations, opened))
+    }
+
+    /// What the members of a chain with this first site share. `AllocError` where memory is refused.
+    fn at(alloc: Global, site: &Site, chronicle: Chronicle<Told>) -> Result<Generations, AllocError>
+        requires sizes { IsChain site.now.room site.now.members }
+        requires chronicle { site.now.page.chain ≡ chronicle }
+        ensures { IfOk result (λ generations. generations ≡ chain_of site.now) }
+    {
+        Ok(Generations {
+            latest: Latest::open(alloc, chronicle, site)?,
+            being_made: AtomicU64::new(0),
+            progress: AtomicU64::new(0),
+            desks: Desks::open(alloc, site)?,
+            alloc,
+            room: site.room,
+            members: site.members,
+        })
     }
 
     /// A member of this number, where the last one was dropped: in the generation in which that sat, if it is still the latest, and else in
     /// the latest. None where there is no such number, or a member has it; where its seat lay in a generation that others have left, and
-    /// that after the next one is not made yet; and where the place of the latest is being changed, at each of so many looks. Takes no
-    /// memory (own).
+    /// that after the next one is not made yet; and where others had the place of the latest at each of so many looks. Takes no memory (own).
     pub fn member(generations: &Arc<Generations>, number: u32) -> Option<Member>
         ensures { IfSome result (TakesSeat generations.now.value number) }
     {
-        let desk = generations.desks.get(number as usize)?;
-        if !desk.take() {
+        if !generations.desks.take(number) {
             return None;
         }
-        let member = match generations.seat_anew(desk, number) {
+        let member = match generations.seat_anew(number) {
             Some(left) => Member::again(generations, left),
             None => None,
         };
         if member.is_none() {
-            desk.free();
+            generations.desks.free(number);
         }
         member
     }
 
     /// The seat that the last member of this number left, if it is in the latest generation, or that of the latest generation.
-    fn seat_anew(&self, desk: &Desk, number: u32) -> Option<Left>
+    fn seat_anew(&self, number: u32) -> Option<Left>
         ensures chain { IfSome result (λ left. left.chain ≡ self.now) }
         ensures number { IfSome result (λ left. left.pass.view.number ≡ number) }
     {
-        if let Some(left) = desk.left() {
+        if let Some(left) = self.desks.left(number) {
             if left.generation == self.latest.number() {
-                return self.fitting(left, number);
+                return self.of_number(left, number);
             }
         }
-        let seat = self.latest.get()?.take(number)?;
-        self.fitting(self.left_of(seat), number)
+        let shown = self.latest.get()?;
+        let seat = shown.next.seats.take(number as usize)?;
+        self.of_number(self.left_of(shown, seat), number)
     }
 
-    /// The seat, if it is one of this number, and of a chain of these sizes.
-    fn fitting(&self, left: Left, number: u32) -> Option<Left>
+    /// The seat, if it is one of this number.
+    fn of_number(&self, left: Left, number: u32) -> Option<Left>
+        requires { left.chain ≡ self.now }
         ensures chain { IfSome result (λ left. left.chain ≡ self.now) }
         ensures number { IfSome result (λ left. left.pass.view.number ≡ number) }
     {
-        if left.room != self.room || left.members != self.members {
-            return None;
-        }
         if left.pass.number() != number {
             return None;
         }
@@ -174,44 +234,47 @@ impl Generations {
     }
 
     /// A seat of a generation that no one took, as one that was left.
-    fn left_of(&self, seat: Seat) -> Left {
-        let Seat {
+    fn left_of(&self, shown: Shown, seat: Seat) -> Left
+        requires chain { chain_of shown.next.site ≡ self.now }
+        requires goes_on { GoesOn self.now.room shown.next.context shown.next.numbers seat.pass }
+        ensures { result.chain ≡ self.now }
+    {
+        let Shown { next, page } = shown;
+        let Next {
             room,
+            generation,
             context,
             numbers,
-            pass,
-            generation,
-        } = seat;
+            ending,
+            seats: _,
+        } = next;
+        let Seat { pass } = seat;
         Left {
             room,
             members: self.members,
+            page,
             context,
             numbers,
+            ending,
             pass,
             generation,
         }
     }
 
     /// Keeps the seat of a member that is dropped, unless others have left its generation, and has its number free.
-    pub(crate) fn leave(&self, left: Left) {
+    pub(crate) fn leave(&self, left: Left)
+        requires { left.chain ≡ self.now }
+    {
         let number = left.pass.number();
-        if let Some(desk) = self.desks.get(number as usize) {
-            if left.generation == self.latest.number() {
-                desk.put(left);
-            }
-            desk.free();
+        if left.generation == self.latest.number() {
+            self.desks.put(left);
         }
+        self.desks.free(number);
     }
 
     /// Drops the seats that dropped members left in generations before this one.
-    fn clear(&self, number: u64) {
-        'desks: for desk in &self.desks {
-            if let Some(left) = desk.left() {
-                if left.generation >= number {
-                    desk.put(left);
-                }
-            }
-        }
+    pub(crate) fn clear(&self, number: u64) {
+        self.desks.clear(number);
     }
 
     /// The number of the latest generation that stands, from 0. Takes no memory.
@@ -219,25 +282,24 @@ impl Generations {
         self.latest.number()
     }
 
-    /// The seat of the member of this number in the latest generation, if that is a later one than this. None too where the place of the
-    /// latest is being changed, at each of so many looks. Takes no memory.
-    pub(crate) fn seat_after(&self, generation: u64, number: u32) -> Option<Seat>
-        ensures later { IfSome result (λ seat. generation < seat.generation) }
-        ensures number { IfSome result (λ seat. seat.pass.view.number ≡ number) }
-        ensures room { IfSome result (λ seat. seat.room ≡ self.now.room) }
+    /// The latest generation and the pass of this number in it, where no one has taken that, and this page of the chain begins that of the
+    /// generation. None too where others had the place of the latest at each of so many looks. Takes no memory.
+    pub(crate) fn seat_after(&self, page: &Page<Told>, number: u32) -> Option<(Shown, Pass)>
+        requires chain { page.now.chain ≡ self.now.book }
+        ensures chain { IfSome result (λ taken. chain_of taken.0.next.site ≡ self.now) }
+        ensures begins { IfSome result (λ taken. IsPrefix page.now.told taken.0.page.told) }
+        ensures number { IfSome result (λ taken. taken.1.view.number ≡ number) }
+        ensures goes_on { IfSome result (λ taken. GoesOn self.now.room taken.0.next.context taken.0.next.numbers taken.1) }
     {
-        if self.latest.number() == generation {
-            return None;
-        }
         let shown = self.latest.get()?;
-        let seat = shown.take(number)?;
-        if seat.generation <= generation {
+        if !page.begins(&shown.page) {
             return None;
         }
-        if seat.pass.number() != number || seat.room != self.room {
+        let Seat { pass } = shown.next.seats.take(number as usize)?;
+        if pass.number() != number {
             return None;
         }
-        Some(seat)
+        Some((shown, pass))
     }
 
     /// Whether this is the first to set out to make the generation of this number.
@@ -283,22 +345,8 @@ impl Generations {
             let now = self.progress.load(Ordering::SeqCst);
             idle = if now == seen { idle.wrapping_add(1) } else { 0 };
             seen = now;
-            yield_now();
+            spin_loop();
         }
         true
-    }
-
-    /// Shows the next generation, whose passes are these, unless another stands by then, or others read the place at each of so many tries.
-    /// `AllocError` where memory is refused.
-    pub(crate) fn show(&self, next: Next, passes: Vec<Pass>) -> Result<(), AllocError>
-        requires passes { All (GoesOn next.room next.context next.numbers) passes.items }
-        requires room { next.room ≡ self.now.room }
-    {
-        let generation = Generation::open(self.alloc, &next, passes)?;
-        let generation = Arc::new(self.alloc, generation)?;
-        if self.latest.put(next.generation, generation) {
-            self.clear(next.generation);
-        }
-        Ok(())
     }
 }

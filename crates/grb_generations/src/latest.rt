@@ -1,165 +1,114 @@
-//! The latest generation that stands: a place that many read where it lies, and that who made the next one takes while no one reads.
-//!
-//! The word of the place has its state and the number of readers in the low half, and in the high half the low half of the generation's
-//! number. So who saw another generation there does not put one in its place.
-ghost use Rattle.std.specs.Prelude.{◌≡◌, ◌*◌, ◌+◌, ◌/◌, ◌%◌, ◌<◌, ◌^◌, true};
-ghost use Rattle.counted_slot.specs.Counting.{IsTurn, readers};
+//! The latest generation that stands: a slot that many look into, and that who made the next one fills as the chronicle tells of it.
+ghost use Rattle.std.specs.Prelude.{◌≡◌, ◌++◌, ◌∷◌, [], true, length, IfOk, IfSome};
+ghost use Rattle.grb_chronicle.specs.Linked.{MayFollow};
+ghost use Rattle.grb_generations.specs.Follows.{Follows};
+ghost use Rattle.grb_generations.specs.Sites.{chain_of};
 
-use crate::generation::Generation;
-use counted_slot::{Counted, Fits, MOST_READERS, ONE_READER, PRESENT, TAKEN};
-use std::sync::Arc;
+use crate::generation::{Next, Shown};
+use crate::site::Site;
+use crate::told::Told;
+use counted_slot::Fits;
+use grb_chronicle::{Chronicle, Mark, Page};
+use grb_slots::Slots;
+use std::alloc::{AllocError, Global};
+use std::marker::Model;
 use std::sync::atomic::{AtomicU64, Ordering};
-use std::thread::yield_now;
 
-/// How often the place of the latest generation is looked at, with other threads let run between, before it is given up: by who reads it
-/// while another puts one there, and by who puts one there while others read (own).
-pub const MOST_LOOKS: u32 = 4096;
-
-/// A generation that the place shows.
-#[derive(Drop)]
-struct Shown {
-    generation: Arc<Generation>,
-}
+/// How often a slot that another thread has is looked at before it is given up, with a hint to the processor between: some ten milliseconds
+/// (own). No thread has one for longer than it takes to copy what is in it, or for two passes to meet.
+pub const MOST_LOOKS: u32 = 1_048_576;
 
 impl Fits for Shown {
-    type Tag = ();
+    type Tag = Site;
 
-    ghost fits = { λ tag shown. Unit };
+    ghost use Rattle.grb_generations.specs.Sites.{IsShownIn};
+
+    ghost fits = { IsShownIn };
 }
 
-/// The latest generation, which threads share. The first is not in it: its members have their passes from the start.
+/// The latest generation, which threads share, and the chronicle of the chain. The first generation is not in the slot: its members have
+/// their passes from the start. Contracts see the chain.
 #[derive(Drop)]
 pub(crate) struct Latest {
-    place: Counted<Option<Shown>>,
-    // The number of the generation that is in the place, or is being put there.
+    place: Slots<Shown>,
+    chronicle: Chronicle<Told>,
+    // The number of the generation that is in the slot.
     number: AtomicU64,
 }
 
-/// The low half of a number, as the word of the place has it.
-fn tag_of(number: u64) -> u32
-    ensures { result ≡ number % 2 ^ 32 }
-{
-    (number % 0x1_0000_0000) as u32
-}
+impl Model for Latest {
+    ghost use Rattle.std.specs.Prelude.{◌≡◌};
+    ghost use Rattle.grb_generations.specs.Chain.{Chain};
+    ghost use Rattle.grb_generations.specs.Sites.{chain_of};
 
-/// The same of the generation that is in the place with this word.
-fn tag_in(word: u64) -> u64
-    ensures { result ≡ word / 2 ^ 32 }
-{
-    word / 0x1_0000_0000
-}
+    ghost Value = { Chain };
 
-/// How many read the generation that is in the place.
-fn readers_of(word: u64) -> u64
-    ensures { result ≡ readers word }
-{
-    word % 0x1_0000_0000 / ONE_READER
-}
+    ghost view = { λ l. chain_of l.place.tag };
 
-/// Whether a generation is there, which one more may read.
-fn is_readable(word: u64) -> bool
-    ensures { result ≡ true → IsTurn word (word + 4) }
-{
-    word % 4 == PRESENT && readers_of(word) < MOST_READERS
-}
-
-/// Whether no one reads the generation that is there, or puts one there.
-fn is_unread(word: u64) -> bool
-    ensures { result ≡ true → (word % 4 < 3) × (readers word ≡ 0) }
-{
-    word % 4 < TAKEN && readers_of(word) == 0
-}
-
-/// The word of the place where a generation with this tag is in this state, with no reader.
-fn word_of(tag: u32, state: u64) -> u64
-    requires { state < 4 }
-    ensures { result ≡ tag * 2 ^ 32 + state }
-{
-    u64::from(tag) * 0x1_0000_0000 + state
+    ghost invariant = { λ l. l.place.tag.page.chain ≡ l.chronicle };
 }
 
 impl Latest {
-    /// A place where no generation is yet: the first one stands.
-    pub(crate) fn new() -> Latest {
-        Latest {
-            place: Counted::new(None, &()),
+    /// The place of a chain whose first generation this site is at. `AllocError` where memory is refused.
+    pub(crate) fn open(
+        alloc: Global,
+        chronicle: Chronicle<Told>,
+        site: &Site,
+    ) -> Result<Latest, AllocError>
+        requires chronicle { site.now.page.chain ≡ chronicle }
+        ensures { IfOk result (λ latest. latest ≡ chain_of site.now) }
+    {
+        let mut none = Vec::with_capacity(alloc, 1)?;
+        none.push(None)?;
+        Ok(Latest {
+            place: Slots::open(alloc, none, site)?,
+            chronicle,
             number: AtomicU64::new(0),
-        }
+        })
     }
 
-    /// The number of the latest generation that stands, or is being put in its place. Takes no memory.
+    /// The number of the latest generation that stands. Takes no memory.
     pub(crate) fn number(&self) -> u64 {
         self.number.load(Ordering::SeqCst)
     }
 
-    /// The generation in the place, at one look; none where one is being put there. Takes no memory.
-    fn look(&self) -> Option<Arc<Generation>> {
-        let word = self.place.load();
-        if !is_readable(word) {
-            return None;
-        }
-        let (found, claim) = self.place.turn(word, word + ONE_READER);
-        if found != word {
-            claim.done();
-            return None;
-        }
-        let shown: &Option<Shown> = claim.get();
-        let generation = match shown {
-            Some(shown) => Arc::try_clone(&shown.generation).ok(),
+    /// The latest generation after the first, with a page on which it is the last. None where there is none yet, and where others had the slot
+    /// at each of `MOST_LOOKS` looks. Takes no memory.
+    pub(crate) fn get(&self) -> Option<Shown>
+        ensures chain { IfSome result (λ shown. chain_of shown.next.site ≡ self.now) }
+    {
+        let (found, claim) = self.place.claim_within(MOST_LOOKS, 0)?;
+        let copy = match &found {
+            Some(shown) => shown.try_clone(),
             None => None,
         };
-        let _ = claim.leave();
-        generation
+        self.place.give(claim, found);
+        copy
     }
 
-    /// The latest generation after the first. None only where each of `MOST_LOOKS` looks came while another thread changed the place, or
-    /// there is none yet. Takes no memory.
-    pub(crate) fn get(&self) -> Option<Arc<Generation>> {
-        'looks: for _ in 0..MOST_LOOKS {
-            let found = self.look();
-            if found.is_some() {
-                return found;
-            }
-            yield_now();
+    /// Shows this generation as the latest, with this mark in the chronicle, after the one that the page has reached last; whether it did. Not
+    /// where the chronicle tells of another generation after that, or others had the slot at each of `MOST_LOOKS` looks. The generation before
+    /// is dropped once no one else has it. Takes no memory.
+    pub(crate) fn turn(&self, page: &mut Page<Told>, mark: &Mark<Told>, next: Next) -> bool
+        requires chain { page.old.chain ≡ self.now.book }
+        requires site { chain_of next.site ≡ self.now }
+        requires told { (mark.now.context ≡ next.context) × (mark.now.numbers ≡ next.numbers) }
+        requires count { length page.old.told ≡ next.generation }
+        requires follows { MayFollow Follows page.old.told mark.now }
+        ensures chain { page.new.chain ≡ page.old.chain }
+        ensures told { result ≡ true → page.new.told ≡ page.old.told ++ mark.now ∷ [] }
+    {
+        let Some((before, claim)) = self.place.claim_within(MOST_LOOKS, 0) else {
+            return false;
+        };
+        if !self.chronicle.turn(page, mark) {
+            self.place.give(claim, before);
+            return false;
         }
-        None
-    }
-
-    /// Puts the generation of this number in its place, at one try, or gives it back: where someone reads there, or another generation than
-    /// the one before it is there.
-    fn try_put(&self, number: u64, generation: Arc<Generation>) -> Option<Arc<Generation>> {
-        let word = self.place.load();
-        let before = tag_of(number.wrapping_sub(1));
-        if tag_in(word) != u64::from(before) {
-            return Some(generation);
-        }
-        if !is_unread(word) {
-            return Some(generation);
-        }
-        let (found, claim) = self.place.turn(word, word_of(before, TAKEN));
-        if found != word {
-            claim.done();
-            return Some(generation);
-        }
-        self.number.store(number, Ordering::SeqCst);
-        let _ = claim.put(Some(Shown { generation }), word_of(tag_of(number), PRESENT));
-        None
-    }
-
-    /// Shows the generation of this number as the latest, unless another of its number is shown. It tries the same one again while others
-    /// read; whether it is shown now. The generation before is dropped once no one else has it. Takes no memory.
-    pub(crate) fn put(&self, number: u64, generation: Arc<Generation>) -> bool {
-        let mut waiting = generation;
-        'tries: for _ in 0..MOST_LOOKS {
-            if self.number() >= number {
-                return false;
-            }
-            let Some(back) = self.try_put(number, waiting) else {
-                return true;
-            };
-            waiting = back;
-            yield_now();
-        }
-        false
+        self.number.store(next.generation, Ordering::SeqCst);
+        let page = page.again();
+        let _linked = page.number();
+        self.place.give(claim, Some(Shown { next, page }));
+        true
     }
 }

@@ -4,11 +4,13 @@
 //! is full, a member makes the next generation of the objects that are there, and the others follow. A member is one thread's way in, and
 //! has the pass of its number in the generation in which it sits. It calls as on one store that never ends, and objects keep their numbers.
 //! No call waits for a lock, or for another thread without a bound. A store that all members have left is freed. No generation is made
-//! before the one before it is full, so no call is lost from one to the next: [`laws`] says so.
+//! before the one before it is full, and who moves on meets the pass that knew its end: so no call is lost from one to the next. The
+//! chain's [`Chronicle`](grb_chronicle::Chronicle) tells which generations there are, one of each number.
 #![tactic(auto)]
 
 mod branches;
 mod desk;
+mod ended;
 mod generation;
 mod generations;
 mod latest;
@@ -16,10 +18,13 @@ pub mod laws;
 mod making;
 mod member;
 mod reason;
+mod site;
 mod snapshots;
+mod told;
 mod work;
 
 pub use generations::{Generations, MOST_WAITS, MOST_WAITS_IN_ALL};
 pub use latest::MOST_LOOKS;
 pub use member::{MOST_MOVES, Member};
 pub use reason::NoGeneration;
+pub use told::Told;

@@ -1,5 +1,6 @@
 //! The next generation of a chain, as the member makes it that knows the end of its own.
-ghost use Rattle.std.specs.Prelude.{◌≡◌, ◌<◌, ◌^◌, false, true, Some, length, slice_get, IfErr, IfOk};
+ghost use Rattle.std.specs.Prelude.{◌≡◌, ◌<◌, ◌+◌, ◌^◌, false, true, Ok, Some, length, slice_get, All, IfErr, IfOk, IfSome, OnErr};
+ghost use Rattle.grb_chronicle.specs.Linked.{MayFollow};
 ghost use Rattle.grb_order.specs.Order.{room_of};
 ghost use Rattle.grb_call.specs.History.{store_of};
 ghost use Rattle.grb_context.specs.Chosen.{IsNoSuccessor, NamesLive, room_beside};
@@ -7,19 +8,28 @@ ghost use Rattle.grb_context.specs.Known.{Knowing, known};
 ghost use Rattle.grb_context.specs.LiveNumbers.{AreLiveObjects};
 ghost use Rattle.grb_context.specs.Succeeding.{AreBegun};
 ghost use Rattle.grb_numbers.specs.Inside.{outwards, renamed_object};
+ghost use Rattle.grb_generations.specs.Follows.{Follows};
 ghost use Rattle.grb_generations.specs.Keeping.{Suffice, kept_numbers, kept_store};
 ghost use Rattle.grb_generations.specs.Reasons.{IsNoGeneration};
-ghost use Rattle.grb_generations.specs.Seated.{IsAtEnd, Stays};
+ghost use Rattle.grb_generations.specs.Seated.{GoesOn, IsAtEnd, Moves, Stays};
+ghost use Rattle.grb_generations.specs.Sites.{chain_of};
 
-use crate::generation::Next;
-use crate::generations::Generations;
+use crate::ended::Ended;
+use crate::generation::{Next, Seat};
+use crate::generations::{Generations, ending_at};
+use crate::latest::MOST_LOOKS;
 use crate::member::Member;
 use crate::reason::NoGeneration;
+use crate::site::Site;
+use crate::told::{Founded, Founding, Told};
 use grb_call::{MatrixId, Object, VectorId};
+use grb_chronicle::Mark;
 use grb_context::{Context, LiveObjects, NoSuccessor, Pass};
 use grb_numbers::Numbers;
 use grb_numbers::laws::next_numbers_show_the_same;
+use grb_slots::Slots;
 use std::alloc::AllocError;
+use std::mem::replace;
 use std::sync::Arc;
 
 /// How many calls the history of the first of these passes takes.
@@ -55,10 +65,14 @@ fn are_few(live: &LiveObjects) -> bool
 }
 
 impl Member {
-    /// Makes the generation after its own, which has this number, of all that the member knows, and shows it unless another stands by then.
-    pub(crate) fn make(&mut self, number: u64) -> Result<(), NoGeneration>
+    /// Makes the generation after its own, which has this number, of all that the member knows, shows it and moves there, unless another stands
+    /// by then, or others have its place; whether it moved.
+    pub(crate) fn make(&mut self, number: u64) -> Result<bool, NoGeneration>
         requires end { IsAtEnd self.old.pass }
-        ensures stays { Stays self.old self.new }
+        requires number { number ≡ self.old.generation + 1 }
+        ensures moved { result ≡ Ok true → Moves self.old self.new }
+        ensures stayed { result ≡ Ok false → Stays self.old self.new }
+        ensures err { OnErr result (Stays self.old self.new) }
         ensures refused { IfErr result (IsNoGeneration self.old.chain self.old.numbers self.old.pass) }
     {
         let Ok(live) = self.pass.live(self.generations.alloc) else {
@@ -185,19 +199,24 @@ impl Member {
         )
     }
 
-    /// Shows the store of the objects that are there as the generation of this number, unless another stands by then.
+    /// Shows the store of the objects that are there as the generation of this number and moves there, unless another stands by then; whether
+    /// it moved.
     fn show(
-        &self,
+        &mut self,
         number: u64,
         live: &LiveObjects,
         context: Context,
         passes: Vec<Pass>,
-    ) -> Result<(), NoGeneration>
-        requires end { IsAtEnd self.now.pass }
-        requires live { AreLiveObjects (store_of (known self.now.pass)) live.now }
-        requires room { room_of context.order ≡ room_beside (kept_store (store_of (known self.now.pass))) self.now.chain.room }
-        requires begun { AreBegun context (kept_store (store_of (known self.now.pass))) self.now.chain.members passes.items }
-        ensures refused { IfErr result (IsNoGeneration self.now.chain self.now.numbers self.now.pass) }
+    ) -> Result<bool, NoGeneration>
+        requires end { IsAtEnd self.old.pass }
+        requires number { number ≡ self.old.generation + 1 }
+        requires live { AreLiveObjects (store_of (known self.old.pass)) live.now }
+        requires room { room_of context.order ≡ room_beside (kept_store (store_of (known self.old.pass))) self.old.chain.room }
+        requires begun { AreBegun context (kept_store (store_of (known self.old.pass))) self.old.chain.members passes.items }
+        ensures moved { result ≡ Ok true → Moves self.old self.new }
+        ensures stayed { result ≡ Ok false → self.new ≡ self.old }
+        ensures err { OnErr result (self.new ≡ self.old) }
+        ensures refused { IfErr result (IsNoGeneration self.old.chain self.old.numbers self.old.pass) }
     {
         let Ok(numbers) = self.next_numbers(live) else {
             return Err(NoGeneration::OutOfMemory);
@@ -209,34 +228,147 @@ impl Member {
             return Err(NoGeneration::NumbersSpent);
         }
         match self.show_with(number, numbers, context, passes) {
-            Ok(()) => Ok(()),
+            Ok(moved) => Ok(moved),
             Err(AllocError) => Err(NoGeneration::OutOfMemory),
         }
     }
 
     /// The same, with these numbers. `AllocError` where memory is refused.
     fn show_with(
-        &self,
+        &mut self,
         number: u64,
         numbers: Numbers,
         context: Context,
         passes: Vec<Pass>,
-    ) -> Result<(), AllocError>
-        requires end { IsAtEnd self.now.pass }
-        requires numbers { numbers ≡ kept_numbers self.now.numbers (store_of (known self.now.pass)) }
+    ) -> Result<bool, AllocError>
+        requires end { IsAtEnd self.old.pass }
+        requires number { number ≡ self.old.generation + 1 }
+        requires numbers { numbers ≡ kept_numbers self.old.numbers (store_of (known self.old.pass)) }
         requires suffice { Suffice numbers (room_of context.order) }
-        requires room { room_of context.order ≡ room_beside (kept_store (store_of (known self.now.pass))) self.now.chain.room }
-        requires begun { AreBegun context (kept_store (store_of (known self.now.pass))) self.now.chain.members passes.items }
+        requires room { room_of context.order ≡ room_beside (kept_store (store_of (known self.old.pass))) self.old.chain.room }
+        requires begun { AreBegun context (kept_store (store_of (known self.old.pass))) self.old.chain.members passes.items }
+        ensures moved { result ≡ Ok true → Moves self.old self.new }
+        ensures stayed { result ≡ Ok false → self.new ≡ self.old }
+        ensures err { OnErr result (self.new ≡ self.old) }
     {
         self.numbers.are_numbers();
         next_numbers_show_the_same();
-        let generations: &Generations = &self.generations;
-        let next = Next {
-            room: generations.room,
-            context: Arc::new(generations.alloc, context)?,
-            numbers: Arc::new(generations.alloc, numbers)?,
-            generation: number,
+        let alloc = self.generations.alloc;
+        let context = Arc::new(alloc, context)?;
+        let numbers = Arc::new(alloc, numbers)?;
+        let site = self.next_site(number, &context, &numbers);
+        let Some((seats, own)) = self.seats_of(&context, &numbers, passes)? else {
+            return Ok(false);
         };
-        generations.show(next, passes)
+        let next = Next {
+            room: self.generations.room,
+            generation: number,
+            context,
+            numbers,
+            ending: ending_at(alloc, &site)?,
+            seats: Arc::new(alloc, Slots::open(alloc, seats, &site)?)?,
+        };
+        let Some(copy) = next.try_clone() else {
+            return Ok(false);
+        };
+        Ok(self.turn(&site.mark, next, copy, own))
+    }
+
+    /// The site of the next generation, with this store and these numbers.
+    fn next_site(&self, number: u64, context: &Arc<Context>, numbers: &Arc<Numbers>) -> Site
+        ensures chain { chain_of result ≡ self.now.chain }
+        ensures generation { result.generation ≡ number }
+        ensures told { result.mark ≡ record { context = context.now.value; numbers = numbers.now.value; last = self.now.pass } }
+    {
+        let mark = Mark::of::<Founding<'_>, Founded>(&Founding {
+            context,
+            numbers,
+            last: &self.pass,
+        });
+        Site {
+            room: self.generations.room,
+            members: self.generations.members,
+            page: self.page.again(),
+            generation: number,
+            mark,
+        }
+    }
+
+    /// The passes of the next generation as its seats, but for that of the member's own number, which comes apart; none where there is none of
+    /// that number. `AllocError` where memory is refused.
+    fn seats_of(
+        &self,
+        context: &Arc<Context>,
+        numbers: &Arc<Numbers>,
+        passes: Vec<Pass>,
+    ) -> Result<Option<(Vec<Option<Seat>>, Pass)>, AllocError>
+        requires passes { All (GoesOn self.now.chain.room context.now.value numbers.now.value) passes.items }
+        ensures seats { IfOk result (λ made. IfSome made (λ m. All (λ x. IfSome x (λ seat. GoesOn self.now.chain.room context.now.value numbers.now.value seat.pass)) m.0.items)) }
+        ensures own { IfOk result (λ made. IfSome made (λ m. GoesOn self.now.chain.room context.now.value numbers.now.value m.1)) }
+        ensures number { IfOk result (λ made. IfSome made (λ m. m.1.view.number ≡ self.now.pass.view.number)) }
+    {
+        let number = self.pass.number();
+        let mut own = None;
+        let mut seats = Vec::with_capacity(self.generations.alloc, passes.len())?;
+        'passes: for pass in passes {
+            if pass.number() == number {
+                own = Some(pass);
+                seats.push(None)?;
+            } else {
+                seats.push(Some(Seat { pass }))?;
+            }
+        }
+        match own {
+            Some(pass) => Ok(Some((seats, pass))),
+            None => Ok(None),
+        }
+    }
+
+    /// Shows the next generation with this mark in the chronicle and moves there, with this pass of it, unless the chronicle tells of another
+    /// next one, or others have its place or that of the own end at each of so many looks; whether it moved. The member's pass is left at
+    /// the end of its generation, for the members that come after. Takes no memory.
+    fn turn(&mut self, mark: &Mark<Told>, next: Next, copy: Next, own: Pass) -> bool
+        requires end { IsAtEnd self.old.pass }
+        requires follows { MayFollow Follows self.old.page.told mark.now }
+        requires told { mark.now ≡ record { context = next.context; numbers = next.numbers; last = self.old.pass } }
+        requires copy { copy ≡ next }
+        requires chain { chain_of next.site ≡ self.old.chain }
+        requires number { next.generation ≡ self.old.generation + 1 }
+        requires own { own.view.number ≡ self.old.pass.view.number }
+        requires goes_on { GoesOn self.old.chain.room next.context next.numbers own }
+        ensures moved { result ≡ true → Moves self.old self.new }
+        ensures stayed { result ≡ false → self.new ≡ self.old }
+    {
+        let Some((before, claim)) = self.ending.claim_within(MOST_LOOKS, 0) else {
+            return false;
+        };
+        let mut page = self.page.again();
+        if !self.generations.latest.turn(&mut page, mark, next) {
+            self.ending.give(claim, before);
+            return false;
+        }
+        let _linked = page.number();
+        self.generations.clear(copy.generation);
+        let Next {
+            room: _,
+            generation,
+            context,
+            numbers,
+            ending,
+            seats: _,
+        } = copy;
+        let last = replace(&mut self.pass, own);
+        let ended = Ended {
+            pass: last,
+            page: page.again(),
+        };
+        self.ending.give(claim, Some(ended));
+        self.page = page;
+        self.context = context;
+        self.numbers = numbers;
+        self.ending = ending;
+        self.generation = generation;
+        self.reason = None;
+        true
     }
 }

@@ -1,5 +1,5 @@
 //! A member: one thread's seat in a chain of stores.
-ghost use Rattle.std.specs.Prelude.{◌≡◌, ◌<◌, ◌≤◌, ◌-◌, ◌⊎◌, Ok, Err, None, Some, is_some, true, false, All, IfErr, IfOk, IfSome, MatchOption, OnErr};
+ghost use Rattle.std.specs.Prelude.{◌≡◌, ◌<◌, ◌≤◌, ◌+◌, ◌-◌, ◌⊎◌, Ok, Err, None, Some, is_some, true, false, All, IfErr, IfOk, IfSome, MatchOption, OnErr};
 ghost use Rattle.grb_core.specs.declared.refusal.Refusal.TheVariants as Refusal;
 ghost use Rattle.grb_order.specs.Order.{room_of};
 ghost use Rattle.grb_order.specs.declared.limits.TheConstants.{MOST_ROOM};
@@ -11,16 +11,23 @@ ghost use Rattle.grb_context.specs.Explains.{is_entered};
 ghost use Rattle.grb_context.specs.Answered.{Answered};
 ghost use Rattle.grb_generations.specs.Attempts.{Attempts};
 ghost use Rattle.grb_generations.specs.Reasons.{IsNoGeneration};
-ghost use Rattle.grb_generations.specs.Seated.{Calls, CallsHere, Comes, IsAtEnd, IsThere, Moves, Stays};
+ghost use Rattle.grb_generations.specs.Placed.{IsPlaced};
+ghost use Rattle.grb_generations.specs.Seated.{Brings, Calls, CallsHere, Comes, GoesOn, IsAtEnd, IsEnded, IsThere, Moves, Stays};
+ghost use Rattle.grb_generations.specs.Sites.{IsSiteIn, chain_of};
 
 use crate::desk::Left;
-use crate::generation::Seat;
+use crate::ended::Ended;
+use crate::generation::{Next, Shown};
 use crate::generations::Generations;
+use crate::latest::MOST_LOOKS;
 use crate::reason::NoGeneration;
+use crate::told::Told;
 use grb_call::{Call, MatrixId, Reply};
+use grb_chronicle::Page;
 use grb_context::{Context, Pass};
 use grb_core::Refusal;
 use grb_numbers::Numbers;
+use grb_slots::Slots;
 use std::marker::Model;
 use std::sync::Arc;
 
@@ -54,32 +61,38 @@ fn went(on: Result<bool, NoGeneration>) -> Attempt
 /// for long is dropped, and holds no store then.
 pub struct Member {
     pub(crate) generations: Arc<Generations>,
+    // Of the chain's chronicle, with the generations up to its own.
+    pub(crate) page: Page<Told>,
     pub(crate) context: Arc<Context>,
     pub(crate) numbers: Arc<Numbers>,
+    // Where the pass lies that knew the end of its generation, once the next one stands.
+    pub(crate) ending: Arc<Slots<Ended>>,
     pub(crate) pass: Pass,
     pub(crate) generation: u64,
     // Why its last try to go on from there failed.
-    reason: Option<NoGeneration>,
+    pub(crate) reason: Option<NoGeneration>,
 }
 
 impl Model for Member {
-    ghost use Rattle.grb_context.specs.Known.{IsPassOf};
     ghost use Rattle.grb_generations.specs.Reasons.{IsMember};
     ghost use Rattle.grb_generations.specs.Seated.{Seated};
+    ghost use Rattle.grb_generations.specs.Sites.{IsSiteIn};
 
     ghost Value = { Seated };
 
-    ghost view = { λ m. record { chain = m.generations.value; context = m.context.value; numbers = m.numbers.value; pass = m.pass; generation = m.generation; reason = m.reason } };
+    ghost view = { λ m. record { chain = m.generations.value; page = m.page; context = m.context.value; numbers = m.numbers.value; pass = m.pass; generation = m.generation; reason = m.reason } };
 
-    ghost invariant = { λ m. IsMember (record { chain = m.generations.value; context = m.context.value; numbers = m.numbers.value; pass = m.pass; generation = m.generation; reason = m.reason }) };
+    ghost invariant = { λ m. IsMember (record { chain = m.generations.value; page = m.page; context = m.context.value; numbers = m.numbers.value; pass = m.pass; generation = m.generation; reason = m.reason }) × IsSiteIn m.ending.value.tag m.generations.value.book m.context.value m.generation };
 }
 
 impl Drop for Member {
     fn drop(self) {
         let Member {
             generations,
+            page,
             context,
             numbers,
+            ending,
             pass,
             generation,
             reason: _,
@@ -87,8 +100,10 @@ impl Drop for Member {
         generations.leave(Left {
             room: generations.room,
             members: generations.members,
+            page,
             context,
             numbers,
+            ending,
             pass,
             generation,
         });
@@ -99,20 +114,26 @@ impl Member {
     /// A member that sits in the first generation.
     pub(crate) fn new(
         generations: Arc<Generations>,
+        page: Page<Told>,
         context: Arc<Context>,
         numbers: Arc<Numbers>,
+        ending: Arc<Slots<Ended>>,
         pass: Pass,
     ) -> Member
+        requires placed { IsPlaced generations.value.book context.value numbers.value 0 page }
+        requires site { IsSiteIn ending.value.tag generations.value.book context.value 0 }
         requires pass { IsPassOf context.value pass }
         requires numbers { numbers.value ≡ first_numbers }
         requires room { generations.value.room ≡ room_of context.value.order }
         requires most { generations.value.room ≤ MOST_ROOM }
-        ensures { result ≡ record { chain = generations.value; context = context.value; numbers = first_numbers; pass = pass; generation = 0; reason = None } }
+        ensures { result ≡ record { chain = generations.value; page = page; context = context.value; numbers = first_numbers; pass = pass; generation = 0; reason = None } }
     {
         Member {
             generations,
+            page,
             context,
             numbers,
+            ending,
             pass,
             generation: 0,
             reason: None,
@@ -130,15 +151,19 @@ impl Member {
         let Left {
             room: _,
             members: _,
+            page,
             context,
             numbers,
+            ending,
             pass,
             generation,
         } = left;
         Some(Member {
             generations,
+            page,
             context,
             numbers,
+            ending,
             pass,
             generation,
             reason: None,
@@ -329,41 +354,74 @@ impl Member {
 
     /// Goes to the latest generation that stands, where the member's own is full and it knows all of that; whether it moved. There it has
     /// the pass of its number. It never moves before, and makes no generation. Each call begins with it, so a member that only calls needs
-    /// it not; one that does not know yet that its generation is full finds that out by a call. Takes no memory, and waits for no other
-    /// thread without a bound (own).
+    /// it not; one that does not know yet that its generation is full finds that out by a call. No call is left out: the member's pass meets
+    /// the one that the next generation was made of, and both know one history. Takes no memory, and waits for no other thread without a
+    /// bound (own).
     pub fn move_on(&mut self) -> bool
         ensures moved { result ≡ true → Moves self.old self.new }
         ensures stayed { result ≡ false → self.new ≡ self.old }
         ensures later { self.old.generation ≤ self.new.generation }
     {
-        if !self.pass.is_at_end() {
+        if !self.pass.is_at_end() || !self.is_left() {
             return false;
         }
-        let number = self.pass.number();
-        let Some(seat) = self.generations.seat_after(self.generation, number) else {
+        let Some(page) = self.ended() else {
             return false;
         };
-        self.sit(seat);
+        let number = self.pass.number();
+        let Some((shown, pass)) = self.generations.seat_after(&page, number) else {
+            return false;
+        };
+        if !self.page.begins(&shown.page) {
+            return false;
+        }
+        self.sit(shown, pass);
         true
     }
 
-    /// Takes the seat.
-    fn sit(&mut self, seat: Seat)
+    /// A page on which the generation after the member's own stands, which was made of just what the member's pass knows: so its meeting with
+    /// the pass tells that it was made of. None where there is no such generation yet, or others had that pass at each of so many looks.
+    fn ended(&mut self) -> Option<Page<Told>>
         requires end { IsAtEnd self.old.pass }
-        requires later { self.old.generation < seat.generation }
-        requires number { seat.pass.view.number ≡ self.old.pass.view.number }
-        requires room { seat.room ≡ self.old.chain.room }
+        ensures same { self.new ≡ self.old }
+        ensures ended { IfSome result (IsEnded self.old) }
+    {
+        let (found, claim) = self.ending.claim_within(MOST_LOOKS, 0)?;
+        let Some(mut ended) = found else {
+            self.ending.give(claim, None);
+            return None;
+        };
+        let met = self.context.meet(&mut ended.pass, &mut self.pass);
+        let page = ended.page.again();
+        self.ending.give(claim, Some(ended));
+        if met.is_err() {
+            return None;
+        }
+        Some(page)
+    }
+
+    /// Takes the pass of the generation.
+    fn sit(&mut self, shown: Shown, pass: Pass)
+        requires end { IsAtEnd self.old.pass }
+        requires chain { chain_of shown.next.site ≡ self.old.chain }
+        requires carries { Brings self.old shown.page }
+        requires number { pass.view.number ≡ self.old.pass.view.number }
+        requires goes_on { GoesOn self.old.chain.room shown.next.context shown.next.numbers pass }
         ensures { Moves self.old self.new }
     {
-        let Seat {
+        let Shown { next, page } = shown;
+        let Next {
             room: _,
+            generation,
             context,
             numbers,
-            pass,
-            generation,
-        } = seat;
+            ending,
+            seats: _,
+        } = next;
+        self.page = page;
         self.context = context;
         self.numbers = numbers;
+        self.ending = ending;
         self.pass = pass;
         self.generation = generation;
         self.reason = None;
@@ -390,7 +448,9 @@ impl Member {
         if !self.pass.is_at_end() {
             return Ok(false);
         }
-        self.provide_next()?;
+        if self.provide_next()? {
+            return Ok(true);
+        }
         if self.move_on() {
             return Ok(true);
         }
@@ -407,22 +467,38 @@ impl Member {
         why
     }
 
-    /// Has the next generation made: by another member that set out to make it, in a bounded time, or by this one. Whether it then stands,
-    /// no clause says.
-    fn provide_next(&mut self) -> Result<(), NoGeneration>
+    /// Has the next generation made, by another member that set out to make it, in a bounded time, or by this one; whether this one made it,
+    /// and moved there. Whether it stands else, no clause says.
+    fn provide_next(&mut self) -> Result<bool, NoGeneration>
         requires end { IsAtEnd self.old.pass }
-        ensures stays { Stays self.old self.new }
+        ensures moved { result ≡ Ok true → Moves self.old self.new }
+        ensures stayed { result ≡ Ok false → Stays self.old self.new }
+        ensures err { OnErr result (Stays self.old self.new) }
         ensures refused { IfErr result (IsNoGeneration self.old.chain self.old.numbers self.old.pass) }
         ensures reason { IfErr result (λ why. self.new.reason ≡ Some why) }
+        ensures later { self.old.generation ≤ self.new.generation }
     {
-        let number = self.generation.wrapping_add(1);
-        if !self.generations.is_to_make(number) {
-            return Ok(());
+        match self.generation.checked_add(1) {
+            Some(number) if self.generations.is_to_make(number) => self.provide(number),
+            _ => Ok(false),
         }
+    }
+
+    /// Makes the generation of this number, and says that it has done with that; whether it moved there.
+    fn provide(&mut self, number: u64) -> Result<bool, NoGeneration>
+        requires end { IsAtEnd self.old.pass }
+        requires number { number ≡ self.old.generation + 1 }
+        ensures moved { result ≡ Ok true → Moves self.old self.new }
+        ensures stayed { result ≡ Ok false → Stays self.old self.new }
+        ensures err { OnErr result (Stays self.old self.new) }
+        ensures refused { IfErr result (IsNoGeneration self.old.chain self.old.numbers self.old.pass) }
+        ensures reason { IfErr result (λ why. self.new.reason ≡ Some why) }
+        ensures later { self.old.generation ≤ self.new.generation }
+    {
         let made = self.make(number);
         self.generations.ends(number);
         match made {
-            Ok(()) => Ok(()),
+            Ok(moved) => Ok(moved),
             Err(why) => Err(self.because(why)),
         }
     }

@@ -40,13 +40,14 @@ impl Member {
     /// can, and answers `Ok`: a further meeting then learns the rest. Where the other sits in an earlier one there is nothing to learn, since
     /// each generation begins with all of those before it. `Panic` as of `Context::meet`. Takes no memory (own).
     pub fn meet(&mut self, other: &mut Member) -> Result<(), Refusal>
-        requires one { self.old.generation ≡ other.old.generation → self.old.context ≡ other.old.context }
+        requires chain { self.old.chain ≡ other.old.chain }
         ensures together { self.old.generation ≡ other.old.generation → MeetsHere self.old self.new other.old result }
         ensures apart { (self.old.generation ≡ other.old.generation → ⊥) → (result ≡ Ok (record {})) × Comes self.old self.new }
         ensures other { other.new ≡ other.old }
         ensures later { self.old.generation ≤ self.new.generation }
     {
         if self.generation == other.generation {
+            let _same = self.page.begins(&other.page);
             return self.context.meet(&mut self.pass, &mut other.pass);
         }
         if self.generation < other.generation {
@@ -59,13 +60,14 @@ impl Member {
     /// [`Context::adopt`](grb_context::Context::adopt) does. Takes memory for what it has to learn; where it is refused, the member evaluates
     /// for itself. `Panic` as of `meet` (own).
     pub fn adopt(&mut self, other: &mut Member) -> Result<(), Refusal>
-        requires one { self.old.generation ≡ other.old.generation → self.old.context ≡ other.old.context }
+        requires chain { self.old.chain ≡ other.old.chain }
         ensures together { self.old.generation ≡ other.old.generation → MeetsHere self.old self.new other.old result }
         ensures apart { (self.old.generation ≡ other.old.generation → ⊥) → (result ≡ Ok (record {})) × Comes self.old self.new }
         ensures other { other.new ≡ other.old }
         ensures later { self.old.generation ≤ self.new.generation }
     {
         if self.generation == other.generation {
+            let _same = self.page.begins(&other.page);
             return self.context.adopt(&mut self.pass, &mut other.pass);
         }
         if self.generation < other.generation {

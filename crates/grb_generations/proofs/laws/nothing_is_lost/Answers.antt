@@ -1,6 +1,5 @@
 use Rattle.std.proofs.Common.{ap, ◌∙◌}
 use Rattle.grb_call.specs.History.{History, store_of}
-use Rattle.grb_call.specs.Store.{Store}
 use Rattle.grb_context.specs.Known.{known}
 use Rattle.grb_numbers.specs.Seen.{seen_store}
 use Rattle.grb_generations.specs.Keeping.{kept_numbers}

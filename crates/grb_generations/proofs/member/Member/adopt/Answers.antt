@@ -10,9 +10,9 @@ use Rattle.grb_generations.proofs.member.Member.adopt.Goals as goal
 pub invariant_of-self : goal.invariant_of-self
 invariant_of-self c =
     let i = c.self.inside in
-    let old : Seated = record { chain = i.generations.value; context = i.context.value; numbers = i.numbers.value; pass = i.pass; generation = i.generation; reason = i.reason } in
+    let old : Seated = record { chain = i.generations.value; page = i.page; context = i.context.value; numbers = i.numbers.value; pass = i.pass; generation = i.generation; reason = i.reason } in
     let met : Met old.context old.pass c.adopt.new.pass c.other.inside.pass c.adopt.result = subst (λ (x : Shared). Met x old.pass c.adopt.new.pass c.other.inside.pass c.adopt.result) c.deref.ensures c.adopt.ensures.met in
-    member_met old c.adopt.new.pass c.other.inside.pass c.adopt.result c.self.invariant met
+    (member_met old c.adopt.new.pass c.other.inside.pass c.adopt.result c.self.invariant.0 met, c.self.invariant.1)
 
 pub returns-clause-apart : goal.returns-clause-apart
 returns-clause-apart c = λ not. (

@@ -23,7 +23,7 @@ next-requires-clause-vectors c =
 pub next-requires-clause-numbered_matrices : goal.next-requires-clause-numbered_matrices
 next-requires-clause-numbered_matrices c =
     let m : Seated = c.args.self.now in
-    let member : IsMember m = subst IsMember c.self.view_is c.self.invariant in
+    let member : IsMember m = subst IsMember c.self.view_is c.self.invariant.0 in
     let are : AreNumbers m.numbers = subst AreNumbers (c.deref.ensures ∙ ap (λ (x : Seated). x.numbers) c.self.view_is) c.are_numbers.ensures in
     let all : AreNumbersOf m.numbers (store_of (known m.pass)) = numbers_at_end m.numbers m.pass are member.numbers c.requires.end in
     subst (λ (x : NumbersSeen). AreNumbered x.matrices c.args.live.now.matrix_count) (sym (c.deref-2.ensures ∙ ap (λ (x : Seated). x.numbers) c.self.view_is))
@@ -32,7 +32,7 @@ next-requires-clause-numbered_matrices c =
 pub next-requires-clause-numbered_vectors : goal.next-requires-clause-numbered_vectors
 next-requires-clause-numbered_vectors c =
     let m : Seated = c.args.self.now in
-    let member : IsMember m = subst IsMember c.self.view_is c.self.invariant in
+    let member : IsMember m = subst IsMember c.self.view_is c.self.invariant.0 in
     let are : AreNumbers m.numbers = subst AreNumbers (c.deref.ensures ∙ ap (λ (x : Seated). x.numbers) c.self.view_is) c.are_numbers.ensures in
     let all : AreNumbersOf m.numbers (store_of (known m.pass)) = numbers_at_end m.numbers m.pass are member.numbers c.requires.end in
     subst (λ (x : NumbersSeen). AreNumbered x.vectors c.args.live.now.vector_count) (sym (c.deref-2.ensures ∙ ap (λ (x : Seated). x.numbers) c.self.view_is))

@@ -1,0 +1,3 @@
+pub mod Linked
+pub mod Steps
+pub use Rattle.logbook.specs.Pages
