@@ -1,6 +1,11 @@
--- A place that is written, and all behind it; and the last of a list.
+-- A place that is written, and all behind it; the last of a list; and what handles hold.
 use Rattle.std.proofs.Common.{◌≡◌, ℕ, zero, suc, ◌<◌, ◌≤◌, List, [], ◌∷◌, ◌++◌, length, refl, arith, Some}
-use Rattle.std.specs.Prelude.{map, slice_get, slice_index_or, slice_set}
+use Rattle.std.specs.Prelude.{Option, None, map, slice_get, slice_index_or, slice_set}
+use Rattle.grb_context.specs.Known.{Shared, Knowing}
+use Rattle.grb_c.specs.Opening.{Holds, IsPassWith}
+use Rattle.grb_c.specs.Sessions.{Opened}
+use Rattle.grb_c.specs.declared.session.Kind.{Kind}
+use Rattle.grb_c.specs.declared.session.Kind.TheVariants as kind
 
 pub at_set : {X Y : Type 0} (P : ℕ → Y → Type 0) (f : X → Y) (xs : List X) (j : ℕ) (y : X) (d : Y) → P j (f y) →
     ((k : ℕ) → suc j ≤ k → k < length (map f xs) → P k (slice_index_or (map f xs) k d)) →
@@ -20,3 +25,12 @@ get_left (x ∷ xs) ys (suc k) lt = get_left xs ys k (omega (arith, lt))
 pub get_last : {X : Type 0} (xs : List X) (x : X) → slice_get (xs ++ x ∷ []) (length xs) ≡ Some x
 get_last [] x = refl
 get_last (y ∷ xs) x = get_last xs x
+
+pass_as : (context : Shared) (P Q : Knowing → Type 0) → ((p : Knowing) → P p → Q p) → (k : Kind) → IsPassWith context P k → IsPassWith context Q k
+pass_as context P Q f (kind.Bounded p) is = (is.0, f p.pass is.1)
+pass_as context P Q f (kind.Member m) is = is
+
+-- a handle that holds a pass of which the one is true holds one of which the other is
+pub held_as : (context : Shared) (store : ℕ) (P Q : Knowing → Type 0) → ((p : Knowing) → P p → Q p) → (h : Option Opened) → Holds context store P h → Holds context store Q h
+held_as context store P Q f None held = held
+held_as context store P Q f (Some s) held = (held.0, pass_as context P Q f s.kind held.1)

@@ -12,14 +12,16 @@ use Rattle.grb_call.specs.History.{store_of}
 use Rattle.grb_call.specs.Store.{Store}
 use Rattle.grb_call.specs.Tuples.{tuples_of}
 use Rattle.grb_rebuild.specs.Rebuilt.{monoid_for}
-use Rattle.grb_context.specs.Chosen.{chosen_store}
-use Rattle.grb_context.specs.Known.{Knowing, known}
+use Rattle.grb_context.specs.Known.{known}
 use Rattle.grb_context.specs.Snapshot.{IsSnapshot}
 use Rattle.grb_context.specs.StoredIn.{IsMatrixOf, IsVectorOf}
 use Rattle.grb_c.specs.Codes.{refusal_code, uninitialized_object}
 use Rattle.grb_c.specs.Handles.{Makes, are_none}
 use Rattle.grb_c.specs.Opening.{IsWithin}
-use Rattle.grb_c.specs.Sessions.{Opened}
+use Rattle.grb_generations.specs.Seated.{Seated}
+use Rattle.grb_c.specs.Bounded.{InStore}
+use Rattle.grb_c.specs.Kinds.{HandsOutBy, IsMemberMatrix, IsMemberVector, store_chosen}
+use Rattle.grb_c.specs.Sessions.{Goes, Opened}
 use Rattle.grb_c.specs.Succession.{GoesOn}
 use Rattle.grb_c.specs.declared.handle.TrbPass.{TrbPass}
 
@@ -41,13 +43,9 @@ matrices_named numbers = map (λ n. record { 0 = n }) numbers
 abbrev pub vectors_named : List ℕ → List VectorId
 vectors_named numbers = map (λ n. record { 0 = n }) numbers
 
--- the store of the objects of these numbers that a pass knows
-abbrev pub store_named : Knowing → List ℕ → List ℕ → Store
-store_named p matrices vectors = chosen_store (store_of (known p)) (matrices_named matrices) (vectors_named vectors)
-
--- handles go on from the store of the objects of these numbers that the pass of a handle knows; or there is no pass
+-- handles go on from the store of the objects of these numbers that a handle knows; or there is no pass
 abbrev pub GoesApartFrom : ℕ → ℕ → Option Opened → List ℕ → List ℕ → ℤ → ℕ → ℕ → List TrbPass → Type 0
-GoesApartFrom store room (Some s) matrices vectors code before after hs = GoesOn store room (length hs) (store_named s.pass matrices vectors) code before after (map (λ h. h.raw.session) hs)
+GoesApartFrom store room (Some s) matrices vectors code before after hs = GoesOn store room (length hs) (store_chosen s.kind (matrices_named matrices) (vectors_named vectors)) code before after (map (λ h. h.raw.session) hs)
 GoesApartFrom store room None matrices vectors code before after hs = (code ≡ uninitialized_object) × (after ≡ before)
 
 -- the build of all entries of this matrix, of which no place stands twice
@@ -62,28 +60,31 @@ abbrev pub BuildsHanded : {X : Type 0} → (X → Call) → TrbPass → TrbPass 
 BuildsHanded build old new (Ok x) code = Makes old new (Ok (build x)) code
 BuildsHanded build old new (Err r) code = (code ≡ refusal_code r) × (new.raw.session ≡ old.raw.session)
 
--- A build of an object of another store: that store hands the object out as a snapshot does, with all that it promises of that, and the
--- build is made of it
-pub record BuildsFrom {X : Type 0} (wait : Call) (build : X → Call) (IsOf : Store → X → Type 0) (old new : TrbPass) (theirs left : Opened) (code : ℤ) : Type 0 where
-  pub handed : Result X Refusal
+-- A snapshot by a pass of its context, of an object of which this holds, with all that the store promises of that
+pub record HandsOut {X : Type 0} (wait : Call) (IsOf : Store → X → Type 0) (handed : Result X Refusal) (theirs left : InStore) : Type 0 where
   pub context : left.context ≡ theirs.context
-  pub store : left.store ≡ theirs.store
   pub snapshot : IsSnapshot theirs.context theirs.pass left.pass wait handed
   pub is : IfOk handed (IsOf (store_of (known left.pass)))
+
+-- A build of an object of another store or chain: that hands the object out as a snapshot does, with all that it promises of that, and the
+-- build is made of it
+pub record BuildsFrom {X : Type 0} (wait : Call) (build : X → Call) (IsOf : Store → X → Type 0) (IsMembers : Seated → X → Type 0) (old new : TrbPass) (theirs left : Opened) (code : ℤ) : Type 0 where
+  pub handed : Result X Refusal
+  pub hands : Goes (HandsOut wait IsOf handed) (HandsOutBy wait IsMembers handed) theirs left
   pub builds : BuildsHanded build old new handed code
 
 -- the same by handles, of which each has a pass or none
-abbrev pub BuildsFromHandle : {X : Type 0} → Call → (X → Call) → (Store → X → Type 0) → TrbPass → TrbPass → Option Opened → Option Opened → ℤ → Type 0
-BuildsFromHandle wait build IsOf old new (Some theirs) (Some left) code = BuildsFrom wait build IsOf old new theirs left code
-BuildsFromHandle wait build IsOf old new None None code = (code ≡ uninitialized_object) × (new.raw.session ≡ old.raw.session)
-BuildsFromHandle wait build IsOf old new (Some theirs) None code = ⊥
-BuildsFromHandle wait build IsOf old new None (Some left) code = ⊥
+abbrev pub BuildsFromHandle : {X : Type 0} → Call → (X → Call) → (Store → X → Type 0) → (Seated → X → Type 0) → TrbPass → TrbPass → Option Opened → Option Opened → ℤ → Type 0
+BuildsFromHandle wait build IsOf IsMembers old new (Some theirs) (Some left) code = BuildsFrom wait build IsOf IsMembers old new theirs left code
+BuildsFromHandle wait build IsOf IsMembers old new None None code = (code ≡ uninitialized_object) × (new.raw.session ≡ old.raw.session)
+BuildsFromHandle wait build IsOf IsMembers old new (Some theirs) None code = ⊥
+BuildsFromHandle wait build IsOf IsMembers old new None (Some left) code = ⊥
 
 -- of a matrix, and of a vector
 abbrev pub BuildsMatrixFrom : ℕ → ℕ → TrbPass → TrbPass → TrbPass → TrbPass → ℤ → Type 0
 BuildsMatrixFrom c a old new theirs left code =
-    BuildsFromHandle (call.WaitMatrix (record { 0 = a }) Complete) (matrix_build_of c) (λ s m. IsMatrixOf s (record { 0 = a }) m) old new theirs.raw.session left.raw.session code
+    BuildsFromHandle (call.WaitMatrix (record { 0 = a }) Complete) (matrix_build_of c) (λ s m. IsMatrixOf s (record { 0 = a }) m) (λ n m. IsMemberMatrix n (record { 0 = a }) m) old new theirs.raw.session left.raw.session code
 
 abbrev pub BuildsVectorFrom : ℕ → ℕ → TrbPass → TrbPass → TrbPass → TrbPass → ℤ → Type 0
 BuildsVectorFrom w v old new theirs left code =
-    BuildsFromHandle (call.WaitVector (record { 0 = v }) Complete) (vector_build_of w) (λ s x. IsVectorOf s (record { 0 = v }) x) old new theirs.raw.session left.raw.session code
+    BuildsFromHandle (call.WaitVector (record { 0 = v }) Complete) (vector_build_of w) (λ s x. IsVectorOf s (record { 0 = v }) x) (λ n x. IsMemberVector n (record { 0 = v }) x) old new theirs.raw.session left.raw.session code

@@ -49,6 +49,9 @@ out_of_memory = negsuc 101
 abbrev pub insufficient_space : ℤ
 insufficient_space = negsuc 102
 
+abbrev pub order_full : ℤ
+order_full = negsuc 1000
+
 -- the status of a refusal
 abbrev pub refusal_code : Refusal → ℤ
 refusal_code refusal.UninitializedObject = negsuc 0

@@ -7,6 +7,8 @@ use Rattle.grb_order.specs.Order.{room_of}
 use Rattle.grb_order.specs.View.{fresh}
 use Rattle.grb_context.specs.Known.{Shared, Knowing, none_made}
 use Rattle.grb_context.specs.Statuses.{no_rows}
+use Rattle.grb_c.specs.declared.session.Kind.{Kind}
+use Rattle.grb_c.specs.declared.session.Kind.TheVariants as kind
 use Rattle.grb_c.specs.Sessions.{Opened}
 
 -- a store may have so much room, and so many passes
@@ -19,9 +21,14 @@ pub record IsWithin (room passes : ℕ) : Type 0 where
 abbrev pub new_pass : TableId → ℕ → ℕ → Knowing
 new_pass order passes number = record { order = order; view = fresh number passes; shown = []; steps = 0; statuses = no_rows (room_of order); settled = 0; made = none_made }
 
+-- a pass of the context, of which this holds; a member of a chain is none
+abbrev pub IsPassWith : Shared → (Knowing → Type 0) → Kind → Type 0
+IsPassWith context P (kind.Bounded p) = (p.context ≡ context) × P p.pass
+IsPassWith context P (kind.Member m) = ⊥
+
 -- the handle has a pass of the context, of which this holds, under this number of its store
 abbrev pub Holds : Shared → ℕ → (Knowing → Type 0) → Option Opened → Type 0
-Holds context store P (Some s) = (s.context ≡ context) × (s.store ≡ store) × P s.pass
+Holds context store P (Some s) = (s.store ≡ store) × IsPassWith context P s.kind
 Holds context store P None = ⊥
 
 -- each of these, from a place on, has a pass of which this holds with its place

@@ -1,5 +1,5 @@
 -- believed: What a handle's successor is (own): a store that begins as the pass leaves the old one, or the reason why there is none.
-use Rattle.std.specs.Prelude.{◌≡◌, ◌⊎◌, ℕ, ℤ, List, Option, Some, None}
+use Rattle.std.specs.Prelude.{◌≡◌, ◌⊎◌, ℕ, ℤ, true, List, Option, Some, None}
 use Rattle.grb_call.specs.Store.{Store}
 use Rattle.grb_call.specs.History.{store_of}
 use Rattle.grb_rebuild.specs.declared.rebuild.NoSuccessor.{NoSuccessor}
@@ -7,8 +7,11 @@ use Rattle.grb_rebuild.specs.declared.rebuild.NoSuccessor.TheVariants as no
 use Rattle.grb_context.specs.Known.{known}
 use Rattle.grb_context.specs.Chosen.{IsNoSuccessor, room_beside}
 use Rattle.grb_context.specs.Succeeding.{BeginsWith}
-use Rattle.grb_c.specs.Codes.{insufficient_space, out_of_memory, panic, success, uninitialized_object}
+use Rattle.grb_c.specs.Codes.{insufficient_space, invalid_value, out_of_memory, panic, success, uninitialized_object}
 use Rattle.grb_c.specs.Opening.{AreHandedOut}
+use Rattle.grb_c.specs.Kinds.{is_member}
+use Rattle.grb_c.specs.declared.session.Kind.{Kind}
+use Rattle.grb_c.specs.declared.session.Kind.TheVariants as kind
 use Rattle.grb_c.specs.Sessions.{Opened}
 
 -- the status where there is no successor
@@ -40,7 +43,17 @@ pub record IsNotSucceeded (room passes : ℕ) (s : Store) (code : ℤ) (before a
 abbrev pub GoesOn : ℕ → ℕ → ℕ → Store → ℤ → ℕ → ℕ → List (Option Opened) → Type 0
 GoesOn store room passes s code before after hs = IsSucceeded store (room_beside s room) s code before after hs ⊎ IsNotSucceeded room passes s code before after
 
--- the same of the store that all calls leave which the pass of a handle knows; or there is no pass
+-- the same of the store that all calls leave which a pass knows; a chain goes on by itself, and has no successor
+abbrev pub GoesOnFromKind : ℕ → ℕ → ℕ → Kind → ℤ → ℕ → ℕ → List (Option Opened) → Type 0
+GoesOnFromKind store room passes (kind.Bounded p) code before after hs = GoesOn store room passes (store_of (known p.pass)) code before after hs
+GoesOnFromKind store room passes (kind.Member m) code before after hs = (code ≡ invalid_value) × (after ≡ before)
+
+-- so by a handle; or there is no pass
 abbrev pub GoesOnFrom : ℕ → ℕ → ℕ → Option Opened → ℤ → ℕ → ℕ → List (Option Opened) → Type 0
-GoesOnFrom store room passes (Some s) code before after hs = GoesOn store room passes (store_of (known s.pass)) code before after hs
+GoesOnFrom store room passes (Some s) code before after hs = GoesOnFromKind store room passes s.kind code before after hs
 GoesOnFrom store room passes None code before after hs = (code ≡ uninitialized_object) × (after ≡ before)
+
+-- the handle has a member of a chain
+abbrev pub IsLinked : Option Opened → Type 0
+IsLinked (Some s) = is_member s.kind ≡ true
+IsLinked None = ⊥

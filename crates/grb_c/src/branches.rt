@@ -1,12 +1,11 @@
 //! A store of its own that begins with some objects of another one.
 ghost use Rattle.std.specs.Prelude.{◌≡◌, ◌<◌, ◌^◌, false, true, IfOk, length, map};
-ghost use Rattle.grb_call.specs.History.{store_of};
-ghost use Rattle.grb_context.specs.Chosen.{chosen_store};
-ghost use Rattle.grb_context.specs.Known.{known};
-ghost use Rattle.grb_c.specs.Branching.{AreFew, GoesApartFrom, IsBranchAsked, matrices_named, store_named, vectors_named};
+ghost use Rattle.grb_c.specs.Branching.{AreFew, GoesApartFrom, IsBranchAsked, matrices_named, vectors_named};
 ghost use Rattle.grb_c.specs.Codes.{invalid_value};
 ghost use Rattle.grb_c.specs.Opening.{IsWithin};
-ghost use Rattle.grb_c.specs.Sessions.{IsSameButMade};
+ghost use Rattle.grb_generations.specs.Seated.{Stays};
+ghost use Rattle.grb_c.specs.Kinds.{store_chosen};
+ghost use Rattle.grb_c.specs.Sessions.{Goes, IsSameButMade, IsSamePass};
 ghost use Rattle.grb_c.specs.Succession.{GoesOn};
 
 use crate::codes::{INVALID_VALUE, UNINITIALIZED_OBJECT};
@@ -62,8 +61,8 @@ fn go_apart(
     requires within { IsWithin room (length passes.old) }
     requires matrices { length matrices.now < 2 ^ 32 }
     requires vectors { length vectors.now < 2 ^ 32 }
-    ensures same { session.new ≡ record session.old { pass = record session.old.pass { made = session.new.pass.made } } }
-    ensures apart { GoesOn store room (length passes.old) (chosen_store (store_of (known session.old.pass)) matrices.now vectors.now) result needed.old needed.new (map (λ h. h.raw.session) passes.new) }
+    ensures same { Goes IsSamePass Stays session.old session.new }
+    ensures apart { GoesOn store room (length passes.old) (store_chosen session.old.kind matrices.now vectors.now) result needed.old needed.new (map (λ h. h.raw.session) passes.new) }
     ensures count { length passes.new ≡ length passes.old }
 {
     match session.branch(alloc, matrices, vectors, room, passes.len() as u32) {
@@ -86,8 +85,8 @@ fn go_apart_by_numbers(
     requires within { IsWithin room (length passes.old) }
     requires matrices { length matrices.now < 2 ^ 32 }
     requires vectors { length vectors.now < 2 ^ 32 }
-    ensures same { session.new ≡ record session.old { pass = record session.old.pass { made = session.new.pass.made } } }
-    ensures apart { GoesOn store room (length passes.old) (store_named session.old.pass matrices.now vectors.now) result needed.old needed.new (map (λ h. h.raw.session) passes.new) }
+    ensures same { Goes IsSamePass Stays session.old session.new }
+    ensures apart { GoesOn store room (length passes.old) (store_chosen session.old.kind (matrices_named matrices.now) (vectors_named vectors.now)) result needed.old needed.new (map (λ h. h.raw.session) passes.new) }
     ensures count { length passes.new ≡ length passes.old }
 {
     let Ok(matrices) = matrices_named(alloc, matrices) else {

@@ -29,6 +29,9 @@ pub(crate) const OUT_OF_MEMORY: i32 = -102;
 /// The caller's arrays are too short.
 pub(crate) const INSUFFICIENT_SPACE: i32 = -103;
 
+/// The room is used up.
+pub(crate) const ORDER_FULL: i32 = -1001;
+
 /// The status of a refusal: that of the standard, or our own.
 pub(crate) fn refusal_code(refusal: Refusal) -> i32
     ensures { result ≡ refusal_code refusal }

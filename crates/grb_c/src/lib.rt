@@ -1,9 +1,11 @@
 //! The store for programs in C and in other languages that call C.
 #![tactic(auto)]
 
+mod bounded;
 mod branches;
 mod builds;
 mod built;
+mod chains;
 mod codes;
 mod decode;
 mod entries;
@@ -21,8 +23,9 @@ mod tuples;
 mod version;
 mod written;
 
+pub use bounded::Bounded;
 pub use facts::TrbFacts;
 pub use handle::TrbPass;
 pub use parts::Parts;
 pub use raw::Raw;
-pub use session::Session;
+pub use session::{Kind, Session};

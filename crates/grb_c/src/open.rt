@@ -5,11 +5,13 @@ ghost use Rattle.grb_context.specs.Known.{IsPassOf};
 ghost use Rattle.grb_c.specs.Codes.{invalid_value, out_of_memory, success};
 ghost use Rattle.grb_c.specs.Handles.{are_none};
 ghost use Rattle.grb_c.specs.Opening.{AreOpened, HoldFrom, IsWithin};
+ghost use Rattle.grb_c.specs.declared.session.Kind.TheVariants as Kind;
 ghost use Rattle.grb_c.specs.Sessions.{AreApart, Meets, Prepares, Releases};
 
-use crate::codes::{INVALID_VALUE, OUT_OF_MEMORY, SUCCESS, UNINITIALIZED_OBJECT, met_code};
+use crate::bounded::Bounded;
+use crate::codes::{INVALID_VALUE, OUT_OF_MEMORY, SUCCESS, UNINITIALIZED_OBJECT};
 use crate::handle::TrbPass;
-use crate::session::Session;
+use crate::session::{Kind, Session};
 use grb_context::{Context, MOST_PASSES, MOST_ROOM, MOST_SEATS, Pass};
 use std::alloc::Global;
 use std::sync::Arc;
@@ -42,13 +44,14 @@ fn hand_out(
     slot: &mut TrbPass,
 ) -> i32
     requires pass { IsPassOf context.now.value pass }
-    ensures holds { result ≡ success → slot.new.raw.session ≡ Some (record { context = context.now.value; pass = pass; store = store }) }
+    ensures holds { result ≡ success → slot.new.raw.session ≡ Some (record { kind = Kind.Bounded (record { context = context.now.value; pass = pass }); store = store }) }
     ensures code { (result ≡ success) ⊎ (result ≡ out_of_memory) }
 {
     let Ok(context) = context.clone() else {
         return OUT_OF_MEMORY;
     };
-    let Ok(session) = Box::new(alloc, Session::new(context, pass, store)) else {
+    let kind = Kind::Bounded(Bounded::new(context, pass));
+    let Ok(session) = Box::new(alloc, Session::new(kind, store)) else {
         return OUT_OF_MEMORY;
     };
     slot.put(session);
@@ -114,7 +117,7 @@ pub(crate) fn hand_out_context(
 }
 
 /// A context with room for so many calls, and a pass of it in each handle, none of which has one before. The number is that of this store
-/// alone, among those that are open: a meeting goes by it.
+/// alone, among those that are open: a meeting goes by it. Handles that have a pass are refused, and stay as they are.
 #[unsafe(no_mangle)]
 pub extern "C" fn trb_open(alloc: Global, store: u64, room: u32, passes: &mut [TrbPass]) -> i32
     ensures opened { result ≡ success → AreOpened store room (map (λ h. h.raw.session) passes.new) }
@@ -153,7 +156,7 @@ fn learn(alloc: Global, pass: &mut TrbPass, other: &mut TrbPass, adopts: bool) -
         return UNINITIALIZED_OBJECT;
     };
     let code = if session.store() == second.store() {
-        met_code(session.learn(&mut second, adopts))
+        session.learn(&mut second, adopts)
     } else {
         INVALID_VALUE
     };

@@ -1,123 +1,116 @@
-//! A pass with the context that it is of.
+//! What a handle has: the pass of a bounded store, or a member of a chain of stores.
 ghost use Rattle.std.specs.Prelude.{◌≡◌, ◌≤◌, ◌<◌, ◌^◌, All, IfErr, IfOk, length};
-ghost use Rattle.grb_order.specs.Order.{room_of};
+ghost use Rattle.std.specs.Result.{result_map_both};
 ghost use Rattle.grb_call.specs.declared.call.Call.TheVariants as Call;
 ghost use Rattle.grb_call.specs.declared.descriptor.WaitMode.TheVariants as WaitMode;
-ghost use Rattle.grb_call.specs.History.{store_of};
-ghost use Rattle.grb_context.specs.Chosen.{IsNoSuccessor, chosen_store, room_beside};
-ghost use Rattle.grb_context.specs.Known.{IsPassOf, known, none_made};
-ghost use Rattle.grb_context.specs.Answered.{Answered};
-ghost use Rattle.grb_context.specs.Meeting.{Met};
-ghost use Rattle.grb_context.specs.Snapshot.{IsSnapshot};
-ghost use Rattle.grb_context.specs.StoredIn.{IsMatrixOf, IsVectorOf};
+ghost use Rattle.grb_order.specs.Order.{room_of};
+ghost use Rattle.grb_context.specs.Chosen.{IsNoSuccessor, room_beside};
+ghost use Rattle.grb_context.specs.Known.{IsPassOf, known};
 ghost use Rattle.grb_context.specs.Succeeding.{AreBegun};
+ghost use Rattle.grb_context.specs.StoredIn.{IsMatrixOf, IsVectorOf};
+ghost use Rattle.grb_generations.specs.Seated.{Stays};
+ghost use Rattle.grb_c.specs.Branching.{HandsOut};
+ghost use Rattle.grb_c.specs.Kinds.{HandsOutBy, IsMemberMatrix, IsMemberVector, info_at, store_chosen};
 ghost use Rattle.grb_c.specs.Opening.{IsWithin};
+ghost use Rattle.grb_c.specs.Sessions.{AreOfOne, Goes, IsSamePass, KindsMeet, MadeBy, MeetsMember, is_full_at, pass_of, released};
 
-use grb_call::{Call, MatrixId, Reply, VectorId};
+use crate::bounded::Bounded;
+use crate::codes::{INVALID_VALUE, met_code};
+use grb_call::{Call, MatrixId, Object, Reply, VectorId};
 use grb_context::{Context, NoSuccessor, Pass};
-use grb_core::Refusal;
+use grb_core::{Info, Refusal};
+use grb_generations::Member;
 use grb_sparse::{SparseMatrix, SparseVector};
 use std::alloc::Global;
 use std::marker::Model;
 use std::sync::Arc;
 
-/// A pass with the context that it is of.
+/// Who makes the calls of a handle.
+#[derive(Drop)]
+pub enum Kind {
+    /// The pass of a bounded store.
+    Bounded(Bounded),
+    /// A member of a chain of stores.
+    Member(Member),
+}
+
+/// Who makes the calls of a handle, and the number of the store or of the chain.
 #[derive(Drop)]
 pub struct Session {
-    pub(crate) context: Arc<Context>,
-    pub(crate) pass: Pass,
+    pub(crate) kind: Kind,
     // The number of the store.
     store: u64,
 }
 
 impl Model for Session {
-    ghost use Rattle.grb_context.specs.Known.{IsPassOf};
     ghost use Rattle.grb_c.specs.Sessions.{Opened};
 
     ghost Value = { Opened };
 
-    ghost view = { λ s. record { context = s.context.value; pass = s.pass; store = s.store } };
-
-    ghost invariant = { λ s. IsPassOf s.context.value s.pass };
+    ghost view = { λ s. record { kind = s.kind; store = s.store } };
 }
 
 impl Session {
-    /// The pass and its context together.
-    pub fn new(context: Arc<Context>, pass: Pass, store: u64) -> Session
-        requires pass { IsPassOf context.value pass }
-        ensures { result ≡ record { context = context.value; pass = pass; store = store } }
+    /// A session of this store or chain.
+    pub fn new(kind: Kind, store: u64) -> Session
+        ensures { result ≡ record { kind = kind; store = store } }
     {
-        Session {
-            context,
-            pass,
-            store,
+        Session { kind, store }
+    }
+
+    /// Makes one call. It is refused as by `Context::call` and `Member::call`, by `OutOfMemory` too, which changes nothing.
+    pub fn call(&mut self, call: Call) -> Result<Reply, Refusal>
+        ensures { MadeBy self.old self.new call result }
+    {
+        match &mut self.kind {
+            Kind::Bounded(own) => own.call(call),
+            Kind::Member(own) => own.call(call),
         }
     }
 
-    /// Makes one call. It is refused as by `Context::call`, by `OutOfMemory` too, which changes nothing.
-    pub fn call(&mut self, call: Call) -> Result<Reply, Refusal>
-        ensures context { self.new.context ≡ self.old.context }
+    /// Learns what the other knows, and where it adopts, goes on from what that has evaluated; tells the status. A pass of a bounded store
+    /// and a member of a chain do not meet.
+    pub(crate) fn learn(&mut self, other: &mut Session, adopts: bool) -> i32
+        requires one { AreOfOne self.old.kind other.old.kind }
         ensures store { self.new.store ≡ self.old.store }
-        ensures answered { Answered self.old.context self.old.pass self.new.pass call result }
-    {
-        self.context.call(&mut self.pass, call)
-    }
-
-    /// Learns what the other knows, and where it adopts, goes on from what that has evaluated. `Panic` as of `Context::meet` and
-    /// `Context::adopt`. A meeting takes no memory; where it is refused to an adoption, that goes on from its own.
-    pub fn learn(&mut self, other: &mut Session, adopts: bool) -> Result<(), Refusal>
-        requires context { self.old.context ≡ other.old.context }
-        ensures met { Met self.old.context self.old.pass self.new.pass other.old.pass result }
-        ensures context { self.new.context ≡ self.old.context }
-        ensures store { self.new.store ≡ self.old.store }
+        ensures met { KindsMeet self.old.kind self.new.kind other.old.kind result }
         ensures other { other.new ≡ other.old }
     {
-        if adopts {
-            self.context.adopt(&mut self.pass, &mut other.pass)
-        } else {
-            self.context.meet(&mut self.pass, &mut other.pass)
+        match &mut self.kind {
+            Kind::Bounded(own) => match &mut other.kind {
+                Kind::Bounded(theirs) => met_code(own.learn(theirs, adopts)),
+                Kind::Member(_) => INVALID_VALUE,
+            },
+            Kind::Member(own) => match &mut other.kind {
+                Kind::Bounded(_) => INVALID_VALUE,
+                Kind::Member(theirs) => met_code(learn_of(own, theirs, adopts)),
+            },
         }
     }
 
     /// Evaluates what the pass knows, where that is dear; before how many of the calls that it knows no answer makes one any more.
     pub fn prepare(&mut self) -> u32
-        ensures context { self.new.context ≡ self.old.context }
-        ensures store { self.new.store ≡ self.old.store }
-        ensures same { self.new.pass ≡ record self.old.pass { made = self.new.pass.made } }
-        ensures count { result ≤ length (known self.new.pass) }
+        ensures same { Goes IsSamePass Stays self.old self.new }
+        ensures count { result ≤ length (known (pass_of self.new)) }
     {
-        self.context.prepare(&mut self.pass)
+        match &mut self.kind {
+            Kind::Bounded(own) => own.prepare(),
+            Kind::Member(own) => own.prepare(),
+        }
     }
 
     /// Drops what the pass has evaluated: no known calls are settled any more. Takes no memory.
     pub fn release(&mut self)
-        ensures context { self.new.context ≡ self.old.context }
-        ensures store { self.new.store ≡ self.old.store }
-        ensures released { self.new.pass ≡ record self.old.pass { settled = 0; made = none_made } }
+        ensures { Goes (λ o n. n ≡ record o { pass = released o.pass }) (λ o n. n ≡ record o { pass = released o.pass }) self.old self.new }
     {
-        self.pass.release();
+        match &mut self.kind {
+            Kind::Bounded(own) => own.release(),
+            Kind::Member(own) => own.release(),
+        }
     }
 
-    /// A context that goes on where the pass ends, and its passes, as [`Context::succeed`] has them.
-    pub fn succeed(
-        &mut self,
-        alloc: Global,
-        room: u32,
-        passes: u32,
-    ) -> Result<(Context, Vec<Pass>), NoSuccessor>
-        requires within { IsWithin room passes }
-        ensures context { self.new.context ≡ self.old.context }
-        ensures store { self.new.store ≡ self.old.store }
-        ensures same { self.new.pass ≡ record self.old.pass { made = self.new.pass.made } }
-        ensures room { IfOk result (λ opened. room_of opened.0.order ≡ room_beside (store_of (known self.old.pass)) room) }
-        ensures begun { IfOk result (λ opened. AreBegun opened.0 (store_of (known self.old.pass)) passes opened.1.items) }
-        ensures ours { IfOk result (λ opened. All (IsPassOf opened.0) opened.1.items) }
-        ensures refused { IfErr result (IsNoSuccessor room passes (store_of (known self.old.pass))) }
-    {
-        self.context.succeed(alloc, &mut self.pass, room, passes)
-    }
-
-    /// A context that begins with these objects as the pass knows them, and its passes, as [`Context::branch`] has them.
+    /// A context that begins with these objects as the pass knows them, and its passes, as
+    /// [`Context::branch`](grb_context::Context::branch) and [`Member::branch`] have them.
     pub fn branch(
         &mut self,
         alloc: Global,
@@ -129,36 +122,59 @@ impl Session {
         requires within { IsWithin room passes }
         requires matrices { length matrices.now < 2 ^ 32 }
         requires vectors { length vectors.now < 2 ^ 32 }
-        ensures context { self.new.context ≡ self.old.context }
-        ensures store { self.new.store ≡ self.old.store }
-        ensures same { self.new.pass ≡ record self.old.pass { made = self.new.pass.made } }
-        ensures room { IfOk result (λ opened. room_of opened.0.order ≡ room_beside (chosen_store (store_of (known self.old.pass)) matrices.now vectors.now) room) }
-        ensures begun { IfOk result (λ opened. AreBegun opened.0 (chosen_store (store_of (known self.old.pass)) matrices.now vectors.now) passes opened.1.items) }
+        ensures same { Goes IsSamePass Stays self.old self.new }
+        ensures room { IfOk result (λ opened. room_of opened.0.order ≡ room_beside (store_chosen self.old.kind matrices.now vectors.now) room) }
+        ensures begun { IfOk result (λ opened. AreBegun opened.0 (store_chosen self.old.kind matrices.now vectors.now) passes opened.1.items) }
         ensures ours { IfOk result (λ opened. All (IsPassOf opened.0) opened.1.items) }
-        ensures refused { IfErr result (IsNoSuccessor room passes (chosen_store (store_of (known self.old.pass)) matrices.now vectors.now)) }
+        ensures refused { IfErr result (IsNoSuccessor room passes (store_chosen self.old.kind matrices.now vectors.now)) }
     {
-        self.context
-            .branch(alloc, &mut self.pass, matrices, vectors, room, passes)
+        match &mut self.kind {
+            Kind::Bounded(own) => own.branch(alloc, matrices, vectors, room, passes),
+            Kind::Member(own) => own.branch(alloc, matrices, vectors, room, passes),
+        }
     }
 
-    /// The matrix as it stands at the point of a wait for it, as [`Context::snapshot_matrix`] hands it out.
+    /// The matrix as it stands at the point of a wait for it, as [`Context::snapshot_matrix`](grb_context::Context::snapshot_matrix) and
+    /// [`Member::snapshot_matrix`] hand it out.
     pub fn snapshot_matrix(&mut self, a: MatrixId) -> Result<Arc<SparseMatrix>, Refusal>
-        ensures context { self.new.context ≡ self.old.context }
-        ensures store { self.new.store ≡ self.old.store }
-        ensures snapshot { IsSnapshot self.old.context self.old.pass self.new.pass (Call.WaitMatrix a WaitMode.Complete) result }
-        ensures matrix { IfOk result (λ matrix. IsMatrixOf (store_of (known self.new.pass)) a matrix.value) }
+        ensures { Goes (HandsOut (Call.WaitMatrix a WaitMode.Complete) (λ s m. IsMatrixOf s a m) (result_map_both (λ matrix. matrix.value) (λ refusal. refusal) result)) (HandsOutBy (Call.WaitMatrix a WaitMode.Complete) (λ n m. IsMemberMatrix n a m) (result_map_both (λ matrix. matrix.value) (λ refusal. refusal) result)) self.old self.new }
     {
-        self.context.snapshot_matrix(&mut self.pass, a)
+        match &mut self.kind {
+            Kind::Bounded(own) => own.snapshot_matrix(a),
+            Kind::Member(own) => own.snapshot_matrix(a),
+        }
     }
 
-    /// The vector as it stands at the point of a wait for it, as [`Context::snapshot_vector`] hands it out.
+    /// The vector as it stands at the point of a wait for it, as [`Context::snapshot_vector`](grb_context::Context::snapshot_vector) and
+    /// [`Member::snapshot_vector`] hand it out.
     pub fn snapshot_vector(&mut self, v: VectorId) -> Result<Arc<SparseVector>, Refusal>
-        ensures context { self.new.context ≡ self.old.context }
-        ensures store { self.new.store ≡ self.old.store }
-        ensures snapshot { IsSnapshot self.old.context self.old.pass self.new.pass (Call.WaitVector v WaitMode.Complete) result }
-        ensures vector { IfOk result (λ vector. IsVectorOf (store_of (known self.new.pass)) v vector.value) }
+        ensures { Goes (HandsOut (Call.WaitVector v WaitMode.Complete) (λ s x. IsVectorOf s v x) (result_map_both (λ vector. vector.value) (λ refusal. refusal) result)) (HandsOutBy (Call.WaitVector v WaitMode.Complete) (λ n x. IsMemberVector n v x) (result_map_both (λ vector. vector.value) (λ refusal. refusal) result)) self.old self.new }
     {
-        self.context.snapshot_vector(&mut self.pass, v)
+        match &mut self.kind {
+            Kind::Bounded(own) => own.snapshot_vector(v),
+            Kind::Member(own) => own.snapshot_vector(v),
+        }
+    }
+
+    /// The status that the last call on the object left, if there is one. Takes no memory.
+    pub fn last_info(&self, object: Object) -> Option<Info>
+        ensures { result ≡ info_at self.now.kind object }
+    {
+        match &self.kind {
+            Kind::Bounded(own) => own.pass().last_info(object),
+            Kind::Member(own) => own.last_info(object),
+        }
+    }
+
+    /// Whether there is no room any more: the history is full and the pass knows all of it; of a member, whether it was refused to go on.
+    /// Takes no memory.
+    pub fn is_full(&self) -> bool
+        ensures { result ≡ is_full_at self.now.kind }
+    {
+        match &self.kind {
+            Kind::Bounded(own) => own.pass().is_at_end(),
+            Kind::Member(own) => own.reason().is_some(),
+        }
     }
 
     /// The number of the store.
@@ -168,11 +184,27 @@ impl Session {
         self.store
     }
 
-    /// The pass.
+    /// The pass by which the next call is made: of a member, that in its generation.
     pub fn pass(&self) -> &Pass
-        ensures { result.now ≡ self.now.pass }
+        ensures { result.now ≡ pass_of self.now }
     {
-        &self.pass
+        match &self.kind {
+            Kind::Bounded(own) => own.pass(),
+            Kind::Member(own) => own.pass(),
+        }
+    }
+}
+
+/// The same of two members of one chain.
+fn learn_of(own: &mut Member, theirs: &mut Member, adopts: bool) -> Result<(), Refusal>
+    requires chain { own.old.chain ≡ theirs.old.chain }
+    ensures met { MeetsMember own.old own.new theirs.old result }
+    ensures theirs { theirs.new ≡ theirs.old }
+{
+    if adopts {
+        own.adopt(theirs)
+    } else {
+        own.meet(theirs)
     }
 }
 

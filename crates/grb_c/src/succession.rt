@@ -5,16 +5,19 @@ ghost use Rattle.grb_call.specs.History.{store_of};
 ghost use Rattle.grb_context.specs.Known.{known};
 ghost use Rattle.grb_c.specs.Codes.{invalid_value};
 ghost use Rattle.grb_c.specs.Handles.{Succeeds, are_none};
+ghost use Rattle.grb_generations.specs.Seated.{Stays};
+ghost use Rattle.grb_c.specs.Kinds.{is_member};
 ghost use Rattle.grb_c.specs.Opening.{IsWithin};
-ghost use Rattle.grb_c.specs.Sessions.{IsSameButMade, facts_code};
-ghost use Rattle.grb_c.specs.Succession.{GoesOn, needed_out, no_successor_code};
+ghost use Rattle.grb_c.specs.Sessions.{Goes, IsSameButMade, IsSamePass, facts_code, is_full_at};
+ghost use Rattle.grb_c.specs.Succession.{GoesOn, GoesOnFromKind, IsLinked, needed_out, no_successor_code};
 
+use crate::bounded::Bounded;
 use crate::codes::{
     INSUFFICIENT_SPACE, INVALID_VALUE, OUT_OF_MEMORY, PANIC, SUCCESS, UNINITIALIZED_OBJECT,
 };
 use crate::handle::TrbPass;
 use crate::open::{are_none, hand_out_context, is_within};
-use crate::session::Session;
+use crate::session::{Kind, Session};
 use grb_context::NoSuccessor;
 use std::alloc::Global;
 
@@ -33,12 +36,12 @@ pub(crate) fn put_needed(why: NoSuccessor, needed: &mut u64) -> i32
     }
 }
 
-/// Opens a successor of what the pass of the session knows, and hands its passes out.
+/// Opens a successor of what the pass knows, and hands its passes out.
 fn go_on(
     alloc: Global,
     store: u64,
     room: u32,
-    session: &mut Session,
+    session: &mut Bounded,
     needed: &mut u64,
     passes: &mut [TrbPass],
 ) -> i32
@@ -53,9 +56,31 @@ fn go_on(
     }
 }
 
+/// The same by a session. A chain goes on by itself, so its members are refused.
+fn go_on_from(
+    alloc: Global,
+    store: u64,
+    room: u32,
+    session: &mut Session,
+    needed: &mut u64,
+    passes: &mut [TrbPass],
+) -> i32
+    requires within { IsWithin room (length passes.old) }
+    ensures same { Goes IsSamePass Stays session.old session.new }
+    ensures goes_on { GoesOnFromKind store room (length passes.old) session.old.kind result needed.old needed.new (map (λ h. h.raw.session) passes.new) }
+    ensures count { length passes.new ≡ length passes.old }
+    ensures linked { is_member session.old.kind ≡ true → passes.new ≡ passes.old }
+{
+    match &mut session.kind {
+        Kind::Bounded(own) => go_on(alloc, store, room, own, needed, passes),
+        Kind::Member(_) => INVALID_VALUE,
+    }
+}
+
 /// A new context that goes on where the pass ends, and a pass of it in each handle, none of which has one before: its history begins with
 /// the calls that make just the store that all calls leave which the pass knows, and takes `room` calls beside these. The number is that of
-/// the new store alone, among those that are open. Where no history has room for all, tells how many calls make the store.
+/// the new store alone, among those that are open. Where no history has room for all, tells how many calls make the store. A member of a
+/// chain is refused: that goes on by itself.
 #[unsafe(no_mangle)]
 pub extern "C" fn trb_succeed(
     alloc: Global,
@@ -68,6 +93,7 @@ pub extern "C" fn trb_succeed(
     ensures same { IsSameButMade pass.old.raw.session pass.new.raw.session }
     ensures succeeds { IsWithin room (length passes.old) → are_none passes.old ≡ true → Succeeds store room pass.old result needed.old needed.new passes.new }
     ensures count { length passes.new ≡ length passes.old }
+    ensures linked { IsLinked pass.old.raw.session → (result ≡ invalid_value) × (needed.new ≡ needed.old) × (passes.new ≡ passes.old) }
     ensures outside { (IsWithin room (length passes.old) → ⊥) → (result ≡ invalid_value) × (needed.new ≡ needed.old) × (passes.new ≡ passes.old) }
     ensures taken { are_none passes.old ≡ false → (result ≡ invalid_value) × (needed.new ≡ needed.old) × (passes.new ≡ passes.old) }
 {
@@ -77,22 +103,23 @@ pub extern "C" fn trb_succeed(
     let Some(mut session) = pass.take(alloc) else {
         return UNINITIALIZED_OBJECT;
     };
-    let code = go_on(alloc, store, room, &mut session, needed, passes);
+    let code = go_on_from(alloc, store, room, &mut session, needed, passes);
     pass.put(session);
     code
 }
 
-/// Tells whether the history is full and the pass knows all of it.
+/// Tells whether there is no room any more: the history is full and the pass knows all of it; of a member of a chain, whether it was
+/// refused to go on.
 #[unsafe(no_mangle)]
 pub extern "C" fn trb_is_full(alloc: Global, pass: &mut TrbPass, out: &mut bool) -> i32
     ensures same { pass.new.raw.session ≡ pass.old.raw.session }
     ensures code { result ≡ facts_code pass.old.raw.session }
-    ensures full { MatchOption pass.old.raw.session (out.new ≡ out.old) (λ s. out.new ≡ (length (known s.pass) == room_of s.pass.order)) }
+    ensures full { MatchOption pass.old.raw.session (out.new ≡ out.old) (λ s. out.new ≡ is_full_at s.kind) }
 {
     let Some(session) = pass.take(alloc) else {
         return UNINITIALIZED_OBJECT;
     };
-    *out = session.pass().is_at_end();
+    *out = session.is_full();
     pass.put(session);
     SUCCESS
 }

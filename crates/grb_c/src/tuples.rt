@@ -1,18 +1,26 @@
 //! All entries of an object, into arrays.
-ghost use Rattle.std.specs.Prelude.{◌≡◌, ◌≤◌, length, true};
+ghost use Rattle.std.specs.Prelude.{◌≡◌, ◌≤◌, IfOk, length, true};
+ghost use Rattle.std.specs.Result.{result_map_both};
+ghost use Rattle.grb_call.specs.declared.call.Call.TheVariants as Call;
+ghost use Rattle.grb_call.specs.declared.descriptor.WaitMode.TheVariants as WaitMode;
+ghost use Rattle.grb_c.specs.Kinds.{HandsOutBy, IsMemberMatrix, IsMemberVector};
 ghost use Rattle.grb_c.specs.Handles.{ReadsBools, ReadsBoolsOfVector, ReadsNumbers, ReadsNumbersOfVector};
-ghost use Rattle.grb_c.specs.Tuples.{PutsMatrix, PutsVector, ReadsAll, ReadsAllOfVector, ReadsMatrixBy, ReadsVectorBy};
+ghost use Rattle.grb_c.specs.Tuples.{PutsHanded, PutsHandedVector, PutsMatrix, PutsVector, ReadsAll, ReadsAllOfVector, ReadsMatrixBy, ReadsMatrixByMember, ReadsMatrixOf, ReadsVectorBy, ReadsVectorByMember, ReadsVectorOf};
 
+use crate::bounded::Bounded;
 use crate::codes::{
     DOMAIN_MISMATCH, INSUFFICIENT_SPACE, SUCCESS, UNINITIALIZED_OBJECT, refusal_code,
 };
 use crate::handle::TrbPass;
 use crate::item::Item;
-use crate::session::Session;
+use crate::session::{Kind, Session};
 use crate::written::{write_matrix, write_vector};
 use grb_call::{MatrixId, VectorId, WaitMode};
+use grb_core::Refusal;
+use grb_generations::Member;
 use grb_sparse::{SparseMatrix, SparseVector};
 use std::alloc::Global;
+use std::sync::Arc;
 
 /// Writes all entries of a matrix of this domain to the front of the arrays, where each has room, and tells how many there are.
 fn put_matrix<T: Item>(
@@ -61,7 +69,7 @@ fn put_vector<T: Item>(
     SUCCESS
 }
 
-impl Session {
+impl Bounded {
     /// Reads all entries of a matrix, as they stand at the point of the call.
     fn read_matrix<T: Item>(
         &mut self,
@@ -104,6 +112,119 @@ impl Session {
                 None => unreachable!(),
             },
             Err(refusal) => refusal_code(refusal),
+        }
+    }
+}
+
+/// Writes all entries of the matrix that was handed out, where it was.
+fn put_handed<T: Item>(
+    handed: Result<Arc<SparseMatrix>, Refusal>,
+    rows: &mut [u64],
+    columns: &mut [u64],
+    values: &mut [T],
+    count: &mut u64,
+) -> i32
+    requires assembled { IfOk handed (λ matrix. matrix.value.assembled ≡ true) }
+    ensures { PutsHanded T.domain T.item (result_map_both (λ matrix. matrix.value) (λ refusal. refusal) handed) result rows.old columns.old values.old count.old rows.new columns.new values.new count.new }
+{
+    match handed {
+        Ok(matrix) => put_matrix(&matrix, rows, columns, values, count),
+        Err(refusal) => refusal_code(refusal),
+    }
+}
+
+/// Writes all entries of the vector that was handed out, where it was.
+fn put_handed_vector<T: Item>(
+    handed: Result<Arc<SparseVector>, Refusal>,
+    indices: &mut [u64],
+    values: &mut [T],
+    count: &mut u64,
+) -> i32
+    requires assembled { IfOk handed (λ vector. vector.value.assembled ≡ true) }
+    ensures { PutsHandedVector T.domain T.item (result_map_both (λ vector. vector.value) (λ refusal. refusal) handed) result indices.old values.old count.old indices.new values.new count.new }
+{
+    match handed {
+        Ok(vector) => put_vector(&vector, indices, values, count),
+        Err(refusal) => refusal_code(refusal),
+    }
+}
+
+/// The matrix that a member of a chain hands out.
+fn snapshot_matrix(member: &mut Member, a: MatrixId) -> Result<Arc<SparseMatrix>, Refusal>
+    ensures hands { HandsOutBy (Call.WaitMatrix a WaitMode.Complete) (λ n m. IsMemberMatrix n a m) (result_map_both (λ matrix. matrix.value) (λ refusal. refusal) result) member.old member.new }
+    ensures assembled { IfOk result (λ matrix. matrix.value.assembled ≡ true) }
+{
+    member.snapshot_matrix(a)
+}
+
+/// The vector that a member of a chain hands out.
+fn snapshot_vector(member: &mut Member, v: VectorId) -> Result<Arc<SparseVector>, Refusal>
+    ensures hands { HandsOutBy (Call.WaitVector v WaitMode.Complete) (λ n x. IsMemberVector n v x) (result_map_both (λ vector. vector.value) (λ refusal. refusal) result) member.old member.new }
+    ensures assembled { IfOk result (λ vector. vector.value.assembled ≡ true) }
+{
+    member.snapshot_vector(v)
+}
+
+/// Reads all entries of a matrix by a member of a chain, as they stand at the point of the call.
+fn read_matrix_by<T: Item>(
+    member: &mut Member,
+    a: MatrixId,
+    rows: &mut [u64],
+    columns: &mut [u64],
+    values: &mut [T],
+    count: &mut u64,
+) -> i32
+    ensures { ReadsMatrixByMember T.domain T.item member.old member.new a.0 result rows.old columns.old values.old count.old rows.new columns.new values.new count.new }
+{
+    let handed = snapshot_matrix(member, a);
+    put_handed(handed, rows, columns, values, count)
+}
+
+/// Reads all entries of a vector by a member of a chain, as they stand at the point of the call.
+fn read_vector_by<T: Item>(
+    member: &mut Member,
+    v: VectorId,
+    indices: &mut [u64],
+    values: &mut [T],
+    count: &mut u64,
+) -> i32
+    ensures { ReadsVectorByMember T.domain T.item member.old member.new v.0 result indices.old values.old count.old indices.new values.new count.new }
+{
+    let handed = snapshot_vector(member, v);
+    put_handed_vector(handed, indices, values, count)
+}
+
+impl Session {
+    /// Reads all entries of a matrix, as they stand at the point of the call.
+    fn read_matrix<T: Item>(
+        &mut self,
+        a: MatrixId,
+        rows: &mut [u64],
+        columns: &mut [u64],
+        values: &mut [T],
+        count: &mut u64,
+    ) -> i32
+        ensures { ReadsMatrixOf T.domain T.item self.old self.new a.0 result rows.old columns.old values.old count.old rows.new columns.new values.new count.new }
+    {
+        match &mut self.kind {
+            Kind::Bounded(own) => own.read_matrix(a, rows, columns, values, count),
+            Kind::Member(own) => read_matrix_by(own, a, rows, columns, values, count),
+        }
+    }
+
+    /// Reads all entries of a vector, as they stand at the point of the call.
+    fn read_vector<T: Item>(
+        &mut self,
+        v: VectorId,
+        indices: &mut [u64],
+        values: &mut [T],
+        count: &mut u64,
+    ) -> i32
+        ensures { ReadsVectorOf T.domain T.item self.old self.new v.0 result indices.old values.old count.old indices.new values.new count.new }
+    {
+        match &mut self.kind {
+            Kind::Bounded(own) => own.read_vector(v, indices, values, count),
+            Kind::Member(own) => read_vector_by(own, v, indices, values, count),
         }
     }
 }

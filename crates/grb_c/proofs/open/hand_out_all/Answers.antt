@@ -23,6 +23,6 @@ loop-at-preserved c =
       left = omega (arith, left, c.loop-at-test.true);
       first = λ k lt. sym (get_left after (pass ∷ []) k (omega (arith, lt, left, c.loop-at-test.true))) ∙ ap (λ (l : List Knowing). slice_get l k) (sym split) ∙ held.first k (omega (arith, lt, c.loop-at-test.true));
       hold = λ k from within. at_set (λ (l : ℕ). Holds context c.args.store (λ p. slice_get opened l ≡ Some p)) (λ h. h.raw.session) c.loop-at.passes m c.hand_out-code.new.slot None
-          (subst (Holds context c.args.store (λ p. slice_get opened m ≡ Some p)) (sym (c.hand_out-code.ensures.holds code)) (refl, refl, got))
+          (subst (Holds context c.args.store (λ p. slice_get opened m ≡ Some p)) (sym (c.hand_out-code.ensures.holds code)) (refl, (refl, got)))
           (λ l a b. held.hold l (omega (arith, a, c.loop-at-test.true)) b) k (omega (arith, from, c.loop-at-test.true)) within;
     }
