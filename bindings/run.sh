@@ -169,6 +169,14 @@ run_bench() {
     compare "$name" c/expected/bench.txt "$work/bench" 8
 }
 
+# The times of a service in a chain, and of large objects that go on.
+run_bench_chain() {
+    local name='c/bench_chain, few requests'
+    lacks "$name" "$CC" && return
+    build "$name" "$CC" -std=c11 -O2 -Wall -Wextra -Werror -Ic c/bench_chain.c "${link[@]}" -o "$work/bench_chain" || return
+    compare "$name" c/expected/bench_chain.txt "$work/bench_chain"
+}
+
 # A program of cpp/.
 run_cpp() {
     local name=$1
@@ -258,17 +266,18 @@ link=("$library" "$heap" -lpthread)
 
 check_header
 step 'the version, wherever it stands' ./versions.sh
-for name in first triangles bfs paths threads succeed branch refusals builds sharing beside; do run_c "$name"; done
+for name in first triangles bfs paths threads chain succeed branch refusals builds sharing beside; do run_c "$name"; done
 run_fail
 run_ports
 run_bench
-for name in triangles bfs paths threads succeed branch messages algorithms; do run_cpp "$name"; done
+run_bench_chain
+for name in triangles bfs paths threads chain succeed branch messages algorithms; do run_cpp "$name"; done
 refuse_cpp
 build_rust
-for name in first triangles bfs paths threads succeed; do run_rust "$name"; done
+for name in first triangles bfs paths threads chain succeed; do run_rust "$name"; done
 test_rust
 build_shared
-for name in first triangles bfs paths threads succeed; do run_python "$name"; done
+for name in first triangles bfs paths threads chain succeed; do run_python "$name"; done
 run_python networkx_scipy networkx numpy scipy
 for file in python/tests/test_*.py; do test_python "$(basename "$file" .py)"; done
 run_installed

@@ -6,8 +6,8 @@
  *                     memory ends the list.
  *
  * Whatever is refused: no call answers anything but TrB_OUT_OF_MEMORY or what it answers where memory is
- * there, and when the passes are freed, all that was allocated has been given back, but for the numbers
- * of the two stores that TrB_open tells of.
+ * there, but that a change of a chain may be answered TrB_ORDER_FULL; and when the passes are freed, all that
+ * was allocated has been given back, but for the block of numbers that TrB_open tells of.
  *
  * Ends with status 0 where the list was made with no allocation refused, 2 where one was refused and all
  * was as it should be, and 1 where something was not. fail.sh goes through all K.
@@ -103,6 +103,22 @@ static unsigned long refusals; /* how many calls were refused memory */
     } while (0)
 
 #define OK(call) ANSWERS(call, TrB_SUCCESS)
+
+/* Makes a change of a chain. Where memory is refused to its next generation, the change is refused since there is
+ * no room, and made again. */
+#define GOES_ON(call)                                                      \
+    do {                                                                   \
+        TrB_Info info = (call);                                            \
+        if (info == TrB_ORDER_FULL || info == TrB_OUT_OF_MEMORY) {         \
+            HOLDS(allocations >= refused_at);                              \
+            refusals++;                                                    \
+            if (refuses_on) {                                              \
+                return false;                                              \
+            }                                                              \
+            info = (call);                                                 \
+        }                                                                  \
+        HOLDS(info == TrB_SUCCESS);                                        \
+    } while (0)
 
 #define HOLDS(statement)                                                                         \
     do {                                                                                         \
@@ -216,14 +232,13 @@ static bool serve(TrB_Pass *passes, TrB_Matrix a)
 }
 
 /* A successor, whose second pass goes on with the matrix. What one of the two stores changes is not in the other. */
-static bool go_on(TrB_Pass *passes, TrB_Pass *next, TrB_Matrix a, long *stores)
+static bool go_on(TrB_Pass *passes, TrB_Pass *next, TrB_Matrix a)
 {
     uint64_t needed = 0;
     TrB_Index nvals;
     ANSWERS(TrB_succeed(&passes[0], &needed, 65536, next, PASSES), TrB_INSUFFICIENT_SPACE);
     HOLDS(needed > 1);
     OK(TrB_succeed(&passes[0], &needed, ROOM, next, PASSES));
-    *stores += 1;
     OK(TrB_Matrix_setElement_UINT64(&next[1], a, 1, 0, SIZE - 1));
     OK(TrB_Matrix_nvals(&next[0], &nvals, a));
     HOLDS(nvals == (SIZE - 1) + SIZE + 1);
@@ -235,12 +250,39 @@ static bool go_on(TrB_Pass *passes, TrB_Pass *next, TrB_Matrix a, long *stores)
     return true;
 }
 
-static bool make_all(TrB_Pass *passes, TrB_Pass *next, long *stores)
+/* A chain of some generations, in which temporaries are made and freed. */
+static bool go_round(TrB_Pass *links)
+{
+    TrB_Vector kept;
+    TrB_Index nvals;
+    uint64_t generation;
+    OK(TrB_chain_open(8, links, PASSES));
+    GOES_ON(TrB_Vector_new(&links[0], &kept, TrB_UINT64, SIZE));
+    for (TrB_Index k = 0; k < SIZE / 4; k++) {
+        TrB_Pass *pass = &links[k % PASSES];
+        TrB_Vector made;
+        GOES_ON(TrB_Vector_new(pass, &made, TrB_UINT64, SIZE));
+        GOES_ON(TrB_Vector_setElement_UINT64(pass, made, k, k));
+        GOES_ON(TrB_Vector_eWiseAdd(pass, kept, TrB_NO_VECTOR, TrB_NO_ACCUM, TrB_PLUS, kept, made, TrB_DEFAULT));
+        GOES_ON(TrB_Vector_free(pass, made));
+    }
+    OK(TrB_Vector_nvals(&links[0], &nvals, kept));
+    HOLDS(nvals == SIZE / 4);
+    OK(TrB_chain_generation(&links[0], &generation));
+    HOLDS(generation >= SIZE / 2 / 8);
+    TrB_free(&links[1]);
+    OK(TrB_chain_seat(&links[0], 1, &links[1]));
+    OK(TrB_Vector_nvals(&links[1], &nvals, kept));
+    HOLDS(nvals == SIZE / 4);
+    return true;
+}
+
+static bool make_all(TrB_Pass *passes, TrB_Pass *next, TrB_Pass *links)
 {
     TrB_Matrix a;
     OK(TrB_open(ROOM, passes, PASSES));
-    *stores = 1;
-    return make_matrices(&passes[0], &a) && make_vectors(&passes[1], a) && serve(passes, a) && go_on(passes, next, a, stores);
+    return make_matrices(&passes[0], &a) && make_vectors(&passes[1], a) && serve(passes, a) && go_on(passes, next, a) &&
+           go_round(links);
 }
 
 int main(int argc, char **argv)
@@ -250,20 +292,21 @@ int main(int argc, char **argv)
         return FAILED;
     }
     draw_chain();
-    TrB_Pass passes[PASSES] = {TRB_PASS_INIT}, next[PASSES] = {TRB_PASS_INIT};
-    long before = blocks, stores = 0;
+    TrB_Pass passes[PASSES] = {TRB_PASS_INIT}, next[PASSES] = {TRB_PASS_INIT}, links[PASSES] = {TRB_PASS_INIT};
+    long before = blocks;
     allocations = 0;
     refused_at = strtoul(argv[1], NULL, 10);
     refuses_on = strcmp(argv[2], "on") == 0;
 
-    bool is_whole = make_all(passes, next, &stores);
+    bool is_whole = make_all(passes, next, links);
     for (size_t t = 0; t < PASSES; t++) {
         TrB_free(&passes[t]);
         TrB_free(&next[t]);
+        TrB_free(&links[t]);
     }
 
-    /* The numbers of the stores are what is left. */
-    HOLDS(blocks == before + stores);
+    /* The block of numbers is what is left. It is asked for first. */
+    HOLDS(blocks == before + (refuses_on && refused_at == 1 ? 0 : 1));
     HOLDS(refusals <= 1);
     HOLDS(is_whole || refusals == 1);
     return allocations < refused_at ? PASSED : REFUSED;

@@ -136,6 +136,76 @@ static void of_successors(void)
     HOLDS(full);
 }
 
+/* What a chain refuses, and what a store refuses that is none. */
+static void of_chains(void)
+{
+    static TrB_Pass links[MOST_PASSES + 1] = {TRB_PASS_INIT};
+    TrB_Pass none = TRB_PASS_INIT;
+    uint64_t generation = UNTOUCHED, needed = UNTOUCHED;
+    bool moved = true;
+    UNCHANGED(TrB_INVALID_VALUE, "a chain with a room of 0", TrB_chain_open(0, links, 1));
+    UNCHANGED(TrB_INVALID_VALUE, "a chain with a room of 65,537", TrB_chain_open(65537, links, 1));
+    UNCHANGED(TrB_INVALID_VALUE, "a chain with no passes", TrB_chain_open(1, links, 0));
+    UNCHANGED(TrB_INVALID_VALUE, "a chain with 257 passes", TrB_chain_open(1, links, MOST_PASSES + 1));
+    UNCHANGED(TrB_INVALID_VALUE, "a chain by the passes of this store", TrB_chain_open(ROOM, passes, 2));
+    UNCHANGED(TrB_INVALID_VALUE, "the generation of a store", TrB_chain_generation(&passes[0], &generation));
+    UNCHANGED(TrB_INVALID_VALUE, "a store goes on", TrB_chain_go_on(&passes[0], &needed, &moved));
+    UNCHANGED(TrB_INVALID_VALUE, "a seat of a store", TrB_chain_seat(&passes[0], 0, &none));
+    UNCHANGED(TrB_UNINITIALIZED_OBJECT, "the generation of no pass", TrB_chain_generation(&none, &generation));
+    UNCHANGED(TrB_UNINITIALIZED_OBJECT, "no pass goes on", TrB_chain_go_on(&none, &needed, &moved));
+    UNCHANGED(TrB_UNINITIALIZED_OBJECT, "a seat of no pass", TrB_chain_seat(&none, 0, &links[0]));
+
+    /* A pass that was open before a refused opening stays so. */
+    OK(TrB_chain_open(10, &links[1], 2));
+    UNCHANGED(TrB_INVALID_VALUE, "a chain by a pass of a chain", TrB_chain_open(10, links, 2));
+    UNCHANGED(TrB_INVALID_VALUE, "a store by a pass of a chain", TrB_open(10, links, 2));
+    UNCHANGED(TrB_INVALID_VALUE, "a chain meets a store", TrB_meet(&links[1], &passes[0]));
+    UNCHANGED(TrB_INVALID_VALUE, "a store adopts of a chain", TrB_adopt(&passes[0], &links[1]));
+    UNCHANGED(TrB_INVALID_VALUE, "a successor of a chain", TrB_succeed(&links[1], &needed, ROOM, links, 1));
+    UNCHANGED(TrB_INVALID_VALUE, "a seat in a pass that is open", TrB_chain_seat(&links[1], 1, &links[2]));
+    UNCHANGED(TrB_INVALID_VALUE, "a seat in the pass that asks", TrB_chain_seat(&links[1], 0, &links[1]));
+    UNCHANGED(TrB_NO_VALUE, "the seat of a pass that is open", TrB_chain_seat(&links[1], 1, &none));
+    UNCHANGED(TrB_NO_VALUE, "a seat that a chain has not", TrB_chain_seat(&links[1], 2, &none));
+    HOLDS(generation == UNTOUCHED && needed == UNTOUCHED && moved);
+    OK(TrB_chain_generation(&links[1], &generation));
+    HOLDS(generation == 0);
+    OK(TrB_meet(&links[1], &links[2]));
+    TrB_free(&links[1]);
+    TrB_free(&links[2]);
+    ANSWERS(TrB_chain_generation(&links[0], &generation), TrB_UNINITIALIZED_OBJECT);
+}
+
+/* A generation that is as large as any can be has no next one, once there is an object. Then a change is refused, and a
+ * branch goes on from it. */
+static void of_long_chains(void)
+{
+    TrB_Pass link = TRB_PASS_INIT, branch = TRB_PASS_INIT;
+    TrB_Vector kept;
+    uint64_t needed = UNTOUCHED, x = 0;
+    bool moved = true, full = true;
+    OK(TrB_chain_open(65536, &link, 1));
+    OK(TrB_Vector_new(&link, &kept, TrB_UINT64, 3));
+    for (uint32_t k = 1; k < 65536; k++) {
+        OK(TrB_Vector_setElement_UINT64(&link, kept, k, 1));
+    }
+    OK(TrB_is_full(&link, &full));
+    HOLDS(!full);
+    UNCHANGED(TrB_ORDER_FULL, "a change of a chain that has no next generation", TrB_Vector_clear(&link, kept));
+    OK(TrB_is_full(&link, &full));
+    HOLDS(full);
+    UNCHANGED(TrB_INSUFFICIENT_SPACE, "why it has none", TrB_chain_go_on(&link, &needed, &moved));
+    HOLDS(needed == 2 && moved);
+    OK(TrB_Vector_extractElement_UINT64(&link, &x, kept, 1));
+    HOLDS(x == 65535);
+    OK(TrB_branch(&link, &needed, NULL, 0, &kept, 1, 65534, &branch, 1));
+    TrB_free(&link);
+    kept.id = 0;
+    OK(TrB_Vector_setElement_UINT64(&branch, kept, 5, 1));
+    OK(TrB_Vector_extractElement_UINT64(&branch, &x, kept, 1));
+    HOLDS(x == 5);
+    TrB_free(&branch);
+}
+
 static void of_meetings(void)
 {
     TrB_Pass other = TRB_PASS_INIT, none = TRB_PASS_INIT;
@@ -313,6 +383,8 @@ int main(void)
     fill();
     of_openings();
     of_successors();
+    of_chains();
+    of_long_chains();
     of_meetings();
     of_numbers();
     of_objects();

@@ -30,7 +30,7 @@ static void go_on(TrB_Pass *passes, TrB_Matrix graph)
     HOLDS(full);
     OK(TrB_Matrix_nvals(&passes[0], &edges, graph));
 
-    /* Room that no store has beside these changes is refused, and tells how many they are. */
+    /* The most room beside the changes that make the objects is refused, and tells how many these are. */
     ANSWERS(TrB_succeed(&passes[0], &needed, 65536, next, PASSES), TrB_INSUFFICIENT_SPACE);
     printf("full with %" PRIu64 " edges; a successor begins with %" PRIu64 " changes\n", edges, needed);
     OK(TrB_succeed(&passes[0], &needed, ROOM, next, PASSES));

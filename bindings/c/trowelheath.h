@@ -7,7 +7,7 @@
  *     TrB_Pass pass = TRB_PASS_INIT;
  *     TrB_Matrix a;
  *     uint64_t x;
- *     TrB_Info info = TrB_open(1000, &pass, 1);              // room for 1,000 changes, one pass
+ *     TrB_Info info = TrB_chain_open(4096, &pass, 1);        // a store without an end, one pass
  *     if (info != TrB_SUCCESS) { puts(TrB_hint(info)); return 1; }
  *     TrB_Matrix_new(&pass, &a, TrB_UINT64, 4, 5);           // 4 rows, 5 columns, no entries
  *     TrB_Matrix_setElement_UINT64(&pass, a, 7, 0, 1);       // 7 at row 0, column 1
@@ -20,6 +20,9 @@
  *             It ends with its last pass.
  *   history   The calls that changed the store, in one order that all threads see.
  *   room      How many changes the history takes in its whole life, from 1 to 65,536.
+ *   chain     A store without an end, which TrB_chain_open opens: where the room of one generation is
+ *             used up, the next one goes on by itself with all objects and their numbers. What is said
+ *             of a store and its passes holds of a chain and its own, but where a comment tells more.
  *   pass      One thread's view of a store, a TrB_Pass. A store has 1 to 256 passes, all from its
  *             opening. Each call is made by a pass.
  *   object    A matrix or a vector. Its number, a TrB_Matrix or TrB_Vector, may be copied. It is good
@@ -42,7 +45,8 @@
  *   TrB_UNINITIALIZED_OBJECT   The pass is none: it was not opened, or was freed. Or an object of the
  *                              call, its mask too, was never made or was freed.
  *   TrB_INVALID_VALUE          A number stands for no type, operator, monoid, mode or descriptor.
- *   TrB_ORDER_FULL             To a change alone: the room is used up. Reads go on.
+ *   TrB_ORDER_FULL             To a change alone: the room is used up. Reads go on. A chain refuses it
+ *                              where it has no next generation; TrB_chain_go_on tells why.
  *   TrB_OUT_OF_MEMORY          Memory was refused. Free some, and make the call again.
  *   TrB_PANIC                  The record of a call was not taken or not shown. Make the call again;
  *                              where it comes again, stop using the store.
@@ -67,13 +71,14 @@
  *
  * What a service does
  *
- *   Each pass evaluates for itself. Load by one pass, prepare it, and let the others adopt it before
- *   they serve reads. While the store changes, wait with TrB_MATERIALIZE by one pass after each few
- *   hundred changes: the others go on from what that leaves. Release a pass that will stand idle, since
- *   it holds what it has evaluated. The history keeps every change, the arrays of builds too, as long as
- *   the store is open. When the room is used up, TrB_succeed opens a store that goes on from there.
- *   Make an analysis of several calls in a branch, which TrB_branch opens: it reads one moment, its
- *   temporaries take no room here, and TrB_Matrix_build_from brings a result back by one call.
+ *   It opens a chain, which goes on for as long as what it holds fits. Each pass evaluates for itself:
+ *   load by one pass, prepare it, and let the others adopt it before they serve reads. While the store
+ *   changes, wait with TrB_MATERIALIZE by one pass after each few hundred changes: the others go on from
+ *   what that leaves. Release a pass that will stand idle, since it holds what it has evaluated. The
+ *   history keeps every change, the arrays of builds too, as long as the store is open, and in a chain as
+ *   long as a pass sits in that generation. When the room of a store is used up, TrB_succeed opens one that
+ *   goes on from there. Make an analysis of several calls in a branch, which TrB_branch opens: it reads one
+ *   moment, its temporaries take no room here, and TrB_Matrix_build_from brings a result back by one call.
  *
  * What the caller owes, since nothing checks it
  *
@@ -86,8 +91,8 @@
  *     array either: for a diagonal, copy the rows to columns. A bool in memory is 0 or 1.
  *   - An object is used with passes of its own store, and of those that succeed it. In another store its
  *     number names another object, or none.
- *   - Two stores that are open were opened with two numbers. TrB_open, TrB_succeed and TrB_branch see to
- *     it.
+ *   - Two stores that are open were opened with two numbers. TrB_open, TrB_chain_open, TrB_succeed and
+ *     TrB_branch see to it.
  *   - malloc, realloc and free are of one allocator.
  *   - No call is made in a signal handler, or in the child of a fork of a process with threads.
  */
@@ -263,13 +268,18 @@ _Static_assert(sizeof(TrB_Pass) == 16 && sizeof(bool) == 1, "the library is for 
 /* The functions of libgrb_c.a as they are. Objects are bare numbers here, a mask of UINT32_MAX is
  * none, and each array has a length of its own: arrays of one call whose lengths differ are refused
  * with TrB_INVALID_VALUE by a build, and the shortest counts for a read of all entries. The typed
- * functions below call them; what they say holds here too. trb_open, trb_succeed and trb_branch take the
- * number of the store that they open, which no other open store of the process may have. */
+ * functions below call them; what they say holds here too. trb_open, trb_chain_open, trb_succeed and
+ * trb_branch take the number of the store that they open, which no other open store of the process may
+ * have. */
 uint32_t trb_version(void);
 int32_t trb_open(uint64_t store, uint32_t room, TrB_Pass *passes, size_t npasses);
 int32_t trb_succeed(uint64_t store, uint32_t room, TrB_Pass *pass, uint64_t *needed, TrB_Pass *passes, size_t npasses);
 int32_t trb_branch(uint64_t store, uint32_t room, TrB_Pass *pass, const uint32_t *matrices, size_t nmatrices, const uint32_t *vectors, size_t nvectors, uint64_t *needed, TrB_Pass *passes, size_t npasses);
 int32_t trb_is_full(TrB_Pass *pass, bool *out);
+int32_t trb_chain_open(uint64_t store, uint32_t room, TrB_Pass *passes, size_t npasses);
+int32_t trb_chain_generation(TrB_Pass *pass, uint64_t *out);
+int32_t trb_chain_go_on(TrB_Pass *pass, uint64_t *needed, bool *moved);
+int32_t trb_chain_seat(TrB_Pass *pass, uint32_t number, TrB_Pass *into);
 void trb_free(TrB_Pass *pass);
 int32_t trb_meet(TrB_Pass *pass, TrB_Pass *other);
 int32_t trb_adopt(TrB_Pass *pass, TrB_Pass *other);
@@ -340,21 +350,44 @@ static inline uint32_t TrB_version(void)
     return trb_version();
 }
 
-/* For TrB_open, TrB_succeed and TrB_branch: ends the opening of a store with this number, of which this is the status.
- * Where it was refused, the passes are as before, and the number is given back: after TrB_INVALID_VALUE
- * nothing was done, and else all were none before. */
-static inline TrB_Info trb_end_opening(void **number, int32_t status, TrB_Pass *passes, size_t npasses)
+/* For TrB_open and the like: a number that no other store has, or 0 where memory is refused. It is an address in a block
+ * to which nobody writes, so that a number takes no memory. The blocks stay, each 2^20 numbers and reachable. */
+static inline uint64_t trb_new_number(void)
 {
-    static void **latest = NULL; /* leads to the numbers of all stores, each to the one before */
-    if (status != TrB_SUCCESS) {
-        for (size_t k = 0; status != TrB_INVALID_VALUE && k < npasses; k++) {
+    static const uintptr_t size = (uintptr_t)1 << 20;
+    static uintptr_t next = 0;   /* a multiple of `size` where the numbers of a block are used up */
+    static void **latest = NULL; /* leads to all blocks, each to the one before */
+    uintptr_t number = __atomic_load_n(&next, __ATOMIC_RELAXED);
+    for (;;) {
+        if (number % size != 0) {
+            if (__atomic_compare_exchange_n(&next, &number, number + 1, false, __ATOMIC_RELAXED, __ATOMIC_RELAXED)) {
+                return number;
+            }
+            continue;
+        }
+        void **block = (void **)malloc(2 * size);
+        if (block == NULL) {
+            return 0;
+        }
+        uintptr_t first = ((uintptr_t)block / size + 1) * size + 1;
+        if (__atomic_compare_exchange_n(&next, &number, first + 1, false, __ATOMIC_RELAXED, __ATOMIC_RELAXED)) {
+            *block = __atomic_exchange_n(&latest, block, __ATOMIC_RELAXED);
+            return first;
+        }
+        free(block);
+    }
+}
+
+/* For TrB_open and the like: ends an opening, of which this is the status. Where it was refused, the passes are as
+ * before: after TrB_INVALID_VALUE nothing was done, and else all were none before. */
+static inline TrB_Info trb_end_opening(int32_t status, TrB_Pass *passes, size_t npasses)
+{
+    if (status != TrB_SUCCESS && status != TrB_INVALID_VALUE) {
+        for (size_t k = 0; k < npasses; k++) {
             trb_free(&passes[k]);
         }
-        free(number);
-        return (TrB_Info)status;
     }
-    *number = __atomic_exchange_n(&latest, number, __ATOMIC_RELAXED);
-    return TrB_SUCCESS;
+    return (TrB_Info)status;
 }
 
 /* Opens a store with room for `room` changes, and gives its passes: passes[k] has the number k. Each
@@ -362,23 +395,81 @@ static inline TrB_Info trb_end_opening(void **number, int32_t status, TrB_Pass *
  * at most 1,048,576. A pass reserves some 200 bytes for each change that there is room for; they are
  * used when changes come.
  *
- * The store gets a number, by which passes of two stores are told apart: the address of a few bytes
- * from malloc. They are never given back, since nothing tells when the last pass is freed. They stay
- * reachable, so leak checkers do not complain. Where the opening is refused, they are given back.
+ * The store gets a number, by which passes of two stores are told apart: an address in a block from malloc,
+ * to which nobody writes, and which is for a million stores. Blocks are never given back, since nothing
+ * tells when the last pass is freed. They stay reachable, so leak checkers do not complain.
  * Refused: TrB_INVALID_VALUE where room or npasses is out of its range, or one of the passes is open.
  * All of them are then as before. */
 static inline TrB_Info TrB_open(uint32_t room, TrB_Pass *passes, size_t npasses)
 {
-    void **number = (void **)malloc(sizeof *number);
-    if (number == NULL) {
+    uint64_t number = trb_new_number();
+    if (number == 0) {
         return TrB_OUT_OF_MEMORY;
     }
-    int32_t status = trb_open((uint64_t)(uintptr_t)number, room, passes, npasses);
-    return trb_end_opening(number, status, passes, npasses);
+    int32_t status = trb_open(number, room, passes, npasses);
+    return trb_end_opening(status, passes, npasses);
+}
+
+/* Opens a chain: a store without an end, and gives its passes as TrB_open does. `room` is that of one
+ * generation, from 1 to 65,536. Where it is used up, the pass that finds it so makes the next generation of
+ * all that was entered, and the others follow at their next call.
+ *
+ *   goes over   Every object, with its number, for good. A number is never used twice.
+ *   anew        As in a successor: no object has a status, nothing is settled, and the counts of
+ *               TrB_facts are those of the generation in which the pass sits.
+ *   memory      A generation is freed when its last pass has left it: so let an idle pass make a read now
+ *               and then, or free it. TrB_chain_seat gives its place to another.
+ *   room        Each generation has `room` beside the changes that make the objects. Both together are at
+ *               most 65,536, and times the passes at most 1,048,576. 4,096 is a good one for few passes.
+ *
+ * All calls are made as with any store, but for TrB_succeed, which has nothing to do here.
+ * Refused: TrB_INVALID_VALUE where room or npasses is out of its range, or one of the passes is open.
+ * All of them are then as before. */
+static inline TrB_Info TrB_chain_open(uint32_t room, TrB_Pass *passes, size_t npasses)
+{
+    uint64_t number = trb_new_number();
+    if (number == 0) {
+        return TrB_OUT_OF_MEMORY;
+    }
+    int32_t status = trb_chain_open(number, room, passes, npasses);
+    return trb_end_opening(status, passes, npasses);
+}
+
+/* Tells the number of the generation in which a pass of a chain sits, from 0. It learns nothing new.
+ * Takes no room.
+ * Refused: TrB_INVALID_VALUE where the pass is of no chain. */
+static inline TrB_Info TrB_chain_generation(TrB_Pass *pass, uint64_t *generation)
+{
+    return (TrB_Info)trb_chain_generation(pass, generation);
+}
+
+/* Takes a pass of a chain to a later generation, where its own is used up and it knows every change of
+ * that, and makes the next one where there is none. *moved tells whether it moved. Each call does so by
+ * itself: this is for who was answered TrB_ORDER_FULL and asks why, and for who makes the next generation
+ * ahead of the call that needs it. Takes no room.
+ * Answers TrB_NO_VALUE, and does not write *moved, where others make the next generation: try again.
+ * Refused: TrB_INVALID_VALUE where the pass is of no chain; TrB_INSUFFICIENT_SPACE where no history has the
+ * room of a generation beside the changes that make the objects, and *needed tells how many these are: a
+ * branch with less room goes on. It is not written else. TrB_ORDER_FULL where all numbers of objects were
+ * given. Where it is refused, the pass sits where it sat, and may try again. */
+static inline TrB_Info TrB_chain_go_on(TrB_Pass *pass, uint64_t *needed, bool *moved)
+{
+    return (TrB_Info)trb_chain_go_on(pass, needed, moved);
+}
+
+/* Gives the pass of a chain with this number anew, in *into, which is none before: that of a thread which
+ * has freed its own. `pass` is any other pass of the chain. Takes no room.
+ * Answers TrB_NO_VALUE, and *into stays none, where the pass is not to be had: there is none of this
+ * number, or it is not freed, or it was freed in a generation that others have left, and they have not left
+ * the next one. Refused: TrB_INVALID_VALUE where `pass` is of no chain, or *into is open. */
+static inline TrB_Info TrB_chain_seat(TrB_Pass *pass, uint32_t number, TrB_Pass *into)
+{
+    return pass == into ? TrB_INVALID_VALUE : (TrB_Info)trb_chain_seat(pass, number, into);
 }
 
 /* Tells in *full whether the room is used up and `pass` knows every change. Then no pass of the store
- * will ever know another one. It learns nothing new: let `pass` meet the others before. Takes no room. */
+ * will ever know another one. It learns nothing new: let `pass` meet the others before. Of a chain it tells
+ * whether the pass is at the end of its generation and was refused the next one. Takes no room. */
 static inline TrB_Info TrB_is_full(TrB_Pass *pass, bool *full)
 {
     return (TrB_Info)trb_is_full(pass, full);
@@ -393,7 +484,7 @@ static inline TrB_Info TrB_is_full(TrB_Pass *pass, bool *full)
  *   anew        The history begins with the changes that make these objects, one or two for each number
  *               that was ever given. The new passes know them, and share what is evaluated of them. No
  *               object has a status, and nothing is settled.
- *   room        The successor has room for `room` changes. Those that make its objects take none of them.
+ *   room        The successor has room for `room` changes beside those that make its objects.
  *   stays       The old store: its passes are valid, and are freed by their owner. Objects are shared
  *               with it until one of the two changes one.
  *
@@ -406,19 +497,20 @@ static inline TrB_Info TrB_is_full(TrB_Pass *pass, bool *full)
  *     TrB_free(&old[0]);                                    // the old store ends with its last pass
  *     TrB_free(&old[1]);
  *
- * Refused: TrB_INVALID_VALUE where room or npasses is out of its range, or one of `passes` is open;
- * TrB_INSUFFICIENT_SPACE where no store has room for the changes that make the objects and for `room`
- * more, and *needed tells how many make the objects. It is not written else. Where it is refused, all of
- * `passes` are as before, and so is the old store. */
+ * Refused: TrB_INVALID_VALUE where room or npasses is out of its range, one of `passes` is open, or `pass`
+ * is of a chain, which goes on by itself; TrB_INSUFFICIENT_SPACE where no store has room for the changes
+ * that make the objects and for `room` more, and *needed tells how many make the objects. It is not written
+ * else. TrB_OUT_OF_MEMORY where memory is refused to an object, too: free what is too large to make. Where
+ * it is refused, all of `passes` are as before, and so is the old store. */
 static inline TrB_Info TrB_succeed(TrB_Pass *pass, uint64_t *needed, uint32_t room, TrB_Pass *passes,
                                    size_t npasses)
 {
-    void **number = (void **)malloc(sizeof *number);
-    if (number == NULL) {
+    uint64_t number = trb_new_number();
+    if (number == 0) {
         return TrB_OUT_OF_MEMORY;
     }
-    int32_t status = trb_succeed((uint64_t)(uintptr_t)number, room, pass, needed, passes, npasses);
-    return trb_end_opening(number, status, passes, npasses);
+    int32_t status = trb_succeed(number, room, pass, needed, passes, npasses);
+    return trb_end_opening(status, passes, npasses);
 }
 
 /* Opens a branch: a store of its own that begins with chosen objects of this one, all of them as `pass`
@@ -448,14 +540,14 @@ static inline TrB_Info TrB_branch(TrB_Pass *pass, uint64_t *needed, const TrB_Ma
                                   uint32_t room, TrB_Pass *passes, size_t npasses)
 {
     static const uint32_t none = 0; /* where there is no array */
-    void **number = (void **)malloc(sizeof *number);
-    if (number == NULL) {
+    uint64_t number = trb_new_number();
+    if (number == 0) {
         return TrB_OUT_OF_MEMORY;
     }
-    int32_t status = trb_branch((uint64_t)(uintptr_t)number, room, pass,
+    int32_t status = trb_branch(number, room, pass,
                                 nmatrices == 0 ? &none : &matrices->id, nmatrices,
                                 nvectors == 0 ? &none : &vectors->id, nvectors, needed, passes, npasses);
-    return trb_end_opening(number, status, passes, npasses);
+    return trb_end_opening(status, passes, npasses);
 }
 
 /* Ends the pass, which is none after. What it entered stays in the store. With the last pass of a
@@ -1057,7 +1149,7 @@ static inline const char *TrB_hint(TrB_Info info)
     case TrB_DIMENSION_MISMATCH: return "Give objects whose dimensions fit together.";
     case TrB_OUTPUT_NOT_EMPTY: return "Clear the object, or build a new one.";
     case TrB_INDEX_OUT_OF_BOUNDS: return "Give a list whose indices are below the dimensions.";
-    case TrB_ORDER_FULL: return "Open its successor, which takes further changes; this one still answers reads.";
+    case TrB_ORDER_FULL: return "Open its successor, or a chain, which goes on by itself; of a chain ask TrB_chain_go_on. Reads go on.";
     case TrB_OUT_OF_MEMORY: return "Nothing has changed: free memory, and make the call again.";
     case TrB_PANIC: return "The call did nothing: make it again.";
     case TrB_INSUFFICIENT_SPACE: return "Give arrays with a place for each entry, or more room; the count is told.";

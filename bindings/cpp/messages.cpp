@@ -102,7 +102,7 @@ void others(grb::Pass &pass)
     refused(grb::Status::uninitialized_object, [&] { other.ewise_add(freed, grb::lor, freed, freed); });
     (void)other.new_vector<bool>(3);
     // The freed vector takes one or two changes in the successor, and the other one takes one.
-    refused(grb::Status::insufficient_space, [&] { (void)other.succeed(65536, 1); });
+    refused(grb::Status::insufficient_space, [&] { (void)other.succeed(grb::most_room, 1); });
     grb::Pass moved = std::move(other);
     refused(grb::Status::uninitialized_object, [&] { (void)other.new_vector<bool>(2); });
     refused(grb::Status::uninitialized_object, [&] { pass.meet(other); });

@@ -33,11 +33,11 @@ Passes take_all(grb::Store store)
     return passes;
 }
 
-/// How many changes make the objects, as the refusal tells of a successor whose room no store has beside them.
+/// How many changes make the objects, as a successor that is to have the most room beside them tells.
 std::uint64_t changes_needed(grb::Pass &pass)
 {
     try {
-        static_cast<void>(pass.succeed(65536, 1));
+        static_cast<void>(pass.succeed(grb::most_room, 1));
     } catch (const grb::RoomTooSmall &refusal) {
         return refusal.needed();
     }

@@ -4,8 +4,8 @@
 // share it. The top of trowelheath.h has the words: store, history, room, pass, object, entry, change,
 // read, refusal; and what threads see. Link as that says.
 //
-//     trowelheath::Store store(1000, 1);                      // room for 1,000 changes, one pass
-//     trowelheath::Pass pass = store.take();
+//     trowelheath::Chain chain(1);                            // a store without an end, one pass
+//     trowelheath::Pass pass = chain.take();
 //     auto a = pass.new_matrix<std::uint64_t>(4, 5);          // 4 rows, 5 columns, no entries
 //     pass.set(a, 0, 1, 7);                                   // 7 at row 0, column 1
 //     std::optional<std::uint64_t> x = pass.get(a, 0, 1);     // 7
@@ -53,6 +53,13 @@ inline constexpr std::uint32_t most_room = 65536;
 
 /// The most passes of a store. Room times passes is at most 1,048,576.
 inline constexpr std::uint32_t most_passes = 256;
+
+/// The room of each generation of a chain with so many passes, where none is given: at most 4,096, and less with more
+/// than 64 passes, so that room for objects is left.
+[[nodiscard]] constexpr std::uint32_t default_room(std::uint32_t passes) noexcept
+{
+    return passes <= 64 ? 4096 : passes <= most_passes ? 262144 / passes : 1;
+}
 
 // ---- Statuses ------------------------------------------------------------------------------------------
 
@@ -138,19 +145,20 @@ inline unsigned long long digits(std::uint64_t number) noexcept
 
 } // namespace detail
 
-/// The refusal of a successor or a branch whose room no store has beside its objects, with Status::insufficient_space.
+/// The refusal of a store that goes on from another one: no store has so much room beside the changes that make the
+/// objects. Its status is Status::insufficient_space.
 class RoomTooSmall : public Refusal {
 public:
     /// The refusal where so many changes make the objects. Takes no memory.
     explicit RoomTooSmall(std::uint64_t needed) noexcept
         : Refusal(Status::insufficient_space,
-                  detail::text("the objects of the new store take %llu changes: give room for these and more",
+                  detail::text("%llu changes make the objects: with the room beside them they are more than a store takes",
                                detail::digits(needed))),
           needed_(needed)
     {
     }
 
-    /// How many changes make the objects. Room and these have to be at most most_room, and times the passes at most
+    /// How many changes make the objects. The room and these are at most most_room, and times the passes at most
     /// 1,048,576.
     [[nodiscard]] std::uint64_t needed() const noexcept { return needed_; }
 
@@ -555,6 +563,7 @@ template <typename T, typename U>
 
 // ---- Passes and stores ---------------------------------------------------------------------------------
 
+class Chain;
 class Store;
 
 /// One thread's view of a store. Each call on the store is a method of a pass. One thread at a time uses it.
@@ -628,6 +637,42 @@ public:
         return facts;
     }
 
+    /// The number of the generation of the chain in which the pass sits, from 0, as TrB_chain_generation.
+    [[nodiscard]] std::uint64_t generation()
+    {
+        std::uint64_t generation = 0;
+        detail::check(TrB_chain_generation(&raw_, &generation), told_of_chain);
+        return generation;
+    }
+
+    /// Goes to a later generation of the chain, where its own is used up and it knows every change of that, and makes
+    /// the next one where there is none; whether it moved. Each call does so by itself: this is for who was answered
+    /// Status::order_full, and asks why. It does not where others make the next one: then try again. As
+    /// TrB_chain_go_on. Throws RoomTooSmall where no history has the room of a generation beside the changes that make
+    /// the objects.
+    bool go_on()
+    {
+        std::uint64_t needed = 0;
+        bool moved = false;
+        const std::int32_t status = TrB_chain_go_on(&raw_, &needed, &moved);
+        if (status == TrB_INSUFFICIENT_SPACE) {
+            throw RoomTooSmall(needed);
+        }
+        detail::check(status, told_of_chain);
+        return moved;
+    }
+
+    /// The pass of the chain with this number anew, which has ended; nothing where it is not to be had. As
+    /// TrB_chain_seat.
+    [[nodiscard]] std::optional<Pass> seat(std::uint32_t number)
+    {
+        TrB_Pass raw = TRB_PASS_INIT;
+        if (detail::check(TrB_chain_seat(&raw_, number, &raw), told_of_chain) == Status::no_value) {
+            return std::nullopt;
+        }
+        return Pass(raw, number_);
+    }
+
     /// Whether the room is used up and the pass knows every change, as TrB_is_full.
     [[nodiscard]] bool is_full()
     {
@@ -638,7 +683,7 @@ public:
 
     /// Opens the successor of the store, which begins with what this pass knows: each object of this store means
     /// the same there. As TrB_succeed, with room and passes as of Store. Throws RoomTooSmall where no store has room for
-    /// the changes that make the objects and for `room` more.
+    /// the changes that make the objects and for `room` more. A chain has none, since it goes on by itself.
     [[nodiscard]] Store succeed(std::uint32_t room, std::uint32_t passes);
 
     /// Opens a branch: a store of its own that begins with these objects, all of them as this pass knows them, at one
@@ -1483,6 +1528,11 @@ private:
         }
     }
 
+    [[nodiscard]] static Refusal::Text told_of_chain(Status code) noexcept
+    {
+        return code == Status::invalid_value ? detail::text("the pass is of no chain") : Refusal::Text{};
+    }
+
     // Its address is the number of the store. It is given back with the last pass, after the store.
     std::shared_ptr<const char> number_;
     TrB_Pass raw_;
@@ -1519,6 +1569,7 @@ public:
     [[nodiscard]] std::size_t passes_left() const noexcept { return passes_.size() - next_; }
 
 private:
+    friend class Chain;
     friend class Pass;
 
     Store() = default;
@@ -1554,6 +1605,39 @@ private:
     std::size_t next_ = 0;
 };
 
+/// Opens a chain, and hands out its passes: a store without an end. Where the room of one generation is used up, the
+/// next one goes on by itself, with all objects and their numbers. It lives as long as one of its passes. All calls are
+/// made as with a Store.
+///
+///     Chain chain(2);
+///     Pass own = chain.take(), other = chain.take();
+class Chain {
+public:
+    /// Opens a chain with this many passes, from 1 to most_passes. Throws as Store.
+    explicit Chain(std::uint32_t passes) : Chain(default_room(passes), passes) {}
+
+    /// The same with generations of so much room, from 1 to most_room. Each has it beside the changes that make the
+    /// objects: both together are at most most_room, and times the passes at most 1,048,576.
+    Chain(std::uint32_t room, std::uint32_t passes)
+    {
+        detail::check_version();
+        detail::check(seats_.open(passes, [room](std::uint64_t number, TrB_Pass *opened, std::size_t count) {
+                          return trb_chain_open(number, room, opened, count);
+                      }),
+                      [&](Status code) { return Store::told_of_opening(code, room, passes); });
+    }
+
+    /// The next pass that was not handed out; the first is that of number 0. Throws std::out_of_range where all
+    /// were handed out.
+    [[nodiscard]] Pass take() { return seats_.take(); }
+
+    /// How many passes were not handed out.
+    [[nodiscard]] std::size_t passes_left() const noexcept { return seats_.passes_left(); }
+
+private:
+    Store seats_;
+};
+
 inline Store Pass::succeed(std::uint32_t room, std::uint32_t passes)
 {
     Store next;
@@ -1566,6 +1650,10 @@ inline Store Pass::succeed(std::uint32_t room, std::uint32_t passes)
         throw RoomTooSmall(needed);
     }
     detail::check(status, [&](Status code) {
+        std::uint64_t generation = 0;
+        if (code == Status::invalid_value && TrB_chain_generation(&raw_, &generation) == TrB_SUCCESS) {
+            return detail::text("a chain goes on by itself, and has no successor");
+        }
         return is_open() ? Store::told_of_opening(code, room, passes) : detail::text("the pass was moved from");
     });
     return next;

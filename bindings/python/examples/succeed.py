@@ -5,7 +5,7 @@ from __future__ import annotations
 from typing import Dict, Tuple
 
 import drawn
-from trowelheath import Matrix, OrderFull, RoomTooSmall, Store, UninitializedObject
+from trowelheath import MOST_ROOM, Matrix, OrderFull, RoomTooSmall, Store, UninitializedObject
 
 VERTICES = 1000
 EDGES = 500
@@ -14,9 +14,9 @@ SEED = 8
 
 
 def calls_needed(store: Store) -> int:
-    """How many calls make the objects of the store, as the refusal tells of room that no store has beside them."""
+    """How many calls make the objects of the store, as a successor with the most room beside them tells."""
     try:
-        store.main.succeed(room=65_536).close()
+        store.main.succeed(room=MOST_ROOM).close()
     except RoomTooSmall as refusal:
         return refusal.needed
     raise SystemExit("no store has so much room")

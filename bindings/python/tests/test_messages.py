@@ -225,7 +225,7 @@ class Messages(StoreCase):
                     (detail, v.clear),
                 ],
             )
-            hint = "Open its successor, which takes further changes; this one still answers reads."
+            hint = "Open its successor, or a store without a room, which goes on by itself. Reads go on."
             self.assertEqual(OrderFull.hint, hint)
 
     def test_what_is_said_makes_no_call(self) -> None:

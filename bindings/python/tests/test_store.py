@@ -31,9 +31,10 @@ class Opening(unittest.TestCase):
             self.assertIs(store.main, store.passes[0])
             self.assertEqual(store.room, 10)
 
-    def test_by_default_there_is_room_for_4096_calls_and_one_pass(self) -> None:
+    def test_by_default_it_has_one_pass_and_no_end(self) -> None:
         with Store() as store:
-            self.assertEqual((store.room, len(store.passes)), (4096, 1))
+            self.assertEqual((store.room, len(store.passes)), (None, 1))
+            self.assertEqual(store.main.facts().room_left, 4096)
 
     def test_the_smallest_and_the_largest_stores_open(self) -> None:
         largest = MOST_SEATS // MOST_PASSES

@@ -19,8 +19,8 @@ fn go_on(passes: &mut [Pass], graph: Matrix<u64>) -> Result<(Vec<Pass>, Matrix<u
     assert!(own.is_full()?);
     let edges = own.nvals(graph)?;
 
-    // Room that no store has beside these changes is refused, and tells how many they are.
-    match own.succeed(65_536, PASSES) {
+    // The most room beside the calls that make the objects is refused, and tells how many these are.
+    match own.succeed(Store::MOST_ROOM, PASSES) {
         Err(Error::RoomTooSmall { needed }) => {
             println!("full with {edges} edges; a successor begins with {needed} changes")
         }

@@ -13,8 +13,9 @@ use std::fmt;
 pub enum Error {
     /// An object of the call, its mask too, was freed (`GrB_UNINITIALIZED_OBJECT`).
     UninitializedObject,
-    /// A dimension is not from 1 to 4,294,967,295; the lists of a build are not of one length; or an opening asks for more than the
-    /// [limits](crate::Store) of a store, or for none (`GrB_INVALID_VALUE`).
+    /// A dimension is not from 1 to 4,294,967,295; the lists of a build are not of one length; an opening asks for more than the
+    /// [limits](crate::Store) of a store, or for none; or a pass of a chain is asked for a successor, one of another store for its generation
+    /// (`GrB_INVALID_VALUE`).
     InvalidValue,
     /// An index of a set, remove or get is not below the dimension (`GrB_INVALID_INDEX`).
     InvalidIndex,
@@ -26,7 +27,8 @@ pub enum Error {
     OutputNotEmpty,
     /// An index in the list of a build is not below the dimension; nothing of the list was stored (`GrB_INDEX_OUT_OF_BOUNDS`).
     IndexOutOfBounds,
-    /// The room of the store is used up, and the call was refused for nothing else. Reads go on.
+    /// The room of the store is used up, and the call was refused for nothing else. Reads go on. A chain refuses a call so where it has no
+    /// next generation: [`Pass::go_on`](crate::Pass::go_on) tells why.
     OrderFull,
     /// Memory was refused (`GrB_OUT_OF_MEMORY`).
     OutOfMemory,
@@ -35,7 +37,8 @@ pub enum Error {
     /// Arrays are too short for the entries of an object (`GrB_INSUFFICIENT_SPACE`). [`Pass::entries`](crate::Pass::entries) makes longer ones, so
     /// it does not answer this.
     InsufficientSpace,
-    /// The room of a successor or a branch, and the calls that make its objects, are more than any store takes (`GrB_INSUFFICIENT_SPACE`).
+    /// No store has so much room beside the calls that make the objects (`GrB_INSUFFICIENT_SPACE`): of a successor, a branch, or a chain's next
+    /// generation.
     RoomTooSmall {
         /// How many calls make the objects.
         needed: u64,
@@ -124,7 +127,9 @@ impl Error {
             Error::DimensionMismatch => "Give objects whose dimensions fit together.",
             Error::OutputNotEmpty => "Clear the object, or build a new one.",
             Error::IndexOutOfBounds => "Give a list whose indices are below the dimensions.",
-            Error::OrderFull => "Open its successor, which takes further changes; this one still answers reads.",
+            Error::OrderFull => {
+                "Open its successor, or a chain, which goes on by itself; of a chain ask go_on why. Reads go on."
+            }
             Error::OutOfMemory => "Nothing has changed: free memory, and make the call again.",
             Error::Panic => "The call did nothing: make it again.",
             Error::InsufficientSpace => "Give arrays with a place for each entry.",

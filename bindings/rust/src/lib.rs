@@ -10,10 +10,10 @@
 //! # First steps
 //!
 //! ```no_run
-//! use trowelheath::{Descriptor, Error, Monoid, Semiring, Store};
+//! use trowelheath::{Chain, Descriptor, Error, Monoid, Semiring};
 //!
 //! fn main() -> Result<(), Error> {
-//!     let [mut pass] = Store::open_array(100)?;
+//!     let [mut pass] = Chain::open_array()?;
 //!
 //!     let v = pass.new_vector::<u64>(10)?;
 //!     pass.set(v, 0, 7)?;
@@ -39,14 +39,14 @@
 //!
 //! # Threads
 //!
-//! A store is opened with all its passes. Move one to each thread; handles go along.
+//! A chain, or a [`Store`] of bounded room, is opened with all its passes. Move one to each thread; handles go along.
 //!
 //! ```no_run
 //! use std::thread;
-//! use trowelheath::{Error, Store};
+//! use trowelheath::{Chain, Error};
 //!
 //! fn main() -> Result<(), Error> {
-//!     let [mut main, mut first, mut second] = Store::open_array(100)?;
+//!     let [mut main, mut first, mut second] = Chain::open_array()?;
 //!     let v = main.new_vector::<u64>(10)?;
 //!     thread::scope(|scope| {
 //!         scope.spawn(move || first.set(v, 0, 5));
@@ -65,7 +65,8 @@
 //! # Limits
 //!
 //! - A store takes at most 65,536 calls that change it, in its whole life. A build or an operation is one call. When the store is full,
-//!   reads go on, and [`Pass::succeed`] opens a store that goes on from there. What an analysis makes in a [branch](Pass::branch) takes none.
+//!   reads go on, and [`Pass::succeed`] opens a store that goes on from there. A [`Chain`] goes on by itself, without an end. What an
+//!   analysis makes in a [branch](Pass::branch) takes no room.
 //! - At most 256 passes share it. Calls times passes are at most 1,048,576.
 //! - Values are truth values and whole numbers below 2^64. Sums, differences and products of numbers are modulo 2^64.
 //!
@@ -88,6 +89,7 @@
 #![warn(clippy::undocumented_unsafe_blocks)]
 
 pub mod algorithms;
+mod chain;
 mod chosen;
 mod descriptor;
 mod element;
@@ -106,6 +108,7 @@ mod store;
 mod sys;
 mod vector;
 
+pub use chain::Chain;
 pub use chosen::Chosen;
 pub use descriptor::{Descriptor, Wait};
 pub use element::Element;

@@ -25,7 +25,8 @@ use std::sync::Arc;
 /// is done by the first read that needs it, or by a [`wait`](Pass::wait). Beside its own refusals, each change can be refused for
 ///
 /// - [`Error::OrderFull`]: the room is used up. A store that is full stays so, and reads go on. Go on in its successor, which
-///   [`succeed`](Pass::succeed) opens.
+///   [`succeed`](Pass::succeed) opens; or use a [`Chain`](crate::Chain) from the start, which goes on by itself, and refuses a change so only
+///   where it has no next generation: [`go_on`](Pass::go_on) tells why.
 /// - [`Error::OutOfMemory`]: memory was refused to the call's record. Nothing has changed.
 /// - [`Error::Panic`]: the call's record could not be kept, or an earlier one of another pass was not shown. Make the call again; if it
 ///   comes again, stop using the store.
@@ -93,6 +94,16 @@ impl Pass {
             refused: None,
             _byte: byte,
         }
+    }
+
+    /// Another pass of the same store, which the library has handed out.
+    pub(crate) fn beside(&self, raw: TrbPass) -> Pass {
+        Pass::of(
+            raw,
+            self.store,
+            self.before.clone(),
+            Arc::clone(&self._byte),
+        )
     }
 
     /// The store that the pass is of.
@@ -196,7 +207,7 @@ impl Pass {
     }
 
     /// Whether the room is used up and the pass knows every change. Then no pass of the store will ever know another one. It learns nothing
-    /// by this: let it [`meet`](Pass::meet) the others before.
+    /// by this: let it [`meet`](Pass::meet) the others before. Of a chain, whether the pass was refused the next generation.
     ///
     /// # Errors
     ///
@@ -213,15 +224,15 @@ impl Pass {
     ///
     /// Every object goes over, with its number, and [`inherited`](Pass::inherited) gives its handle there. A freed number stays freed, and the
     /// next object is given the next number. The history begins with the calls that make these objects, one or two for each number that
-    /// was ever given, and takes `room` calls beside these. The new passes know them, and share what is evaluated of them. No object has a status, and nothing
-    /// is settled. This store stays as it is, and ends with its last pass; objects are shared until one of the two changes one.
+    /// was ever given, and has the room beside them. The new passes know them, and share what is evaluated of them. No object has a status,
+    /// and nothing is settled. This store stays as it is, and ends with its last pass; objects are shared until one of the two changes one.
     ///
     /// Where [`is_full`](Pass::is_full) holds, nothing is lost. Called earlier it makes a store beside this one: what is changed here later is
     /// not there. Of some objects alone [`branch`](Pass::branch) makes one.
     ///
     /// # Errors
     ///
-    /// - [`Error::InvalidValue`]: as of [`Store::open`].
+    /// - [`Error::InvalidValue`]: as of [`Store::open`]; or the pass is of a chain, which goes on by itself.
     /// - [`Error::RoomTooSmall`]: no store has room for the calls that make the objects, and for `room` more.
     /// - [`Error::OutOfMemory`]: memory was refused.
     /// - [`Error::Panic`]: the record of a call was not shown. Ask again.

@@ -15,7 +15,8 @@ use std::sync::Arc;
 /// # Limits
 ///
 /// A store is opened with its room, the number of calls that may change it in its whole life, and with all its passes. Choose the room for
-/// the whole life of the store, since it does not grow; [`Pass::succeed`] opens a store that goes on from there. Reads take no room. Each
+/// the whole life of the store, since it does not grow; [`Pass::succeed`] opens a store that goes on from there, and a
+/// [`Chain`](crate::Chain) goes on by itself. Reads take no room. Each
 /// pass reserves some 200 bytes for each call that there is room for; these are addresses at first, and memory is used when calls come.
 ///
 /// # Other languages in the process

@@ -2,7 +2,7 @@
 
     from trowelheath import Store
 
-    with Store(room=4096, passes=4) as store:
+    with Store(passes=4) as store:
         p = store.main
         A = p.matrix(3, 3)
         A.build([0, 1, 2], [1, 2, 0], [5, 6, 7])
@@ -10,9 +10,10 @@
         C[0, 2]         # 11
         len(C)          # 3
 
-A `Store` has a `Pass` for each thread. A pass makes each `Matrix` and `Vector`, and `using` gives it by another
-pass. Values are whole numbers from 0 to 2**64 - 1, or truth values. Indices begin at 0. A call that is refused
-does nothing and raises a `Refusal`. What no variable has any more, a store or an object, ends by itself.
+A `Store` has a `Pass` for each thread, and no end unless it is given a room. A pass makes each `Matrix` and `Vector`,
+and `using` gives it by another pass. Values are whole numbers from 0 to 2**64 - 1, or truth values. Indices begin at 0.
+A call that is refused does nothing and raises a `Refusal`. What no variable has any more, a store or an object, ends by
+itself.
 """
 
 from __future__ import annotations

@@ -53,12 +53,14 @@ def of_one(code: int, item: Object) -> Optional[str]:
     return None
 
 
-def of_full(room: int) -> str:
-    """Of a store without room."""
+def of_full(room: Optional[int]) -> str:
+    """Of a store whose room is used up, or of one without an end that has no next generation."""
+    if room is None:
+        return "the store has no next generation, and go_on() of the pass raises why"
     return f"the room of the store, {room:,} calls, is used up"
 
 
-def of_new(code: int, room: int, wanted: Tuple[int, ...]) -> Optional[str]:
+def of_new(code: int, room: Optional[int], wanted: Tuple[int, ...]) -> Optional[str]:
     """Of a call that makes an object of these dimensions, in a store of this room."""
     if code == Info.INVALID_VALUE:
         return f"{shape_text(wanted)} was asked for"

@@ -12,8 +12,9 @@ other refusals that apply, the first of this list is raised:
 - `DimensionMismatch`, a `ValueError`: the objects do not fit together.
 - `OutputNotEmpty`: a build found an entry in its object.
 - `IndexOutOfBounds`, an `IndexError`: an index in a build's list is not below the dimension.
-- `OrderFull`: the room of the store is used up, and the call was refused for nothing else.
-- `RoomTooSmall`, a `ValueError`: the calls that make the objects of a successor need more room.
+- `OrderFull`: the room of the store is used up, and the call was refused for nothing else; or a store without an end
+  has no next generation.
+- `RoomTooSmall`, a `ValueError`: no store has so much room beside the calls that make the objects.
 - `OutOfMemory`, a `MemoryError`: memory was refused.
 - `Panic`, a `RuntimeError`: the record of a call was not taken or not shown.
 """
@@ -154,11 +155,14 @@ class IndexOutOfBounds(Refusal, IndexError):
 
 
 class OrderFull(Refusal):
-    """The room of the store is used up, and the call was refused for nothing else. Reads go on."""
+    """The room of the store is used up, and the call was refused for nothing else. Reads go on.
+
+    A store without an end refuses a call so where it has no next generation: `Pass.go_on` raises why.
+    """
 
     code = Info.ORDER_FULL
     name = "OrderFull"
-    hint = "Open its successor, which takes further changes; this one still answers reads."
+    hint = "Open its successor, or a store without a room, which goes on by itself. Reads go on."
 
 
 class OutOfMemory(Refusal, MemoryError):
@@ -186,10 +190,11 @@ class InsufficientSpace(Refusal):
 
 
 class RoomTooSmall(Refusal, ValueError):
-    """The room of a successor or a branch, and the calls that make its objects, are more than any store takes.
+    """No successor, branch or next generation has so much room beside the calls that make the objects.
 
     Attributes:
-        needed: how many calls make the objects.
+        needed: how many calls make the objects. The room and these are at most 65,536, and times the passes at most
+            1,048,576.
     """
 
     code = Info.INSUFFICIENT_SPACE

@@ -36,6 +36,8 @@ _RANGES = (
     f"and a product of both up to {MOST_SEATS:,}."
 )
 
+_BOUNDED = "A store with a room has no generations; open one without."
+
 # What opens a store: it is given a number, and a handle for each pass, and answers the status.
 _Opening = Callable[[int, "ctypes.Array[PassHandle]"], int]
 
@@ -66,13 +68,14 @@ class _Core:
         self,
         library: ctypes.CDLL,
         handles: ctypes.Array[PassHandle],
-        room: int,
+        room: Optional[int],
         number: int,
         before: Optional[_Core],
         chosen: Optional[_Chosen],
     ) -> None:
         self.library = library
         self.handles = handles
+        # None where the store has no end.
         self.room = room
         self.number = number
         # Of two stores of this process it is never the same.
@@ -217,7 +220,7 @@ class Facts(NamedTuple):
     """How many calls it knew at its last wait with "materialize"; 0 before the first. While it knows no more,
     none of its reads is refused for lack of memory."""
     room_left: int
-    """How many more calls the store takes, as far as the pass has learnt."""
+    """How many more calls the store takes, as far as the pass has learnt; one without an end, its generation."""
     steps: int
     """How many atomic steps its last call made on the order."""
     made: int
@@ -424,6 +427,7 @@ class Pass:
         """Whether the room is used up and the pass knows every change.
 
         Then no pass of the store will ever know another one. It looks for no news: let it `meet` the others before.
+        Of a store without an end, whether the pass was refused the next generation.
 
         Raises:
             StoreClosed: the store is closed.
@@ -431,6 +435,41 @@ class Pass:
         out = ctypes.c_bool()
         self._call("trb_is_full", ctypes.byref(out))
         return out.value
+
+    def generation(self) -> int:
+        """The number of the generation of a store without an end in which the pass sits, from 0. It looks for no news.
+
+        Raises:
+            InvalidValue: the store has a room, and so no generations.
+            StoreClosed: the store is closed.
+        """
+        out = ctypes.c_uint64()
+        self._call("trb_chain_generation", ctypes.byref(out), invalid=_BOUNDED)
+        return out.value
+
+    def go_on(self) -> bool:
+        """Goes to a later generation of a store without an end, where the pass knows all of a full one.
+
+        Where there is none, it makes the next one. Each call does so by itself: this is for who was refused by
+        `OrderFull`, and asks why. Where it is refused, the pass may try again.
+
+        Returns:
+            Whether it moved.
+
+        Raises:
+            InvalidValue: the store has a room, and so no generations.
+            RoomTooSmall: no history has the room of a generation beside the calls that make the objects. A `branch`
+                with less room goes on.
+            OutOfMemory: memory was refused.
+            Panic: the record of a call was not taken; call again.
+            StoreClosed: the store is closed.
+        """
+        needed, moved = ctypes.c_uint64(), ctypes.c_bool()
+        try:
+            self._call("trb_chain_go_on", ctypes.byref(needed), ctypes.byref(moved), invalid=_BOUNDED)
+        except InsufficientSpace:
+            raise RoomTooSmall(needed.value) from None
+        return moved.value
 
     def succeed(self, room: SupportsIndex = 4096, passes: SupportsIndex = 1) -> Store:
         """Opens the successor of the store: a store of its own that begins with what this pass knows.
@@ -449,13 +488,17 @@ class Pass:
             passes: how many passes it has, as of `Store`.
 
         Raises:
-            InvalidValue: the room or the number of passes is out of its range, or their product is too large.
+            InvalidValue: the room or the number of passes is out of its range, or their product is too large; or the
+                store has no end, and so no successor.
             RoomTooSmall: no store has room for the calls that make the objects, and for `room` more.
             OutOfMemory: memory was refused.
             Panic: the record of a call was not shown; call again.
             StoreClosed: the store is closed.
         """
         calls, count = _within_ranges(room, passes)
+        if self._core.room is None:
+            self._require_open()
+            raise InvalidValue("A store without an end goes on by itself; of a part of it open a branch.")
         self._free_gone()
         needed = ctypes.c_uint64()
 
@@ -740,25 +783,29 @@ class Temporary:
 class Store:
     """A store of sparse matrices and vectors that threads share without waiting for each other.
 
-    It has passes, one for each thread, and room for a number of calls that change it. Use it in a `with`
-    statement, or call `close`:
+    It has passes, one for each thread. Use it in a `with` statement, or call `close`:
 
-        with Store(room=4096, passes=2) as store:
+        with Store(passes=2) as store:
             p, q = store.passes
             A = p.matrix(3, 3)
             A[0, 1] = 5
             A.using(q)[0, 1]  # 5
 
+    Without a room it has no end: it takes calls for as long as what it holds fits. With a room it takes so many calls
+    that change it, and no more.
+
     A store that is not closed ends as soon as nothing refers to it, its passes and its objects any more. It belongs
     to the process that opened it: in a process that was forked from that one, each call raises `StoreClosed`.
     """
 
-    def __init__(self, room: SupportsIndex = 4096, passes: SupportsIndex = 1) -> None:
+    def __init__(self, room: Optional[SupportsIndex] = None, passes: SupportsIndex = 1) -> None:
         """Opens a store.
 
         Args:
             room: how many calls that change it the store takes in its whole life, from 1 to 65,536. Reads take
-                none. It does not grow.
+                none. It does not grow. Where it is left out, the store has no end: it is a chain of generations, each
+                with room for 4,096 calls beside those that make its objects, and for less with more than 64 passes.
+                Where one is full, the next goes on by itself with all objects.
             passes: how many passes it has, from 1 to 256. Room times passes is at most 1,048,576.
 
         Raises:
@@ -766,8 +813,12 @@ class Store:
             OutOfMemory: memory was refused.
             LibraryNotFound: the shared library was not found.
         """
-        calls, count = _within_ranges(room, passes)
-        self._open(calls, count, lambda number, handles: load().trb_open(number, calls, handles, count), None)
+        if room is None:
+            each, count = _within_ranges(_default_room(operator.index(passes)), passes)
+            self._open(None, count, lambda number, handles: load().trb_chain_open(number, each, handles, count), None)
+        else:
+            calls, count = _within_ranges(room, passes)
+            self._open(calls, count, lambda number, handles: load().trb_open(number, calls, handles, count), None)
 
     @classmethod
     def _opened(
@@ -780,7 +831,7 @@ class Store:
 
     def _open(
         self,
-        room: int,
+        room: Optional[int],
         count: int,
         opening: _Opening,
         before: Optional[_Core],
@@ -822,8 +873,11 @@ class Store:
         return self._passes[0]
 
     @property
-    def room(self) -> int:
-        """How many calls that change it the store takes in its whole life. `Pass.facts` tells how many are left."""
+    def room(self) -> Optional[int]:
+        """How many calls that change it the store takes in its whole life; None where it has no end.
+
+        `Pass.facts` tells how many are left.
+        """
         return self._core.room
 
     @property
@@ -847,12 +901,18 @@ class Store:
 
     def __repr__(self) -> str:
         passes = "1 pass" if len(self._passes) == 1 else f"{len(self._passes)} passes"
-        return f"<Store of room {self.room}, {passes}{', closed' if self.closed else ''}>"
+        size = "without an end" if self.room is None else f"of room {self.room}"
+        return f"<Store {size}, {passes}{', closed' if self.closed else ''}>"
 
     def __reduce__(self) -> NoReturn:
         raise TypeError(
             "a Store is used where it was opened; to_lists() of an object has what can be pickled and copied"
         )
+
+
+def _default_room(passes: int) -> int:
+    """The room of each generation of a store without an end with so many passes, which leaves room for objects."""
+    return min(4096, MOST_SEATS // 4 // min(max(passes, 1), MOST_PASSES))
 
 
 def _within_ranges(room: SupportsIndex, passes: SupportsIndex) -> Tuple[int, int]:

@@ -1,5 +1,6 @@
 //! Tests of each method and of each refusal, on the library that is linked.
 
+mod chain;
 mod lists;
 mod masks;
 mod objects;

@@ -1,0 +1,173 @@
+"""Stores without an end: what goes on, what a generation tells of itself, and what is refused."""
+
+from __future__ import annotations
+
+import threading
+import unittest
+
+from trowelheath import MOST_PASSES, InvalidValue, Matrix, OrderFull, RoomTooSmall, Store, StoreClosed, Vector
+
+ROOM = 4096
+"""How many changes a generation takes where there are few passes."""
+
+
+def fill(v: Vector, times: int) -> None:
+    """So many changes, of which the last one stays."""
+    for k in range(times):
+        v[0] = k
+
+
+class GoingOn(unittest.TestCase):
+    def test_more_changes_than_a_generation_takes_are_all_there(self) -> None:
+        with Store(passes=2) as store:
+            p, q = store.passes
+            a = Matrix.from_lists(p, 3, 3, [0, 1], [1, 2], [5, 6])
+            v = p.vector(3)
+            fill(v, 3 * ROOM)
+            self.assertEqual((v[0], p.generation()), (3 * ROOM - 1, 3))
+            self.assertEqual(q.generation(), 0)
+            self.assertEqual(a.using(q).to_dict(), {(0, 1): 5, (1, 2): 6})
+            self.assertEqual((v.using(q)[0], q.generation()), (3 * ROOM - 1, 3))
+            self.assertEqual((a.number, v.number), (0, 0))
+
+    def test_numbers_of_freed_objects_are_not_given_again(self) -> None:
+        with Store() as store:
+            p = store.main
+            kept = p.vector(3)
+            fill(kept, ROOM)
+            for number in range(1, 2000):
+                made = p.vector(3)
+                self.assertEqual(made.number, number)
+                made.free()
+            self.assertEqual((kept[0], p.generation()), (ROOM - 1, 1))
+
+    def test_a_new_generation_knows_no_status_and_nothing_is_settled(self) -> None:
+        with Store() as store:
+            p = store.main
+            v = p.vector(3)
+            v.wait("materialize")
+            self.assertIsNotNone(v.last_info)
+            self.assertEqual(p.facts().settled, 1)
+            fill(v, ROOM - 1)
+            w = p.vector(3)
+            self.assertIsNone(v.last_info)
+            self.assertIsNotNone(w.last_info)
+            self.assertEqual((p.facts().settled, p.generation()), (0, 1))
+
+    def test_a_generation_has_its_room_beside_what_makes_the_objects(self) -> None:
+        with Store() as store:
+            p = store.main
+            v = p.vector(3)
+            fill(v, ROOM - 1)
+            self.assertEqual(p.facts().room_left, 0)
+            self.assertTrue(p.go_on())
+            self.assertFalse(p.go_on())
+            self.assertFalse(p.is_full())
+            self.assertEqual((p.facts().known, p.facts().room_left), (2, ROOM))
+
+    def test_threads_that_count_miss_nothing(self) -> None:
+        requests, workers = 2000, 4
+        with Store(passes=workers) as store:
+            counts = store.main.vector(workers)
+
+            def serve(own: int) -> None:
+                mine = counts.using(store.passes[own])
+                for k in range(requests):
+                    one = mine.pass_.vector(workers)
+                    one[own] = k + 1
+                    mine[own] = one[own]
+
+            threads = [threading.Thread(target=serve, args=(own,)) for own in range(workers)]
+            for thread in threads:
+                thread.start()
+            for thread in threads:
+                thread.join()
+            self.assertEqual(counts.reduce("plus"), workers * requests)
+            self.assertGreater(store.main.generation(), 4)
+
+    def test_passes_meet_in_each_generation(self) -> None:
+        with Store(passes=2) as store:
+            p, q = store.passes
+            v = p.vector(3)
+            for _ in range(3):
+                fill(v, ROOM // 2)
+                q.meet(p)
+                p.adopt(q)
+                self.assertEqual(v.using(q)[0], ROOM // 2 - 1)
+
+    def test_a_branch_has_what_is_there_and_brings_a_result_back(self) -> None:
+        with Store() as store:
+            p = store.main
+            v, squares = p.vector(3), p.vector(3)
+            fill(v, ROOM + 10)
+            with p.branch(v, room=10) as apart:
+                v[1] = 7
+                there = v.using(apart.main)
+                self.assertEqual(there.to_dict(), {0: ROOM + 9})
+                squares.build_from(there.ewise_mult(there, "times"))
+                with self.assertRaisesRegex(InvalidValue, "A store with a room has no generations"):
+                    apart.main.generation()
+            self.assertEqual(squares.to_dict(), {0: (ROOM + 9) ** 2})
+
+
+class Ending(unittest.TestCase):
+    def test_objects_that_no_generation_takes_end_it_and_go_on_in_a_branch(self) -> None:
+        # 256 passes: a generation takes 1,024 calls, and with those that make the objects at most 4,096.
+        with Store(passes=MOST_PASSES) as store:
+            p = store.main
+            kept = [p.vector(3) for _ in range(4096)]
+            self.assertFalse(p.is_full())
+            with self.assertRaisesRegex(OrderFull, "no next generation, and go_on"):
+                p.vector(3)
+            self.assertTrue(p.is_full())
+            with self.assertRaises(RoomTooSmall) as caught:
+                p.go_on()
+            self.assertEqual((caught.exception.needed, len(kept[0])), (4096, 0))
+            with p.branch(kept[0], room=10) as apart:
+                there = kept[0].using(apart.main)
+                there[0] = 5
+                self.assertEqual(there.to_dict(), {0: 5})
+
+
+class Opening(unittest.TestCase):
+    def test_each_number_of_passes_opens(self) -> None:
+        for passes, room in (1, 4096), (64, 4096), (65, 4032), (MOST_PASSES, 1024):
+            with self.subTest(passes=passes), Store(passes=passes) as store:
+                self.assertIsNone(store.room)
+                self.assertEqual([p.facts().room_left for p in store.passes], [room] * passes)
+
+    def test_ranges_are_refused_outside(self) -> None:
+        for passes in 0, -1, MOST_PASSES + 1:
+            with self.subTest(passes=passes), self.assertRaisesRegex(InvalidValue, "passes from 1 to 256"):
+                Store(passes=passes)
+
+    def test_it_says_what_it_is(self) -> None:
+        with Store() as store:
+            self.assertEqual(repr(store), "<Store without an end, 1 pass>")
+
+    def test_it_has_no_successor(self) -> None:
+        with Store() as store, self.assertRaisesRegex(InvalidValue, "goes on by itself"):
+            store.main.succeed()
+
+    def test_a_bounded_store_has_no_generations(self) -> None:
+        with Store(room=10) as store:
+            for call in store.main.generation, store.main.go_on:
+                with self.assertRaisesRegex(InvalidValue, "A store with a room has no generations"):
+                    call()
+
+    def test_stores_of_two_sorts_stand_apart(self) -> None:
+        with Store() as one, Store(room=10) as other:
+            with self.assertRaises(InvalidValue):
+                one.main.meet(other.main)
+
+    def test_a_closed_store_says_so(self) -> None:
+        store = Store()
+        p = store.main
+        store.close()
+        for call in p.generation, p.go_on, p.succeed:
+            with self.assertRaises(StoreClosed):
+                call()
+
+
+if __name__ == "__main__":
+    unittest.main()

@@ -1,0 +1,187 @@
+//! Chains: what goes on, what a generation tells of itself, and what is refused.
+
+use crate::stored;
+use std::thread;
+use trowelheath::{Chain, Chosen, Descriptor, Error, Info, Monoid, Op, Pass, Store, Vector, Wait};
+
+/// So many changes, of which the last one stays.
+fn fill(pass: &mut Pass, v: Vector<u64>, times: u64) {
+    for k in 0..times {
+        pass.set(v, 0, k).unwrap();
+    }
+}
+
+/// A chain of small generations with two passes, and a vector in it.
+fn open() -> (Pass, Pass, Vector<u64>) {
+    let mut passes = Chain::open_with(64, 2).unwrap();
+    let other = passes.pop().unwrap();
+    let mut own = passes.pop().unwrap();
+    let v = own.new_vector(3).unwrap();
+    (own, other, v)
+}
+
+#[test]
+fn more_changes_than_a_generation_takes_are_all_there() {
+    let (mut own, mut other, v) = open();
+    fill(&mut own, v, 640);
+    assert_eq!(own.generation(), Ok(10));
+    assert_eq!(other.generation(), Ok(0));
+    assert_eq!(other.get(v, 0), Ok(Some(639)));
+    assert_eq!(other.generation(), Ok(10));
+}
+
+#[test]
+fn a_generation_has_its_room_beside_what_makes_the_objects() {
+    let (mut own, _other, v) = open();
+    fill(&mut own, v, 63);
+    assert_eq!(own.facts().unwrap().room_left, 0);
+    assert_eq!(own.go_on(), Ok(true));
+    assert_eq!(own.go_on(), Ok(false));
+    assert_eq!(own.is_full(), Ok(false));
+    let facts = own.facts().unwrap();
+    assert_eq!((facts.known, facts.room_left), (2, 64));
+}
+
+#[test]
+fn a_new_generation_knows_no_status_and_nothing_is_settled() {
+    let (mut own, _other, v) = open();
+    own.wait(v, Wait::Materialize).unwrap();
+    assert_eq!(own.facts().unwrap().settled, 1);
+    assert_eq!(own.last_info(v), Ok(Some(Info::Success)));
+    fill(&mut own, v, 63);
+    let w = own.new_vector::<u64>(3).unwrap();
+    assert_eq!(own.facts().unwrap().settled, 0);
+    assert_eq!(own.last_info(v), Ok(None));
+    assert_eq!(own.last_info(w), Ok(Some(Info::Success)));
+}
+
+#[test]
+fn numbers_of_freed_objects_are_not_given_again() {
+    let (mut own, _other, v) = open();
+    let first = own.new_vector::<u64>(3).unwrap();
+    own.free(first).unwrap();
+    for _ in 0..200 {
+        let made = own.new_vector::<u64>(3).unwrap();
+        assert_eq!(own.nvals(made), Ok(0));
+        assert_eq!(own.nvals(first), Err(Error::UninitializedObject));
+        own.free(made).unwrap();
+    }
+    assert_eq!(own.nvals(v), Ok(0));
+}
+
+#[test]
+fn threads_that_count_miss_nothing() {
+    const WORKERS: usize = 4;
+    let mut passes = Chain::open_with(64, WORKERS).unwrap();
+    let counts = passes[0].new_vector::<u64>(4).unwrap();
+    thread::scope(|scope| {
+        for (own, pass) in (0..).zip(&mut passes) {
+            scope.spawn(move || {
+                for k in 1..=500 {
+                    let one = pass.new_vector::<u64>(4).unwrap();
+                    pass.set(one, own, k).unwrap();
+                    let count = pass.get(one, own).unwrap().unwrap();
+                    pass.set(counts, own, count).unwrap();
+                    pass.free(one).unwrap();
+                }
+            });
+        }
+    });
+    assert_eq!(passes[0].reduce(counts, Monoid::PLUS), Ok(2_000));
+    assert!(passes[0].generation().unwrap() > 50);
+}
+
+#[test]
+fn passes_meet_in_each_generation() {
+    let (mut own, mut other, v) = open();
+    for _ in 0..5 {
+        fill(&mut own, v, 40);
+        other.meet(&mut own).unwrap();
+        own.adopt(&mut other).unwrap();
+        assert_eq!(other.get(v, 0), Ok(Some(39)));
+    }
+}
+
+#[test]
+fn the_pass_of_a_thread_that_has_ended_is_had_anew() {
+    let (mut own, other, v) = open();
+    assert!(own.seat(1).unwrap().is_none());
+    assert!(own.seat(2).unwrap().is_none());
+    drop(other);
+    let mut again = own.seat(1).unwrap().unwrap();
+    assert!(own.seat(1).unwrap().is_none());
+    assert_eq!(again.facts().unwrap().number, 1);
+    fill(&mut again, v, 100);
+    assert_eq!(own.get(v, 0), Ok(Some(99)));
+    again.meet(&mut own).unwrap();
+}
+
+#[test]
+fn a_branch_has_what_is_there_and_brings_a_result_back() {
+    let (mut own, _other, v) = open();
+    let squares = own.new_vector::<u64>(3).unwrap();
+    fill(&mut own, v, 100);
+    let mut apart = own.branch(&Chosen::new().with(v), 10, 1).unwrap();
+    own.set(v, 1, 7).unwrap();
+    let there = apart[0].inherited(v).unwrap();
+    let made = apart[0].new_vector(3).unwrap();
+    apart[0]
+        .ewise_mult(made, Op::TIMES, there, there, Descriptor::new())
+        .unwrap();
+    own.build_from(squares, &mut apart[0], made).unwrap();
+    assert_eq!(stored(&mut own, squares), [(0, 99 * 99)]);
+}
+
+#[test]
+fn a_generation_that_no_other_follows_says_why() {
+    let [mut own] = open_largest();
+    let v = own.new_vector::<u64>(3).unwrap();
+    fill(&mut own, v, 65_535);
+    assert_eq!(own.clear(v), Err(Error::OrderFull));
+    assert_eq!(own.is_full(), Ok(true));
+    assert_eq!(own.go_on(), Err(Error::RoomTooSmall { needed: 2 }));
+    assert_eq!(own.get(v, 0), Ok(Some(65_534)));
+
+    // A branch goes on from there.
+    let mut apart = own.branch(&Chosen::new().with(v), 10, 1).unwrap();
+    let there = apart[0].inherited(v).unwrap();
+    apart[0].clear(there).unwrap();
+    assert_eq!(apart[0].nvals(there), Ok(0));
+}
+
+/// A chain of one pass whose generations have the most room.
+fn open_largest() -> [Pass; 1] {
+    let passes = Chain::open_with(Store::MOST_ROOM, 1).unwrap();
+    passes.try_into().expect("it has one pass")
+}
+
+#[test]
+fn each_number_of_passes_opens() {
+    for (passes, room) in [(1, 4_096), (64, 4_096), (65, 4_032), (256, 1_024)] {
+        let mut opened = Chain::open(passes).unwrap();
+        assert_eq!(opened.len(), passes);
+        assert_eq!(opened[passes - 1].facts().unwrap().room_left, room);
+    }
+}
+
+#[test]
+fn openings_outside_the_limits_are_refused() {
+    for (room, passes) in [(0, 1), (65_537, 1), (1, 0), (1, 257), (65_536, 17)] {
+        let refused = Chain::open_with(room, passes).map(|_| ());
+        assert_eq!(refused, Err(Error::InvalidValue), "{room} and {passes}");
+    }
+    for passes in [0, 257] {
+        assert_eq!(Chain::open(passes).map(|_| ()), Err(Error::InvalidValue));
+    }
+}
+
+#[test]
+fn a_store_is_no_chain_and_a_chain_has_no_successor() {
+    let (mut own, _other, _v) = open();
+    assert_eq!(own.succeed(10, 1).map(|_| ()), Err(Error::InvalidValue));
+    let [mut pass] = Store::open_array(10).unwrap();
+    assert_eq!(pass.generation(), Err(Error::InvalidValue));
+    assert_eq!(pass.go_on(), Err(Error::InvalidValue));
+    assert_eq!(pass.seat(0).map(|_| ()), Err(Error::InvalidValue));
+    assert_eq!(pass.meet(&mut own), Err(Error::ForeignPass));
+}
