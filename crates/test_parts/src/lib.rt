@@ -12,6 +12,8 @@ mod calls;
 #[cfg(test)]
 mod draw;
 #[cfg(test)]
+mod drawn_maps;
+#[cfg(test)]
 mod editions;
 #[cfg(test)]
 mod histories;
@@ -45,3 +47,5 @@ mod texts_written;
 mod tuples;
 #[cfg(test)]
 mod values;
+#[cfg(test)]
+mod worked_maps;

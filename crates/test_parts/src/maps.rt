@@ -1,8 +1,4 @@
-//! Transpose, apply, select, diag and kronecker on objects: rows that were worked by hand, and drawn ones against the plain loops of
-//! `plain_maps`.
-//!
-//! No call of a store makes these operations yet, so no script can say what they give. A contract says it by definitions of the proof's own
-//! language; that these say what the standard does, no contract can say, nor that memory is there.
+//! Transpose, apply, select, diag and kronecker on objects that hold what tables say, so that tests speak of tables alone.
 ghost use Rattle.std.specs.Prelude.{◌≡◌, ◌<◌, true, IfOk};
 ghost use Rattle.grb_core.specs.Value.{value_domain};
 ghost use Rattle.grb_core.specs.Written.{AccumulatesIn};
@@ -11,11 +7,8 @@ ghost use Rattle.grb_terms.specs.Functions.{IsFunctionOf};
 ghost use Rattle.grb_terms.specs.Tests.{IsTestOf};
 ghost use Rattle.grb_kronecker.specs.Factors.{AreFactors, columns_read, rows_read};
 
-use crate::calls::PLAIN;
-use crate::draw::Draw;
-use crate::plain::{Table, stored, written};
-use crate::plain_maps::{Input, Term, computed, number_of};
-use crate::same::same;
+use crate::plain::Table;
+use crate::plain_maps::{Term, number_of};
 use grb_call::Descriptor;
 use grb_core::{BinaryOp, Domain, Value, is_dimension};
 use grb_kronecker::kronecker_matrix;
@@ -23,40 +16,37 @@ use grb_maps::{
     apply_matrix, apply_vector, diagonal_matrix, select_matrix, select_vector, transpose_matrix,
 };
 use grb_sparse::{SparseMatrix, SparseVector};
-use grb_terms::{Diagonal, Function, Test, UnaryOp, diagonal_size, turns_input};
+use grb_terms::{Diagonal, Function, Test, diagonal_size, turns_input};
 use std::alloc::{AllocError, Global};
 use std::process::Abort;
 
-/// How many operations are drawn.
-const CASES: u64 = 2_000;
-
 /// How an operation is called on objects of one domain, and how many rows and columns they have. A vector has one column.
 #[derive(Clone, Copy, Debug)]
-struct Case {
-    term: Term,
-    is_vector: bool,
-    domain: Domain,
-    mask_domain: Domain,
-    accum: Option<BinaryOp>,
-    descriptor: Descriptor,
-    tran1: bool,
-    output: (u64, u64),
-    first: (u64, u64),
-    second: (u64, u64),
+pub(crate) struct Case {
+    pub(crate) term: Term,
+    pub(crate) is_vector: bool,
+    pub(crate) domain: Domain,
+    pub(crate) mask_domain: Domain,
+    pub(crate) accum: Option<BinaryOp>,
+    pub(crate) descriptor: Descriptor,
+    pub(crate) tran1: bool,
+    pub(crate) output: (u64, u64),
+    pub(crate) first: (u64, u64),
+    pub(crate) second: (u64, u64),
 }
 
 /// What the objects of a case store.
 #[derive(Drop)]
-struct Tables {
-    output: Table,
-    mask: Option<Table>,
-    first: Table,
-    second: Table,
+pub(crate) struct Tables {
+    pub(crate) output: Table,
+    pub(crate) mask: Option<Table>,
+    pub(crate) first: Table,
+    pub(crate) second: Table,
 }
 
 // ---- objects of tables, and tables of objects
 
-fn value_in(domain: Domain, n: u64) -> Value
+pub(crate) fn value_in(domain: Domain, n: u64) -> Value
     ensures { value_domain result ≡ domain }
 {
     match domain {
@@ -123,7 +113,7 @@ fn set_index(rt: &impl Abort, v: &mut SparseVector, i: u64, n: u64) -> Result<()
     Ok(())
 }
 
-fn vector_of(
+pub(crate) fn vector_of(
     rt: &impl Abort,
     alloc: Global,
     domain: Domain,
@@ -411,7 +401,7 @@ fn answer_of_diagonal(
 }
 
 /// What the output stores at each place after the operation.
-fn answer(
+pub(crate) fn answer(
     rt: &impl Abort,
     alloc: Global,
     case: Case,
@@ -422,399 +412,4 @@ fn answer(
         _ if case.is_vector => answer_of_vectors(rt, alloc, case, tables),
         _ => answer_of_matrices(rt, alloc, case, tables),
     }
-}
-
-// ---- rows that were worked by hand
-
-/// Nothing at this place.
-const X: Option<u64> = None;
-
-/// Two rows, three columns.
-const A: [Option<u64>; 6] = [X, Some(2), Some(5), X, Some(7), X];
-
-/// The transposed of `A`.
-const TURNED: [Option<u64>; 6] = [X, X, Some(2), Some(7), Some(5), X];
-
-/// A vector of five places.
-const U: [Option<u64>; 5] = [Some(10), Some(11), X, Some(13), X];
-
-/// Two rows, two columns each.
-const LEFT: [Option<u64>; 4] = [Some(2), X, X, Some(3)];
-
-const RIGHT: [Option<u64>; 4] = [X, Some(10), Some(20), X];
-
-/// An operation of numbers with no mask and no accumulator into an empty output.
-const OF_MATRICES: Case = Case {
-    term: Term::Transposed,
-    is_vector: false,
-    domain: Domain::Uint64,
-    mask_domain: Domain::Bool,
-    accum: None,
-    descriptor: PLAIN,
-    tran1: false,
-    output: (3, 2),
-    first: (2, 3),
-    second: (1, 1),
-};
-
-const OF_VECTORS: Case = Case {
-    is_vector: true,
-    output: (5, 1),
-    first: (5, 1),
-    ..OF_MATRICES
-};
-
-const OF_PAIRS: Case = Case {
-    output: (4, 4),
-    first: (2, 2),
-    second: (2, 2),
-    ..OF_MATRICES
-};
-
-const TURN_FIRST: Descriptor = Descriptor {
-    tran: true,
-    ..PLAIN
-};
-
-fn expect_row(
-    rt: &impl Abort,
-    alloc: Global,
-    case: Case,
-    (first, second): (&[Option<u64>], &[Option<u64>]),
-    wanted: &[Option<u64>],
-) -> Result<(), AllocError> {
-    let tables = Tables {
-        output: Vec::new(alloc),
-        mask: None,
-        first: first.to_vec(alloc)?,
-        second: second.to_vec(alloc)?,
-    };
-    let found = answer(rt, alloc, case, &tables)?;
-    same(rt, found.as_slice(), wanted, case);
-    Ok(())
-}
-
-#[test]
-fn apply_changes_each_value_and_reads_as_it_is_told(rt: HostRuntime) -> Result<(), AllocError> {
-    let one = Value::Uint64(1);
-    let nine = Value::Uint64(9);
-    let of = |f: Function, descriptor: Descriptor, tran1: bool| Case {
-        term: Term::Applied(f),
-        descriptor,
-        tran1,
-        ..OF_MATRICES
-    };
-    let negative = of(Function::Unary(UnaryOp::Ainv), TURN_FIRST, false);
-    let less_one = of(Function::Second(BinaryOp::Minus, one), TURN_FIRST, false);
-    let from_nine = of(Function::First(nine, BinaryOp::Minus), PLAIN, true);
-    let rows: [(Case, [Option<u64>; 6]); 3] = [
-        (
-            negative,
-            [
-                X,
-                X,
-                Some(18446744073709551614),
-                Some(18446744073709551609),
-                Some(18446744073709551611),
-                X,
-            ],
-        ),
-        (less_one, [X, X, Some(1), Some(6), Some(4), X]),
-        (from_nine, [X, X, Some(7), Some(2), Some(4), X]),
-    ];
-    for (case, wanted) in &rows {
-        expect_row(&rt, rt.alloc(), *case, (&A, &[]), wanted)?;
-    }
-    Ok(())
-}
-
-#[test]
-fn transpose_turns_and_turns_twice(rt: HostRuntime) -> Result<(), AllocError> {
-    expect_row(&rt, rt.alloc(), OF_MATRICES, (&A, &[]), &TURNED)?;
-    let twice = Case {
-        descriptor: TURN_FIRST,
-        output: (2, 3),
-        ..OF_MATRICES
-    };
-    expect_row(&rt, rt.alloc(), twice, (&A, &[]), &A)
-}
-
-#[test]
-fn select_reads_an_index_as_a_row_of_column_0(rt: HostRuntime) -> Result<(), AllocError> {
-    let all = U;
-    let none = [X; 5];
-    let first_two = [Some(10), Some(11), X, X, X];
-    let last = [X, X, X, Some(13), X];
-    let but_first = [X, Some(11), X, Some(13), X];
-    let rows: [(Test, [Option<u64>; 5]); 8] = [
-        (Test::RowLe(1), first_two),
-        (Test::RowGt(1), last),
-        (Test::ColLe(0), all),
-        (Test::ColGt(0), none),
-        (Test::Tril(Diagonal::Below(1)), but_first),
-        (Test::Triu(Diagonal::Below(1)), first_two),
-        (Test::Diag(Diagonal::Below(3)), last),
-        (Test::Offdiag(Diagonal::Above(0)), but_first),
-    ];
-    for (test, wanted) in &rows {
-        let case = Case {
-            term: Term::Selected(*test),
-            ..OF_VECTORS
-        };
-        expect_row(&rt, rt.alloc(), case, (&U, &[]), wanted)?;
-    }
-    Ok(())
-}
-
-#[test]
-fn a_kronecker_product_has_a_block_for_each_entry(rt: HostRuntime) -> Result<(), AllocError> {
-    let times = Case {
-        term: Term::Kronecker(BinaryOp::Times),
-        ..OF_PAIRS
-    };
-    let minus = Case {
-        term: Term::Kronecker(BinaryOp::Minus),
-        ..OF_PAIRS
-    };
-    let product = [
-        [X, Some(20), X, X],
-        [Some(40), X, X, X],
-        [X, X, X, Some(30)],
-        [X, X, Some(60), X],
-    ];
-    expect_row(
-        &rt,
-        rt.alloc(),
-        times,
-        (&LEFT, &RIGHT),
-        product.as_flattened(),
-    )?;
-    let exchanged = [
-        [X, X, Some(8), X],
-        [X, X, X, Some(7)],
-        [Some(18), X, X, X],
-        [X, Some(17), X, X],
-    ];
-    expect_row(
-        &rt,
-        rt.alloc(),
-        minus,
-        (&RIGHT, &LEFT),
-        exchanged.as_flattened(),
-    )
-}
-
-/// A diagonal that ends in the last row of the largest matrix.
-#[test]
-fn the_farthest_diagonal_has_one_cell(rt: HostRuntime) -> Result<(), AllocError> {
-    let last = 4_294_967_294;
-    let v = vector_of(&rt, rt.alloc(), Domain::Uint64, 1, &[Some(3)])?;
-    let d = Diagonal::Below(last);
-    if !is_dimension(diagonal_size(d, 1)) {
-        panic!(&rt; "a diagonal of no matrix");
-    }
-    let made = diagonal_matrix(rt.alloc(), d, &v)?;
-    let three = Some(Value::Uint64(3));
-    let found = (made.dims(), made.nvals(), made.get(last as u64, 0));
-    same(&rt, found, ((4_294_967_295, 4_294_967_295), 1, three), d);
-    Ok(())
-}
-
-// ---- drawn ones
-
-fn drawn_function(draw: &mut Draw, domain: Domain) -> Function {
-    let op = draw.op(domain);
-    let x = value_in(domain, draw.number(domain));
-    match (draw.below(5), domain) {
-        (0, _) => Function::First(x, op),
-        (1, _) => Function::Second(op, x),
-        (2, Domain::Uint64) => Function::Unary(UnaryOp::Identity),
-        (3, Domain::Uint64) => Function::Unary(UnaryOp::Ainv),
-        (_, Domain::Uint64) => Function::Unary(UnaryOp::Bnot),
-        (2, Domain::Bool) => Function::Unary(UnaryOp::IdentityBool),
-        (_, Domain::Bool) => Function::Unary(UnaryOp::Lnot),
-    }
-}
-
-fn drawn_diagonal(draw: &mut Draw) -> Diagonal {
-    let n = draw.below(4) as u32;
-    if draw.truth() {
-        return Diagonal::Above(n);
-    }
-    Diagonal::Below(n)
-}
-
-fn drawn_test(draw: &mut Draw, domain: Domain) -> Test {
-    let d = drawn_diagonal(draw);
-    let n = draw.below(4);
-    let x = value_in(domain, draw.number(domain));
-    match draw.below(14) {
-        0 => Test::Tril(d),
-        1 => Test::Triu(d),
-        2 => Test::Diag(d),
-        3 => Test::Offdiag(d),
-        4 => Test::RowLe(n),
-        5 => Test::RowGt(n),
-        6 => Test::ColLe(n),
-        7 => Test::ColGt(n),
-        8 => Test::ValueEq(x),
-        9 => Test::ValueNe(x),
-        10 => Test::ValueLt(x),
-        11 => Test::ValueLe(x),
-        12 => Test::ValueGt(x),
-        _ => Test::ValueGe(x),
-    }
-}
-
-fn drawn_term(draw: &mut Draw, domain: Domain) -> Term {
-    match draw.below(5) {
-        0 => Term::Transposed,
-        1 => Term::Applied(drawn_function(draw, domain)),
-        2 => Term::Selected(drawn_test(draw, domain)),
-        3 => Term::Kronecker(draw.op(domain)),
-        _ => Term::Diag(drawn_diagonal(draw)),
-    }
-}
-
-fn exchanged((rows, columns): (u64, u64), are_exchanged: bool) -> (u64, u64) {
-    if are_exchanged {
-        return (columns, rows);
-    }
-    (rows, columns)
-}
-
-/// Whether the first input is read transposed.
-fn turns_first(case: Case) -> bool {
-    match case.term {
-        Term::Applied(f) => turns_input(f, case.descriptor.tran, case.tran1),
-        _ => case.descriptor.tran,
-    }
-}
-
-/// The rows and the columns of the first input as it is read.
-fn first_read(case: Case) -> (u64, u64) {
-    exchanged(case.first, turns_first(case) && !case.is_vector)
-}
-
-fn second_read(case: Case) -> (u64, u64) {
-    exchanged(case.second, case.tran1)
-}
-
-/// The rows and the columns that the output has.
-fn output_dims(case: Case) -> (u64, u64) {
-    let (rows, columns) = first_read(case);
-    let (r, c) = second_read(case);
-    match case.term {
-        Term::Transposed => (columns, rows),
-        Term::Kronecker(_) => (rows.wrapping_mul(r), columns.wrapping_mul(c)),
-        Term::Diag(Diagonal::Above(n) | Diagonal::Below(n)) => {
-            let size = rows.wrapping_add(u64::from(n));
-            (size, size)
-        }
-        _ => (rows, columns),
-    }
-}
-
-fn drawn_case(draw: &mut Draw) -> Case {
-    let domain = draw.domain();
-    let term = drawn_term(draw, domain);
-    let is_vector = match term {
-        Term::Diag(_) => true,
-        Term::Applied(_) | Term::Selected(_) => draw.truth(),
-        _ => false,
-    };
-    let columns = if is_vector {
-        1
-    } else {
-        draw.below(4).wrapping_add(1)
-    };
-    let drawn = Case {
-        term,
-        is_vector,
-        domain,
-        mask_domain: draw.domain(),
-        accum: draw.accum(domain),
-        descriptor: draw.descriptor(),
-        tran1: draw.truth(),
-        output: (1, 1),
-        first: (draw.below(4).wrapping_add(1), columns),
-        second: (draw.below(3).wrapping_add(1), draw.below(3).wrapping_add(1)),
-    };
-    Case {
-        output: output_dims(drawn),
-        ..drawn
-    }
-}
-
-fn drawn_table(
-    alloc: Global,
-    draw: &mut Draw,
-    domain: Domain,
-    (rows, columns): (u64, u64),
-) -> Result<Table, AllocError> {
-    let share = draw.below(5);
-    let mut table = Vec::new(alloc);
-    for _ in 0..rows.wrapping_mul(columns) {
-        let number = draw.number(domain);
-        let is_stored = draw.below(4) < share;
-        table.push(if is_stored { Some(number) } else { None })?;
-    }
-    Ok(table)
-}
-
-fn drawn_tables(alloc: Global, draw: &mut Draw, case: Case) -> Result<Tables, AllocError> {
-    let mask = if draw.truth() {
-        Some(drawn_table(alloc, draw, case.mask_domain, case.output)?)
-    } else {
-        None
-    };
-    Ok(Tables {
-        output: drawn_table(alloc, draw, case.domain, case.output)?,
-        mask,
-        first: drawn_table(alloc, draw, case.domain, case.first)?,
-        second: drawn_table(alloc, draw, case.domain, case.second)?,
-    })
-}
-
-/// What the output stores at each place after the operation, by plain loops. A diagonal is written into no output.
-fn wanted(alloc: Global, case: Case, tables: &Tables) -> Result<Table, AllocError> {
-    let (rows, columns) = first_read(case);
-    let (r, c) = second_read(case);
-    let first = Input {
-        table: &tables.first,
-        rows,
-        columns,
-        is_turned: turns_first(case) && !case.is_vector,
-    };
-    let second = Input {
-        table: &tables.second,
-        rows: r,
-        columns: c,
-        is_turned: case.tran1,
-    };
-    let made = computed(alloc, case.term, first, second, case.output)?;
-    if let Term::Diag(_) = case.term {
-        return Ok(made);
-    }
-    let mut wanted = Vec::new(alloc);
-    for at in 0..made.len() {
-        let at = at as u64;
-        let (old, new) = (stored(&tables.output, at), stored(&made, at));
-        let mask = tables.mask.as_ref();
-        wanted.push(written(case.descriptor, case.accum, mask, at, old, new))?;
-    }
-    Ok(wanted)
-}
-
-#[test]
-fn drawn_operations_give_what_plain_loops_do(rt: HostRuntime) -> Result<(), AllocError> {
-    let mut draw = Draw { state: 7 };
-    for turn in 0..CASES {
-        let case = drawn_case(&mut draw);
-        let tables = drawn_tables(rt.alloc(), &mut draw, case)?;
-        let found = answer(&rt, rt.alloc(), case, &tables)?;
-        let wanted = wanted(rt.alloc(), case, &tables)?;
-        same(&rt, found.as_slice(), wanted.as_slice(), (turn, case));
-    }
-    Ok(())
 }
