@@ -19,18 +19,27 @@ uses() {
 
 # The crates below a crate, each once.
 below() {
-    local name
-    for name in $(uses "$1"); do
-        echo "$name"
-        below "$name"
-    done | sort -u
+    local name found=' ' todo
+    mapfile -t todo < <(uses "$1")
+    while [ ${#todo[@]} -gt 0 ]; do
+        name=${todo[0]} todo=("${todo[@]:1}")
+        if [[ $found != *" $name "* ]]; then
+            found+="$name "
+            mapfile -t -O ${#todo[@]} todo < <(uses "$name")
+        fi
+    done
+    printf '%s\n' $found
 }
 
 # Whether a file or a folder is there, and newer than each source of a crate and of those below it.
 is_newer_than_sources() {
-    local made=$1 name folders=()
+    local made=$1 name folder folders=()
     [ -e "$made" ] || return 1
-    for name in "$2" $(below "$2"); do folders+=("../$name"/{src,specs,proofs}/); done
+    for name in "$2" $(below "$2"); do
+        for folder in "../$name"/{src,specs,proofs}/; do
+            if [ -d "$folder" ]; then folders+=("$folder"); fi
+        done
+    done
     [ -z "$(find ../../crates.txt "${folders[@]}" -newer "$made" -print -quit)" ]
 }
 

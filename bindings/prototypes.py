@@ -7,7 +7,7 @@ import pathlib
 import re
 import sys
 
-PLAIN = {"u32": "uint32_t", "u64": "uint64_t", "i32": "int32_t", "bool": "bool"}
+PLAIN = {"u32": "uint32_t", "u64": "uint64_t", "i32": "int32_t", "i64": "int64_t", "bool": "bool"}
 
 EXPORT = re.compile(r'#\[unsafe\(no_mangle\)\]\s*pub extern "C" fn (\w+)\(([^)]*)\)\s*(?:-> (\w+))?')
 

@@ -266,18 +266,18 @@ link=("$library" "$heap" -lpthread)
 
 check_header
 step 'the version, wherever it stands' ./versions.sh
-for name in first triangles bfs paths threads chain succeed branch refusals builds sharing beside; do run_c "$name"; done
+for name in first triangles club bfs paths threads chain succeed branch refusals terms builds sharing beside; do run_c "$name"; done
 run_fail
 run_ports
 run_bench
 run_bench_chain
-for name in triangles bfs paths threads chain succeed branch messages algorithms; do run_cpp "$name"; done
+for name in triangles club bfs paths threads chain succeed branch terms messages algorithms; do run_cpp "$name"; done
 refuse_cpp
 build_rust
-for name in first triangles bfs paths threads chain succeed; do run_rust "$name"; done
+for name in first triangles bfs paths threads chain succeed club; do run_rust "$name"; done
 test_rust
 build_shared
-for name in first triangles bfs paths threads chain succeed; do run_python "$name"; done
+for name in first triangles bfs paths threads chain succeed club; do run_python "$name"; done
 run_python networkx_scipy networkx numpy scipy
 for file in python/tests/test_*.py; do test_python "$(basename "$file" .py)"; done
 run_installed

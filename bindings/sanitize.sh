@@ -74,9 +74,9 @@ under_valgrind() {
 }
 
 for kind in address,undefined thread; do
-    for name in first triangles bfs paths threads succeed branch refusals builds sharing beside; do sanitize_c "$name" "$kind"; done
+    for name in first triangles club bfs paths threads succeed branch refusals terms builds sharing beside; do sanitize_c "$name" "$kind"; done
     sanitize_fail "$kind"
-    for name in triangles bfs paths threads succeed branch messages algorithms; do sanitize_cpp "$name" "$kind"; done
+    for name in triangles club bfs paths threads succeed branch terms messages algorithms; do sanitize_cpp "$name" "$kind"; done
 done
 
 # The thread sanitizer would see the library copy what goes from thread to thread in a chain, and not the atomic steps that order it. The
@@ -85,12 +85,12 @@ export ASAN_OPTIONS=quarantine_size_mb=4
 sanitize_c chain address,undefined
 sanitize_cpp chain address,undefined
 
-for name in first triangles bfs paths threads chain succeed branch sharing; do
+for name in first triangles club bfs paths threads chain succeed branch terms sharing; do
     build "c/$name, valgrind" "$CC" -std=c11 -g -O1 -Ic "c/$name.c" "${link[@]}" || continue
     under_valgrind "c/$name" "c/expected/$name.txt" definite,indirect,possible
 done
 "$RUSTC" --edition 2021 -O -g --crate-type rlib --crate-name trowelheath rust/src/lib.rs --out-dir "$work" >"$work/said" 2>&1 || tell rust 1
-for name in first triangles bfs paths threads chain succeed; do
+for name in first triangles bfs paths threads chain succeed club; do
     build "rust/$name, valgrind" "$RUSTC" --edition 2021 -O -g "rust/examples/$name.rs" --extern "trowelheath=$work/libtrowelheath.rlib" -L native="$(dirname "$library")" -L native="$KIT/c" || continue
     under_valgrind "rust/$name" "rust/expected/$name.txt" definite,indirect
 done

@@ -58,6 +58,7 @@ void *space(uint64_t count, size_t size)
 
 uint64_t vertices;
 Tuples graph, turned, below, full, few, one;
+Tuples pair = {3, (TrB_Index[]){0, 0, 1}, (TrB_Index[]){0, 1, 0}, (uint64_t[]){2, 3, 5}};
 bool *truths;
 
 static uint64_t scale;
@@ -227,17 +228,23 @@ static void forget(void)
 
 /* ---- The store --------------------------------------------------------------------------------- */
 
-/* The graph, with its edges turned round, below the diagonal, of truth values, those turned round, and the vectors. */
+/* The graph, with its edges turned round, below the diagonal, of truth values, those turned round, the small matrix, and
+ * the vectors. */
 static TrB_Pass pass = TRB_PASS_INIT;
-static TrB_Matrix a, b, l, t, back;
+static TrB_Matrix a, b, l, t, back, two;
 static TrB_Vector u, some, single;
+
+static TrB_Matrix square_of(const Tuples *tuples, uint64_t side)
+{
+    TrB_Matrix c;
+    OK(TrB_Matrix_new(&pass, &c, TrB_UINT64, side, side));
+    OK(TrB_Matrix_build_UINT64(&pass, c, tuples->rows, tuples->columns, tuples->values, tuples->nvals, TrB_PLUS));
+    return c;
+}
 
 static TrB_Matrix matrix_of(const Tuples *tuples)
 {
-    TrB_Matrix c;
-    OK(TrB_Matrix_new(&pass, &c, TrB_UINT64, vertices, vertices));
-    OK(TrB_Matrix_build_UINT64(&pass, c, tuples->rows, tuples->columns, tuples->values, tuples->nvals, TrB_PLUS));
-    return c;
+    return square_of(tuples, vertices);
 }
 
 static TrB_Matrix truths_at(const Tuples *tuples)
@@ -265,6 +272,7 @@ static void load(void)
     l = matrix_of(&below);
     t = truths_at(&graph);
     back = truths_at(&turned);
+    two = square_of(&pair, PAIR);
     u = vector_of(&full);
     some = vector_of(&few);
     single = vector_of(&one);
@@ -388,6 +396,31 @@ static TrB_Info enter_masked_add(TrB_Matrix c)
     return TrB_Matrix_eWiseAdd(&pass, c, l, TrB_PLUS, TrB_PLUS, a, b, TrB_STRUCTURE);
 }
 
+static TrB_Info enter_transpose(TrB_Matrix c)
+{
+    return TrB_transpose(&pass, c, TrB_NO_MATRIX, TrB_NO_ACCUM, a, TrB_DEFAULT);
+}
+
+static TrB_Info enter_apply(TrB_Matrix c)
+{
+    return TrB_Matrix_apply(&pass, c, TrB_NO_MATRIX, TrB_NO_ACCUM, TrB_AINV, a, TrB_DEFAULT);
+}
+
+static TrB_Info enter_select_below(TrB_Matrix c)
+{
+    return TrB_Matrix_select_INT64(&pass, c, TrB_NO_MATRIX, TrB_NO_ACCUM, TrB_TRIL, a, -1, TrB_DEFAULT);
+}
+
+static TrB_Info enter_select_heavy(TrB_Matrix c)
+{
+    return TrB_Matrix_select_UINT64(&pass, c, TrB_NO_MATRIX, TrB_NO_ACCUM, TrB_VALUEGT, a, LIGHT, TrB_DEFAULT);
+}
+
+static TrB_Info enter_kronecker(TrB_Matrix c)
+{
+    return TrB_Matrix_kronecker_BinaryOp(&pass, c, TrB_NO_MATRIX, TrB_NO_ACCUM, TrB_TIMES, a, two, TrB_DEFAULT);
+}
+
 static TrB_Info enter_mxv(TrB_Vector w)
 {
     return TrB_mxv(&pass, w, TrB_NO_VECTOR, TrB_NO_ACCUM, TrB_PLUS_TIMES, a, u, TrB_DEFAULT);
@@ -432,6 +465,10 @@ static double our_mxm(Outcome *outcome) { return time_matrix(enter_mxm, outcome)
 static double our_triangles(Outcome *outcome) { return time_matrix(enter_triangles, outcome); }
 static double our_add(Outcome *outcome) { return time_matrix(enter_add, outcome); }
 static double our_mult(Outcome *outcome) { return time_matrix(enter_mult, outcome); }
+static double our_transpose(Outcome *outcome) { return time_matrix(enter_transpose, outcome); }
+static double our_apply(Outcome *outcome) { return time_matrix(enter_apply, outcome); }
+static double our_select_below(Outcome *outcome) { return time_matrix(enter_select_below, outcome); }
+static double our_select_heavy(Outcome *outcome) { return time_matrix(enter_select_heavy, outcome); }
 static double our_mxv(Outcome *outcome) { return time_vector(enter_mxv, outcome); }
 static double our_mxv_min(Outcome *outcome) { return time_vector(enter_mxv_min, outcome); }
 static double our_vxm(Outcome *outcome) { return time_vector(enter_vxm, outcome); }
@@ -453,6 +490,13 @@ static double our_masked_add(Outcome *outcome)
     TrB_Matrix c;
     OK(TrB_Matrix_dup(&pass, &c, a));
     return time_in(c, enter_masked_add, see_matrix, outcome);
+}
+
+static double our_kronecker(Outcome *outcome)
+{
+    TrB_Matrix c;
+    OK(TrB_Matrix_new(&pass, &c, TrB_UINT64, PAIR * vertices, PAIR * vertices));
+    return time_in(c, enter_kronecker, see_matrix, outcome);
 }
 
 static double our_total(Outcome *outcome)
@@ -651,6 +695,11 @@ static const Line lines[] = {
     {"eWiseAdd, mask and accumulator", our_masked_add, BESIDE(their_masked_add), hand_masked_add},
     {"reduce rows", our_reduce, BESIDE(their_reduce), hand_reduce},
     {"total", our_total, BESIDE(their_total), hand_total},
+    {"transpose", our_transpose, BESIDE(their_transpose), hand_transpose},
+    {"apply", our_apply, BESIDE(their_apply), hand_apply},
+    {"select by diagonal", our_select_below, BESIDE(their_select_below), hand_select_below},
+    {"select by value", our_select_heavy, BESIDE(their_select_heavy), hand_select_heavy},
+    {"kronecker with 2 x 2", our_kronecker, BESIDE(their_kronecker), NULL},
     {"breadth-first search", our_search, BESIDE(their_search), hand_search},
     {"the same by mxv", our_pull, BESIDE(their_pull), hand_search},
     {"20 rounds of shortest paths", our_paths, BESIDE(their_paths), hand_paths},

@@ -10,6 +10,8 @@
 enum {
     ROUNDS = 5,           /* how often each side of a line is timed */
     FEW = 64,             /* entries of the vector that has few */
+    PAIR = 2,             /* rows and columns of the matrix that a Kronecker product multiplies by */
+    LIGHT = 127,          /* a weight that some half of the edges are above */
     PATH_ROUNDS = 20,     /* rounds of the shortest paths */
     TURNS = 300,          /* sets and gets in turn, and turns of a thread of the service */
     GETS = 7,             /* gets of such a turn */
@@ -41,6 +43,9 @@ typedef struct {
  * own, and `below` a 1 below the diagonal for each two vertices with an edge. */
 extern uint64_t vertices;
 extern Tuples graph, turned, below;
+
+/* A matrix of PAIR rows and columns, with three entries. */
+extern Tuples pair;
 
 /* True, as often as there are edges. */
 extern bool *truths;
@@ -94,6 +99,7 @@ void load_by_hand(void);
 void unload_by_hand(void);
 Round hand_build, hand_mxm, hand_mxm_bool, hand_triangles, hand_mxv, hand_mxv_min, hand_vxm, hand_vxm_few, hand_vxm_one;
 Round hand_add, hand_mult, hand_masked_add, hand_reduce, hand_total, hand_search, hand_paths;
+Round hand_transpose, hand_apply, hand_select_below, hand_select_heavy;
 
 /* By SuiteSparse, which is begun once, and takes each graph anew. */
 void begin_theirs(void);
@@ -103,5 +109,6 @@ void unload_theirs(void);
 Round their_build, their_mxm, their_mxm_bool, their_triangles, their_mxv, their_mxv_min, their_vxm, their_vxm_few;
 Round their_vxm_one, their_add, their_mult, their_masked_add, their_reduce, their_total, their_search, their_paths;
 Round their_mxm_unsorted, their_mxm_bool_unsorted, their_pull, their_entries, their_turns, their_service;
+Round their_transpose, their_apply, their_select_below, their_select_heavy, their_kronecker;
 
 #endif

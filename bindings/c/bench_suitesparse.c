@@ -13,17 +13,23 @@
 /* The call is made. */
 #define DONE(call) check_statement((call) == GrB_SUCCESS, #call, __FILE__, __LINE__)
 
-/* The graph, with its edges turned round, below the diagonal, of truth values, those turned round, and the vectors. */
-static GrB_Matrix a, b, l, t, back;
+/* The graph, with its edges turned round, below the diagonal, of truth values, those turned round, the small matrix, and
+ * the vectors. */
+static GrB_Matrix a, b, l, t, back, two;
 static GrB_Vector u, some, single;
 
-static GrB_Matrix matrix_of(const Tuples *tuples)
+static GrB_Matrix square_of(const Tuples *tuples, uint64_t side)
 {
     GrB_Matrix c;
-    DONE(GrB_Matrix_new(&c, GrB_UINT64, vertices, vertices));
+    DONE(GrB_Matrix_new(&c, GrB_UINT64, side, side));
     DONE(GrB_Matrix_build_UINT64(c, tuples->rows, tuples->columns, tuples->values, tuples->nvals, GrB_PLUS_UINT64));
     DONE(GrB_Matrix_wait(c, GrB_MATERIALIZE));
     return c;
+}
+
+static GrB_Matrix matrix_of(const Tuples *tuples)
+{
+    return square_of(tuples, vertices);
 }
 
 static GrB_Matrix truths_at(const Tuples *tuples)
@@ -62,6 +68,7 @@ void load_theirs(void)
     l = matrix_of(&below);
     t = truths_at(&graph);
     back = truths_at(&turned);
+    two = square_of(&pair, PAIR);
     u = vector_of(&full);
     some = vector_of(&few);
     single = vector_of(&one);
@@ -74,6 +81,7 @@ void unload_theirs(void)
     DONE(GrB_Matrix_free(&l));
     DONE(GrB_Matrix_free(&t));
     DONE(GrB_Matrix_free(&back));
+    DONE(GrB_Matrix_free(&two));
     DONE(GrB_Vector_free(&u));
     DONE(GrB_Vector_free(&some));
     DONE(GrB_Vector_free(&single));
@@ -188,6 +196,31 @@ static GrB_Info make_masked_add(GrB_Matrix c)
     return GrB_Matrix_eWiseAdd_BinaryOp(c, l, GrB_PLUS_UINT64, GrB_PLUS_UINT64, a, b, GrB_DESC_S);
 }
 
+static GrB_Info make_transpose(GrB_Matrix c)
+{
+    return GrB_transpose(c, NULL, NULL, a, NULL);
+}
+
+static GrB_Info make_apply(GrB_Matrix c)
+{
+    return GrB_Matrix_apply(c, NULL, NULL, GrB_AINV_UINT64, a, NULL);
+}
+
+static GrB_Info make_select_below(GrB_Matrix c)
+{
+    return GrB_Matrix_select_INT64(c, NULL, NULL, GrB_TRIL, a, -1, NULL);
+}
+
+static GrB_Info make_select_heavy(GrB_Matrix c)
+{
+    return GrB_Matrix_select_UINT64(c, NULL, NULL, GrB_VALUEGT_UINT64, a, LIGHT, NULL);
+}
+
+static GrB_Info make_kronecker(GrB_Matrix c)
+{
+    return GrB_Matrix_kronecker_BinaryOp(c, NULL, NULL, GrB_TIMES_UINT64, a, two, NULL);
+}
+
 static GrB_Info make_mxv(GrB_Vector w)
 {
     return GrB_mxv(w, NULL, NULL, GrB_PLUS_TIMES_SEMIRING_UINT64, a, u, NULL);
@@ -235,6 +268,10 @@ double their_mxm_bool_unsorted(Outcome *outcome) { return time_unsorted(make_mxm
 double their_triangles(Outcome *outcome) { return time_matrix(make_triangles, GrB_UINT64, outcome); }
 double their_add(Outcome *outcome) { return time_matrix(make_add, GrB_UINT64, outcome); }
 double their_mult(Outcome *outcome) { return time_matrix(make_mult, GrB_UINT64, outcome); }
+double their_transpose(Outcome *outcome) { return time_matrix(make_transpose, GrB_UINT64, outcome); }
+double their_apply(Outcome *outcome) { return time_matrix(make_apply, GrB_UINT64, outcome); }
+double their_select_below(Outcome *outcome) { return time_matrix(make_select_below, GrB_UINT64, outcome); }
+double their_select_heavy(Outcome *outcome) { return time_matrix(make_select_heavy, GrB_UINT64, outcome); }
 double their_mxv(Outcome *outcome) { return time_vector(make_mxv, outcome); }
 double their_mxv_min(Outcome *outcome) { return time_vector(make_mxv_min, outcome); }
 double their_vxm(Outcome *outcome) { return time_vector(make_vxm, outcome); }
@@ -249,6 +286,13 @@ double their_masked_add(Outcome *outcome)
     DONE(GrB_Matrix_dup(&c, a));
     DONE(GrB_Matrix_wait(c, GrB_MATERIALIZE));
     return time_in(c, make_masked_add, true, outcome);
+}
+
+double their_kronecker(Outcome *outcome)
+{
+    GrB_Matrix c;
+    DONE(GrB_Matrix_new(&c, GrB_UINT64, PAIR * vertices, PAIR * vertices));
+    return time_in(c, make_kronecker, true, outcome);
 }
 
 double their_total(Outcome *outcome)

@@ -87,12 +87,13 @@ void __wrap_free(void *block)
 
 static unsigned long refusals; /* how many calls were refused memory */
 
-/* Makes the call, once more where it is refused memory and memory is there again. Ends the list where
- * memory is refused from now on, and the program where the status is another than this one. */
-#define ANSWERS(call, status)                                              \
+/* Makes the call, once more where its status `info` tells that memory was refused and memory is there again. Ends the
+ * list where memory is refused from now on, and the program where the status is another than this one. */
+#define TRIED(call, tells_refused, status)                                 \
     do {                                                                   \
         TrB_Info info = (call);                                            \
-        if (info == TrB_OUT_OF_MEMORY) {                                   \
+        if (tells_refused) {                                               \
+            HOLDS(allocations >= refused_at);                              \
             refusals++;                                                    \
             if (refuses_on) {                                              \
                 return false;                                              \
@@ -102,23 +103,13 @@ static unsigned long refusals; /* how many calls were refused memory */
         HOLDS(info == (status));                                           \
     } while (0)
 
+#define ANSWERS(call, status) TRIED(call, info == TrB_OUT_OF_MEMORY, status)
+
 #define OK(call) ANSWERS(call, TrB_SUCCESS)
 
 /* Makes a change of a chain. Where memory is refused to its next generation, the change is refused since there is
  * no room, and made again. */
-#define GOES_ON(call)                                                      \
-    do {                                                                   \
-        TrB_Info info = (call);                                            \
-        if (info == TrB_ORDER_FULL || info == TrB_OUT_OF_MEMORY) {         \
-            HOLDS(allocations >= refused_at);                              \
-            refusals++;                                                    \
-            if (refuses_on) {                                              \
-                return false;                                              \
-            }                                                              \
-            info = (call);                                                 \
-        }                                                                  \
-        HOLDS(info == TrB_SUCCESS);                                        \
-    } while (0)
+#define GOES_ON(call) TRIED(call, info == TrB_ORDER_FULL || info == TrB_OUT_OF_MEMORY, TrB_SUCCESS)
 
 #define HOLDS(statement)                                                                         \
     do {                                                                                         \
@@ -204,6 +195,121 @@ static bool make_vectors(TrB_Pass *pass, TrB_Matrix a)
     return true;
 }
 
+/* The number of entries is this one. The count is a read that needs all of the work before. */
+#define MATRIX_HAS(count, c)                                               \
+    do {                                                                   \
+        TrB_Index found;                                                   \
+        OK(TrB_Matrix_nvals(pass, &found, c));                             \
+        HOLDS(found == (count));                                           \
+    } while (0)
+
+#define VECTOR_HAS(count, w)                                               \
+    do {                                                                   \
+        TrB_Index found;                                                   \
+        OK(TrB_Vector_nvals(pass, &found, w));                             \
+        HOLDS(found == (count));                                           \
+    } while (0)
+
+/* Matrices turned, mapped, filtered and laid out; of numbers. */
+static bool make_terms(TrB_Pass *pass, TrB_Matrix a)
+{
+    TrB_Matrix c, pair, wide;
+    TrB_Vector v;
+    uint64_t x;
+    OK(TrB_Matrix_new(pass, &c, TrB_UINT64, SIZE, SIZE));
+    OK(TrB_transpose(pass, c, TrB_NO_MATRIX, TrB_NO_ACCUM, a, TrB_DEFAULT));
+    OK(TrB_Matrix_extractElement_UINT64(pass, &x, c, 3, 2));
+    HOLDS(x == 3);
+    OK(TrB_mxm(pass, c, TrB_NO_MATRIX, TrB_NO_ACCUM, TrB_PLUS_TIMES, a, a, TrB_TRAN1));
+    MATRIX_HAS(SIZE - 1, c);
+    OK(TrB_Matrix_eWiseAdd(pass, c, TrB_NO_MATRIX, TrB_NO_ACCUM, TrB_PLUS, a, a, TrB_TRAN1));
+    MATRIX_HAS(2 * (SIZE - 1), c);
+    OK(TrB_Matrix_apply(pass, c, TrB_NO_MATRIX, TrB_NO_ACCUM, TrB_AINV, a, TrB_TRAN));
+    OK(TrB_Matrix_extractElement_UINT64(pass, &x, c, 3, 2));
+    HOLDS(x == UINT64_MAX - 2);
+    OK(TrB_Matrix_apply_BinaryOp1st_UINT64(pass, c, a, TrB_PLUS, TrB_MINUS, 100, a, TrB_STRUCTURE));
+    OK(TrB_Matrix_apply_BinaryOp2nd_UINT64(pass, c, a, TrB_NO_ACCUM, TrB_MINUS, a, 1, TrB_REPLACE));
+    OK(TrB_Matrix_extractElement_UINT64(pass, &x, c, 2, 3));
+    HOLDS(x == 2);
+    MATRIX_HAS(SIZE - 1, c);
+    OK(TrB_Matrix_select_INT64(pass, c, TrB_NO_MATRIX, TrB_NO_ACCUM, TrB_ROWLE, a, 9, TrB_DEFAULT));
+    MATRIX_HAS(10, c);
+    OK(TrB_Matrix_select_UINT64(pass, c, a, TrB_NO_ACCUM, TrB_VALUEGT, a, SIZE / 2, TrB_REPLACE));
+    MATRIX_HAS(SIZE / 2 - 1, c);
+    OK(TrB_Vector_new(pass, &v, TrB_UINT64, 2));
+    OK(TrB_Vector_build_UINT64(pass, v, rows, numbers, 2, TrB_PLUS));
+    OK(TrB_Matrix_diag(pass, &pair, v, 0));
+    MATRIX_HAS(2, pair);
+    OK(TrB_Matrix_new(pass, &wide, TrB_UINT64, 2 * SIZE, 2 * SIZE));
+    OK(TrB_Matrix_kronecker_BinaryOp(pass, wide, TrB_NO_MATRIX, TrB_NO_ACCUM, TrB_TIMES, pair, a, TrB_TRAN1));
+    MATRIX_HAS(2 * (SIZE - 1), wide);
+    ANSWERS(TrB_Matrix_apply(pass, c, TrB_NO_MATRIX, TrB_NO_ACCUM, TrB_LNOT, a, TrB_DEFAULT), TrB_DOMAIN_MISMATCH);
+    ANSWERS(TrB_transpose(pass, wide, TrB_NO_MATRIX, TrB_NO_ACCUM, a, TrB_DEFAULT), TrB_DIMENSION_MISMATCH);
+    OK(TrB_Matrix_free(pass, c));
+    OK(TrB_Matrix_free(pass, pair));
+    OK(TrB_Matrix_free(pass, wide));
+    OK(TrB_Vector_free(pass, v));
+    return true;
+}
+
+/* The same of truth values: every other one is true. */
+static bool make_truths(TrB_Pass *pass)
+{
+    TrB_Matrix t, c;
+    OK(TrB_Matrix_new(pass, &t, TrB_BOOL, SIZE, SIZE));
+    OK(TrB_Matrix_build_BOOL(pass, t, rows, columns, truths, SIZE - 1, TrB_LOR));
+    OK(TrB_Matrix_new(pass, &c, TrB_BOOL, SIZE, SIZE));
+    OK(TrB_Matrix_apply(pass, c, t, TrB_NO_ACCUM, TrB_LNOT, t, TrB_DEFAULT));
+    MATRIX_HAS(SIZE / 2, c);
+    OK(TrB_Matrix_apply_BinaryOp1st_BOOL(pass, c, TrB_NO_MATRIX, TrB_LOR, TrB_LAND, true, t, TrB_DEFAULT));
+    MATRIX_HAS(SIZE - 1, c);
+    OK(TrB_Matrix_apply_BinaryOp2nd_BOOL(pass, c, TrB_NO_MATRIX, TrB_NO_ACCUM, TrB_LXOR, t, true, TrB_TRAN));
+    MATRIX_HAS(SIZE - 1, c);
+    OK(TrB_Matrix_select_BOOL(pass, c, TrB_NO_MATRIX, TrB_NO_ACCUM, TrB_VALUELT, t, true, TrB_DEFAULT));
+    MATRIX_HAS(SIZE / 2 - 1, c);
+    OK(TrB_Matrix_free(pass, t));
+    OK(TrB_Matrix_free(pass, c));
+    return true;
+}
+
+/* The same of vectors, of either domain, and a product with a second input that is read transposed. */
+static bool make_lists(TrB_Pass *pass, TrB_Matrix a)
+{
+    TrB_Vector u, w, q, p;
+    uint64_t x;
+    OK(TrB_Vector_new(pass, &u, TrB_UINT64, SIZE));
+    OK(TrB_Vector_build_UINT64(pass, u, columns, numbers, SIZE - 1, TrB_MIN));
+    OK(TrB_Vector_new(pass, &w, TrB_UINT64, SIZE));
+    OK(TrB_vxm(pass, w, TrB_NO_VECTOR, TrB_NO_ACCUM, TrB_PLUS_TIMES, u, a, TrB_TRAN1));
+    OK(TrB_Vector_extractElement_UINT64(pass, &x, w, 4));
+    HOLDS(x == 5 * 5);
+    OK(TrB_Vector_apply(pass, w, TrB_NO_VECTOR, TrB_NO_ACCUM, TrB_BNOT, u, TrB_DEFAULT));
+    OK(TrB_Vector_extractElement_UINT64(pass, &x, w, 4));
+    HOLDS(x == UINT64_MAX - 4);
+    OK(TrB_Vector_apply_BinaryOp1st_UINT64(pass, w, u, TrB_PLUS, TrB_MINUS, 100, u, TrB_STRUCTURE));
+    OK(TrB_Vector_apply_BinaryOp2nd_UINT64(pass, w, TrB_NO_VECTOR, TrB_NO_ACCUM, TrB_MINUS, u, 1, TrB_DEFAULT));
+    OK(TrB_Vector_extractElement_UINT64(pass, &x, w, 4));
+    HOLDS(x == 3);
+    OK(TrB_Vector_select_INT64(pass, w, TrB_NO_VECTOR, TrB_NO_ACCUM, TrB_ROWGT, u, 9, TrB_DEFAULT));
+    VECTOR_HAS(SIZE - 10, w);
+    OK(TrB_Vector_select_UINT64(pass, w, u, TrB_NO_ACCUM, TrB_VALUELE, u, 9, TrB_REPLACE));
+    VECTOR_HAS(9, w);
+    OK(TrB_Vector_new(pass, &q, TrB_BOOL, SIZE));
+    OK(TrB_Vector_build_BOOL(pass, q, columns, truths, SIZE - 1, TrB_LOR));
+    OK(TrB_Vector_new(pass, &p, TrB_BOOL, SIZE));
+    OK(TrB_Vector_apply_BinaryOp1st_BOOL(pass, p, q, TrB_NO_ACCUM, TrB_LXOR, true, q, TrB_DEFAULT));
+    VECTOR_HAS(SIZE / 2, p);
+    OK(TrB_Vector_apply_BinaryOp2nd_BOOL(pass, p, TrB_NO_VECTOR, TrB_LOR, TrB_LAND, q, false, TrB_DEFAULT));
+    VECTOR_HAS(SIZE - 1, p);
+    OK(TrB_Vector_select_BOOL(pass, p, TrB_NO_VECTOR, TrB_NO_ACCUM, TrB_VALUENE, q, false, TrB_DEFAULT));
+    VECTOR_HAS(SIZE / 2, p);
+    OK(TrB_Vector_free(pass, u));
+    OK(TrB_Vector_free(pass, w));
+    OK(TrB_Vector_free(pass, q));
+    OK(TrB_Vector_free(pass, p));
+    return true;
+}
+
 /* Many changes of one matrix with reads between them, waits, and what one pass takes over of another. */
 static bool serve(TrB_Pass *passes, TrB_Matrix a)
 {
@@ -281,7 +387,8 @@ static bool make_all(TrB_Pass *passes, TrB_Pass *next, TrB_Pass *links)
 {
     TrB_Matrix a;
     OK(TrB_open(ROOM, passes, PASSES));
-    return make_matrices(&passes[0], &a) && make_vectors(&passes[1], a) && serve(passes, a) && go_on(passes, next, a) &&
+    return make_matrices(&passes[0], &a) && make_vectors(&passes[1], a) && make_terms(&passes[0], a) &&
+           make_truths(&passes[1]) && make_lists(&passes[0], a) && serve(passes, a) && go_on(passes, next, a) &&
            go_round(links);
 }
 

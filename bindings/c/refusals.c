@@ -18,7 +18,7 @@ enum { ROOM = 40, MOST_PASSES = 256 };
 #define NO_TYPE ((TrB_Type)2)
 #define NO_OPERATOR ((TrB_BinaryOp)14)
 #define NO_MODE ((TrB_WaitMode)2)
-#define NO_DESCRIPTOR 16u
+#define NO_DESCRIPTOR 32u
 #define NEVER_MADE ((TrB_Matrix){1000})
 
 /* The store of this program: a is 2 x 3, b is 2 x 2, each of numbers; t is 2 x 3, of truth values; v is

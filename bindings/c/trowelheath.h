@@ -60,13 +60,16 @@
  *   names      TrB_Matrix_eWiseAdd is GrB_Matrix_eWiseAdd_BinaryOp, and so for vectors and eWiseMult;
  *              TrB_Matrix_reduce is GrB_Matrix_reduce_Monoid. TrB_PLUS is GrB_PLUS_UINT64 and its
  *              monoid, and so each operator; TrB_PLUS_TIMES is GrB_PLUS_TIMES_SEMIRING_UINT64.
+ *              TrB_AINV is GrB_AINV_UINT64. TrB_VALUEEQ is GrB_VALUEEQ_UINT64 and GrB_VALUEEQ_BOOL, and
+ *              so each test of values.
  *              TrB_NO_MATRIX, TrB_NO_VECTOR, TrB_NO_ACCUM and TrB_DEFAULT stand for GrB_NULL.
  *   arguments  TrB_Matrix_reduce_UINT64 and its like take no accumulator and no descriptor. The dup of
  *              a build is a monoid. TrB_Matrix_free and TrB_Vector_free take a number by value.
  *              TrB_Matrix_size tells what GrB_Matrix_nrows and GrB_Matrix_ncols tell.
  *              TrB_Matrix_error and TrB_Vector_error tell a status, and no text.
- *   bits       A descriptor is a number of bits, and no object. TrB_TRAN is a bit of it, and turns the
- *              first input alone.
+ *   bits       A descriptor is a number of bits, and no object. TrB_TRAN is GrB_TRAN of GrB_INP0, and
+ *              TrB_TRAN1 that of GrB_INP1: GrB_DESC_T0T1 is TrB_TRAN | TrB_TRAN1. A bit of an input that
+ *              an operation does not read transposed is refused.
  *   not here   All else, as GrB_init, other types, operators of a program's own, other operations.
  *
  * What a service does
@@ -159,20 +162,52 @@ typedef enum {
     TrB_SECOND = 13      /* uint64: y */
 } TrB_BinaryOp;
 
+/* Operators on one value x (own numbers). */
+typedef enum {
+    TrB_IDENTITY_BOOL = 1, /* bool: x */
+    TrB_LNOT = 2,          /* bool: not x */
+    TrB_IDENTITY = 3,      /* uint64: x */
+    TrB_AINV = 4,          /* uint64: 0 - x modulo 2^64 */
+    TrB_BNOT = 5           /* uint64: x with each of its 64 bits turned */
+} TrB_UnaryOp;
+
+/* Tests of an entry x at row i and column j, against a number (own numbers). A vector is a column: its
+ * entry at index i is at row i and column 0. The first eight are tests of places, against a k with a
+ * sign, and take entries of either domain. The others are tests of values, against a y of the domain of
+ * x; false is less than true. */
+typedef enum {
+    TrB_TRIL = 1,     /* j <= i + k */
+    TrB_TRIU = 2,     /* j >= i + k */
+    TrB_DIAG = 3,     /* j = i + k */
+    TrB_OFFDIAG = 4,  /* j differs from i + k */
+    TrB_ROWLE = 5,    /* i <= k */
+    TrB_ROWGT = 6,    /* i > k */
+    TrB_COLLE = 7,    /* j <= k */
+    TrB_COLGT = 8,    /* j > k */
+    TrB_VALUEEQ = 9,  /* x = y */
+    TrB_VALUENE = 10, /* x differs from y */
+    TrB_VALUELT = 11, /* x < y */
+    TrB_VALUELE = 12, /* x <= y */
+    TrB_VALUEGT = 13, /* x > y */
+    TrB_VALUEGE = 14  /* x >= y */
+} TrB_IndexUnaryOp;
+
 /* How much a wait has done. The numbers are those of GraphBLAS.h. */
 typedef enum {
     TrB_COMPLETE = 0,   /* the pending work on one object */
     TrB_MATERIALIZE = 1 /* the pending work on all objects */
 } TrB_WaitMode;
 
-/* A descriptor: these bits, joined by `|`. All but TrB_TRAN have the numbers of GraphBLAS.h. */
+/* A descriptor: these bits, joined by `|`. All but the two of transposed inputs have the numbers of
+ * GraphBLAS.h. */
 typedef uint32_t TrB_Descriptor;
 enum {
     TrB_DEFAULT = 0,   /* none of them */
     TrB_REPLACE = 1,   /* entries of the output outside of the mask are removed */
     TrB_COMP = 2,      /* inside the mask are the places that it would leave out */
     TrB_STRUCTURE = 4, /* inside the mask are the places where it stores an entry, false or 0 too */
-    TrB_TRAN = 8       /* own: the first input is read transposed; refused where that is a vector */
+    TrB_TRAN = 8,      /* own: the first input is read transposed; refused where that is no matrix */
+    TrB_TRAN1 = 16     /* own: the second input is read transposed; refused where that is no matrix */
 };
 
 /* An index, a dimension or a number of entries. Dimensions are from 1 to 2^32 - 1. */
@@ -293,6 +328,7 @@ int32_t trb_matrix_new(TrB_Pass *pass, uint32_t *out, uint32_t domain, uint64_t 
 int32_t trb_vector_new(TrB_Pass *pass, uint32_t *out, uint32_t domain, uint64_t size);
 int32_t trb_matrix_dup(TrB_Pass *pass, uint32_t *out, uint32_t a);
 int32_t trb_vector_dup(TrB_Pass *pass, uint32_t *out, uint32_t v);
+int32_t trb_matrix_diag(TrB_Pass *pass, uint32_t *out, uint32_t v, int64_t k);
 int32_t trb_matrix_free(TrB_Pass *pass, uint32_t a);
 int32_t trb_vector_free(TrB_Pass *pass, uint32_t v);
 int32_t trb_matrix_clear(TrB_Pass *pass, uint32_t a);
@@ -338,6 +374,24 @@ int32_t trb_vector_ewise_add(TrB_Pass *pass, uint32_t w, uint32_t mask, uint32_t
 int32_t trb_matrix_ewise_mult(TrB_Pass *pass, uint32_t c, uint32_t mask, uint32_t accum, uint32_t op, uint32_t a, uint32_t b, uint32_t desc);
 int32_t trb_vector_ewise_mult(TrB_Pass *pass, uint32_t w, uint32_t mask, uint32_t accum, uint32_t op, uint32_t u, uint32_t v, uint32_t desc);
 int32_t trb_reduce_rows(TrB_Pass *pass, uint32_t w, uint32_t mask, uint32_t accum, uint32_t monoid, uint32_t a, uint32_t desc);
+int32_t trb_transpose(TrB_Pass *pass, uint32_t c, uint32_t mask, uint32_t accum, uint32_t a, uint32_t desc);
+int32_t trb_matrix_kronecker(TrB_Pass *pass, uint32_t c, uint32_t mask, uint32_t accum, uint32_t op, uint32_t a, uint32_t b, uint32_t desc);
+int32_t trb_matrix_apply(TrB_Pass *pass, uint32_t c, uint32_t mask, uint32_t accum, uint32_t op, uint32_t a, uint32_t desc);
+int32_t trb_matrix_apply_first_bool(TrB_Pass *pass, uint32_t c, uint32_t mask, uint32_t accum, uint32_t op, bool x, uint32_t a, uint32_t desc);
+int32_t trb_matrix_apply_second_bool(TrB_Pass *pass, uint32_t c, uint32_t mask, uint32_t accum, uint32_t op, uint32_t a, bool y, uint32_t desc);
+int32_t trb_matrix_apply_first_uint64(TrB_Pass *pass, uint32_t c, uint32_t mask, uint32_t accum, uint32_t op, uint64_t x, uint32_t a, uint32_t desc);
+int32_t trb_matrix_apply_second_uint64(TrB_Pass *pass, uint32_t c, uint32_t mask, uint32_t accum, uint32_t op, uint32_t a, uint64_t y, uint32_t desc);
+int32_t trb_matrix_select_int64(TrB_Pass *pass, uint32_t c, uint32_t mask, uint32_t accum, uint32_t test, uint32_t a, int64_t k, uint32_t desc);
+int32_t trb_matrix_select_bool(TrB_Pass *pass, uint32_t c, uint32_t mask, uint32_t accum, uint32_t test, uint32_t a, bool x, uint32_t desc);
+int32_t trb_matrix_select_uint64(TrB_Pass *pass, uint32_t c, uint32_t mask, uint32_t accum, uint32_t test, uint32_t a, uint64_t x, uint32_t desc);
+int32_t trb_vector_apply(TrB_Pass *pass, uint32_t w, uint32_t mask, uint32_t accum, uint32_t op, uint32_t u, uint32_t desc);
+int32_t trb_vector_apply_first_bool(TrB_Pass *pass, uint32_t w, uint32_t mask, uint32_t accum, uint32_t op, bool x, uint32_t u, uint32_t desc);
+int32_t trb_vector_apply_second_bool(TrB_Pass *pass, uint32_t w, uint32_t mask, uint32_t accum, uint32_t op, uint32_t u, bool y, uint32_t desc);
+int32_t trb_vector_apply_first_uint64(TrB_Pass *pass, uint32_t w, uint32_t mask, uint32_t accum, uint32_t op, uint64_t x, uint32_t u, uint32_t desc);
+int32_t trb_vector_apply_second_uint64(TrB_Pass *pass, uint32_t w, uint32_t mask, uint32_t accum, uint32_t op, uint32_t u, uint64_t y, uint32_t desc);
+int32_t trb_vector_select_int64(TrB_Pass *pass, uint32_t w, uint32_t mask, uint32_t accum, uint32_t test, uint32_t u, int64_t k, uint32_t desc);
+int32_t trb_vector_select_bool(TrB_Pass *pass, uint32_t w, uint32_t mask, uint32_t accum, uint32_t test, uint32_t u, bool x, uint32_t desc);
+int32_t trb_vector_select_uint64(TrB_Pass *pass, uint32_t w, uint32_t mask, uint32_t accum, uint32_t test, uint32_t u, uint64_t x, uint32_t desc);
 int32_t trb_matrix_wait(TrB_Pass *pass, uint32_t a, uint32_t mode);
 int32_t trb_vector_wait(TrB_Pass *pass, uint32_t v, uint32_t mode);
 
@@ -625,6 +679,16 @@ static inline TrB_Info TrB_Matrix_dup(TrB_Pass *pass, TrB_Matrix *C, TrB_Matrix 
 static inline TrB_Info TrB_Vector_dup(TrB_Pass *pass, TrB_Vector *w, TrB_Vector u)
 {
     return (TrB_Info)trb_vector_dup(pass, &w->id, u.id);
+}
+
+/* Makes a matrix *C with the domain of v and its entries on the diagonal k: entry i of v is at row i and
+ * column i + k, or where k is below 0 at row i - k and column i. C has as many rows and columns as v has
+ * indices, and as many more as the diagonal is away from the main one. Later changes of the one leave the
+ * other as it is. A change.
+ * Refused: TrB_INVALID_VALUE where these are more than 2^32 - 1. */
+static inline TrB_Info TrB_Matrix_diag(TrB_Pass *pass, TrB_Matrix *C, TrB_Vector v, int64_t k)
+{
+    return (TrB_Info)trb_matrix_diag(pass, &C->id, v.id, k);
 }
 
 /* Ends the matrix, for all passes. Its number is refused from then on. It is taken by value, since
@@ -1003,24 +1067,27 @@ static inline TrB_Info TrB_Vector_reduce_BOOL(TrB_Pass *pass, bool *x, TrB_Binar
  *            the shape of the output, and either domain.
  *   outside  The entries of C outside of the mask stay. With TrB_REPLACE they are removed.
  *   desc     TrB_DEFAULT, or bits, as TrB_STRUCTURE | TrB_COMP | TrB_REPLACE. With TrB_TRAN the
- *            first input, a matrix, is read transposed, as A' below stands for A. Where the first input
- *            is a vector, nothing is read transposed, and TrB_TRAN is refused.
+ *            first input, a matrix, is read transposed, as A' below stands for A; with TrB_TRAN1 the
+ *            second, as B'. Where that input is a vector, or there is none, the bit is refused. A value
+ *            of the call counts as an input here: A stands second where a value is in front of it.
  *
  * All objects are read before the output is written, so one object may be output, input and mask. The
  * output keeps its domain and its shape.
  *
  * Every operation is a change, and is refused with
  *
- *   TrB_INVALID_VALUE       where an operator, a monoid or a descriptor has no such number, or TrB_TRAN
- *                           is given with a vector as the first input;
- *   TrB_DOMAIN_MISMATCH     where output, inputs, operators, monoid and accumulator are not all of one
- *                           domain;
+ *   TrB_INVALID_VALUE       where an operator, a test, a monoid or a descriptor has no such number, or
+ *                           TrB_TRAN is given and the first input is no matrix, or TrB_TRAN1 and the
+ *                           second is none;
+ *   TrB_DOMAIN_MISMATCH     where output, inputs, operators, values, monoid and accumulator are not all
+ *                           of one domain;
  *   TrB_DIMENSION_MISMATCH  where the shapes are not those that its comment tells, or Mask has not the
  *                           shape of the output. */
 
 /* C<Mask> = accum(C, A * B): at row i and column j, `multiply` of A(i,k) and B(k,j) for each k where
  * both are stored, joined by `add`; nothing where there is no such k. A change.
- * Shapes: A is m x l, B is l x n, C and Mask are m x n. With TrB_TRAN A is l x m, and A' is read.
+ * Shapes: A is m x l, B is l x n, C and Mask are m x n. With TrB_TRAN A is l x m, and A' is read; with
+ * TrB_TRAN1 B is n x l, and B' is read.
  * Refused: as every operation. */
 static inline TrB_Info TrB_mxm(TrB_Pass *pass, TrB_Matrix C, TrB_Matrix Mask, TrB_BinaryOp accum,
                                TrB_Semiring semiring, TrB_Matrix A, TrB_Matrix B, TrB_Descriptor desc)
@@ -1043,8 +1110,9 @@ static inline TrB_Info TrB_mxv(TrB_Pass *pass, TrB_Vector w, TrB_Vector mask, Tr
 
 /* w<mask> = accum(w, u * A): at index j, `multiply` of u(k) and A(k,j) for each k where both are
  * stored, joined by `add`; nothing where there is no such k. So values go along the edges of a graph
- * whose edge from i to j is A(i,j). TrB_TRAN is refused here: TrB_mxv reads A transposed. A change.
- * Shapes: u is of size m, A is m x n, w and mask are of size n.
+ * whose edge from i to j is A(i,j). A change.
+ * Shapes: u is of size m, A is m x n, w and mask are of size n. With TrB_TRAN1 A is n x m, and A' is
+ * read.
  * Refused: as every operation. */
 static inline TrB_Info TrB_vxm(TrB_Pass *pass, TrB_Vector w, TrB_Vector mask, TrB_BinaryOp accum,
                                TrB_Semiring semiring, TrB_Vector u, TrB_Matrix A, TrB_Descriptor desc)
@@ -1055,7 +1123,8 @@ static inline TrB_Info TrB_vxm(TrB_Pass *pass, TrB_Vector w, TrB_Vector mask, Tr
 
 /* C<Mask> = accum(C, A + B): where both A and B store a value, op of these; where one of them does,
  * that value. A change.
- * Shapes: A, B, C and Mask are m x n. With TrB_TRAN A is n x m, and A' is read.
+ * Shapes: A, B, C and Mask are m x n. With TrB_TRAN A is n x m, and A' is read; with TrB_TRAN1 B is
+ * n x m, and B' is read.
  * Refused: as every operation. */
 static inline TrB_Info TrB_Matrix_eWiseAdd(TrB_Pass *pass, TrB_Matrix C, TrB_Matrix Mask,
                                            TrB_BinaryOp accum, TrB_BinaryOp op, TrB_Matrix A,
@@ -1079,7 +1148,8 @@ static inline TrB_Info TrB_Vector_eWiseAdd(TrB_Pass *pass, TrB_Vector w, TrB_Vec
 
 /* C<Mask> = accum(C, A .* B): where both A and B store a value, op of these, and nothing elsewhere. A
  * change.
- * Shapes: A, B, C and Mask are m x n. With TrB_TRAN A is n x m, and A' is read.
+ * Shapes: A, B, C and Mask are m x n. With TrB_TRAN A is n x m, and A' is read; with TrB_TRAN1 B is
+ * n x m, and B' is read.
  * Refused: as every operation. */
 static inline TrB_Info TrB_Matrix_eWiseMult(TrB_Pass *pass, TrB_Matrix C, TrB_Matrix Mask,
                                             TrB_BinaryOp accum, TrB_BinaryOp op, TrB_Matrix A,
@@ -1110,6 +1180,213 @@ static inline TrB_Info TrB_Matrix_reduce(TrB_Pass *pass, TrB_Vector w, TrB_Vecto
                                          TrB_Descriptor desc)
 {
     return (TrB_Info)trb_reduce_rows(pass, w.id, mask.id, (uint32_t)accum, (uint32_t)monoid, A.id, desc);
+}
+
+/* C<Mask> = accum(C, A'): at row i and column j, A(j,i) where it is stored. With TrB_TRAN it is turned
+ * twice, so A itself is written. A change.
+ * Shapes: A is n x m, C and Mask are m x n. With TrB_TRAN A is m x n.
+ * Refused: as every operation. */
+static inline TrB_Info TrB_transpose(TrB_Pass *pass, TrB_Matrix C, TrB_Matrix Mask, TrB_BinaryOp accum,
+                                     TrB_Matrix A, TrB_Descriptor desc)
+{
+    return (TrB_Info)trb_transpose(pass, C.id, Mask.id, (uint32_t)accum, A.id, desc);
+}
+
+/* C<Mask> = accum(C, the Kronecker product of A and B): op of A(i,j) and B(p,q) at row i * r + p and
+ * column j * c + q, where both are stored and B has r rows and c columns. A change.
+ * Shapes: A is m x n, B is r x c, C and Mask are m * r x n * c. With TrB_TRAN A is n x m, and A' is read;
+ * with TrB_TRAN1 B is c x r, and B' is read.
+ * Refused: as every operation. */
+static inline TrB_Info TrB_Matrix_kronecker_BinaryOp(TrB_Pass *pass, TrB_Matrix C, TrB_Matrix Mask,
+                                                     TrB_BinaryOp accum, TrB_BinaryOp op, TrB_Matrix A,
+                                                     TrB_Matrix B, TrB_Descriptor desc)
+{
+    return (TrB_Info)trb_matrix_kronecker(pass, C.id, Mask.id, (uint32_t)accum, (uint32_t)op, A.id, B.id,
+                                          desc);
+}
+
+/* C<Mask> = accum(C, op(A)): where A stores a value, op of it. A change.
+ * Shapes: A, C and Mask are m x n. With TrB_TRAN A is n x m, and A' is read.
+ * Refused: as every operation. */
+static inline TrB_Info TrB_Matrix_apply(TrB_Pass *pass, TrB_Matrix C, TrB_Matrix Mask, TrB_BinaryOp accum,
+                                        TrB_UnaryOp op, TrB_Matrix A, TrB_Descriptor desc)
+{
+    return (TrB_Info)trb_matrix_apply(pass, C.id, Mask.id, (uint32_t)accum, (uint32_t)op, A.id, desc);
+}
+
+/* w<mask> = accum(w, op(u)): where u stores a value, op of it. A change.
+ * Shapes: u, w and mask are of one size.
+ * Refused: as every operation. */
+static inline TrB_Info TrB_Vector_apply(TrB_Pass *pass, TrB_Vector w, TrB_Vector mask, TrB_BinaryOp accum,
+                                        TrB_UnaryOp op, TrB_Vector u, TrB_Descriptor desc)
+{
+    return (TrB_Info)trb_vector_apply(pass, w.id, mask.id, (uint32_t)accum, (uint32_t)op, u.id, desc);
+}
+
+/* C<Mask> = accum(C, op(x, A)): where A stores a value, op of x and that value. A change.
+ * Shapes: A, C and Mask are m x n. With TrB_TRAN1 A, which stands second, is n x m, and A' is read.
+ * Refused: as every operation; TrB_DOMAIN_MISMATCH where A is not of TrB_UINT64. */
+static inline TrB_Info TrB_Matrix_apply_BinaryOp1st_UINT64(TrB_Pass *pass, TrB_Matrix C,
+                                                           TrB_Matrix Mask, TrB_BinaryOp accum,
+                                                           TrB_BinaryOp op, uint64_t x, TrB_Matrix A,
+                                                           TrB_Descriptor desc)
+{
+    return (TrB_Info)trb_matrix_apply_first_uint64(pass, C.id, Mask.id, (uint32_t)accum, (uint32_t)op, x,
+                                                   A.id, desc);
+}
+
+/* C<Mask> = accum(C, op(A, y)): where A stores a value, op of that value and y. A change.
+ * Shapes: A, C and Mask are m x n. With TrB_TRAN A is n x m, and A' is read.
+ * Refused: as every operation; TrB_DOMAIN_MISMATCH where A is not of TrB_UINT64. */
+static inline TrB_Info TrB_Matrix_apply_BinaryOp2nd_UINT64(TrB_Pass *pass, TrB_Matrix C,
+                                                           TrB_Matrix Mask, TrB_BinaryOp accum,
+                                                           TrB_BinaryOp op, TrB_Matrix A, uint64_t y,
+                                                           TrB_Descriptor desc)
+{
+    return (TrB_Info)trb_matrix_apply_second_uint64(pass, C.id, Mask.id, (uint32_t)accum, (uint32_t)op,
+                                                    A.id, y, desc);
+}
+
+/* w<mask> = accum(w, op(x, u)): where u stores a value, op of x and that value. A change.
+ * Shapes: u, w and mask are of one size.
+ * Refused: as every operation; TrB_DOMAIN_MISMATCH where u is not of TrB_UINT64. */
+static inline TrB_Info TrB_Vector_apply_BinaryOp1st_UINT64(TrB_Pass *pass, TrB_Vector w,
+                                                           TrB_Vector mask, TrB_BinaryOp accum,
+                                                           TrB_BinaryOp op, uint64_t x, TrB_Vector u,
+                                                           TrB_Descriptor desc)
+{
+    return (TrB_Info)trb_vector_apply_first_uint64(pass, w.id, mask.id, (uint32_t)accum, (uint32_t)op, x,
+                                                   u.id, desc);
+}
+
+/* w<mask> = accum(w, op(u, y)): where u stores a value, op of that value and y. A change.
+ * Shapes: u, w and mask are of one size.
+ * Refused: as every operation; TrB_DOMAIN_MISMATCH where u is not of TrB_UINT64. */
+static inline TrB_Info TrB_Vector_apply_BinaryOp2nd_UINT64(TrB_Pass *pass, TrB_Vector w,
+                                                           TrB_Vector mask, TrB_BinaryOp accum,
+                                                           TrB_BinaryOp op, TrB_Vector u, uint64_t y,
+                                                           TrB_Descriptor desc)
+{
+    return (TrB_Info)trb_vector_apply_second_uint64(pass, w.id, mask.id, (uint32_t)accum, (uint32_t)op,
+                                                    u.id, y, desc);
+}
+
+/* C<Mask> = accum(C, op(x, A)): where A stores a value, op of x and that value. A change.
+ * Shapes: A, C and Mask are m x n. With TrB_TRAN1 A, which stands second, is n x m, and A' is read.
+ * Refused: as every operation; TrB_DOMAIN_MISMATCH where A is not of TrB_BOOL. */
+static inline TrB_Info TrB_Matrix_apply_BinaryOp1st_BOOL(TrB_Pass *pass, TrB_Matrix C, TrB_Matrix Mask,
+                                                         TrB_BinaryOp accum, TrB_BinaryOp op, bool x,
+                                                         TrB_Matrix A, TrB_Descriptor desc)
+{
+    return (TrB_Info)trb_matrix_apply_first_bool(pass, C.id, Mask.id, (uint32_t)accum, (uint32_t)op, x,
+                                                 A.id, desc);
+}
+
+/* C<Mask> = accum(C, op(A, y)): where A stores a value, op of that value and y. A change.
+ * Shapes: A, C and Mask are m x n. With TrB_TRAN A is n x m, and A' is read.
+ * Refused: as every operation; TrB_DOMAIN_MISMATCH where A is not of TrB_BOOL. */
+static inline TrB_Info TrB_Matrix_apply_BinaryOp2nd_BOOL(TrB_Pass *pass, TrB_Matrix C, TrB_Matrix Mask,
+                                                         TrB_BinaryOp accum, TrB_BinaryOp op,
+                                                         TrB_Matrix A, bool y, TrB_Descriptor desc)
+{
+    return (TrB_Info)trb_matrix_apply_second_bool(pass, C.id, Mask.id, (uint32_t)accum, (uint32_t)op, A.id,
+                                                  y, desc);
+}
+
+/* w<mask> = accum(w, op(x, u)): where u stores a value, op of x and that value. A change.
+ * Shapes: u, w and mask are of one size.
+ * Refused: as every operation; TrB_DOMAIN_MISMATCH where u is not of TrB_BOOL. */
+static inline TrB_Info TrB_Vector_apply_BinaryOp1st_BOOL(TrB_Pass *pass, TrB_Vector w, TrB_Vector mask,
+                                                         TrB_BinaryOp accum, TrB_BinaryOp op, bool x,
+                                                         TrB_Vector u, TrB_Descriptor desc)
+{
+    return (TrB_Info)trb_vector_apply_first_bool(pass, w.id, mask.id, (uint32_t)accum, (uint32_t)op, x,
+                                                 u.id, desc);
+}
+
+/* w<mask> = accum(w, op(u, y)): where u stores a value, op of that value and y. A change.
+ * Shapes: u, w and mask are of one size.
+ * Refused: as every operation; TrB_DOMAIN_MISMATCH where u is not of TrB_BOOL. */
+static inline TrB_Info TrB_Vector_apply_BinaryOp2nd_BOOL(TrB_Pass *pass, TrB_Vector w, TrB_Vector mask,
+                                                         TrB_BinaryOp accum, TrB_BinaryOp op,
+                                                         TrB_Vector u, bool y, TrB_Descriptor desc)
+{
+    return (TrB_Info)trb_vector_apply_second_bool(pass, w.id, mask.id, (uint32_t)accum, (uint32_t)op, u.id,
+                                                  y, desc);
+}
+
+/* C<Mask> = accum(C, the entries of A whose places pass the test against k), of either domain. A
+ * change.
+ * Shapes: A, C and Mask are m x n. With TrB_TRAN A is n x m, and A' is read: its places are tested.
+ * Refused: as every operation; TrB_INVALID_VALUE where the test is one of values, or k is below 0, or
+ * with TrB_TRIL, TrB_TRIU, TrB_DIAG and TrB_OFFDIAG below 1 - 2^32 or above 2^32 - 1. */
+static inline TrB_Info TrB_Matrix_select_INT64(TrB_Pass *pass, TrB_Matrix C, TrB_Matrix Mask,
+                                               TrB_BinaryOp accum, TrB_IndexUnaryOp test, TrB_Matrix A,
+                                               int64_t k, TrB_Descriptor desc)
+{
+    return (TrB_Info)trb_matrix_select_int64(pass, C.id, Mask.id, (uint32_t)accum, (uint32_t)test, A.id, k,
+                                             desc);
+}
+
+/* w<mask> = accum(w, the entries of u whose places pass the test against k), of either domain. A
+ * change.
+ * Shapes: u, w and mask are of one size. Index i is tested as row i and column 0.
+ * Refused: as every operation; TrB_INVALID_VALUE where the test is one of values, or k is below 0, or
+ * with TrB_TRIL, TrB_TRIU, TrB_DIAG and TrB_OFFDIAG below 1 - 2^32 or above 2^32 - 1. */
+static inline TrB_Info TrB_Vector_select_INT64(TrB_Pass *pass, TrB_Vector w, TrB_Vector mask,
+                                               TrB_BinaryOp accum, TrB_IndexUnaryOp test, TrB_Vector u,
+                                               int64_t k, TrB_Descriptor desc)
+{
+    return (TrB_Info)trb_vector_select_int64(pass, w.id, mask.id, (uint32_t)accum, (uint32_t)test, u.id, k,
+                                             desc);
+}
+
+/* C<Mask> = accum(C, the entries of A whose values pass the test against y). A change.
+ * Shapes: A, C and Mask are m x n. With TrB_TRAN A is n x m, and A' is read.
+ * Refused: as every operation; TrB_INVALID_VALUE where the test is one of places; TrB_DOMAIN_MISMATCH
+ * where A is not of TrB_UINT64. */
+static inline TrB_Info TrB_Matrix_select_UINT64(TrB_Pass *pass, TrB_Matrix C, TrB_Matrix Mask,
+                                                TrB_BinaryOp accum, TrB_IndexUnaryOp test, TrB_Matrix A,
+                                                uint64_t y, TrB_Descriptor desc)
+{
+    return (TrB_Info)trb_matrix_select_uint64(pass, C.id, Mask.id, (uint32_t)accum, (uint32_t)test, A.id, y,
+                                              desc);
+}
+
+/* w<mask> = accum(w, the entries of u whose values pass the test against y). A change.
+ * Shapes: u, w and mask are of one size.
+ * Refused: as every operation; TrB_INVALID_VALUE where the test is one of places; TrB_DOMAIN_MISMATCH
+ * where u is not of TrB_UINT64. */
+static inline TrB_Info TrB_Vector_select_UINT64(TrB_Pass *pass, TrB_Vector w, TrB_Vector mask,
+                                                TrB_BinaryOp accum, TrB_IndexUnaryOp test, TrB_Vector u,
+                                                uint64_t y, TrB_Descriptor desc)
+{
+    return (TrB_Info)trb_vector_select_uint64(pass, w.id, mask.id, (uint32_t)accum, (uint32_t)test, u.id, y,
+                                              desc);
+}
+
+/* C<Mask> = accum(C, the entries of A whose values pass the test against y). A change.
+ * Shapes: A, C and Mask are m x n. With TrB_TRAN A is n x m, and A' is read.
+ * Refused: as every operation; TrB_INVALID_VALUE where the test is one of places; TrB_DOMAIN_MISMATCH
+ * where A is not of TrB_BOOL. */
+static inline TrB_Info TrB_Matrix_select_BOOL(TrB_Pass *pass, TrB_Matrix C, TrB_Matrix Mask,
+                                              TrB_BinaryOp accum, TrB_IndexUnaryOp test, TrB_Matrix A,
+                                              bool y, TrB_Descriptor desc)
+{
+    return (TrB_Info)trb_matrix_select_bool(pass, C.id, Mask.id, (uint32_t)accum, (uint32_t)test, A.id, y,
+                                            desc);
+}
+
+/* w<mask> = accum(w, the entries of u whose values pass the test against y). A change.
+ * Shapes: u, w and mask are of one size.
+ * Refused: as every operation; TrB_INVALID_VALUE where the test is one of places; TrB_DOMAIN_MISMATCH
+ * where u is not of TrB_BOOL. */
+static inline TrB_Info TrB_Vector_select_BOOL(TrB_Pass *pass, TrB_Vector w, TrB_Vector mask,
+                                              TrB_BinaryOp accum, TrB_IndexUnaryOp test, TrB_Vector u,
+                                              bool y, TrB_Descriptor desc)
+{
+    return (TrB_Info)trb_vector_select_bool(pass, w.id, mask.id, (uint32_t)accum, (uint32_t)test, u.id, y,
+                                            desc);
 }
 
 /* ---- Texts ------------------------------------------------------------------------------------- */

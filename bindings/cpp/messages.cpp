@@ -46,6 +46,34 @@ void shapes(grb::Pass &pass)
     refused(mismatch, [&] { pass.ewise_mult(c, grb::plus, a, b); });
     refused(mismatch, [&] { pass.ewise_add(u, grb::plus, u, v); });
     refused(mismatch, [&] { pass.reduce_rows(v, grb::plus, a); });
+    refused(mismatch, [&] { pass.mxm(c, grb::plus_times, c, a, Descriptor::tran1); });
+    refused(mismatch, [&] { pass.vxm(u, grb::plus_times, u, a, Descriptor::tran1); });
+    refused(mismatch, [&] { pass.transpose(c, a); });
+    refused(mismatch, [&] { pass.transpose(c, mask, grb::none, c); });
+    refused(mismatch, [&] { pass.apply(c, grb::ainv, a, Descriptor::tran); });
+    refused(mismatch, [&] { pass.apply(c, grb::minus, 9, a, Descriptor::tran1); });
+    refused(mismatch, [&] { pass.apply(u, grb::minus, v, 9); });
+    refused(mismatch, [&] { pass.select(c, grb::tril, a, 0); });
+    refused(mismatch, [&] { pass.select(u, u, grb::none, grb::valueeq, v, 0); });
+    refused(mismatch, [&] { pass.kronecker(c, grb::times, a, b, Descriptor::tran1); });
+    refused(mismatch, [&] { pass.kronecker(pass.new_matrix<std::uint64_t>(9, 16), mask, grb::none, grb::times, a, b); });
+}
+
+/// Numbers of rows, columns and diagonals that are too small or too large.
+void diagonals(grb::Pass &pass)
+{
+    const auto invalid = grb::Status::invalid_value;
+    const auto c = pass.new_matrix<std::uint64_t>(3, 3);
+    const auto u = pass.new_vector<std::uint64_t>(5);
+    refused(invalid, [&] { pass.select(c, grb::rowle, c, -1); });
+    refused(invalid, [&] { pass.select(u, grb::tril, u, 4294967296); });
+    refused(invalid, [&] { (void)pass.diag(u, 4294967291); });
+    refused(invalid, [&] { (void)pass.diag(u, UINT64_MAX); });
+    const int less = static_cast<int>(pass.nvals(u)) - 1;
+    refused(invalid, [&] { pass.apply(u, grb::plus, u, less); });
+    pass.free(u);
+    refused(grb::Status::uninitialized_object, [&] { (void)pass.diag(u, 0); });
+    refused(grb::Status::uninitialized_object, [&] { pass.select(u, grb::rowle, u, 0); });
 }
 
 void places(grb::Pass &pass)
@@ -120,6 +148,7 @@ int main()
         grb::Store store(100, 1);
         grb::Pass pass = store.take();
         shapes(pass);
+        diagonals(pass);
         places(pass);
         values(pass);
         others(pass);

@@ -224,6 +224,19 @@ TROWELHEATH_INLINE T value(V x)
     }
 }
 
+// The number of a diagonal, a row or a column that k is. It does not compile where k is of a type that may not fit.
+template <typename V>
+std::int64_t place(V k)
+{
+    static_assert(std::is_integral_v<V> && !is_bool<V> && sizeof(V) <= 8, "places are whole numbers");
+    if constexpr (std::is_unsigned_v<V> && sizeof(V) == 8) {
+        // No row and no diagonal is so far.
+        return k > INT64_MAX ? INT64_MAX : static_cast<std::int64_t>(k);
+    } else {
+        return k;
+    }
+}
+
 // Throws where the library that was linked or loaded is not the one that the header is for.
 inline void check_version()
 {
@@ -325,7 +338,75 @@ inline constexpr Semiring<std::uint64_t> max_min{max, min};          ///< widest
 inline constexpr Semiring<std::uint64_t> max_first{max, first};      ///< greatest first value
 inline constexpr Semiring<std::uint64_t> max_second{max, second};    ///< greatest second value
 
+/// An operator on one value of T, with a result of T. The constants below are all that there are.
+template <typename T>
+class UnaryOp {
+    static_assert(detail::is_domain<T>, "values are bool or std::uint64_t");
+
+public:
+    /// The operator of this number, which is one of T.
+    constexpr explicit UnaryOp(TrB_UnaryOp number) noexcept : number_(number) {}
+
+    /// Its number in trowelheath.h.
+    [[nodiscard]] constexpr TrB_UnaryOp number() const noexcept { return number_; }
+
+private:
+    TrB_UnaryOp number_;
+};
+
+inline constexpr UnaryOp<bool> identity_bool{TrB_IDENTITY_BOOL};  ///< x
+inline constexpr UnaryOp<bool> lnot{TrB_LNOT};                    ///< not x
+
+inline constexpr UnaryOp<std::uint64_t> identity{TrB_IDENTITY};  ///< x
+inline constexpr UnaryOp<std::uint64_t> ainv{TrB_AINV};          ///< 0 - x modulo 2^64
+inline constexpr UnaryOp<std::uint64_t> bnot{TrB_BNOT};          ///< x with each of its 64 bits turned
+
+/// A test of the place of an entry, row i and column j, against a number k. A vector is a column: its index is the row,
+/// and the column is 0. The constants below are all that there are.
+class PlaceTest {
+public:
+    /// The test of this number, which is one of places.
+    constexpr explicit PlaceTest(TrB_IndexUnaryOp number) noexcept : number_(number) {}
+
+    /// Its number in trowelheath.h.
+    [[nodiscard]] constexpr TrB_IndexUnaryOp number() const noexcept { return number_; }
+
+private:
+    TrB_IndexUnaryOp number_;
+};
+
+/// A test of the value x of an entry against a value y of its domain; false is less than true. The constants below are
+/// all that there are.
+class ValueTest {
+public:
+    /// The test of this number, which is one of values.
+    constexpr explicit ValueTest(TrB_IndexUnaryOp number) noexcept : number_(number) {}
+
+    /// Its number in trowelheath.h.
+    [[nodiscard]] constexpr TrB_IndexUnaryOp number() const noexcept { return number_; }
+
+private:
+    TrB_IndexUnaryOp number_;
+};
+
+inline constexpr PlaceTest tril{TrB_TRIL};        ///< j <= i + k
+inline constexpr PlaceTest triu{TrB_TRIU};        ///< j >= i + k
+inline constexpr PlaceTest diag{TrB_DIAG};        ///< j = i + k
+inline constexpr PlaceTest offdiag{TrB_OFFDIAG};  ///< j differs from i + k
+inline constexpr PlaceTest rowle{TrB_ROWLE};      ///< i <= k
+inline constexpr PlaceTest rowgt{TrB_ROWGT};      ///< i > k
+inline constexpr PlaceTest colle{TrB_COLLE};      ///< j <= k
+inline constexpr PlaceTest colgt{TrB_COLGT};      ///< j > k
+
+inline constexpr ValueTest valueeq{TrB_VALUEEQ};  ///< x = y
+inline constexpr ValueTest valuene{TrB_VALUENE};  ///< x differs from y
+inline constexpr ValueTest valuelt{TrB_VALUELT};  ///< x < y
+inline constexpr ValueTest valuele{TrB_VALUELE};  ///< x <= y
+inline constexpr ValueTest valuegt{TrB_VALUEGT};  ///< x > y
+inline constexpr ValueTest valuege{TrB_VALUEGE};  ///< x >= y
+
 class MatrixDescriptor;
+class SecondDescriptor;
 
 /// How an operation reads its mask and writes outside of it. Values are joined by `|`.
 class Descriptor {
@@ -335,6 +416,7 @@ public:
     static const Descriptor comp;       ///< inside the mask are the places that it would leave out
     static const Descriptor structure;  ///< inside are the places where it stores an entry, false or 0 too
     static const MatrixDescriptor tran; ///< the first input, a matrix, is read transposed
+    static const SecondDescriptor tran1; ///< the second input, a matrix, is read transposed
 
     /// Its bits in trowelheath.h.
     [[nodiscard]] constexpr std::uint32_t bits() const noexcept { return bits_; }
@@ -378,11 +460,97 @@ private:
     std::uint32_t bits_;
 };
 
+/// A descriptor of an operation on two matrices, which Descriptor::tran and Descriptor::tran1 have read transposed.
+class MatricesDescriptor {
+public:
+    /// The same, not transposed.
+    constexpr MatricesDescriptor(Descriptor desc) noexcept : bits_(desc.bits()) {}
+
+    /// The same, with the second input not transposed.
+    constexpr MatricesDescriptor(MatrixDescriptor desc) noexcept : bits_(desc.bits()) {}
+
+    /// The same, with the first input not transposed.
+    constexpr MatricesDescriptor(SecondDescriptor desc) noexcept;
+
+    /// Its bits in trowelheath.h.
+    [[nodiscard]] constexpr std::uint32_t bits() const noexcept { return bits_; }
+
+    /// Whether the first input is read transposed.
+    [[nodiscard]] constexpr bool is_transposed() const noexcept { return (bits_ & TrB_TRAN) != 0; }
+
+    /// Whether the second input is read transposed.
+    [[nodiscard]] constexpr bool is_second_transposed() const noexcept { return (bits_ & TrB_TRAN1) != 0; }
+
+    /// All that either of both says.
+    [[nodiscard]] friend constexpr MatricesDescriptor operator|(MatricesDescriptor left, MatricesDescriptor right) noexcept
+    {
+        return MatricesDescriptor(left.bits_ | right.bits_);
+    }
+
+private:
+    constexpr explicit MatricesDescriptor(std::uint32_t bits) noexcept : bits_(bits) {}
+
+    std::uint32_t bits_;
+};
+
+/// A descriptor of an operation whose second input alone is a matrix, which Descriptor::tran1 has read transposed.
+class SecondDescriptor {
+public:
+    /// The same, not transposed.
+    constexpr SecondDescriptor(Descriptor desc) noexcept : bits_(desc.bits()) {}
+
+    /// Its bits in trowelheath.h.
+    [[nodiscard]] constexpr std::uint32_t bits() const noexcept { return bits_; }
+
+    /// Whether the second input is read transposed.
+    [[nodiscard]] constexpr bool is_second_transposed() const noexcept { return (bits_ & TrB_TRAN1) != 0; }
+
+    /// All that either of both says.
+    [[nodiscard]] friend constexpr SecondDescriptor operator|(SecondDescriptor left, SecondDescriptor right) noexcept
+    {
+        return SecondDescriptor(left.bits_ | right.bits_);
+    }
+
+    /// All that either of both says.
+    [[nodiscard]] friend constexpr SecondDescriptor operator|(Descriptor left, SecondDescriptor right) noexcept
+    {
+        return SecondDescriptor(left) | right;
+    }
+
+    /// All that either of both says.
+    [[nodiscard]] friend constexpr SecondDescriptor operator|(SecondDescriptor left, Descriptor right) noexcept
+    {
+        return left | SecondDescriptor(right);
+    }
+
+    /// All that either of both says.
+    [[nodiscard]] friend constexpr MatricesDescriptor operator|(MatrixDescriptor left, SecondDescriptor right) noexcept
+    {
+        return MatricesDescriptor(left) | MatricesDescriptor(right);
+    }
+
+    /// All that either of both says.
+    [[nodiscard]] friend constexpr MatricesDescriptor operator|(SecondDescriptor left, MatrixDescriptor right) noexcept
+    {
+        return MatricesDescriptor(left) | MatricesDescriptor(right);
+    }
+
+private:
+    friend class Descriptor;
+
+    constexpr explicit SecondDescriptor(std::uint32_t bits) noexcept : bits_(bits) {}
+
+    std::uint32_t bits_;
+};
+
+constexpr MatricesDescriptor::MatricesDescriptor(SecondDescriptor desc) noexcept : bits_(desc.bits()) {}
+
 inline constexpr Descriptor Descriptor::none{TrB_DEFAULT};
 inline constexpr Descriptor Descriptor::replace{TrB_REPLACE};
 inline constexpr Descriptor Descriptor::comp{TrB_COMP};
 inline constexpr Descriptor Descriptor::structure{TrB_STRUCTURE};
 inline constexpr MatrixDescriptor Descriptor::tran{std::uint32_t{TrB_TRAN}};
+inline constexpr SecondDescriptor Descriptor::tran1{std::uint32_t{TrB_TRAN1}};
 
 /// How much a wait has done.
 enum class WaitMode {
@@ -753,6 +921,18 @@ public:
         return Vector<T>(id);
     }
 
+    /// A new matrix with the entries that `v` has now on the diagonal k, as TrB_Matrix_diag: above the main one, or below
+    /// where k is negative.
+    template <typename T, typename V>
+    [[nodiscard]] Matrix<T> diag(Vector<T> v, V k)
+    {
+        const std::int64_t diagonal = detail::place(k);
+        std::uint32_t id = 0;
+        detail::check(trb_matrix_diag(&raw_, &id, v.id(), diagonal),
+                      [&](Status code) { return told_of_diagonal(code, of("v", v), diagonal); });
+        return Matrix<T>(id);
+    }
+
     /// Ends the matrix, for all passes, as TrB_Matrix_free.
     template <typename T>
     void free(Matrix<T> a)
@@ -1060,19 +1240,21 @@ public:
     /// C<mask> = accum(C, A * B), as TrB_mxm.
     template <typename T>
     void mxm(Matrix<T> c, MatrixMask mask, detail::same<Accum<T>> accum, Semiring<T> semiring, Matrix<T> a,
-             Matrix<T> b, MatrixDescriptor desc = Descriptor::none)
+             Matrix<T> b, MatricesDescriptor desc = Descriptor::none)
     {
         detail::check(trb_mxm(&raw_, c.id(), mask.id(), number(accum), number(semiring.add), number(semiring.multiply), a.id(),
                               b.id(), desc.bits()),
                       [&](Status code) {
-                          return told(code, {of("c", c), of(mask), of("a", a, desc), of("b", b)},
+                          return told(code,
+                                      {of("c", c), of(mask), of("a", a, desc.is_transposed()),
+                                       of("b", b, desc.is_second_transposed())},
                                       {{2, 1, 3, 0}, {0, 0, 2, 0}, {0, 1, 3, 1}, {1, 0, 0, 0}, {1, 1, 0, 1}});
                       });
     }
 
     /// C = A * B, as TrB_mxm.
     template <typename T>
-    void mxm(Matrix<T> c, Semiring<T> semiring, Matrix<T> a, Matrix<T> b, MatrixDescriptor desc = Descriptor::none)
+    void mxm(Matrix<T> c, Semiring<T> semiring, Matrix<T> a, Matrix<T> b, MatricesDescriptor desc = Descriptor::none)
     {
         mxm(c, none, none, semiring, a, b, desc);
     }
@@ -1085,7 +1267,7 @@ public:
         detail::check(trb_mxv(&raw_, w.id(), mask.id(), number(accum), number(semiring.add), number(semiring.multiply), a.id(),
                               u.id(), desc.bits()),
                       [&](Status code) {
-                          return told(code, {of("w", w), of(mask), of("a", a, desc), of("u", u)},
+                          return told(code, {of("w", w), of(mask), of("a", a, desc.is_transposed()), of("u", u)},
                                       {{2, 1, 3, 0}, {0, 0, 2, 0}, {1, 0, 0, 0}});
                       });
     }
@@ -1100,19 +1282,19 @@ public:
     /// w<mask> = accum(w, u * A), as TrB_vxm.
     template <typename T>
     void vxm(Vector<T> w, VectorMask mask, detail::same<Accum<T>> accum, Semiring<T> semiring, Vector<T> u,
-             Matrix<T> a, Descriptor desc = Descriptor::none)
+             Matrix<T> a, SecondDescriptor desc = Descriptor::none)
     {
         detail::check(trb_vxm(&raw_, w.id(), mask.id(), number(accum), number(semiring.add), number(semiring.multiply), u.id(),
                               a.id(), desc.bits()),
                       [&](Status code) {
-                          return told(code, {of("w", w), of(mask), of("u", u), of("a", a)},
+                          return told(code, {of("w", w), of(mask), of("u", u), of("a", a, desc.is_second_transposed())},
                                       {{2, 0, 3, 0}, {0, 0, 3, 1}, {1, 0, 0, 0}});
                       });
     }
 
     /// w = u * A, as TrB_vxm.
     template <typename T>
-    void vxm(Vector<T> w, Semiring<T> semiring, Vector<T> u, Matrix<T> a, Descriptor desc = Descriptor::none)
+    void vxm(Vector<T> w, Semiring<T> semiring, Vector<T> u, Matrix<T> a, SecondDescriptor desc = Descriptor::none)
     {
         vxm(w, none, none, semiring, u, a, desc);
     }
@@ -1120,12 +1302,14 @@ public:
     /// C<mask> = accum(C, A + B): op where both store a value, and the one value elsewhere. As TrB_Matrix_eWiseAdd.
     template <typename T>
     void ewise_add(Matrix<T> c, MatrixMask mask, detail::same<Accum<T>> accum, detail::same<BinaryOp<T>> op,
-                   Matrix<T> a, Matrix<T> b, MatrixDescriptor desc = Descriptor::none)
+                   Matrix<T> a, Matrix<T> b, MatricesDescriptor desc = Descriptor::none)
     {
         detail::check(trb_matrix_ewise_add(&raw_, c.id(), mask.id(), number(accum), number(op), a.id(), b.id(),
                                            desc.bits()),
                       [&](Status code) {
-                          return told(code, {of("c", c), of(mask), of("a", a, desc), of("b", b)},
+                          return told(code,
+                                      {of("c", c), of(mask), of("a", a, desc.is_transposed()),
+                                       of("b", b, desc.is_second_transposed())},
                                       {{2, 0, 3, 0}, {2, 1, 3, 1}, {0, 0, 3, 0}, {0, 1, 3, 1}, {1, 0, 0, 0}, {1, 1, 0, 1}});
                       });
     }
@@ -1133,7 +1317,7 @@ public:
     /// C = A + B: op where both store a value, and the one value elsewhere. As TrB_Matrix_eWiseAdd.
     template <typename T>
     void ewise_add(Matrix<T> c, detail::same<BinaryOp<T>> op, Matrix<T> a, Matrix<T> b,
-                   MatrixDescriptor desc = Descriptor::none)
+                   MatricesDescriptor desc = Descriptor::none)
     {
         ewise_add(c, none, none, op, a, b, desc);
     }
@@ -1162,12 +1346,14 @@ public:
     /// C<mask> = accum(C, A .* B): op where both store a value, and nothing elsewhere. As TrB_Matrix_eWiseMult.
     template <typename T>
     void ewise_mult(Matrix<T> c, MatrixMask mask, detail::same<Accum<T>> accum, detail::same<BinaryOp<T>> op,
-                    Matrix<T> a, Matrix<T> b, MatrixDescriptor desc = Descriptor::none)
+                    Matrix<T> a, Matrix<T> b, MatricesDescriptor desc = Descriptor::none)
     {
         detail::check(trb_matrix_ewise_mult(&raw_, c.id(), mask.id(), number(accum), number(op), a.id(), b.id(),
                                            desc.bits()),
                       [&](Status code) {
-                          return told(code, {of("c", c), of(mask), of("a", a, desc), of("b", b)},
+                          return told(code,
+                                      {of("c", c), of(mask), of("a", a, desc.is_transposed()),
+                                       of("b", b, desc.is_second_transposed())},
                                       {{2, 0, 3, 0}, {2, 1, 3, 1}, {0, 0, 3, 0}, {0, 1, 3, 1}, {1, 0, 0, 0}, {1, 1, 0, 1}});
                       });
     }
@@ -1175,7 +1361,7 @@ public:
     /// C = A .* B: op where both store a value, and nothing elsewhere. As TrB_Matrix_eWiseMult.
     template <typename T>
     void ewise_mult(Matrix<T> c, detail::same<BinaryOp<T>> op, Matrix<T> a, Matrix<T> b,
-                    MatrixDescriptor desc = Descriptor::none)
+                    MatricesDescriptor desc = Descriptor::none)
     {
         ewise_mult(c, none, none, op, a, b, desc);
     }
@@ -1208,7 +1394,7 @@ public:
     {
         detail::check(trb_reduce_rows(&raw_, w.id(), mask.id(), number(accum), number(monoid), a.id(), desc.bits()),
                       [&](Status code) {
-                          return told(code, {of("w", w), of(mask), of("a", a, desc)},
+                          return told(code, {of("w", w), of(mask), of("a", a, desc.is_transposed())},
                                       {{0, 0, 2, 0}, {1, 0, 0, 0}});
                       });
     }
@@ -1218,6 +1404,229 @@ public:
     void reduce_rows(Vector<T> w, detail::same<Monoid<T>> monoid, Matrix<T> a, MatrixDescriptor desc = Descriptor::none)
     {
         reduce_rows(w, none, none, monoid, a, desc);
+    }
+
+    /// C<mask> = accum(C, A'), as TrB_transpose. With Descriptor::tran it is turned twice.
+    template <typename T>
+    void transpose(Matrix<T> c, MatrixMask mask, detail::same<Accum<T>> accum, Matrix<T> a,
+                   MatrixDescriptor desc = Descriptor::none)
+    {
+        detail::check(trb_transpose(&raw_, c.id(), mask.id(), number(accum), a.id(), desc.bits()), [&](Status code) {
+            return told(code, {of("c", c), of(mask), of("a", a, desc.is_transposed())},
+                        {{0, 0, 2, 1}, {0, 1, 2, 0}, {1, 0, 0, 0}, {1, 1, 0, 1}});
+        });
+    }
+
+    /// C = A', as TrB_transpose. With Descriptor::tran it is turned twice.
+    template <typename T>
+    void transpose(Matrix<T> c, Matrix<T> a, MatrixDescriptor desc = Descriptor::none)
+    {
+        transpose(c, none, none, a, desc);
+    }
+
+    /// C<mask> = accum(C, the Kronecker product of A and B by op), as TrB_Matrix_kronecker_BinaryOp.
+    template <typename T>
+    void kronecker(Matrix<T> c, MatrixMask mask, detail::same<Accum<T>> accum, detail::same<BinaryOp<T>> op,
+                   Matrix<T> a, Matrix<T> b, MatricesDescriptor desc = Descriptor::none)
+    {
+        detail::check(trb_matrix_kronecker(&raw_, c.id(), mask.id(), number(accum), number(op), a.id(), b.id(),
+                                           desc.bits()),
+                      [&](Status code) {
+                          return told_of_product(code, of("c", c), of(mask), of("a", a, desc.is_transposed()),
+                                                 of("b", b, desc.is_second_transposed()));
+                      });
+    }
+
+    /// C = the Kronecker product of A and B by op, as TrB_Matrix_kronecker_BinaryOp.
+    template <typename T>
+    void kronecker(Matrix<T> c, detail::same<BinaryOp<T>> op, Matrix<T> a, Matrix<T> b,
+                   MatricesDescriptor desc = Descriptor::none)
+    {
+        kronecker(c, none, none, op, a, b, desc);
+    }
+
+    /// C<mask> = accum(C, op(A)): op of each value, as TrB_Matrix_apply.
+    template <typename T>
+    void apply(Matrix<T> c, MatrixMask mask, detail::same<Accum<T>> accum, detail::same<UnaryOp<T>> op, Matrix<T> a,
+               MatrixDescriptor desc = Descriptor::none)
+    {
+        detail::check(trb_matrix_apply(&raw_, c.id(), mask.id(), number(accum), number(op), a.id(), desc.bits()),
+                      [&](Status code) {
+                          return told_of_map(code, of("c", c), of(mask), of("a", a, desc.is_transposed()));
+                      });
+    }
+
+    /// C = op(A): op of each value, as TrB_Matrix_apply.
+    template <typename T>
+    void apply(Matrix<T> c, detail::same<UnaryOp<T>> op, Matrix<T> a, MatrixDescriptor desc = Descriptor::none)
+    {
+        apply(c, none, none, op, a, desc);
+    }
+
+    /// C<mask> = accum(C, op(x, A)): op of x and each value, as TrB_Matrix_apply_BinaryOp1st_UINT64. Throws Refusal with
+    /// Status::invalid_value where x is negative.
+    template <typename T, typename V>
+    TROWELHEATH_INLINE void apply(Matrix<T> c, MatrixMask mask, detail::same<Accum<T>> accum, detail::same<BinaryOp<T>> op,
+                                  V x, Matrix<T> a, SecondDescriptor desc = Descriptor::none)
+    {
+        apply_first(c, mask, accum, op, detail::value<T>(x), a, desc);
+    }
+
+    /// C = op(x, A): op of x and each value, as TrB_Matrix_apply_BinaryOp1st_UINT64. Throws Refusal with
+    /// Status::invalid_value where x is negative.
+    template <typename T, typename V>
+    TROWELHEATH_INLINE void apply(Matrix<T> c, detail::same<BinaryOp<T>> op, V x, Matrix<T> a,
+                                  SecondDescriptor desc = Descriptor::none)
+    {
+        apply_first(c, none, none, op, detail::value<T>(x), a, desc);
+    }
+
+    /// C<mask> = accum(C, op(A, y)): op of each value and y, as TrB_Matrix_apply_BinaryOp2nd_UINT64. Throws Refusal with
+    /// Status::invalid_value where y is negative.
+    template <typename T, typename V>
+    TROWELHEATH_INLINE void apply(Matrix<T> c, MatrixMask mask, detail::same<Accum<T>> accum, detail::same<BinaryOp<T>> op,
+                                  Matrix<T> a, V y, MatrixDescriptor desc = Descriptor::none)
+    {
+        apply_second(c, mask, accum, op, a, detail::value<T>(y), desc);
+    }
+
+    /// C = op(A, y): op of each value and y, as TrB_Matrix_apply_BinaryOp2nd_UINT64. Throws Refusal with
+    /// Status::invalid_value where y is negative.
+    template <typename T, typename V>
+    TROWELHEATH_INLINE void apply(Matrix<T> c, detail::same<BinaryOp<T>> op, Matrix<T> a, V y,
+                                  MatrixDescriptor desc = Descriptor::none)
+    {
+        apply_second(c, none, none, op, a, detail::value<T>(y), desc);
+    }
+
+    /// w<mask> = accum(w, op(u)): op of each value, as TrB_Vector_apply.
+    template <typename T>
+    void apply(Vector<T> w, VectorMask mask, detail::same<Accum<T>> accum, detail::same<UnaryOp<T>> op, Vector<T> u,
+               Descriptor desc = Descriptor::none)
+    {
+        detail::check(trb_vector_apply(&raw_, w.id(), mask.id(), number(accum), number(op), u.id(), desc.bits()),
+                      [&](Status code) { return told_of_map(code, of("w", w), of(mask), of("u", u)); });
+    }
+
+    /// w = op(u): op of each value, as TrB_Vector_apply.
+    template <typename T>
+    void apply(Vector<T> w, detail::same<UnaryOp<T>> op, Vector<T> u, Descriptor desc = Descriptor::none)
+    {
+        apply(w, none, none, op, u, desc);
+    }
+
+    /// w<mask> = accum(w, op(x, u)): op of x and each value, as TrB_Vector_apply_BinaryOp1st_UINT64. Throws Refusal with
+    /// Status::invalid_value where x is negative.
+    template <typename T, typename V>
+    TROWELHEATH_INLINE void apply(Vector<T> w, VectorMask mask, detail::same<Accum<T>> accum, detail::same<BinaryOp<T>> op,
+                                  V x, Vector<T> u, Descriptor desc = Descriptor::none)
+    {
+        apply_first(w, mask, accum, op, detail::value<T>(x), u, desc);
+    }
+
+    /// w = op(x, u): op of x and each value, as TrB_Vector_apply_BinaryOp1st_UINT64. Throws Refusal with
+    /// Status::invalid_value where x is negative.
+    template <typename T, typename V>
+    TROWELHEATH_INLINE void apply(Vector<T> w, detail::same<BinaryOp<T>> op, V x, Vector<T> u,
+                                  Descriptor desc = Descriptor::none)
+    {
+        apply_first(w, none, none, op, detail::value<T>(x), u, desc);
+    }
+
+    /// w<mask> = accum(w, op(u, y)): op of each value and y, as TrB_Vector_apply_BinaryOp2nd_UINT64. Throws Refusal with
+    /// Status::invalid_value where y is negative.
+    template <typename T, typename V>
+    TROWELHEATH_INLINE void apply(Vector<T> w, VectorMask mask, detail::same<Accum<T>> accum, detail::same<BinaryOp<T>> op,
+                                  Vector<T> u, V y, Descriptor desc = Descriptor::none)
+    {
+        apply_second(w, mask, accum, op, u, detail::value<T>(y), desc);
+    }
+
+    /// w = op(u, y): op of each value and y, as TrB_Vector_apply_BinaryOp2nd_UINT64. Throws Refusal with
+    /// Status::invalid_value where y is negative.
+    template <typename T, typename V>
+    TROWELHEATH_INLINE void apply(Vector<T> w, detail::same<BinaryOp<T>> op, Vector<T> u, V y,
+                                  Descriptor desc = Descriptor::none)
+    {
+        apply_second(w, none, none, op, u, detail::value<T>(y), desc);
+    }
+
+    /// C<mask> = accum(C, the entries of A whose places pass the test against k), as TrB_Matrix_select_INT64.
+    template <typename T, typename V>
+    void select(Matrix<T> c, MatrixMask mask, detail::same<Accum<T>> accum, PlaceTest test, Matrix<T> a, V k,
+                MatrixDescriptor desc = Descriptor::none)
+    {
+        const std::int64_t bound = detail::place(k);
+        detail::check(trb_matrix_select_int64(&raw_, c.id(), mask.id(), number(accum), number(test), a.id(), bound,
+                                              desc.bits()),
+                      [&](Status code) {
+                          return code == Status::invalid_value
+                                     ? told_of_bound(bound)
+                                     : told_of_map(code, of("c", c), of(mask), of("a", a, desc.is_transposed()));
+                      });
+    }
+
+    /// C = the entries of A whose places pass the test against k, as TrB_Matrix_select_INT64.
+    template <typename T, typename V>
+    void select(Matrix<T> c, PlaceTest test, Matrix<T> a, V k, MatrixDescriptor desc = Descriptor::none)
+    {
+        select(c, none, none, test, a, k, desc);
+    }
+
+    /// C<mask> = accum(C, the entries of A whose values pass the test against y), as TrB_Matrix_select_UINT64. Throws
+    /// Refusal with Status::invalid_value where y is negative.
+    template <typename T, typename V>
+    TROWELHEATH_INLINE void select(Matrix<T> c, MatrixMask mask, detail::same<Accum<T>> accum, ValueTest test, Matrix<T> a,
+                                   V y, MatrixDescriptor desc = Descriptor::none)
+    {
+        select_values(c, mask, accum, test, a, detail::value<T>(y), desc);
+    }
+
+    /// C = the entries of A whose values pass the test against y, as TrB_Matrix_select_UINT64. Throws Refusal with
+    /// Status::invalid_value where y is negative.
+    template <typename T, typename V>
+    TROWELHEATH_INLINE void select(Matrix<T> c, ValueTest test, Matrix<T> a, V y, MatrixDescriptor desc = Descriptor::none)
+    {
+        select_values(c, none, none, test, a, detail::value<T>(y), desc);
+    }
+
+    /// w<mask> = accum(w, the entries of u whose places pass the test against k), as TrB_Vector_select_INT64.
+    template <typename T, typename V>
+    void select(Vector<T> w, VectorMask mask, detail::same<Accum<T>> accum, PlaceTest test, Vector<T> u, V k,
+                Descriptor desc = Descriptor::none)
+    {
+        const std::int64_t bound = detail::place(k);
+        detail::check(trb_vector_select_int64(&raw_, w.id(), mask.id(), number(accum), number(test), u.id(), bound,
+                                              desc.bits()),
+                      [&](Status code) {
+                          return code == Status::invalid_value
+                                     ? told_of_bound(bound)
+                                     : told_of_map(code, of("w", w), of(mask), of("u", u));
+                      });
+    }
+
+    /// w = the entries of u whose places pass the test against k, as TrB_Vector_select_INT64.
+    template <typename T, typename V>
+    void select(Vector<T> w, PlaceTest test, Vector<T> u, V k, Descriptor desc = Descriptor::none)
+    {
+        select(w, none, none, test, u, k, desc);
+    }
+
+    /// w<mask> = accum(w, the entries of u whose values pass the test against y), as TrB_Vector_select_UINT64. Throws
+    /// Refusal with Status::invalid_value where y is negative.
+    template <typename T, typename V>
+    TROWELHEATH_INLINE void select(Vector<T> w, VectorMask mask, detail::same<Accum<T>> accum, ValueTest test, Vector<T> u,
+                                   V y, Descriptor desc = Descriptor::none)
+    {
+        select_values(w, mask, accum, test, u, detail::value<T>(y), desc);
+    }
+
+    /// w = the entries of u whose values pass the test against y, as TrB_Vector_select_UINT64. Throws Refusal with
+    /// Status::invalid_value where y is negative.
+    template <typename T, typename V>
+    TROWELHEATH_INLINE void select(Vector<T> w, ValueTest test, Vector<T> u, V y, Descriptor desc = Descriptor::none)
+    {
+        select_values(w, none, none, test, u, detail::value<T>(y), desc);
     }
 
 private:
@@ -1236,6 +1645,22 @@ private:
     [[nodiscard]] static constexpr std::uint32_t number(BinaryOp<T> op) noexcept
     {
         return static_cast<std::uint32_t>(op.number());
+    }
+
+    template <typename T>
+    [[nodiscard]] static constexpr std::uint32_t number(UnaryOp<T> op) noexcept
+    {
+        return static_cast<std::uint32_t>(op.number());
+    }
+
+    [[nodiscard]] static constexpr std::uint32_t number(PlaceTest test) noexcept
+    {
+        return static_cast<std::uint32_t>(test.number());
+    }
+
+    [[nodiscard]] static constexpr std::uint32_t number(ValueTest test) noexcept
+    {
+        return static_cast<std::uint32_t>(test.number());
     }
 
     template <typename T>
@@ -1317,6 +1742,108 @@ private:
         });
     }
 
+    template <typename T>
+    void apply_first(Matrix<T> c, MatrixMask mask, detail::same<Accum<T>> accum, detail::same<BinaryOp<T>> op,
+                     detail::same<T> x, Matrix<T> a, SecondDescriptor desc)
+    {
+        std::int32_t status;
+        if constexpr (detail::is_bool<T>) {
+            status = trb_matrix_apply_first_bool(&raw_, c.id(), mask.id(), number(accum), number(op), x, a.id(),
+                                                 desc.bits());
+        } else {
+            status = trb_matrix_apply_first_uint64(&raw_, c.id(), mask.id(), number(accum), number(op), x, a.id(),
+                                                   desc.bits());
+        }
+        detail::check(status,
+                      [&](Status code) {
+                          return told_of_map(code, of("c", c), of(mask), of("a", a, desc.is_second_transposed()));
+                      });
+    }
+
+    template <typename T>
+    void apply_second(Matrix<T> c, MatrixMask mask, detail::same<Accum<T>> accum, detail::same<BinaryOp<T>> op, Matrix<T> a,
+                      detail::same<T> y, MatrixDescriptor desc)
+    {
+        std::int32_t status;
+        if constexpr (detail::is_bool<T>) {
+            status = trb_matrix_apply_second_bool(&raw_, c.id(), mask.id(), number(accum), number(op), a.id(), y,
+                                                  desc.bits());
+        } else {
+            status = trb_matrix_apply_second_uint64(&raw_, c.id(), mask.id(), number(accum), number(op), a.id(), y,
+                                                    desc.bits());
+        }
+        detail::check(status,
+                      [&](Status code) {
+                          return told_of_map(code, of("c", c), of(mask), of("a", a, desc.is_transposed()));
+                      });
+    }
+
+    template <typename T>
+    void select_values(Matrix<T> c, MatrixMask mask, detail::same<Accum<T>> accum, ValueTest test, Matrix<T> a,
+                       detail::same<T> y, MatrixDescriptor desc)
+    {
+        std::int32_t status;
+        if constexpr (detail::is_bool<T>) {
+            status = trb_matrix_select_bool(&raw_, c.id(), mask.id(), number(accum), number(test), a.id(), y,
+                                            desc.bits());
+        } else {
+            status = trb_matrix_select_uint64(&raw_, c.id(), mask.id(), number(accum), number(test), a.id(), y,
+                                              desc.bits());
+        }
+        detail::check(status,
+                      [&](Status code) {
+                          return told_of_map(code, of("c", c), of(mask), of("a", a, desc.is_transposed()));
+                      });
+    }
+
+    template <typename T>
+    void apply_first(Vector<T> w, VectorMask mask, detail::same<Accum<T>> accum, detail::same<BinaryOp<T>> op,
+                     detail::same<T> x, Vector<T> u, Descriptor desc)
+    {
+        std::int32_t status;
+        if constexpr (detail::is_bool<T>) {
+            status = trb_vector_apply_first_bool(&raw_, w.id(), mask.id(), number(accum), number(op), x, u.id(),
+                                                 desc.bits());
+        } else {
+            status = trb_vector_apply_first_uint64(&raw_, w.id(), mask.id(), number(accum), number(op), x, u.id(),
+                                                   desc.bits());
+        }
+        detail::check(status,
+                      [&](Status code) { return told_of_map(code, of("w", w), of(mask), of("u", u)); });
+    }
+
+    template <typename T>
+    void apply_second(Vector<T> w, VectorMask mask, detail::same<Accum<T>> accum, detail::same<BinaryOp<T>> op, Vector<T> u,
+                      detail::same<T> y, Descriptor desc)
+    {
+        std::int32_t status;
+        if constexpr (detail::is_bool<T>) {
+            status = trb_vector_apply_second_bool(&raw_, w.id(), mask.id(), number(accum), number(op), u.id(), y,
+                                                  desc.bits());
+        } else {
+            status = trb_vector_apply_second_uint64(&raw_, w.id(), mask.id(), number(accum), number(op), u.id(), y,
+                                                    desc.bits());
+        }
+        detail::check(status,
+                      [&](Status code) { return told_of_map(code, of("w", w), of(mask), of("u", u)); });
+    }
+
+    template <typename T>
+    void select_values(Vector<T> w, VectorMask mask, detail::same<Accum<T>> accum, ValueTest test, Vector<T> u,
+                       detail::same<T> y, Descriptor desc)
+    {
+        std::int32_t status;
+        if constexpr (detail::is_bool<T>) {
+            status = trb_vector_select_bool(&raw_, w.id(), mask.id(), number(accum), number(test), u.id(), y,
+                                            desc.bits());
+        } else {
+            status = trb_vector_select_uint64(&raw_, w.id(), mask.id(), number(accum), number(test), u.id(), y,
+                                              desc.bits());
+        }
+        detail::check(status,
+                      [&](Status code) { return told_of_map(code, of("w", w), of(mask), of("u", u)); });
+    }
+
     // Reads all entries into the arrays, and their number into count. False where the arrays are too short.
     template <typename T>
     [[nodiscard]] bool read(Matrix<T> a, const detail::Array<Index> &rows, const detail::Array<Index> &columns,
@@ -1373,9 +1900,9 @@ private:
     };
 
     template <typename T>
-    [[nodiscard]] static Operand of(const char *name, Matrix<T> a, MatrixDescriptor desc = Descriptor::none) noexcept
+    [[nodiscard]] static Operand of(const char *name, Matrix<T> a, bool is_transposed = false) noexcept
     {
-        return {name, true, a.id(), desc.is_transposed()};
+        return {name, true, a.id(), is_transposed};
     }
 
     template <typename T>
@@ -1438,6 +1965,49 @@ private:
             }
         }
         return {};
+    }
+
+    // What is known of a refused call whose output has the shape of its input.
+    [[nodiscard]] Refusal::Text told_of_map(Status code, const Operand &output, const Operand &mask,
+                                            const Operand &input) noexcept
+    {
+        return input.is_matrix ? told(code, {output, mask, input}, {{0, 0, 2, 0}, {0, 1, 2, 1}, {1, 0, 0, 0}, {1, 1, 0, 1}})
+                               : told(code, {output, mask, input}, {{0, 0, 2, 0}, {1, 0, 0, 0}});
+    }
+
+    // What is known of a refused Kronecker product: "c is 4 x 4, a is 2 x 2, b is 2 x 3: a product of these is 4 x 6".
+    [[nodiscard]] Refusal::Text told_of_product(Status code, const Operand &output, const Operand &mask,
+                                                const Operand &left, const Operand &right) noexcept
+    {
+        Size of_output{}, of_left{}, of_right{};
+        if (code == Status::dimension_mismatch && read_size(output, of_output) == TrB_SUCCESS &&
+            read_size(left, of_left) == TrB_SUCCESS && read_size(right, of_right) == TrB_SUCCESS) {
+            // Dimensions are below 2^32.
+            const Index nrows = of_left.nrows * of_right.nrows, ncols = of_left.ncols * of_right.ncols;
+            if (of_output.nrows != nrows || of_output.ncols != ncols) {
+                return detail::text("%s, %s, %s: a product of these is %llu x %llu", shape(output, of_output).data(),
+                                    shape(left, of_left).data(), shape(right, of_right).data(), detail::digits(nrows),
+                                    detail::digits(ncols));
+            }
+        }
+        return told(code, {output, mask, left, right}, {{1, 0, 0, 0}, {1, 1, 0, 1}});
+    }
+
+    [[nodiscard]] static Refusal::Text told_of_bound(std::int64_t k) noexcept
+    {
+        return detail::text("the number is %lld: those of rows and columns are from 0, and those of diagonals from "
+                            "-4,294,967,295 to 4,294,967,295",
+                            static_cast<long long>(k));
+    }
+
+    // "v has the size 5: on the diagonal 4294967295 it does not fit into 4,294,967,295 rows and columns"
+    [[nodiscard]] Refusal::Text told_of_diagonal(Status code, const Operand &operand, std::int64_t k) noexcept
+    {
+        Size size{};
+        return code == Status::invalid_value && read_size(operand, size) == TrB_SUCCESS
+                   ? detail::text("%s: on the diagonal %lld it does not fit into 4,294,967,295 rows and columns",
+                                  shape(operand, size).data(), static_cast<long long>(k))
+                   : told(code, {operand});
     }
 
     // "a is 3 x 4, b is 3 x 4: the columns of a, 4, are not the rows of b, 3", or nothing where they are.

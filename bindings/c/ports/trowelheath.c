@@ -60,44 +60,24 @@ static void breadth_first_search(TrB_Pass *pass, TrB_Vector *level, TrB_Vector *
     OK(TrB_Vector_free(pass, one));
 }
 
-/* A new matrix that stores 1 at each entry of A below the diagonal. */
-static void select_below(TrB_Pass *pass, TrB_Matrix *L, TrB_Matrix A, TrB_Index n)
-{
-    TrB_Index nvals, kept = 0;
-    OK(TrB_Matrix_nvals(pass, &nvals, A));
-    TrB_Index *rows = malloc((nvals + 1) * sizeof *rows), *columns = malloc((nvals + 1) * sizeof *columns);
-    uint64_t *values = malloc((nvals + 1) * sizeof *values);
-    if (rows == NULL || columns == NULL || values == NULL) {
-        exit(1);
-    }
-    OK(TrB_Matrix_extractTuples_UINT64(pass, rows, columns, values, &nvals, A));
-    for (TrB_Index k = 0; k < nvals; k++) {
-        if (rows[k] > columns[k]) {
-            rows[kept] = rows[k];
-            columns[kept] = columns[k];
-            values[kept] = 1;
-            kept++;
-        }
-    }
-    OK(TrB_Matrix_new(pass, L, TrB_UINT64, n, n));
-    OK(TrB_Matrix_build_UINT64(pass, *L, rows, columns, values, kept, TrB_PLUS));
-    free(rows);
-    free(columns);
-    free(values);
-}
-
 /* The number of triangles, where A stores both ways of each edge. */
 static uint64_t triangle_count(TrB_Pass *pass, TrB_Matrix A)
 {
     TrB_Index n, ncols;
-    TrB_Matrix L, C;
+    TrB_Matrix L, U, C;
     uint64_t triangles = 0;
     OK(TrB_Matrix_size(pass, &n, &ncols, A));
+    OK(TrB_Matrix_new(pass, &L, TrB_UINT64, n, n));
+    OK(TrB_Matrix_new(pass, &U, TrB_UINT64, n, n));
     OK(TrB_Matrix_new(pass, &C, TrB_UINT64, n, n));
-    select_below(pass, &L, A, n);
-    OK(TrB_mxm(pass, C, L, TrB_NO_ACCUM, TrB_PLUS_TIMES, L, L, TrB_STRUCTURE));
+    OK(TrB_Matrix_select_INT64(pass, L, TrB_NO_MATRIX, TrB_NO_ACCUM, TrB_TRIL, A, -1, TrB_DEFAULT));
+    OK(TrB_Matrix_select_INT64(pass, U, TrB_NO_MATRIX, TrB_NO_ACCUM, TrB_TRIU, A, 1, TrB_DEFAULT));
+    OK(TrB_Matrix_apply_BinaryOp2nd_UINT64(pass, L, TrB_NO_MATRIX, TrB_NO_ACCUM, TrB_SECOND, L, 1, TrB_DEFAULT));
+    OK(TrB_Matrix_apply_BinaryOp2nd_UINT64(pass, U, TrB_NO_MATRIX, TrB_NO_ACCUM, TrB_SECOND, U, 1, TrB_DEFAULT));
+    OK(TrB_mxm(pass, C, L, TrB_NO_ACCUM, TrB_PLUS_TIMES, L, U, TrB_STRUCTURE | TrB_TRAN1));
     OK(TrB_Matrix_reduce_UINT64(pass, &triangles, TrB_PLUS, C));
     OK(TrB_Matrix_free(pass, L));
+    OK(TrB_Matrix_free(pass, U));
     OK(TrB_Matrix_free(pass, C));
     return triangles;
 }

@@ -2,7 +2,7 @@
 
 from __future__ import annotations
 
-from typing import Any, Callable, Dict, Optional
+from typing import Any, Callable, Dict, Optional, Tuple
 
 Entries = Dict[Any, Any]
 Operator = Callable[[Any, Any], Any]
@@ -21,6 +21,32 @@ OPERATORS: Dict[str, Operator] = {
     "minus": lambda a, b: (a - b) % 2**64,
     "first": lambda a, b: a,
     "second": lambda a, b: b,
+}
+
+UNARY_OPERATORS: Dict[str, Callable[[Any], Any]] = {
+    "identity_bool": lambda a: a,
+    "lnot": lambda a: not a,
+    "identity": lambda a: a,
+    "ainv": lambda a: -a % 2**64,
+    "bnot": lambda a: 2**64 - 1 - a,
+}
+
+# Of row, column and value, and what they are compared with.
+TESTS: Dict[str, Callable[[int, int, Any, Any], bool]] = {
+    "tril": lambda i, j, a, x: j - i <= x,
+    "triu": lambda i, j, a, x: j - i >= x,
+    "diag": lambda i, j, a, x: j - i == x,
+    "offdiag": lambda i, j, a, x: j - i != x,
+    "rowle": lambda i, j, a, x: i <= x,
+    "rowgt": lambda i, j, a, x: i > x,
+    "colle": lambda i, j, a, x: j <= x,
+    "colgt": lambda i, j, a, x: j > x,
+    "valueeq": lambda i, j, a, x: a == x,
+    "valuene": lambda i, j, a, x: a != x,
+    "valuelt": lambda i, j, a, x: a < x,
+    "valuele": lambda i, j, a, x: a <= x,
+    "valuegt": lambda i, j, a, x: a > x,
+    "valuege": lambda i, j, a, x: a >= x,
 }
 
 IDENTITIES = {
@@ -81,6 +107,35 @@ def vxm(u: Entries, a: Entries, semiring: str) -> Entries:
 def reduce_rows(a: Entries, monoid: str) -> Entries:
     """The values of each row, joined."""
     return joined(((i, x) for (i, _), x in a.items()), monoid)
+
+
+def applied(a: Entries, operator: str, right: Any = None, left: Any = None) -> Entries:
+    """A unary operator of each value, or a binary one with a value on one side."""
+    if right is not None:
+        return {place: OPERATORS[operator](x, right) for place, x in a.items()}
+    if left is not None:
+        return {place: OPERATORS[operator](left, x) for place, x in a.items()}
+    return {place: UNARY_OPERATORS[operator](x) for place, x in a.items()}
+
+
+def selected(a: Entries, test: str, x: Any = 0) -> Entries:
+    """The entries that pass a test. A vector is a column."""
+    places = {place: place if isinstance(place, tuple) else (place, 0) for place in a}
+    return {place: value for place, value in a.items() if TESTS[test](*places[place], value, x)}
+
+
+def kronecker(a: Entries, b: Entries, shape: Tuple[int, int], operator: str) -> Entries:
+    """The operator of each two values, where the second matrix has these dimensions."""
+    rows, columns = shape
+    pairs = ((i, j, p, q) for i, j in a for p, q in b)
+    return {
+        (i * rows + p, j * columns + q): OPERATORS[operator](a[i, j], b[p, q]) for i, j, p, q in pairs
+    }
+
+
+def on_diagonal(u: Entries, k: int) -> Entries:
+    """The entries of a vector on a diagonal of a matrix."""
+    return {(i - min(k, 0), i + max(k, 0)): x for i, x in u.items()}
 
 
 def total(a: Entries, monoid: str) -> Any:

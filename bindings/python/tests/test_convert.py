@@ -11,6 +11,7 @@ from support import MOST_NUMBER
 from trowelheath.convert import (
     Buffer,
     apart,
+    diagonal,
     dimension,
     index,
     indices,
@@ -44,7 +45,7 @@ class Scalars(unittest.TestCase):
 
     def test_what_is_no_whole_number_is_refused(self) -> None:
         for x in 1.0, "1", None, [1]:
-            for convert in number, index, dimension:
+            for convert in number, index, dimension, diagonal:
                 with self.subTest(x=x, convert=convert.__name__), self.assertRaises(TypeError):
                     convert(x)
 
@@ -53,6 +54,13 @@ class Scalars(unittest.TestCase):
         for x in -1, MOST_NUMBER + 1:
             with self.subTest(x=x), self.assertRaises(IndexError):
                 index(x)
+
+    def test_a_diagonal_out_of_range_is_a_value_error(self) -> None:
+        for x in 0, 2**32 - 1, 1 - 2**32:
+            self.assertEqual(diagonal(x), x)
+        for x in 2**32, -(2**32), 2**64:
+            with self.subTest(x=x), self.assertRaisesRegex(ValueError, f"the diagonal {x} is not from"):
+                diagonal(x)
 
     def test_a_dimension_out_of_range_is_a_value_error(self) -> None:
         self.assertEqual(dimension(5), 5)

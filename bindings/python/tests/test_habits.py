@@ -69,6 +69,36 @@ class WithNumpy(Sample):
                 call()
         self.assertEqual(ones.tolist(), [1, 1, 1])
 
+    def test_scalars_of_numpy_are_bound_and_compared_with(self) -> None:
+        v = self.v
+        self.assertEqual(v.apply("plus", numpy.uint64(5)).to_dict(), {0: 15, 1: 25, 2: 35})
+        self.assertEqual(v.apply("minus", left=numpy.int32(30)).to_dict(), {0: 20, 1: 10, 2: 0})
+        self.assertEqual(v.select("valuege", numpy.uint64(20)).to_dict(), {1: 20, 2: 30})
+        self.assertEqual(v.select("rowle", numpy.int64(0)).to_dict(), {0: 10})
+        self.assertEqual(v.diag(numpy.int64(-1)).to_dict(), {(1, 0): 10, (2, 1): 20, (3, 2): 30})
+        truths = Vector.from_lists(self.p, 2, [0, 1], [True, False], bool)
+        self.assertEqual(truths.apply("lxor", numpy.bool_(True)).to_dict(), {0: False, 1: True})
+
+    def test_numpy_makes_the_same(self) -> None:
+        dense = numpy.array([[1, 2, 0, 3], [0, 4, 5, 0], [6, 0, 7, 8]], dtype="uint64")
+        a = Matrix.from_coo(self.p, *numpy.nonzero(dense), dense[dense > 0])
+        u = Vector.from_lists(self.p, 4, range(4), dense[0] + 1)
+        pairs: Dict[str, Any] = {
+            "transpose": (a.transpose(), numpy.transpose(dense)),
+            "tril": (a.select("tril", -1), numpy.tril(dense, -1)),
+            "triu": (a.select("triu", 1), numpy.triu(dense, 1)),
+            "kron": (a.kronecker(a.T), numpy.kron(dense, dense.T)),
+            "a @ a.T": (a @ a.T, dense @ dense.T),
+            "a.T + a.T": (a.T + a.T, dense.T + dense.T),
+            "diag": (u.diag(-2), numpy.diag(dense[0] + 1, -2)),
+        }
+        for name, (item, wanted) in pairs.items():
+            with self.subTest(name=name):
+                made = numpy.zeros(item.shape, dtype="uint64")
+                rows, columns, values = item.to_numpy()
+                made[rows, columns] = values
+                self.assertEqual(made.tolist(), wanted.tolist())
+
     def test_the_error_says_to_numpy(self) -> None:
         ones = numpy.ones(3)
         for item in self.a, self.v, self.a.T:
@@ -337,15 +367,26 @@ class Signs(Sample):
         a = Matrix.from_lists(self.p, 2, 3, [0, 1], [2, 0], [True, False], bool)
         self.assertEqual(a.T.dup().to_dict(), {(2, 0): True, (0, 1): False})
 
-    def test_a_second_input_is_not_read_transposed(self) -> None:
+    def test_a_second_input_is_read_transposed(self) -> None:
+        a = Matrix.from_lists(self.p, 2, 3, [0, 0, 1], [0, 2, 1], [1, 5, 7])
+        b = Matrix.from_lists(self.p, 3, 2, [0, 2], [0, 1], [2, 3])
+        self.assertEqual((a @ a.T).to_dict(), {(0, 0): 26, (1, 1): 49})
+        self.assertEqual((a.T @ b.T).to_dict(), {(0, 0): 2, (1, 2): 21, (2, 0): 10})
+        self.assertEqual((a.T + a.T).to_dict(), {(0, 0): 2, (1, 1): 14, (2, 0): 10})
+        self.assertEqual((a + b.T).to_dict(), {(0, 0): 3, (0, 2): 5, (1, 1): 7, (1, 2): 3})
+        self.assertEqual((a * b.T).to_dict(), {(0, 0): 2})
+        self.assertEqual(a.mxm(a.T, "min.plus").to_dict(), {(0, 0): 2, (1, 1): 14})
+        u = Vector.from_lists(self.p, 3, [1, 2], [10, 20])
+        self.assertEqual(u.vxm(a.T, "min.minus").to_dict(), {0: 15, 1: 3})
+        self.assertEqual((u @ a.T).to_dict(), {0: 100, 1: 70})
+
+    def test_what_is_no_input_is_not_read_transposed(self) -> None:
         a, v = self.a, self.v
         calls: Dict[str, Callable[[], Any]] = {
-            "a @ a.T": lambda: a @ a.T,
-            "a.T @ a.T": lambda: a.T @ a.T,
-            "a.T + a.T": lambda: a.T + a.T,
-            "a.mxm": lambda: a.mxm(a.T),
-            "v.vxm": lambda: v.vxm(a.T, "min.plus"),
             "mask": lambda: a.mxm(a, mask=a.T),
+            "out": lambda: a.mxm(a, out=a.T),
+            "mask of a fold": lambda: a.reduce_rows("plus", mask=a.T),
+            "a vector": lambda: v.ewise_add(a.T, "plus"),
         }
         for name, call in calls.items():
             with self.subTest(name=name), self.assertRaisesRegex(TypeError, r"A.T.dup\(\) makes a Matrix"):

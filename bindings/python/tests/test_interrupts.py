@@ -260,6 +260,14 @@ class Interrupted(StoreCase):
             self.assertEqual(a.nvals, 3)
         self.assertEqual(set(self.library.threads), {"main"})
 
+    def test_a_kronecker_product_is_as_long_as_what_it_makes(self) -> None:
+        row = Matrix.from_lists(self.p, 1, 300, [0] * 300, range(300), 1)
+        self.library.let.set()
+        self.p._library = self.library
+        self.assertEqual((row.nvals, row.select("triu").nvals, row.apply("ainv").nvals), (300, 300, 300))
+        self.assertEqual(row.kronecker(row).nvals, 90_000)
+        self.assertEqual(self.library.threads, ["main", "main", "main", "other"])
+
     def test_other_threads_read_for_themselves(self) -> None:
         c = self.a @ self.a
         self.library.let.set()

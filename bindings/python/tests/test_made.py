@@ -8,7 +8,7 @@ from typing import Any, Callable, Dict, Iterable, List, Optional, Set, Tuple
 
 import plain
 from support import StoreCase
-from trowelheath import Matrix, Pass, Refusal, Store
+from trowelheath import Matrix, Pass, Refusal, Store, Vector
 
 Entries = Dict[Any, Any]
 Shape = Tuple[int, ...]
@@ -17,6 +17,8 @@ Shape = Tuple[int, ...]
 SEMIRINGS = ["plus.times", "min.plus", "max.first"]
 OPERATORS = ["plus", "minus", "first"]
 MONOIDS = ["plus", "max"]
+UNARY_OPERATORS = ["ainv", "bnot", "identity"]
+TESTS = ["tril", "triu", "diag", "offdiag"]
 OPERATIONS: List[Tuple[str, Tuple[int, ...], List[str]]] = [
     ("mxm", (2, 2, 2), SEMIRINGS),
     ("mxv", (1, 2, 1), SEMIRINGS),
@@ -26,6 +28,11 @@ OPERATIONS: List[Tuple[str, Tuple[int, ...], List[str]]] = [
     ("ewise_mult", (2, 2, 2), OPERATORS),
     ("ewise_mult", (1, 1, 1), OPERATORS),
     ("reduce_rows", (1, 2), MONOIDS),
+    ("transpose", (2, 2), []),
+    ("apply", (2, 2), UNARY_OPERATORS),
+    ("apply", (1, 1), UNARY_OPERATORS),
+    ("select", (2, 2), TESTS),
+    ("select", (1, 1), TESTS),
 ]
 
 COMPUTED: Dict[str, Callable[..., Entries]] = {
@@ -35,6 +42,9 @@ COMPUTED: Dict[str, Callable[..., Entries]] = {
     "ewise_add": plain.union,
     "ewise_mult": plain.intersection,
     "reduce_rows": plain.reduce_rows,
+    "transpose": plain.transposed,
+    "apply": plain.applied,
+    "select": plain.selected,
 }
 
 # How often each action is drawn, next to the others of its sort.
@@ -116,6 +126,10 @@ def key(place: Tuple[int, ...]) -> Any:
 
 def computed_shape(name: str, first: Shape, second: Optional[Shape]) -> Optional[Shape]:
     """The dimensions of what an operation computes of inputs of these; none where they do not fit together."""
+    if name == "transpose":
+        return first[::-1]
+    if name in ("apply", "select"):
+        return first
     if second is None:
         return first[:1]
     if name.startswith("ewise"):
@@ -318,7 +332,7 @@ class History:
     def operate(self, view: View) -> None:
         """An operation needs its inputs, and its mask and its output too where what that stored may bear on it."""
         name, ndims, words = self.draws.choice(OPERATIONS)
-        word = self.draws.choice(words)
+        word = [self.draws.choice(words)] if words else []
         output, first, *rest = (self.some(ndim) for ndim in ndims)
         mask = self.some(ndims[0]) if self.draws.random() < 0.3 else None
         accum = self.draws.choice(OPERATORS) if self.draws.random() < 0.25 else None
@@ -329,15 +343,20 @@ class History:
         if len(shape) == 2 and self.draws.random() < 0.2:
             options["transpose"] = True
             shape, entries = shape[::-1], plain.transposed(entries or {})
+        second = rest[0].shape if rest else None
+        seconds = [each.entries for each in rest]
+        if second is not None and len(second) == 2 and self.draws.random() < 0.2:
+            options["transpose_second"] = True
+            second, seconds = second[::-1], [plain.transposed(seconds[0] or {})]
         objects = [output, first, *rest, *([] if mask is None else [mask])]
-        fits = computed_shape(name, shape, rest[0].shape if rest else None) == output.shape
+        fits = computed_shape(name, shape, second) == output.shape
         if any(each.entries is None for each in objects) or not fits or mask is not None and mask.shape != output.shape:
-            return self.refused(view, first, name, *rest, word, **options)
-        computed = COMPUTED[name](entries, *(each.entries for each in rest), word)
+            return self.refused(view, first, name, *rest, *word, **options)
+        computed = COMPUTED[name](entries, *seconds, *word)
         masking = None if mask is None else mask.entries
         output.entries = plain.written(output.stored(), computed, accum, masking, **how)
         is_overwritten = mask is None and accum is None and not complement
-        return self.change(view, first, [first, *rest] if is_overwritten else objects, name, *rest, word, **options)
+        return self.change(view, first, [first, *rest] if is_overwritten else objects, name, *rest, *word, **options)
 
     # Reads.
 
@@ -457,6 +476,24 @@ class Worked(StoreCase):
         a[0, 1] = 8
         # The matrix as it was built and the product, without the new output; then what was stored since; then nothing.
         self.assertEqual([self.made(item, self.q) for item in (c, a, c, a)], [3, 2, 0, 0])
+
+    def test_what_moves_or_filters_or_maps_makes_just_its_result(self) -> None:
+        a = Matrix.from_lists(self.p, 2, 2, [0, 1], [1, 0], [5, 6])
+        turned, passed, negative = a.transpose(), a.select("tril"), a.apply("ainv")
+        # The matrix as it was built. Then of each its own call alone, since what that reads is there; then nothing.
+        self.assertEqual(self.made(a, self.q), 2)
+        self.assertEqual([self.made(item, self.q) for item in (turned, passed, negative)], [1, 1, 1])
+        self.assertEqual([self.made(item, self.q) for item in (turned, passed, negative, a)], [0, 0, 0, 0])
+        # The first of them makes the matrix too where nothing is there.
+        self.q.release()
+        self.assertEqual([self.made(item, self.q) for item in (passed, turned, negative)], [3, 1, 1])
+
+    def test_a_second_input_read_transposed_makes_no_call_of_its_own(self) -> None:
+        a = Matrix.from_lists(self.p, 2, 2, [0, 1], [1, 0], [5, 6])
+        u = Vector.from_lists(self.p, 2, [0], [3])
+        results = [a @ a.T, a + a.T, u.vxm(a.T), a.kronecker(a.T)]
+        self.assertEqual([self.made(item, self.q) for item in (a, u)], [2, 2])
+        self.assertEqual([self.made(item, self.q) for item in results], [1, 1, 1, 1])
 
     def test_of_rounds_that_fill_one_object_anew_the_last_is_made(self) -> None:
         u, w = self.p.vector(3), self.p.vector(3)

@@ -4,12 +4,16 @@ from __future__ import annotations
 
 import unittest
 
-from trowelheath import MONOIDS, OPERATORS
+from trowelheath import MONOIDS, OPERATORS, TESTS, UNARY_OPERATORS
 from trowelheath.operators import (
     BOOL,
     UINT64,
     descriptor,
     domain_of,
+    domain_of_operator,
+    is_of_diagonals,
+    is_of_values,
+    is_unary,
     monoid_number,
     operator_number,
     semiring_numbers,
@@ -27,8 +31,21 @@ class Names(unittest.TestCase):
         for name, number in MONOIDS.items():
             self.assertEqual(number, OPERATORS[name])
 
+    def test_each_unary_operator_has_its_number(self) -> None:
+        names = "identity_bool lnot identity ainv bnot".split()
+        self.assertEqual(dict(UNARY_OPERATORS), {name: number for number, name in enumerate(names, start=1)})
+        self.assertEqual([domain_of_operator(name) for name in names], ["bool"] * 2 + ["uint64"] * 3)
+
+    def test_each_test_has_its_number(self) -> None:
+        names = (
+            "tril triu diag offdiag rowle rowgt colle colgt valueeq valuene valuelt valuele valuegt valuege".split()
+        )
+        self.assertEqual(dict(TESTS), {name: number for number, name in enumerate(names, start=1)})
+        self.assertEqual([name for name in names if is_of_diagonals(name)], names[:4])
+        self.assertEqual([name for name in names if is_of_values(name)], names[8:])
+
     def test_the_tables_cannot_be_changed(self) -> None:
-        for table in OPERATORS, MONOIDS:
+        for table in OPERATORS, MONOIDS, UNARY_OPERATORS, TESTS:
             with self.assertRaises(TypeError):
                 table["pair"] = 14
 
@@ -41,6 +58,14 @@ class Names(unittest.TestCase):
         for name in "divide", "", None, [], 7:
             with self.subTest(name=name), self.assertRaisesRegex(ValueError, "no operator; these are: lor, land"):
                 operator_number(name)
+
+    def test_an_operator_is_unary_or_binary(self) -> None:
+        self.assertEqual([is_unary(name) for name in ("ainv", "lnot", "minus", "lor")], [True, True, False, False])
+        for name in "divide", "", None, [], 7:
+            with self.subTest(name=name), self.assertRaisesRegex(ValueError, "no operator; these are: identity_bool,"):
+                is_unary(name)
+            with self.subTest(name=name), self.assertRaisesRegex(ValueError, "no test; these are: tril, triu"):
+                is_of_values(name)
 
     def test_a_semiring_is_a_monoid_a_dot_and_an_operator(self) -> None:
         self.assertEqual(semiring_numbers("min.plus"), (9, 7))
@@ -68,6 +93,8 @@ class Names(unittest.TestCase):
         for option, bit in ("replace", 1), ("complement", 2), ("structure", 4), ("transpose", 8):
             self.assertEqual(descriptor(**{**none, option: True}), bit)
         self.assertEqual(descriptor(**dict.fromkeys(none, True)), 15)
+        self.assertEqual(descriptor(**none, transpose_second=True), 16)
+        self.assertEqual(descriptor(**dict.fromkeys(none, True), transpose_second=True), 31)
 
 
 if __name__ == "__main__":

@@ -36,11 +36,13 @@
 use crate::descriptor::Descriptor;
 use crate::element::Element;
 use crate::error::Error;
+use crate::function::Function;
 use crate::matrix::Matrix;
 use crate::object::Object;
 use crate::operator::{Monoid, Op, Semiring};
 use crate::pass::Pass;
 use crate::store::Store;
+use crate::test::Test;
 use crate::vector::Vector;
 
 /// The room of the store that an algorithm computes in. Where it is used up, the algorithm goes on in a successor.
@@ -164,19 +166,6 @@ impl Workshop {
         self.pass
             .ewise_add(edges, Op::FIRST, below, below, Descriptor::new().tran())?;
         Ok(edges)
-    }
-
-    /// Has `excess` store, where both others do, how far the value is above the bound; 0 where it is not.
-    fn above<O: Object<Element = u64>>(
-        &mut self,
-        excess: O,
-        values: O,
-        bound: O,
-    ) -> Result<(), Error> {
-        self.pass
-            .ewise_mult(excess, Op::MAX, values, bound, Descriptor::new())?;
-        self.pass
-            .ewise_mult(excess, Op::MINUS, excess, bound, Descriptor::new())
     }
 }
 
@@ -446,23 +435,18 @@ pub fn k_truss<T: Element>(
 fn truss<T: Element>(graph: &Graph<T>, k: u64) -> Result<ThreeLists, Error> {
     let mut work = Workshop::open()?;
     let mut edges = work.undirected(graph)?;
-    let (rows, columns, ones) = work.pass.entries(edges)?.into_vecs();
-    let mut stored = ones.len() as u64;
-    let mut bound = work.matrix(graph.size, &rows, &columns, &vec![k - 3; ones.len()])?;
+    let mut stored = work.pass.nvals(edges)?;
     let mut triangles = work.pass.new_matrix(graph.size, graph.size)?;
-    let mut excess = work.pass.new_matrix(graph.size, graph.size)?;
+    let enough = Test::ValueGe(k - 2);
+    let one = Function::First(1, Op::FIRST);
+    let plain = Descriptor::new;
     loop {
-        work.make_room(
-            4,
-            &mut [&mut edges, &mut bound, &mut triangles, &mut excess],
-            &mut [],
-        )?;
-        let inside = Descriptor::new().mask(edges).structure().replace();
+        work.make_room(3, &mut [&mut edges, &mut triangles], &mut [])?;
+        let inside = plain().mask(edges).structure().replace();
         work.pass
             .mxm(triangles, Semiring::PLUS_TIMES, edges, edges, inside)?;
-        work.above(excess, triangles, bound)?;
-        let kept = Descriptor::new().mask(excess).replace();
-        work.pass.ewise_mult(edges, Op::FIRST, edges, edges, kept)?;
+        work.pass.select(triangles, enough, triangles, plain())?;
+        work.pass.apply(edges, one, triangles, plain())?;
         let left = work.pass.nvals(edges)?;
         if left == stored {
             return Ok(work.pass.entries(triangles)?.into_vecs());
@@ -491,26 +475,17 @@ pub fn k_core<T: Element>(pass: &mut Pass, graph: Matrix<T>, k: u64) -> Result<V
 fn core<T: Element>(graph: &Graph<T>, k: u64) -> Result<(Vec<u64>, Vec<u64>), Error> {
     let mut work = Workshop::open()?;
     let mut edges = work.undirected(graph)?;
-    let all = graph.vertices();
-    let mut bound = work.vector(graph.size, &all, &vec![k - 1; all.len()])?;
-    // The number of neighbours of each vertex that is left; of those that are kept, and that go now; and how far it is above k - 1.
+    // The number of neighbours of each vertex that is left; of those that are kept, and that go now.
     let mut left = work.pass.new_vector(graph.size)?;
     let mut kept = work.pass.new_vector(graph.size)?;
     let mut gone = work.pass.new_vector(graph.size)?;
-    let mut excess = work.pass.new_vector(graph.size)?;
     let plain = Descriptor::new;
     work.pass.reduce_rows(left, Monoid::PLUS, edges, plain())?;
     loop {
-        work.make_room(
-            5,
-            &mut [&mut edges],
-            &mut [&mut bound, &mut left, &mut kept, &mut gone, &mut excess],
-        )?;
-        work.above(excess, left, bound)?;
-        let high = plain().mask(excess).replace();
-        work.pass.ewise_mult(kept, Op::FIRST, left, left, high)?;
-        let others = plain().mask(kept).structure().comp().replace();
-        work.pass.ewise_mult(gone, Op::FIRST, left, left, others)?;
+        let objects: &mut [_] = &mut [&mut left, &mut kept, &mut gone];
+        work.make_room(3, &mut [&mut edges], objects)?;
+        work.pass.select(kept, Test::ValueGe(k), left, plain())?;
+        work.pass.select(gone, Test::ValueLt(k), left, plain())?;
         if work.pass.nvals(gone)? == 0 {
             return Ok(work.pass.entries(left)?.into_vecs());
         }

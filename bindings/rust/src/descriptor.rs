@@ -10,6 +10,7 @@ const REPLACE: u32 = 1;
 const COMP: u32 = 2;
 const STRUCTURE: u32 = 4;
 pub(crate) const TRAN: u32 = 8;
+pub(crate) const TRAN1: u32 = 16;
 
 /// How an operation writes an output of type `O`: its mask, its accumulator, and what the standard's descriptor says of both.
 ///
@@ -100,10 +101,20 @@ impl<O: Object> Descriptor<O> {
 
     /// Reads the first input, a matrix, transposed: rows and columns change places (`GrB_TRAN` of `GrB_INP0`). The object itself stays as it
     /// is. Where the first input is a vector, as of [`vxm`](crate::Pass::vxm), the call is refused with
-    /// [`InvalidValue`](crate::Error::InvalidValue).
+    /// [`InvalidValue`](crate::Error::InvalidValue). So is an [`apply`](crate::Pass::apply) of
+    /// [`Function::First`](crate::Function::First), whose object stands second.
     #[must_use]
     pub fn tran(self) -> Descriptor<O> {
         self.with(TRAN)
+    }
+
+    /// Reads the second input, a matrix, transposed (`GrB_TRAN` of `GrB_INP1`). That is `b` of a product of matrices, of an element-wise
+    /// operation on them and of [`kronecker`](crate::Pass::kronecker), the matrix of [`vxm`](crate::Pass::vxm), and the matrix that
+    /// [`Function::First`](crate::Function::First) is applied to. Any other operation is refused with
+    /// [`InvalidValue`](crate::Error::InvalidValue), and so is one whose second input is a vector.
+    #[must_use]
+    pub fn tran1(self) -> Descriptor<O> {
+        self.with(TRAN1)
     }
 
     fn with(mut self, bit: u32) -> Descriptor<O> {

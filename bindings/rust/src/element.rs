@@ -32,6 +32,12 @@ pub trait Functions: Sized {
     const VECTOR_BUILD: VectorBuild<Self>;
     const MATRIX_TUPLES: MatrixTuples<Self>;
     const VECTOR_TUPLES: VectorTuples<Self>;
+    const MATRIX_APPLY_FIRST: ApplyFirst<Self>;
+    const VECTOR_APPLY_FIRST: ApplyFirst<Self>;
+    const MATRIX_APPLY_SECOND: ApplySecond<Self>;
+    const VECTOR_APPLY_SECOND: ApplySecond<Self>;
+    const MATRIX_SELECT: Select<Self>;
+    const VECTOR_SELECT: Select<Self>;
 }
 
 /// `(pass, a, x, i, j)`
@@ -83,6 +89,16 @@ pub type MatrixTuples<T> = unsafe extern "C" fn(
 pub type VectorTuples<T> =
     unsafe extern "C" fn(*mut TrbPass, *mut u64, usize, *mut T, usize, *mut u64, u32) -> i32;
 
+/// `(pass, output, mask, accum, op, x, input, desc)`
+pub type ApplyFirst<T> = unsafe extern "C" fn(*mut TrbPass, u32, u32, u32, u32, T, u32, u32) -> i32;
+
+/// `(pass, output, mask, accum, op, input, y, desc)`
+pub type ApplySecond<T> =
+    unsafe extern "C" fn(*mut TrbPass, u32, u32, u32, u32, u32, T, u32) -> i32;
+
+/// `(pass, output, mask, accum, test, input, x, desc)`
+pub type Select<T> = unsafe extern "C" fn(*mut TrbPass, u32, u32, u32, u32, u32, T, u32) -> i32;
+
 impl Functions for bool {
     const DOMAIN: u32 = 1;
     const MATRIX_SET: MatrixSet<bool> = sys::trb_matrix_set_bool;
@@ -95,6 +111,12 @@ impl Functions for bool {
     const VECTOR_BUILD: VectorBuild<bool> = sys::trb_vector_build_bool;
     const MATRIX_TUPLES: MatrixTuples<bool> = sys::trb_matrix_tuples_bool;
     const VECTOR_TUPLES: VectorTuples<bool> = sys::trb_vector_tuples_bool;
+    const MATRIX_APPLY_FIRST: ApplyFirst<bool> = sys::trb_matrix_apply_first_bool;
+    const VECTOR_APPLY_FIRST: ApplyFirst<bool> = sys::trb_vector_apply_first_bool;
+    const MATRIX_APPLY_SECOND: ApplySecond<bool> = sys::trb_matrix_apply_second_bool;
+    const VECTOR_APPLY_SECOND: ApplySecond<bool> = sys::trb_vector_apply_second_bool;
+    const MATRIX_SELECT: Select<bool> = sys::trb_matrix_select_bool;
+    const VECTOR_SELECT: Select<bool> = sys::trb_vector_select_bool;
 }
 
 impl Functions for u64 {
@@ -109,4 +131,10 @@ impl Functions for u64 {
     const VECTOR_BUILD: VectorBuild<u64> = sys::trb_vector_build_uint64;
     const MATRIX_TUPLES: MatrixTuples<u64> = sys::trb_matrix_tuples_uint64;
     const VECTOR_TUPLES: VectorTuples<u64> = sys::trb_vector_tuples_uint64;
+    const MATRIX_APPLY_FIRST: ApplyFirst<u64> = sys::trb_matrix_apply_first_uint64;
+    const VECTOR_APPLY_FIRST: ApplyFirst<u64> = sys::trb_vector_apply_first_uint64;
+    const MATRIX_APPLY_SECOND: ApplySecond<u64> = sys::trb_matrix_apply_second_uint64;
+    const VECTOR_APPLY_SECOND: ApplySecond<u64> = sys::trb_vector_apply_second_uint64;
+    const MATRIX_SELECT: Select<u64> = sys::trb_matrix_select_uint64;
+    const VECTOR_SELECT: Select<u64> = sys::trb_vector_select_uint64;
 }

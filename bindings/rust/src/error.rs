@@ -13,9 +13,10 @@ use std::fmt;
 pub enum Error {
     /// An object of the call, its mask too, was freed (`GrB_UNINITIALIZED_OBJECT`).
     UninitializedObject,
-    /// A dimension is not from 1 to 4,294,967,295; the lists of a build are not of one length; an opening asks for more than the
-    /// [limits](crate::Store) of a store, or for none; or a pass of a chain is asked for a successor, one of another store for its generation
-    /// (`GrB_INVALID_VALUE`).
+    /// A dimension is not from 1 to 4,294,967,295, or a diagonal lies farther than that from the main one; a
+    /// [`Descriptor`](crate::Descriptor) transposes what is no matrix; the lists of a build are not of one length; an opening asks for more
+    /// than the [limits](crate::Store) of a store, or for none; or a pass of a chain is asked for a successor, one of another store for its
+    /// generation (`GrB_INVALID_VALUE`).
     InvalidValue,
     /// An index of a set, remove or get is not below the dimension (`GrB_INVALID_INDEX`).
     InvalidIndex,

@@ -4,11 +4,13 @@ use crate::descriptor::Numbers;
 use crate::element::Element;
 use crate::entries::MatrixEntries;
 use crate::error::{done, Error};
+use crate::function::Function;
 use crate::object::{Calls, Mask, Object};
 use crate::pass::Pass;
 use crate::slices::apart_from;
 use crate::store::Store;
 use crate::sys::{self, TrbPass};
+use crate::test::{Bound, Test};
 use std::marker::PhantomData;
 
 /// A handle of a matrix of values of type `T`, whose rows and columns are counted from 0.
@@ -203,6 +205,39 @@ impl<T: Element> Calls<T, (u64, u64), MatrixEntries<T>> for Matrix<T> {
         // SAFETY: the pass is a mutable reference.
         unsafe {
             sys::trb_matrix_ewise_mult(pass, self.number, mask, accum, op, a.number, b.number, bits)
+        }
+    }
+
+    fn apply(self, pass: &mut TrbPass, how: Numbers, function: Function<T>, a: Matrix<T>) -> i32 {
+        let Numbers { mask, accum, bits } = how;
+        let (c, a) = (self.number, a.number);
+        // SAFETY: the pass is a mutable reference. A `bool` of Rust is 0 or 1.
+        unsafe {
+            match function {
+                Function::Unary(op) => {
+                    sys::trb_matrix_apply(pass, c, mask, accum, op.number(), a, bits)
+                }
+                Function::First(x, op) => {
+                    T::MATRIX_APPLY_FIRST(pass, c, mask, accum, op.number(), x, a, bits)
+                }
+                Function::Second(op, y) => {
+                    T::MATRIX_APPLY_SECOND(pass, c, mask, accum, op.number(), a, y, bits)
+                }
+            }
+        }
+    }
+
+    fn select(self, pass: &mut TrbPass, how: Numbers, test: Test<T>, a: Matrix<T>) -> i32 {
+        let Numbers { mask, accum, bits } = how;
+        let (c, a, number) = (self.number, a.number, test.number());
+        // SAFETY: the pass is a mutable reference. A `bool` of Rust is 0 or 1.
+        unsafe {
+            match test.bound() {
+                Bound::Place(k) => {
+                    sys::trb_matrix_select_int64(pass, c, mask, accum, number, a, k, bits)
+                }
+                Bound::Value(x) => T::MATRIX_SELECT(pass, c, mask, accum, number, a, x, bits),
+            }
         }
     }
 

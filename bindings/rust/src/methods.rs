@@ -66,6 +66,34 @@ impl Pass {
         Ok(O::of(self.store(), number))
     }
 
+    /// Makes a square matrix with the entries of the vector on the diagonal `k`, and no other (`GrB_Matrix_diag`). What `v` stores at index
+    /// `i` stands at row `i` and column `i + k`; where `k` is negative, at row `i - k` and column `i`. The matrix has as many rows and columns
+    /// as `v` has indices, and as many more as the diagonal lies away from the main one.
+    ///
+    /// # Errors
+    ///
+    /// - [`Error::UninitializedObject`]: the vector was freed.
+    /// - [`Error::InvalidValue`]: the matrix would have more than 4,294,967,295 rows.
+    /// - As of each [change](Pass#changes).
+    ///
+    /// ```no_run
+    /// # use trowelheath::{Descriptor, Error, Matrix, Pass, Semiring, Vector};
+    /// # fn scale(pass: &mut Pass, graph: Matrix<u64>, factors: Vector<u64>) -> Result<(), Error> {
+    /// // Each row of the graph times its factor.
+    /// let scale = pass.diag(factors, 0)?;
+    /// pass.mxm(graph, Semiring::PLUS_TIMES, scale, graph, Descriptor::new())
+    /// # }
+    /// ```
+    pub fn diag<T: Element>(&mut self, v: Vector<T>, k: i64) -> Result<Matrix<T>, Error> {
+        self.check(v)?;
+        let mut number = 0;
+        // SAFETY: the pass is borrowed mutably, so this call alone has it, and the place of the answer is a local variable.
+        let answer =
+            done(unsafe { sys::trb_matrix_diag(&mut self.raw, &mut number, v.number(), k) });
+        self.note(answer, || Call::Diagonal(Operand::of("v", v), k))?;
+        Ok(Matrix::of(self.store(), number))
+    }
+
     /// Ends the object. Its number is not used again, and each later call that names it is refused (`GrB_free`).
     ///
     /// # Errors

@@ -4,8 +4,10 @@ use crate::descriptor::Numbers;
 use crate::element::Element;
 use crate::entries::Lists;
 use crate::error::Error;
+use crate::function::Function;
 use crate::store::Store;
 use crate::sys::TrbPass;
+use crate::test::Test;
 use std::fmt::Debug;
 use std::hash::Hash;
 
@@ -64,6 +66,8 @@ pub trait Calls<T, I, E>: Sized {
     fn tuples(self, pass: &mut TrbPass, entries: &mut E, count: &mut u64) -> i32;
     fn ewise_add(self, pass: &mut TrbPass, how: Numbers, op: u32, a: Self, b: Self) -> i32;
     fn ewise_mult(self, pass: &mut TrbPass, how: Numbers, op: u32, a: Self, b: Self) -> i32;
+    fn apply(self, pass: &mut TrbPass, how: Numbers, function: Function<T>, a: Self) -> i32;
+    fn select(self, pass: &mut TrbPass, how: Numbers, test: Test<T>, a: Self) -> i32;
     fn wait(self, pass: &mut TrbPass, mode: u32) -> i32;
     fn last_info(self, pass: &mut TrbPass, out: &mut i32) -> i32;
 }

@@ -3,12 +3,14 @@
 use crate::descriptor::{Descriptor, Numbers};
 use crate::element::Element;
 use crate::error::{done, Error};
+use crate::function::Function;
 use crate::matrix::Matrix;
 use crate::object::{Calls, Object};
 use crate::operator::{Monoid, Op, Semiring};
 use crate::pass::Pass;
-use crate::refusal::{Call, Operand, Rule, EWISE, MXM, MXV, REDUCE, VXM};
+use crate::refusal::{Call, Operand, Rule, EWISE, KRONECKER, MXM, MXV, REDUCE, TERM, VXM};
 use crate::sys;
+use crate::test::Test;
 use crate::vector::Vector;
 
 /// An operation that writes an output, as it was called: output, mask and inputs in this order.
@@ -31,7 +33,7 @@ impl Pass {
     /// # Errors
     ///
     /// - [`Error::UninitializedObject`]: an object of the call, the mask too, was freed.
-    /// - [`Error::InvalidValue`]: the objects are vectors, and the first is to be transposed.
+    /// - [`Error::InvalidValue`]: the objects are vectors, and one is to be transposed.
     /// - [`Error::DimensionMismatch`]: the inputs, a transposed one as it is turned, and the mask have not the dimensions of `c`.
     /// - As of each [change](Pass#changes).
     pub fn ewise_add<O: Object>(
@@ -49,7 +51,10 @@ impl Pass {
         let how = descriptor.numbers();
         let answer = done(c.ewise_add(&mut self.raw, how, op.number(), a, b));
         self.note(answer, || {
-            let inputs = [Operand::first("a", a, how.bits), Operand::of("b", b)];
+            let inputs = [
+                Operand::first("a", a, how.bits),
+                Operand::second("b", b, how.bits),
+            ];
             operation("c", c, how, &inputs, EWISE)
         })
     }
@@ -60,7 +65,7 @@ impl Pass {
     /// # Errors
     ///
     /// - [`Error::UninitializedObject`]: an object of the call, the mask too, was freed.
-    /// - [`Error::InvalidValue`]: the objects are vectors, and the first is to be transposed.
+    /// - [`Error::InvalidValue`]: the objects are vectors, and one is to be transposed.
     /// - [`Error::DimensionMismatch`]: the inputs, a transposed one as it is turned, and the mask have not the dimensions of `c`.
     /// - As of each [change](Pass#changes).
     pub fn ewise_mult<O: Object>(
@@ -78,7 +83,10 @@ impl Pass {
         let how = descriptor.numbers();
         let answer = done(c.ewise_mult(&mut self.raw, how, op.number(), a, b));
         self.note(answer, || {
-            let inputs = [Operand::first("a", a, how.bits), Operand::of("b", b)];
+            let inputs = [
+                Operand::first("a", a, how.bits),
+                Operand::second("b", b, how.bits),
+            ];
             operation("c", c, how, &inputs, EWISE)
         })
     }
@@ -89,8 +97,8 @@ impl Pass {
     /// # Errors
     ///
     /// - [`Error::UninitializedObject`]: an object of the call, the mask too, was freed.
-    /// - [`Error::DimensionMismatch`]: `a`, as it is turned, has not the rows of `c`, `b` not its columns, or `a` not as many columns as `b` has
-    ///   rows; or the mask has not the dimensions of `c`.
+    /// - [`Error::DimensionMismatch`]: `a`, as it is turned, has not the rows of `c`, `b` as it is turned not its columns, or `a` not as many
+    ///   columns as `b` has rows; or the mask has not the dimensions of `c`.
     /// - As of each [change](Pass#changes).
     ///
     /// ```no_run
@@ -136,7 +144,7 @@ impl Pass {
                 "c",
                 c,
                 Numbers { mask, accum, bits },
-                &[Operand::first("a", a, bits), Operand::of("b", b)],
+                &[Operand::first("a", a, bits), Operand::second("b", b, bits)],
                 MXM,
             )
         })
@@ -148,6 +156,7 @@ impl Pass {
     /// # Errors
     ///
     /// - [`Error::UninitializedObject`]: an object of the call, the mask too, was freed.
+    /// - [`Error::InvalidValue`]: the second input, a vector, is to be transposed.
     /// - [`Error::DimensionMismatch`]: `a`, as it is turned, has not a row for each index of `w` and a column for each of `u`, or the mask has
     ///   not the size of `w`.
     /// - As of each [change](Pass#changes).
@@ -197,8 +206,8 @@ impl Pass {
     ///
     /// - [`Error::UninitializedObject`]: an object of the call, the mask too, was freed.
     /// - [`Error::InvalidValue`]: the first input, a vector, is to be transposed.
-    /// - [`Error::DimensionMismatch`]: `a` has not a row for each index of `u` and a column for each of `w`, or the mask has
-    ///   not the size of `w`.
+    /// - [`Error::DimensionMismatch`]: `a`, as it is turned by [`tran1`](Descriptor::tran1), has not a row for each index of `u` and a column
+    ///   for each of `w`, or the mask has not the size of `w`.
     /// - As of each [change](Pass#changes).
     pub fn vxm<T: Element>(
         &mut self,
@@ -232,7 +241,7 @@ impl Pass {
                 "w",
                 w,
                 Numbers { mask, accum, bits },
-                &[Operand::of("u", u), Operand::of("a", a)],
+                &[Operand::of("u", u), Operand::second("a", a, bits)],
                 VXM,
             )
         })
@@ -244,6 +253,7 @@ impl Pass {
     /// # Errors
     ///
     /// - [`Error::UninitializedObject`]: an object of the call, the mask too, was freed.
+    /// - [`Error::InvalidValue`]: a second input is to be transposed, and there is none.
     /// - [`Error::DimensionMismatch`]: `a`, as it is turned, has not a row for each index of `w`, or the mask has not the size of `w`.
     /// - As of each [change](Pass#changes).
     pub fn reduce_rows<T: Element>(
@@ -276,6 +286,166 @@ impl Pass {
                 Numbers { mask, accum, bits },
                 &[Operand::first("a", a, bits)],
                 REDUCE,
+            )
+        })
+    }
+
+    /// `C<M> = accum(C, A')`: at row `i` and column `j` what `a` stores at row `j` and column `i`, written into `c` (`GrB_transpose`). With
+    /// [`tran`](Descriptor::tran) that is `a` itself, since it is turned twice.
+    ///
+    /// # Errors
+    ///
+    /// - [`Error::UninitializedObject`]: an object of the call, the mask too, was freed.
+    /// - [`Error::InvalidValue`]: a second input is to be transposed, and there is none.
+    /// - [`Error::DimensionMismatch`]: what is written, or the mask, has not the dimensions of `c`.
+    /// - As of each [change](Pass#changes).
+    pub fn transpose<T: Element>(
+        &mut self,
+        c: Matrix<T>,
+        a: Matrix<T>,
+        descriptor: Descriptor<Matrix<T>>,
+    ) -> Result<(), Error> {
+        self.check(c)?;
+        self.check(a)?;
+        self.check_mask(&descriptor)?;
+        let Numbers { mask, accum, bits } = descriptor.numbers();
+        // SAFETY: the pass is borrowed mutably, so this call alone has it. There is no other pointer.
+        let answer = done(unsafe {
+            sys::trb_transpose(&mut self.raw, c.number(), mask, accum, a.number(), bits)
+        });
+        self.note(answer, || {
+            operation(
+                "c",
+                c,
+                Numbers { mask, accum, bits },
+                &[Operand::first("a", a, bits).turned()],
+                TERM,
+            )
+        })
+    }
+
+    /// `C<M> = accum(C, f(A))`: the function of each value that `a` stores, at the place of that value, written into `c` (`GrB_apply`). A
+    /// unary operator is given as it is, and a binary one with a bound value as a [`Function`].
+    ///
+    /// A matrix is read transposed by [`tran`](Descriptor::tran), but with [`Function::First`], where it stands second, by
+    /// [`tran1`](Descriptor::tran1).
+    ///
+    /// # Errors
+    ///
+    /// - [`Error::UninitializedObject`]: an object of the call, the mask too, was freed.
+    /// - [`Error::InvalidValue`]: the objects are vectors, and one is to be transposed; or the bound value of the function is, or a second
+    ///   input of a unary operator.
+    /// - [`Error::DimensionMismatch`]: `a`, as it is turned, or the mask has not the dimensions of `c`.
+    /// - As of each [change](Pass#changes).
+    ///
+    /// ```no_run
+    /// # use trowelheath::{Descriptor, Error, Function, Matrix, Op, Pass, UnaryOp};
+    /// # fn weigh(pass: &mut Pass, graph: Matrix<u64>) -> Result<(), Error> {
+    /// pass.apply(graph, UnaryOp::BNOT, graph, Descriptor::new())?;
+    /// // A 1 for each edge, whatever it stored.
+    /// pass.apply(graph, Function::First(1, Op::FIRST), graph, Descriptor::new())
+    /// # }
+    /// ```
+    pub fn apply<O: Object>(
+        &mut self,
+        c: O,
+        function: impl Into<Function<O::Element>>,
+        a: O,
+        descriptor: Descriptor<O>,
+    ) -> Result<(), Error> {
+        self.check(c)?;
+        self.check(a)?;
+        self.check_mask(&descriptor)?;
+        let function = function.into();
+        let how = descriptor.numbers();
+        let answer = done(c.apply(&mut self.raw, how, function, a));
+        self.note(answer, || {
+            let input = match function {
+                Function::First(..) => Operand::second("a", a, how.bits),
+                _ => Operand::first("a", a, how.bits),
+            };
+            operation("c", c, how, &[input], TERM)
+        })
+    }
+
+    /// `C<M> = accum(C, A where the test holds)`: the entries of `a` that pass the test, each at its place, written into `c` (`GrB_select`).
+    /// A matrix that is read transposed is turned before it is tested.
+    ///
+    /// # Errors
+    ///
+    /// - [`Error::UninitializedObject`]: an object of the call, the mask too, was freed.
+    /// - [`Error::InvalidValue`]: a diagonal is not from -4,294,967,295 to 4,294,967,295; the objects are vectors, and one is to be transposed;
+    ///   or a second input is, and there is none.
+    /// - [`Error::DimensionMismatch`]: `a`, as it is turned, or the mask has not the dimensions of `c`.
+    /// - As of each [change](Pass#changes).
+    ///
+    /// ```no_run
+    /// # use trowelheath::{Descriptor, Error, Matrix, Pass, Test};
+    /// # fn split(pass: &mut Pass, graph: Matrix<u64>, lower: Matrix<u64>, heavy: Matrix<u64>) -> Result<(), Error> {
+    /// pass.select(lower, Test::Tril(-1), graph, Descriptor::new())?;
+    /// pass.select(heavy, Test::ValueGe(100), graph, Descriptor::new())
+    /// # }
+    /// ```
+    pub fn select<O: Object>(
+        &mut self,
+        c: O,
+        test: Test<O::Element>,
+        a: O,
+        descriptor: Descriptor<O>,
+    ) -> Result<(), Error> {
+        self.check(c)?;
+        self.check(a)?;
+        self.check_mask(&descriptor)?;
+        let how = descriptor.numbers();
+        let answer = done(c.select(&mut self.raw, how, test, a));
+        self.note(answer, || {
+            operation("c", c, how, &[Operand::first("a", a, how.bits)], TERM)
+        })
+    }
+
+    /// `C<M> = accum(C, A kron B)`: for each entry of `a`, at row `i` and column `j`, and each of `b`, at row `p` and column `q`, `op` of both
+    /// values at row `i * r + p` and column `j * s + q`, where `b` has `r` rows and `s` columns; written into `c` (`GrB_kronecker`).
+    ///
+    /// # Errors
+    ///
+    /// - [`Error::UninitializedObject`]: an object of the call, the mask too, was freed.
+    /// - [`Error::DimensionMismatch`]: the rows of `c` are not those of `a` times those of `b`, or its columns not theirs, both as they are turned;
+    ///   or the mask has not the dimensions of `c`.
+    /// - As of each [change](Pass#changes). Without a mask and an accumulator `c` stores an entry for each pair of one of `a` and one of `b`;
+    ///   whether there is memory for them shows at the read that does the work.
+    pub fn kronecker<T: Element>(
+        &mut self,
+        c: Matrix<T>,
+        op: Op<T>,
+        a: Matrix<T>,
+        b: Matrix<T>,
+        descriptor: Descriptor<Matrix<T>>,
+    ) -> Result<(), Error> {
+        self.check(c)?;
+        self.check(a)?;
+        self.check(b)?;
+        self.check_mask(&descriptor)?;
+        let Numbers { mask, accum, bits } = descriptor.numbers();
+        // SAFETY: the pass is borrowed mutably, so this call alone has it. There is no other pointer.
+        let answer = done(unsafe {
+            sys::trb_matrix_kronecker(
+                &mut self.raw,
+                c.number(),
+                mask,
+                accum,
+                op.number(),
+                a.number(),
+                b.number(),
+                bits,
+            )
+        });
+        self.note(answer, || {
+            operation(
+                "c",
+                c,
+                Numbers { mask, accum, bits },
+                &[Operand::first("a", a, bits), Operand::second("b", b, bits)],
+                KRONECKER,
             )
         })
     }

@@ -1,6 +1,6 @@
 //! What does not fit in a call that was refused, for people.
 
-use crate::descriptor::TRAN;
+use crate::descriptor::{TRAN, TRAN1};
 use crate::error::Error;
 use crate::matrix::Matrix;
 use crate::object::{Calls, Object};
@@ -84,6 +84,22 @@ impl Operand {
         }
     }
 
+    /// The second input of a call with these bits of a descriptor.
+    pub(crate) fn second<O: Object>(name: &'static str, object: O, bits: u32) -> Operand {
+        Operand {
+            is_transposed: O::IS_MATRIX && bits & TRAN1 != 0,
+            ..Operand::of(name, object)
+        }
+    }
+
+    /// The same input, turned once more.
+    pub(crate) fn turned(self) -> Operand {
+        Operand {
+            is_transposed: !self.is_transposed,
+            ..self
+        }
+    }
+
     /// The mask of an output of type `O`, or none.
     pub(crate) fn mask<O: Object>(number: u32) -> Operand {
         Operand {
@@ -141,46 +157,65 @@ pub(crate) enum Axis {
     Columns,
 }
 
-/// Two dimensions of a call that are to be one number, each of the operand at a place.
-pub(crate) type Rule = ((usize, Axis), (usize, Axis));
+/// A dimension of the operand at a place.
+type Dimension = (usize, Axis);
+
+/// A dimension of a call that is to be another one, or the product of others.
+pub(crate) type Rule = (Dimension, &'static [Dimension]);
 
 use Axis::{Columns, Rows};
 
 /// Output, mask, a, b of a product of matrices.
 pub(crate) const MXM: &[Rule] = &[
-    ((2, Columns), (3, Rows)),
-    ((0, Rows), (2, Rows)),
-    ((0, Columns), (3, Columns)),
-    ((1, Rows), (0, Rows)),
-    ((1, Columns), (0, Columns)),
+    ((2, Columns), &[(3, Rows)]),
+    ((0, Rows), &[(2, Rows)]),
+    ((0, Columns), &[(3, Columns)]),
+    ((1, Rows), &[(0, Rows)]),
+    ((1, Columns), &[(0, Columns)]),
 ];
 
 /// Output, mask, a, u.
 pub(crate) const MXV: &[Rule] = &[
-    ((2, Columns), (3, Rows)),
-    ((0, Rows), (2, Rows)),
-    ((1, Rows), (0, Rows)),
+    ((2, Columns), &[(3, Rows)]),
+    ((0, Rows), &[(2, Rows)]),
+    ((1, Rows), &[(0, Rows)]),
 ];
 
 /// Output, mask, u, a.
 pub(crate) const VXM: &[Rule] = &[
-    ((2, Rows), (3, Rows)),
-    ((0, Rows), (3, Columns)),
-    ((1, Rows), (0, Rows)),
+    ((2, Rows), &[(3, Rows)]),
+    ((0, Rows), &[(3, Columns)]),
+    ((1, Rows), &[(0, Rows)]),
 ];
 
 /// Output, mask, and two inputs of one shape. A vector has one column.
 pub(crate) const EWISE: &[Rule] = &[
-    ((2, Rows), (3, Rows)),
-    ((2, Columns), (3, Columns)),
-    ((0, Rows), (3, Rows)),
-    ((0, Columns), (3, Columns)),
-    ((1, Rows), (0, Rows)),
-    ((1, Columns), (0, Columns)),
+    ((2, Rows), &[(3, Rows)]),
+    ((2, Columns), &[(3, Columns)]),
+    ((0, Rows), &[(3, Rows)]),
+    ((0, Columns), &[(3, Columns)]),
+    ((1, Rows), &[(0, Rows)]),
+    ((1, Columns), &[(0, Columns)]),
 ];
 
 /// Output, mask, a.
-pub(crate) const REDUCE: &[Rule] = &[((0, Rows), (2, Rows)), ((1, Rows), (0, Rows))];
+pub(crate) const REDUCE: &[Rule] = &[((0, Rows), &[(2, Rows)]), ((1, Rows), &[(0, Rows)])];
+
+/// Output, mask, and one input of the output's shape. A vector has one column.
+pub(crate) const TERM: &[Rule] = &[
+    ((0, Rows), &[(2, Rows)]),
+    ((0, Columns), &[(2, Columns)]),
+    ((1, Rows), &[(0, Rows)]),
+    ((1, Columns), &[(0, Columns)]),
+];
+
+/// Output, mask, a, b of a Kronecker product.
+pub(crate) const KRONECKER: &[Rule] = &[
+    ((0, Rows), &[(2, Rows), (3, Rows)]),
+    ((0, Columns), &[(2, Columns), (3, Columns)]),
+    ((1, Rows), &[(0, Rows)]),
+    ((1, Columns), &[(0, Columns)]),
+];
 
 /// What a refused call was.
 #[derive(Clone)]
@@ -193,6 +228,8 @@ pub(crate) enum Call {
     Build(Operand, Vec<usize>, Vec<(usize, (u64, u64))>),
     /// The dimensions that an object should have.
     Dimensions(Vec<u64>),
+    /// A matrix of this vector on this diagonal.
+    Diagonal(Operand, i64),
 }
 
 /// The call that was refused last, and why.
@@ -252,13 +289,12 @@ impl Pass {
                 })?;
                 Some(format!("{} was freed", freed.name))
             }
-            (Error::UninitializedObject, Call::Place(operand, _) | Call::Build(operand, ..)) => {
-                Some(format!("{} was freed", operand.name))
-            }
+            (
+                Error::UninitializedObject,
+                Call::Place(operand, _) | Call::Build(operand, ..) | Call::Diagonal(operand, _),
+            ) => Some(format!("{} was freed", operand.name)),
             (Error::DimensionMismatch, Call::Operation(operands, rules)) => {
-                rules.iter().find_map(|&(left, right)| {
-                    self.mismatch((operands[left.0], left.1), (operands[right.0], right.1))
-                })
+                rules.iter().find_map(|rule| self.mismatch(&operands, rule))
             }
             (Error::InvalidIndex, Call::Place(operand, place)) => {
                 let size = operand.size(self).ok()?;
@@ -281,6 +317,13 @@ impl Pass {
                     given.join(" x ")
                 ))
             }
+            (Error::InvalidValue, Call::Diagonal(operand, k)) => {
+                let size = operand.size(self).ok()?;
+                Some(format!(
+                    "{}, and on the diagonal {k} it makes more rows than 4,294,967,295",
+                    operand.shape(size)
+                ))
+            }
             (Error::OutputNotEmpty, Call::Build(operand, ..)) => Some(format!(
                 "{} stores entries: clear it, or build a new one",
                 operand.name
@@ -289,24 +332,31 @@ impl Pass {
         }
     }
 
-    /// That two dimensions differ, if they do.
-    fn mismatch(&mut self, left: (Operand, Axis), right: (Operand, Axis)) -> Option<String> {
-        let ((left, left_axis), (right, right_axis)) = (left, right);
-        if left.number == NONE {
+    /// That a dimension differs from what it is to be, if it does.
+    fn mismatch(&mut self, operands: &[Operand], (left, right): &Rule) -> Option<String> {
+        let (operand, axis) = (operands[left.0], left.1);
+        if operand.number == NONE {
             return None;
         }
-        let (of_left, of_right) = (left.size(self).ok()?, right.size(self).ok()?);
-        let (first, second) = (along(of_left, left_axis), along(of_right, right_axis));
+        let size = operand.size(self).ok()?;
+        let first = along(size, axis);
+        let (mut second, mut shapes, mut names) = (1u64, vec![operand.shape(size)], vec![]);
+        for &(at, axis) in right.iter() {
+            let operand = operands[at];
+            let size = operand.size(self).ok()?;
+            // Two dimensions are below 2^32 each.
+            second *= along(size, axis);
+            shapes.push(operand.shape(size));
+            names.push(format!("the {} of {}", operand.axis(axis), operand.name));
+        }
         (first != second).then(|| {
             format!(
-                "{}, {}: the {} of {}, {first}, {} not the {} of {}, {second}",
-                left.shape(of_left),
-                right.shape(of_right),
-                left.axis(left_axis),
-                left.name,
-                if left.is_matrix { "are" } else { "is" },
-                right.axis(right_axis),
-                right.name,
+                "{}: the {} of {}, {first}, {} not {}, {second}",
+                shapes.join(", "),
+                operand.axis(axis),
+                operand.name,
+                if operand.is_matrix { "are" } else { "is" },
+                names.join(" times "),
             )
         })
     }

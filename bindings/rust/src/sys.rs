@@ -109,6 +109,7 @@ extern "C" {
     pub fn trb_vector_new(pass: *mut TrbPass, out: *mut u32, domain: u32, size: u64) -> i32;
     pub fn trb_matrix_dup(pass: *mut TrbPass, out: *mut u32, a: u32) -> i32;
     pub fn trb_vector_dup(pass: *mut TrbPass, out: *mut u32, v: u32) -> i32;
+    pub fn trb_matrix_diag(pass: *mut TrbPass, out: *mut u32, v: u32, k: i64) -> i32;
     pub fn trb_matrix_free(pass: *mut TrbPass, a: u32) -> i32;
     pub fn trb_vector_free(pass: *mut TrbPass, v: u32) -> i32;
     pub fn trb_matrix_clear(pass: *mut TrbPass, a: u32) -> i32;
@@ -298,6 +299,182 @@ extern "C" {
         accum: u32,
         monoid: u32,
         a: u32,
+        desc: u32,
+    ) -> i32;
+    pub fn trb_transpose(
+        pass: *mut TrbPass,
+        c: u32,
+        mask: u32,
+        accum: u32,
+        a: u32,
+        desc: u32,
+    ) -> i32;
+    pub fn trb_matrix_apply(
+        pass: *mut TrbPass,
+        c: u32,
+        mask: u32,
+        accum: u32,
+        op: u32,
+        a: u32,
+        desc: u32,
+    ) -> i32;
+    pub fn trb_matrix_apply_first_uint64(
+        pass: *mut TrbPass,
+        c: u32,
+        mask: u32,
+        accum: u32,
+        op: u32,
+        x: u64,
+        a: u32,
+        desc: u32,
+    ) -> i32;
+    pub fn trb_matrix_apply_second_uint64(
+        pass: *mut TrbPass,
+        c: u32,
+        mask: u32,
+        accum: u32,
+        op: u32,
+        a: u32,
+        y: u64,
+        desc: u32,
+    ) -> i32;
+    pub fn trb_matrix_apply_first_bool(
+        pass: *mut TrbPass,
+        c: u32,
+        mask: u32,
+        accum: u32,
+        op: u32,
+        x: bool,
+        a: u32,
+        desc: u32,
+    ) -> i32;
+    pub fn trb_matrix_apply_second_bool(
+        pass: *mut TrbPass,
+        c: u32,
+        mask: u32,
+        accum: u32,
+        op: u32,
+        a: u32,
+        y: bool,
+        desc: u32,
+    ) -> i32;
+    pub fn trb_matrix_select_int64(
+        pass: *mut TrbPass,
+        c: u32,
+        mask: u32,
+        accum: u32,
+        test: u32,
+        a: u32,
+        k: i64,
+        desc: u32,
+    ) -> i32;
+    pub fn trb_matrix_select_uint64(
+        pass: *mut TrbPass,
+        c: u32,
+        mask: u32,
+        accum: u32,
+        test: u32,
+        a: u32,
+        x: u64,
+        desc: u32,
+    ) -> i32;
+    pub fn trb_matrix_select_bool(
+        pass: *mut TrbPass,
+        c: u32,
+        mask: u32,
+        accum: u32,
+        test: u32,
+        a: u32,
+        x: bool,
+        desc: u32,
+    ) -> i32;
+    pub fn trb_vector_apply(
+        pass: *mut TrbPass,
+        w: u32,
+        mask: u32,
+        accum: u32,
+        op: u32,
+        u: u32,
+        desc: u32,
+    ) -> i32;
+    pub fn trb_vector_apply_first_uint64(
+        pass: *mut TrbPass,
+        w: u32,
+        mask: u32,
+        accum: u32,
+        op: u32,
+        x: u64,
+        u: u32,
+        desc: u32,
+    ) -> i32;
+    pub fn trb_vector_apply_second_uint64(
+        pass: *mut TrbPass,
+        w: u32,
+        mask: u32,
+        accum: u32,
+        op: u32,
+        u: u32,
+        y: u64,
+        desc: u32,
+    ) -> i32;
+    pub fn trb_vector_apply_first_bool(
+        pass: *mut TrbPass,
+        w: u32,
+        mask: u32,
+        accum: u32,
+        op: u32,
+        x: bool,
+        u: u32,
+        desc: u32,
+    ) -> i32;
+    pub fn trb_vector_apply_second_bool(
+        pass: *mut TrbPass,
+        w: u32,
+        mask: u32,
+        accum: u32,
+        op: u32,
+        u: u32,
+        y: bool,
+        desc: u32,
+    ) -> i32;
+    pub fn trb_vector_select_int64(
+        pass: *mut TrbPass,
+        w: u32,
+        mask: u32,
+        accum: u32,
+        test: u32,
+        u: u32,
+        k: i64,
+        desc: u32,
+    ) -> i32;
+    pub fn trb_vector_select_uint64(
+        pass: *mut TrbPass,
+        w: u32,
+        mask: u32,
+        accum: u32,
+        test: u32,
+        u: u32,
+        x: u64,
+        desc: u32,
+    ) -> i32;
+    pub fn trb_vector_select_bool(
+        pass: *mut TrbPass,
+        w: u32,
+        mask: u32,
+        accum: u32,
+        test: u32,
+        u: u32,
+        x: bool,
+        desc: u32,
+    ) -> i32;
+    pub fn trb_matrix_kronecker(
+        pass: *mut TrbPass,
+        c: u32,
+        mask: u32,
+        accum: u32,
+        op: u32,
+        a: u32,
+        b: u32,
         desc: u32,
     ) -> i32;
     pub fn trb_matrix_wait(pass: *mut TrbPass, a: u32, mode: u32) -> i32;

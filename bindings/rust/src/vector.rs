@@ -4,11 +4,13 @@ use crate::descriptor::Numbers;
 use crate::element::Element;
 use crate::entries::VectorEntries;
 use crate::error::{done, Error};
+use crate::function::Function;
 use crate::object::{Calls, Mask, Object};
 use crate::pass::Pass;
 use crate::slices::apart_from;
 use crate::store::Store;
 use crate::sys::{self, TrbPass};
+use crate::test::{Bound, Test};
 use std::marker::PhantomData;
 
 /// A handle of a vector of values of type `T`, whose indices are counted from 0.
@@ -190,6 +192,39 @@ impl<T: Element> Calls<T, u64, VectorEntries<T>> for Vector<T> {
         // SAFETY: the pass is a mutable reference.
         unsafe {
             sys::trb_vector_ewise_mult(pass, self.number, mask, accum, op, u.number, v.number, bits)
+        }
+    }
+
+    fn apply(self, pass: &mut TrbPass, how: Numbers, function: Function<T>, u: Vector<T>) -> i32 {
+        let Numbers { mask, accum, bits } = how;
+        let (w, u) = (self.number, u.number);
+        // SAFETY: the pass is a mutable reference. A `bool` of Rust is 0 or 1.
+        unsafe {
+            match function {
+                Function::Unary(op) => {
+                    sys::trb_vector_apply(pass, w, mask, accum, op.number(), u, bits)
+                }
+                Function::First(x, op) => {
+                    T::VECTOR_APPLY_FIRST(pass, w, mask, accum, op.number(), x, u, bits)
+                }
+                Function::Second(op, y) => {
+                    T::VECTOR_APPLY_SECOND(pass, w, mask, accum, op.number(), u, y, bits)
+                }
+            }
+        }
+    }
+
+    fn select(self, pass: &mut TrbPass, how: Numbers, test: Test<T>, u: Vector<T>) -> i32 {
+        let Numbers { mask, accum, bits } = how;
+        let (w, u, number) = (self.number, u.number, test.number());
+        // SAFETY: the pass is a mutable reference. A `bool` of Rust is 0 or 1.
+        unsafe {
+            match test.bound() {
+                Bound::Place(k) => {
+                    sys::trb_vector_select_int64(pass, w, mask, accum, number, u, k, bits)
+                }
+                Bound::Value(x) => T::VECTOR_SELECT(pass, w, mask, accum, number, u, x, bits),
+            }
         }
     }
 

@@ -5,6 +5,7 @@ use crate::passes::{Act, TIMED, time_of_act, time_of_opening};
 use crate::scripts::time_of_scripts;
 use crate::shared::{LOADED, OWN, RESULT, Work, time_of_work};
 use crate::texts::{LINES, time_of_scan, time_of_text};
+use crate::tuples::{ENTRIES, time_of_tuples};
 use grb_context::MOST_ROOM;
 use std::rt::Clock;
 use std::sync::Wait;
@@ -27,6 +28,8 @@ pub(crate) enum Case {
     Text(bool),
     /// A scan of the numbers of such a text.
     Scan(bool),
+    /// The line of all entries of a matrix, by a script or by a loop.
+    Tuples(bool),
 }
 
 /// What both sides are called, how many steps each has, and what they are.
@@ -170,6 +173,13 @@ pub(crate) const MARKET: [Line; 2] = [
     },
 ];
 
+/// All entries of a product, which a script makes, next to a loop that writes them.
+pub(crate) const TUPLES: [Line; 1] = [Line {
+    names: ["kronecker and tuples, in a script", "written by a loop"],
+    steps: ENTRIES,
+    cases: [Case::Tuples(true), Case::Tuples(false)],
+}];
+
 /// The time of a case in a store of its own; none where it was not as expected.
 pub(crate) fn time_of<R>(rt: &R, case: Case) -> Time
 where
@@ -183,5 +193,6 @@ where
         Case::Work(work, threads) => time_of_work(rt, work, threads),
         Case::Text(rises) => time_of_text(rt, rises),
         Case::Scan(rises) => time_of_scan(rt, rises),
+        Case::Tuples(by_script) => time_of_tuples(rt, by_script),
     }
 }

@@ -12,9 +12,10 @@ mod passes;
 mod scripts;
 mod shared;
 mod texts;
+mod tuples;
 
 use crate::bench::Bench;
-use crate::lines::{MARKET, PASSES, SECTIONS, SHARED, SIZES};
+use crate::lines::{MARKET, PASSES, SECTIONS, SHARED, SIZES, TUPLES};
 use std::env;
 use std::rt::{Clock, Env};
 use std::sync::Wait;
@@ -44,6 +45,7 @@ where
     println!(rt; "shared: {} as stated", bench.run(&SHARED)?)?;
     println!(rt; "sizes: {} as was set", bench.run(&SIZES)?)?;
     println!(rt; "market: {} as stated", bench.run(&MARKET)?)?;
+    println!(rt; "tuples: {} as stated", bench.run(&TUPLES)?)?;
     Ok(())
 }
 

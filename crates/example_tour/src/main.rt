@@ -23,6 +23,7 @@ const PLAIN: Descriptor = Descriptor {
     comp: false,
     replace: false,
     tran: false,
+    tran1: false,
 };
 
 /// Prints what a call answered: its reply, or its refusal with what to do about it.

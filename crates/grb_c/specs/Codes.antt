@@ -1,7 +1,7 @@
 -- believed: What the numbers of the C interface stand for: GraphBLAS C API 2.0, "Error model", for the statuses, of which OrderFull is
--- own, and its header for domains, modes and three of the descriptor's bits; the bit of a transposed input and the numbers of operators
--- and monoids are own.
-use Rattle.std.specs.Prelude.{ℕ, ◌/◌, ◌%◌, nat_lt, ℤ, pos, negsuc, Bool, true, false, ◌==◌, if◌then◌else◌, Option, Some, None, Result, Ok, Err}
+-- own, and its header for domains, modes and three of the descriptor's bits; the bits of the two transposed inputs and the numbers of
+-- operators, monoids and tests are own.
+use Rattle.std.specs.Prelude.{ℕ, ◌+◌, ◌/◌, ◌%◌, nat_lt, ℤ, pos, negsuc, Bool, true, false, ◌==◌, if◌then◌else◌, Option, Some, None, Result, Ok, Err}
 use Rattle.std.specs.Option.{option_map}
 use Rattle.grb_core.specs.declared.domain.Domain.{Domain}
 use Rattle.grb_core.specs.declared.domain.Domain.TheVariants as domain
@@ -13,10 +13,17 @@ use Rattle.grb_core.specs.declared.refusal.Refusal.{Refusal}
 use Rattle.grb_core.specs.declared.refusal.Refusal.TheVariants as refusal
 use Rattle.grb_core.specs.declared.refusal.Info.{Info}
 use Rattle.grb_core.specs.declared.refusal.Info.TheVariants as info
+use Rattle.grb_core.specs.declared.value.Value.{Value}
 use Rattle.grb_core.specs.declared.value.Value.TheVariants as value
 use Rattle.grb_core.specs.Semiring.{SemiringParts}
 use Rattle.grb_core.specs.Operator.{op_domain}
 use Rattle.grb_core.specs.Monoid.{monoid_domain}
+use Rattle.grb_core.specs.declared.functions.UnaryOp.{UnaryOp}
+use Rattle.grb_core.specs.declared.functions.UnaryOp.TheVariants as unary
+use Rattle.grb_core.specs.declared.tests.Diagonal.{Diagonal}
+use Rattle.grb_core.specs.declared.tests.Diagonal.TheVariants as diagonal
+use Rattle.grb_core.specs.declared.tests.Test.{Test}
+use Rattle.grb_core.specs.declared.tests.Test.TheVariants as test
 use Rattle.grb_call.specs.declared.descriptor.Descriptor.{Descriptor}
 use Rattle.grb_call.specs.declared.descriptor.WaitMode.{WaitMode}
 use Rattle.grb_call.specs.declared.descriptor.WaitMode.TheVariants as mode
@@ -180,6 +187,46 @@ monoid_at n =
     else (if n == 9 then Some monoid.Min
     else (if n == 10 then Some monoid.Max else None)))))))
 
+abbrev pub unary_at : ℕ → Option UnaryOp
+unary_at n =
+    if n == 1 then Some unary.IdentityBool
+    else (if n == 2 then Some unary.Lnot
+    else (if n == 3 then Some unary.Identity
+    else (if n == 4 then Some unary.Ainv
+    else (if n == 5 then Some unary.Bnot else None))))
+
+-- the diagonal of a number with a sign: so far above the main one, or with a minus so far below it
+abbrev pub diagonal_at : ℤ → Option Diagonal
+diagonal_at (pos n) = if nat_lt n 4294967296 then Some (diagonal.Above n) else None
+diagonal_at (negsuc n) = if nat_lt n 4294967295 then Some (diagonal.Below (n + 1)) else None
+
+-- the number of a row or a column, if it is none below 0
+abbrev pub index_at : ℤ → Option ℕ
+index_at (pos n) = Some n
+index_at (negsuc n) = None
+
+-- a test by places, with the number that it compares with
+abbrev pub place_test_at : ℕ → ℤ → Option Test
+place_test_at n k =
+    if n == 1 then option_map (λ (d : Diagonal). test.Tril d) (diagonal_at k)
+    else (if n == 2 then option_map (λ (d : Diagonal). test.Triu d) (diagonal_at k)
+    else (if n == 3 then option_map (λ (d : Diagonal). test.Diag d) (diagonal_at k)
+    else (if n == 4 then option_map (λ (d : Diagonal). test.Offdiag d) (diagonal_at k)
+    else (if n == 5 then option_map (λ (i : ℕ). test.RowLe i) (index_at k)
+    else (if n == 6 then option_map (λ (i : ℕ). test.RowGt i) (index_at k)
+    else (if n == 7 then option_map (λ (j : ℕ). test.ColLe j) (index_at k)
+    else (if n == 8 then option_map (λ (j : ℕ). test.ColGt j) (index_at k) else None)))))))
+
+-- a test by values, with the value that it compares with
+abbrev pub value_test_at : ℕ → Value → Option Test
+value_test_at n x =
+    if n == 9 then Some (test.ValueEq x)
+    else (if n == 10 then Some (test.ValueNe x)
+    else (if n == 11 then Some (test.ValueLt x)
+    else (if n == 12 then Some (test.ValueLe x)
+    else (if n == 13 then Some (test.ValueGt x)
+    else (if n == 14 then Some (test.ValueGe x) else None)))))
+
 -- both domains are the same
 abbrev pub is_one_domain : Domain → Domain → Bool
 is_one_domain domain.Bool domain.Bool = true
@@ -197,14 +244,21 @@ matrix_mask_at n = if n == 4294967295 then None else Some (record { 0 = n })
 abbrev pub vector_mask_at : ℕ → Option VectorId
 vector_mask_at n = if n == 4294967295 then None else Some (record { 0 = n })
 
--- the bits from the lowest: replace, complement, structure, first input transposed
+-- the bits from the lowest: replace, complement, structure, first input transposed, second input transposed
 abbrev pub descriptor_at : ℕ → Option Descriptor
 descriptor_at n =
-    if nat_lt n 16 then Some (record { structure = (n / 4) % 2 == 1; comp = (n / 2) % 2 == 1; replace = n % 2 == 1; tran = (n / 8) % 2 == 1 }) else None
+    if nat_lt n 32 then Some (record { structure = (n / 4) % 2 == 1; comp = (n / 2) % 2 == 1; replace = n % 2 == 1; tran = (n / 8) % 2 == 1; tran1 = (n / 16) % 2 == 1 }) else None
 
--- the same of an operation that reads nothing transposed: its last bit stands for nothing
+-- the same of an operation that reads nothing transposed: its last two bits stand for nothing
 abbrev pub upright_descriptor_at : ℕ → Option Descriptor
 upright_descriptor_at n = if nat_lt n 8 then descriptor_at n else None
+
+-- of one that reads no second input transposed, and of one that reads no first input so
+abbrev pub first_descriptor_at : ℕ → Option Descriptor
+first_descriptor_at n = if nat_lt n 16 then descriptor_at n else None
+
+abbrev pub second_descriptor_at : ℕ → Option Descriptor
+second_descriptor_at n = if (n / 8) % 2 == 1 then None else descriptor_at n
 
 abbrev pub mode_at : ℕ → Option WaitMode
 mode_at n =

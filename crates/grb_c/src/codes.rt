@@ -1,9 +1,9 @@
 //! What the numbers of the C interface stand for.
 ghost use Rattle.std.specs.Prelude.{◌≡◌, ◌==◌, ℕ, None, Some, if◌then◌else◌};
-ghost use Rattle.grb_c.specs.Codes.{accum_at, bool_code, bool_out, descriptor_at, dims_code, dims_out, domain_at, done_code, met_code, mode_at, monoid_at, number_code, number_out, object_code, object_out, op_at, refusal_code, semiring_of, upright_descriptor_at};
+ghost use Rattle.grb_c.specs.Codes.{accum_at, bool_code, bool_out, descriptor_at, diagonal_at, dims_code, dims_out, domain_at, done_code, first_descriptor_at, index_at, met_code, mode_at, monoid_at, number_code, number_out, object_code, object_out, op_at, place_test_at, refusal_code, second_descriptor_at, semiring_of, unary_at, upright_descriptor_at, value_test_at};
 
 use grb_call::{Descriptor, MatrixId, Reply, VectorId, WaitMode};
-use grb_core::{BinaryOp, Domain, Monoid, Refusal, Semiring, Value};
+use grb_core::{BinaryOp, Diagonal, Domain, Monoid, Refusal, Semiring, Test, UnaryOp, Value};
 
 /// The call was answered.
 pub(crate) const SUCCESS: i32 = 0;
@@ -198,6 +198,73 @@ pub(crate) fn monoid_at(n: u32) -> Option<Monoid>
     }
 }
 
+/// The unary operator of a number.
+pub(crate) fn unary_at(n: u32) -> Option<UnaryOp>
+    ensures { result ≡ unary_at n }
+{
+    match n {
+        1 => Some(UnaryOp::IdentityBool),
+        2 => Some(UnaryOp::Lnot),
+        3 => Some(UnaryOp::Identity),
+        4 => Some(UnaryOp::Ainv),
+        5 => Some(UnaryOp::Bnot),
+        _ => None,
+    }
+}
+
+/// The diagonal of a number with a sign: above the main one, or with a minus below it. None is as far as 2^32.
+pub(crate) fn diagonal_at(k: i64) -> Option<Diagonal>
+    ensures { result ≡ diagonal_at k }
+{
+    let far = k.unsigned_abs();
+    if far > u32::MAX as u64 {
+        None
+    } else if k < 0 {
+        Some(Diagonal::Below(far as u32))
+    } else {
+        Some(Diagonal::Above(far as u32))
+    }
+}
+
+/// The number of a row or a column, if it is none below 0.
+pub(crate) fn index_at(k: i64) -> Option<u64>
+    ensures { result ≡ index_at k }
+{
+    if k < 0 { None } else { Some(k.unsigned_abs()) }
+}
+
+/// The test of this number by places, and of the number that it compares with.
+pub(crate) fn place_test_at(n: u32, k: i64) -> Option<Test>
+    ensures { result ≡ place_test_at n k }
+{
+    match n {
+        1 => Some(Test::Tril(diagonal_at(k)?)),
+        2 => Some(Test::Triu(diagonal_at(k)?)),
+        3 => Some(Test::Diag(diagonal_at(k)?)),
+        4 => Some(Test::Offdiag(diagonal_at(k)?)),
+        5 => Some(Test::RowLe(index_at(k)?)),
+        6 => Some(Test::RowGt(index_at(k)?)),
+        7 => Some(Test::ColLe(index_at(k)?)),
+        8 => Some(Test::ColGt(index_at(k)?)),
+        _ => None,
+    }
+}
+
+/// The test of this number by values, and of the value that it compares with.
+pub(crate) fn value_test_at(n: u32, x: Value) -> Option<Test>
+    ensures { result ≡ value_test_at n x }
+{
+    match n {
+        9 => Some(Test::ValueEq(x)),
+        10 => Some(Test::ValueNe(x)),
+        11 => Some(Test::ValueLt(x)),
+        12 => Some(Test::ValueLe(x)),
+        13 => Some(Test::ValueGt(x)),
+        14 => Some(Test::ValueGe(x)),
+        _ => None,
+    }
+}
+
 /// The semiring of both, or the status that refuses them.
 pub(crate) fn semiring_of(monoid: Monoid, op: BinaryOp) -> Result<Semiring, i32>
     ensures { result ≡ semiring_of monoid op }
@@ -241,27 +308,46 @@ pub(crate) fn mask_at<I: Id>(n: u32) -> Option<I>
     if n == u32::MAX { None } else { Some(I::at(n)) }
 }
 
-/// The descriptor of four bits, from the lowest: replace, complement, structure, and the first input transposed.
+/// The descriptor of five bits, from the lowest: replace, complement, structure, the first input transposed, and the second.
 pub(crate) fn descriptor_at(n: u32) -> Option<Descriptor>
     ensures { result ≡ descriptor_at n }
 {
-    if n < 16 {
+    if n < 32 {
         Some(Descriptor {
             structure: (n / 4) % 2 == 1,
             comp: (n / 2) % 2 == 1,
             replace: n % 2 == 1,
             tran: (n / 8) % 2 == 1,
+            tran1: (n / 16) % 2 == 1,
         })
     } else {
         None
     }
 }
 
-/// The descriptor of the lowest three of these bits, for what reads no first input transposed.
+/// The descriptor of the lowest three of these bits, for what reads no matrix transposed.
 pub(crate) fn upright_descriptor_at(n: u32) -> Option<Descriptor>
     ensures { result ≡ upright_descriptor_at n }
 {
     if n < 8 { descriptor_at(n) } else { None }
+}
+
+/// The descriptor without the bit of the second input, for what reads no second input transposed.
+pub(crate) fn first_descriptor_at(n: u32) -> Option<Descriptor>
+    ensures { result ≡ first_descriptor_at n }
+{
+    if n < 16 { descriptor_at(n) } else { None }
+}
+
+/// The descriptor without the bit of the first input, for what reads no first input transposed.
+pub(crate) fn second_descriptor_at(n: u32) -> Option<Descriptor>
+    ensures { result ≡ second_descriptor_at n }
+{
+    if (n / 8) % 2 == 1 {
+        None
+    } else {
+        descriptor_at(n)
+    }
 }
 
 /// The mode of a number.

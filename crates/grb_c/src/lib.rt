@@ -19,6 +19,7 @@ mod parts;
 mod raw;
 mod session;
 mod succession;
+mod terms;
 mod tuples;
 mod version;
 mod written;

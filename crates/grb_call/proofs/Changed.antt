@@ -18,6 +18,7 @@ changed_holds P s (call.NewMatrix domain nrows ncols) matrix vector output = mat
 changed_holds P s (call.NewVector domain size) matrix vector output = vector _
 changed_holds P s (call.DupMatrix a) matrix vector output = matrix _
 changed_holds P s (call.DupVector v) matrix vector output = vector _
+changed_holds P s (call.Diag v diagonal) matrix vector output = matrix _
 changed_holds P s c matrix vector output = output (output_of c) refl
 
 -- the store that a call leaves which changes one object
@@ -26,6 +27,7 @@ changed_output s (call.NewMatrix domain nrows ncols) o is = cc
 changed_output s (call.NewVector domain size) o is = cc
 changed_output s (call.DupMatrix a) o is = cc
 changed_output s (call.DupVector v) o is = cc
+changed_output s (call.Diag v diagonal) o is = cc
 changed_output s c o is = ap (output_changed s c) is
 
 pub changed_matrix : (s : Store) (a : MatrixId) (c : Call) → output_of c ≡ Some (object.Matrix a) → changed s c ≡ put_matrix s a (matrix_left s c (matrix_at s a))

@@ -96,7 +96,7 @@ none_in_a_store s c Panic is = is.0
 -- the five tests of shapes, and then what an answer makes of none
 module _ (P : Refusal → Type 0) (answer : Option Refusal → Option Refusal) (stays : (r : Refusal) → answer (Some r) ≡ Some r) (s : ObjectShapes) (c : Call) where
   by_tests : (P UninitializedObject → is_initialized s c ≡ false) → (is_initialized s c ≡ false → P UninitializedObject)
-      → (P InvalidValue → has_valid_values c ≡ false) → (has_valid_values c ≡ false → P InvalidValue)
+      → (P InvalidValue → has_valid_values s c ≡ false) → (has_valid_values s c ≡ false → P InvalidValue)
       → (P InvalidIndex → has_valid_index s c ≡ false) → (has_valid_index s c ≡ false → P InvalidIndex)
       → (P DomainMismatch → has_one_domain s c ≡ false) → (has_one_domain s c ≡ false → P DomainMismatch)
       → (P DimensionMismatch → has_fitting_dims s c ≡ false) → (has_fitting_dims s c ≡ false → P DimensionMismatch)
@@ -104,7 +104,7 @@ module _ (P : Refusal → Type 0) (answer : Option Refusal → Option Refusal) (
   by_tests a b d e f g h i j k rest =
       from_first P (answer (refused_by_shapes s c))
       (tested P answer stays UninitializedObject (is_initialized s c) _ a b
-      (tested P answer stays InvalidValue (has_valid_values c) _ d e
+      (tested P answer stays InvalidValue (has_valid_values s c) _ d e
       (tested P answer stays InvalidIndex (has_valid_index s c) _ f g
       (tested P answer stays DomainMismatch (has_one_domain s c) _ h i
       (tested P answer stays DimensionMismatch (has_fitting_dims s c) None j k rest)))))

@@ -1,11 +1,12 @@
 -- What an operation leaves of its output: it is a matter of what the operation reads, and so it is for each call.
-use Rattle.std.proofs.Common.{◌≡◌, [], refl, ap, ◌∙◌, Option, Some, None, IfSome, option_map}
+use Rattle.std.proofs.Common.{◌≡◌, ℕ, ◌*◌, Bool, if◌then◌else◌, [], refl, ap, ◌∙◌, Option, Some, None, IfSome, option_map}
 use Rattle.std.specs.Option.{option_map_or}
 use Rattle.std.specs.Ordering.{nat_cmp}
 use Rattle.grb_core.specs.declared.operator.BinaryOp.{BinaryOp}
 use Rattle.grb_core.specs.Entries.{cell_cmp, MatrixEntries, VectorEntries}
 use Rattle.grb_core.specs.Results.{ewise_add, ewise_mult, mxv_of, mxm_of, reduce_rows_of, turned, vxm_of}
 use Rattle.grb_core.specs.Contents.{Matrix, Vector}
+use Rattle.grb_core.specs.Maps.{applied, kronecker_of, selected_cells, selected_indices}
 use Rattle.grb_call.specs.declared.call.Call.{Call}
 use Rattle.grb_call.specs.declared.call.Call.TheVariants as call
 use Rattle.grb_call.specs.declared.descriptor.Descriptor.{Descriptor}
@@ -13,11 +14,12 @@ use Rattle.grb_call.specs.declared.ids.MatrixId.{MatrixId}
 use Rattle.grb_call.specs.declared.ids.VectorId.{VectorId}
 use Rattle.grb_call.specs.declared.ids.Object.{Object}
 use Rattle.grb_call.specs.declared.ids.Object.TheVariants as object
-use Rattle.grb_call.specs.declared.operation.Input.{Input}
-use Rattle.grb_call.specs.declared.operation.Input.TheVariants.{First, Second}
 use Rattle.grb_call.specs.declared.operation.Operation.{Operation}
 use Rattle.grb_call.specs.declared.operation.OperationKind.{OperationKind}
-use Rattle.grb_call.specs.declared.operation.OperationKind.TheVariants.{EwiseAdd, EwiseMult, Product, Rows}
+use Rattle.grb_call.specs.declared.operation.OperationKind.TheVariants.{EwiseAdd, EwiseMult, Product, Rows, Transpose, Apply, Select, Kronecker}
+use Rattle.grb_call.specs.declared.term.MatrixTerm.TheVariants as matrix_term
+use Rattle.grb_call.specs.declared.term.VectorTerm.TheVariants as vector_term
+use Rattle.grb_call.specs.declared.operation.Input.TheVariants.{First, Second}
 use Rattle.grb_call.specs.Operation.{operation_of, turns}
 use Rattle.grb_call.specs.Output.{StoredObjects, entries_of_matrix, entries_of_vector, output_of, matrix_read, vector_read, matrix_input, matrix_computed, vector_computed, matrix_operated, vector_operated, matrix_made, vector_made}
 use Rattle.grb_call.specs.Written.{written_matrix, written_vector}
@@ -34,35 +36,56 @@ pub record ReadsSame (r t : StoredObjects) (o : Operation) : Type 0 where
   pub second : IfSome o.second (SameObject r t)
   pub mask : IfSome o.mask (SameObject r t)
 
+-- the dimensions and the entries of an input, by the object
+abbrev pub nrows_as : Bool → Option Matrix → ℕ
+nrows_as tran o = option_map_or (λ m. if tran then m.ncols else m.nrows) o 0
+
+abbrev pub ncols_as : Bool → Option Matrix → ℕ
+ncols_as tran o = option_map_or (λ m. if tran then m.nrows else m.ncols) o 0
+
+abbrev pub entries_as : Bool → Option Matrix → MatrixEntries
+entries_as tran o = turned tran (option_map_or (λ m. m.entries) o [])
+
+-- a Kronecker product, by the objects that are its inputs
+abbrev pub kronecker_by : BinaryOp → Bool → Bool → Option Matrix → Option Matrix → MatrixEntries
+kronecker_by op tran tran1 a b =
+    kronecker_of op (nrows_as tran1 b) (ncols_as tran1 b) (nrows_as tran a * nrows_as tran1 b) (ncols_as tran a * ncols_as tran1 b) (entries_as tran a) (entries_as tran1 b)
+
 two : {X Y Z : Type 0} (f : X → Y → Z) (a b : X) (x y : Y) → a ≡ b → x ≡ y → f a x ≡ f b y
 two f a b x y e g = ap (λ z. f z x) e ∙ ap (f b) g
 
 module _ (r t : StoredObjects) where
-  -- the entries of an object, and of an input as the descriptor turns it
+  -- the entries of an object, and of an input that is turned or not
   same_m : (a : MatrixId) → SameObject r t (object.Matrix a) → entries_of_matrix r a ≡ entries_of_matrix t a
   same_m a e = ap (λ (o : Option Matrix). option_map_or (λ m. m.entries) o []) e
 
   same_v : (v : VectorId) → SameObject r t (object.Vector v) → entries_of_vector r v ≡ entries_of_vector t v
   same_v v e = ap (λ (o : Option Vector). option_map_or (λ x. x.entries) o []) e
 
-  same_input : (d : Descriptor) (input : Input) (a : MatrixId) → SameObject r t (object.Matrix a) → matrix_input r d input a ≡ matrix_input t d input a
-  same_input d input a e = ap (λ (es : MatrixEntries). turned (turns d input) es) (same_m a e)
+  same_input : (tran : Bool) (a : MatrixId) → SameObject r t (object.Matrix a) → matrix_input r tran a ≡ matrix_input t tran a
+  same_input tran a e = ap (λ (es : MatrixEntries). turned tran es) (same_m a e)
 
-  pub matrix_computed-same : (kind : OperationKind) (d : Descriptor) (first second : Option Object) → IfSome first (SameObject r t) → IfSome second (SameObject r t) →
-      matrix_computed r kind d first second ≡ matrix_computed t kind d first second
-  matrix_computed-same (EwiseAdd op) d (Some (object.Matrix a)) (Some (object.Matrix b)) e g = two (λ x y. Some (ewise_add cell_cmp op x y)) _ _ _ _ (same_input d First a e) (same_input d Second b g)
-  matrix_computed-same (EwiseMult op) d (Some (object.Matrix a)) (Some (object.Matrix b)) e g = two (λ x y. Some (ewise_mult cell_cmp op x y)) _ _ _ _ (same_input d First a e) (same_input d Second b g)
-  matrix_computed-same (Product semiring) d (Some (object.Matrix a)) (Some (object.Matrix b)) e g = two (λ x y. Some (mxm_of semiring x y)) _ _ _ _ (same_input d First a e) (same_input d Second b g)
-  matrix_computed-same _ d _ _ e g = refl
+  pub matrix_computed-same : (kind : OperationKind) (tran tran1 : Bool) (first second : Option Object) → IfSome first (SameObject r t) → IfSome second (SameObject r t) →
+      matrix_computed r kind tran tran1 first second ≡ matrix_computed t kind tran tran1 first second
+  matrix_computed-same (EwiseAdd op) tran tran1 (Some (object.Matrix a)) (Some (object.Matrix b)) e g = two (λ x y. Some (ewise_add cell_cmp op x y)) _ _ _ _ (same_input tran a e) (same_input tran1 b g)
+  matrix_computed-same (EwiseMult op) tran tran1 (Some (object.Matrix a)) (Some (object.Matrix b)) e g = two (λ x y. Some (ewise_mult cell_cmp op x y)) _ _ _ _ (same_input tran a e) (same_input tran1 b g)
+  matrix_computed-same (Product semiring) tran tran1 (Some (object.Matrix a)) (Some (object.Matrix b)) e g = two (λ x y. Some (mxm_of semiring x y)) _ _ _ _ (same_input tran a e) (same_input tran1 b g)
+  matrix_computed-same Transpose tran tran1 (Some (object.Matrix a)) None e g = ap (λ x. Some x) (same_input tran a e)
+  matrix_computed-same (Apply f) tran tran1 (Some (object.Matrix a)) None e g = ap (λ x. Some (applied f x)) (same_input tran a e)
+  matrix_computed-same (Select p) tran tran1 (Some (object.Matrix a)) None e g = ap (λ x. Some (selected_cells p x)) (same_input tran a e)
+  matrix_computed-same (Kronecker op) tran tran1 (Some (object.Matrix a)) (Some (object.Matrix b)) e g = two (λ x y. Some (kronecker_by op tran tran1 x y)) _ _ _ _ e g
+  matrix_computed-same _ tran tran1 _ _ e g = refl
 
-  pub vector_computed-same : (kind : OperationKind) (d : Descriptor) (first second : Option Object) → IfSome first (SameObject r t) → IfSome second (SameObject r t) →
-      vector_computed r kind d first second ≡ vector_computed t kind d first second
-  vector_computed-same (EwiseAdd op) d (Some (object.Vector u)) (Some (object.Vector v)) e g = two (λ x y. Some (ewise_add nat_cmp op x y)) _ _ _ _ (same_v u e) (same_v v g)
-  vector_computed-same (EwiseMult op) d (Some (object.Vector u)) (Some (object.Vector v)) e g = two (λ x y. Some (ewise_mult nat_cmp op x y)) _ _ _ _ (same_v u e) (same_v v g)
-  vector_computed-same (Product semiring) d (Some (object.Matrix a)) (Some (object.Vector u)) e g = two (λ x y. Some (mxv_of semiring x y)) _ _ _ _ (same_input d First a e) (same_v u g)
-  vector_computed-same (Product semiring) d (Some (object.Vector u)) (Some (object.Matrix a)) e g = two (λ x y. Some (vxm_of semiring x y)) _ _ _ _ (same_v u e) (same_input d Second a g)
-  vector_computed-same (Rows monoid) d (Some (object.Matrix a)) None e g = ap (λ x. Some (reduce_rows_of monoid x)) (same_input d First a e)
-  vector_computed-same _ d _ _ e g = refl
+  pub vector_computed-same : (kind : OperationKind) (tran tran1 : Bool) (first second : Option Object) → IfSome first (SameObject r t) → IfSome second (SameObject r t) →
+      vector_computed r kind tran tran1 first second ≡ vector_computed t kind tran tran1 first second
+  vector_computed-same (EwiseAdd op) tran tran1 (Some (object.Vector u)) (Some (object.Vector v)) e g = two (λ x y. Some (ewise_add nat_cmp op x y)) _ _ _ _ (same_v u e) (same_v v g)
+  vector_computed-same (EwiseMult op) tran tran1 (Some (object.Vector u)) (Some (object.Vector v)) e g = two (λ x y. Some (ewise_mult nat_cmp op x y)) _ _ _ _ (same_v u e) (same_v v g)
+  vector_computed-same (Product semiring) tran tran1 (Some (object.Matrix a)) (Some (object.Vector u)) e g = two (λ x y. Some (mxv_of semiring x y)) _ _ _ _ (same_input tran a e) (same_v u g)
+  vector_computed-same (Product semiring) tran tran1 (Some (object.Vector u)) (Some (object.Matrix a)) e g = two (λ x y. Some (vxm_of semiring x y)) _ _ _ _ (same_v u e) (same_input tran1 a g)
+  vector_computed-same (Rows monoid) tran tran1 (Some (object.Matrix a)) None e g = ap (λ x. Some (reduce_rows_of monoid x)) (same_input tran a e)
+  vector_computed-same (Apply f) tran tran1 (Some (object.Vector u)) None e g = ap (λ x. Some (applied f x)) (same_v u e)
+  vector_computed-same (Select p) tran tran1 (Some (object.Vector u)) None e g = ap (λ x. Some (selected_indices p x)) (same_v u e)
+  vector_computed-same _ tran tran1 _ _ e g = refl
 
   matrix_mask-same : (mask : Option Object) → IfSome mask (SameObject r t) → option_map (matrix_read r) mask ≡ option_map (matrix_read t) mask
   matrix_mask-same None e = refl
@@ -77,12 +100,12 @@ module _ (r t : StoredObjects) where
   matrix_operated-same : (o : Operation) (m : Matrix) → ReadsSame r t o → matrix_operated r o m ≡ matrix_operated t o m
   matrix_operated-same o m same =
       two (λ (mask computed : Option MatrixEntries). option_map_or (λ es. written_matrix mask o.accum o.d es m) computed m) _ _ _ _
-      (matrix_mask-same o.mask same.mask) (matrix_computed-same o.kind o.d o.first o.second same.first same.second)
+      (matrix_mask-same o.mask same.mask) (matrix_computed-same o.kind (turns o.kind o.d First) (turns o.kind o.d Second) o.first o.second same.first same.second)
 
   vector_operated-same : (o : Operation) (x : Vector) → ReadsSame r t o → vector_operated r o x ≡ vector_operated t o x
   vector_operated-same o x same =
       two (λ (mask computed : Option VectorEntries). option_map_or (λ es. written_vector mask o.accum o.d es x) computed x) _ _ _ _
-      (vector_mask-same o.mask same.mask) (vector_computed-same o.kind o.d o.first o.second same.first same.second)
+      (vector_mask-same o.mask same.mask) (vector_computed-same o.kind (turns o.kind o.d First) (turns o.kind o.d Second) o.first o.second same.first same.second)
 
   any_matrix-same : (q : Option Operation) (m : Matrix) → IfSome q (ReadsSame r t) → option_map_or (λ o. matrix_operated r o m) q m ≡ option_map_or (λ o. matrix_operated t o m) q m
   any_matrix-same None m same = refl
@@ -127,6 +150,10 @@ module _ (r : StoredObjects) where
       of_ewise_add = λ op a b. by_matrix_mask _;
       of_ewise_mult = λ op a b. by_matrix_mask _;
       of_mxm = λ semiring a b. by_matrix_mask _;
+      of_transpose = λ a. by_matrix_mask _;
+      of_apply = λ f a. by_matrix_mask _;
+      of_select = λ t a. by_matrix_mask _;
+      of_kronecker = λ op a b. by_matrix_mask _;
     }
 
   module _ (mask : Option VectorId) (accum : Option BinaryOp) (d : Descriptor) (x : Vector) where
@@ -140,6 +167,8 @@ module _ (r : StoredObjects) where
       of_mxv = λ semiring a u. by_vector_mask _;
       of_vxm = λ semiring u a. by_vector_mask _;
       of_reduce_rows = λ monoid a. by_vector_mask _;
+      of_apply = λ f u. by_vector_mask _;
+      of_select = λ t u. by_vector_mask _;
     }
 
   -- what changes no object of a sort leaves each of them
@@ -152,6 +181,9 @@ module _ (r : StoredObjects) where
   matrix_apart (call.EwiseAddMatrix c mask accum op a b d) v m e = cc
   matrix_apart (call.EwiseMultMatrix c mask accum op a b d) v m e = cc
   matrix_apart (call.Mxm c mask accum semiring a b d) v m e = cc
+  matrix_apart (call.WriteMatrix c mask accum term d) v m e = cc
+  matrix_apart (call.WriteVector w mask accum (vector_term.Applied f u) d) v m e = refl
+  matrix_apart (call.WriteVector w mask accum (vector_term.Selected t u) d) v m e = refl
   matrix_apart _ v m e = refl
 
   pub vector_apart : (c : Call) (a : MatrixId) (x : Vector) → output_of c ≡ Some (object.Matrix a) → vector_made r c x ≡ x
@@ -165,4 +197,9 @@ module _ (r : StoredObjects) where
   vector_apart (call.Mxv w mask accum semiring b u d) a x e = cc
   vector_apart (call.Vxm w mask accum semiring u b d) a x e = cc
   vector_apart (call.ReduceRows w mask accum monoid b d) a x e = cc
+  vector_apart (call.WriteVector w mask accum term d) a x e = cc
+  vector_apart (call.WriteMatrix c mask accum (matrix_term.Transposed b) d) a x e = refl
+  vector_apart (call.WriteMatrix c mask accum (matrix_term.Applied f b) d) a x e = refl
+  vector_apart (call.WriteMatrix c mask accum (matrix_term.Selected t b) d) a x e = refl
+  vector_apart (call.WriteMatrix c mask accum (matrix_term.Kronecker op p q) d) a x e = refl
   vector_apart _ a x e = refl

@@ -123,7 +123,7 @@ module _ (s : Store) (w : VectorId) (x : Vector) (at_output : vector_at s w ≡ 
   size-same : (v : VectorId) (y : Vector) → vector_at s v ≡ Some y → same_size (shapes_of s) v w ≡ true → y.size ≡ x.size
   size-same v y at e = sym (size-at s v y at) ∙ eqb-true _ _ e ∙ size-at s w x at_output
 
-  vector_input : (v : VectorId) → is_live (shapes_of s) (object.Vector v) ≡ true → option_map_or (same_domain x.domain) (domain_at (shapes_of s) (object.Vector v)) true ≡ true →
+  pub vector_input : (v : VectorId) → is_live (shapes_of s) (object.Vector v) ≡ true → option_map_or (same_domain x.domain) (domain_at (shapes_of s) (object.Vector v)) true ≡ true →
       same_size (shapes_of s) v w ≡ true → IsVectorAt s v x.domain x.size
   vector_input v live domain size =
       let found = there vector_shape s.vectors v.0 live in
@@ -145,7 +145,7 @@ abbrev pub IsTurnedAt : Store → Bool → MatrixId → Domain → ℕ → ℕ �
 IsTurnedAt s true a domain nrows ncols = IsMatrixAt s a domain ncols nrows
 IsTurnedAt s false a domain nrows ncols = IsMatrixAt s a domain nrows ncols
 
-turned_input : (s : Store) (c : MatrixId) (m : Matrix) → matrix_at s c ≡ Some m → (tran : Bool) (a : MatrixId) → is_live (shapes_of s) (object.Matrix a) ≡ true →
+pub turned_input : (s : Store) (c : MatrixId) (m : Matrix) → matrix_at s c ≡ Some m → (tran : Bool) (a : MatrixId) → is_live (shapes_of s) (object.Matrix a) ≡ true →
     option_map_or (same_domain m.domain) (domain_at (shapes_of s) (object.Matrix a)) true ≡ true → turned_dims (shapes_of s) tran a c ≡ true → IsTurnedAt s tran a m.domain m.nrows m.ncols
 turned_input s c m at_output true a live domain dims =
     let found = there matrix_shape s.matrices a.0 live in
@@ -160,9 +160,9 @@ turned_input s c m at_output true a live domain dims =
 turned_input s c m at_output false a live domain dims = matrix_input s c m at_output a live domain dims
 
 -- the operands of an element-wise operation, by its output m
-pub record EwiseMatrices (s : Store) (m : Matrix) (tran : Bool) (mask : Option MatrixId) (accum : Option BinaryOp) (op : BinaryOp) (a b : MatrixId) : Type 0 where
+pub record EwiseMatrices (s : Store) (m : Matrix) (tran tran1 : Bool) (mask : Option MatrixId) (accum : Option BinaryOp) (op : BinaryOp) (a b : MatrixId) : Type 0 where
   pub first : IsTurnedAt s tran a m.domain m.nrows m.ncols
-  pub second : IsMatrixAt s b m.domain m.nrows m.ncols
+  pub second : IsTurnedAt s tran1 b m.domain m.nrows m.ncols
   pub masked : IsMatrixMask s mask m.nrows m.ncols
   pub computes : op_domain op ≡ m.domain
   pub accumulates : AccumulatesIn m.domain accum
@@ -174,11 +174,11 @@ pub record EwiseVectors (s : Store) (x : Vector) (mask : Option VectorId) (accum
   pub computes : op_domain op ≡ x.domain
   pub accumulates : AccumulatesIn x.domain accum
 
-pub ewise_matrices : (s : Store) (c : MatrixId) (m : Matrix) → matrix_at s c ≡ Some m → (tran : Bool) (mask : Option MatrixId) (accum : Option BinaryOp) (op : BinaryOp) (a b : MatrixId) →
+pub ewise_matrices : (s : Store) (c : MatrixId) (m : Matrix) → matrix_at s c ≡ Some m → (tran tran1 : Bool) (mask : Option MatrixId) (accum : Option BinaryOp) (op : BinaryOp) (a b : MatrixId) →
     list_all (is_live (shapes_of s)) (object.Matrix c ∷ object.Matrix a ∷ object.Matrix b ∷ matrix_mask mask) ≡ true →
     is_one_domain (shapes_of s) (object.Matrix c ∷ object.Matrix a ∷ object.Matrix b ∷ []) (op_domain op ∷ accum_domains accum) ≡ true →
-    ewise_matrices_fit (shapes_of s) tran c mask a b ≡ true → EwiseMatrices s m tran mask accum op a b
-ewise_matrices s c m at tran mask accum op a b initialized one_domain fits =
+    ewise_matrices_fit (shapes_of s) tran tran1 c mask a b ≡ true → EwiseMatrices s m tran tran1 mask accum op a b
+ewise_matrices s c m at tran tran1 mask accum op a b initialized one_domain fits =
     let live = and_parts _ _ (and_parts _ _ initialized).1 in
     let live_rest = and_parts _ _ live.1 in
     let domains = of_output (shapes_of s) (object.Matrix c) m.domain (object.Matrix a ∷ object.Matrix b ∷ []) (op_domain op ∷ accum_domains accum) (matrix_domain-at s c m at) one_domain in
@@ -188,7 +188,7 @@ ewise_matrices s c m at tran mask accum op a b initialized one_domain fits =
     let dims_rest = and_parts _ _ dims.1 in
     record {
       first = turned_input s c m at tran a live.0 inputs.0 dims.0;
-      second = matrix_input s c m at b live_rest.0 (and_parts _ _ inputs.1).0 dims_rest.0;
+      second = turned_input s c m at tran1 b live_rest.0 (and_parts _ _ inputs.1).0 dims_rest.0;
       masked = matrix_mask-there s c m at mask live_rest.1 dims_rest.1;
       computes = given.0;
       accumulates = given.1;

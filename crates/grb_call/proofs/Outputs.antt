@@ -27,4 +27,5 @@ if_entered false q o e = cc
 pub output-first : (c : Call) (o : Object) → output_of c ≡ Some o → (rest : List Object) × (operands c ≡ o ∷ rest)
 output-first (call.DupMatrix a) o e = cc
 output-first (call.DupVector v) o e = cc
+output-first (call.Diag v diagonal) o e = cc
 output-first c o e = first_by (operation_of c) (named c) o (if_entered (enters c) (object_of c) o e)

@@ -25,31 +25,23 @@ use Rattle.grb_call.proofs.Operations.{there, of_output, given_of, domain_is, nr
 
 -- an input that is there, and of the output's domain
 module _ (s : Store) (domain : Domain) where
-  matrix_operand : (a : MatrixId) → is_live (shapes_of s) (object.Matrix a) ≡ true → option_map_or (same_domain domain) (domain_at (shapes_of s) (object.Matrix a)) true ≡ true →
+  pub matrix_operand : (a : MatrixId) → is_live (shapes_of s) (object.Matrix a) ≡ true → option_map_or (same_domain domain) (domain_at (shapes_of s) (object.Matrix a)) true ≡ true →
       (m : Matrix) × (matrix_at s a ≡ Some m) × (m.domain ≡ domain)
   matrix_operand a live same =
       let found = there matrix_shape s.matrices a.0 live in
       (found.0, found.1, domain_is (domain_at (shapes_of s) (object.Matrix a)) domain found.0.domain same (matrix_domain-at s a found.0 found.1))
 
-  vector_operand : (v : VectorId) → is_live (shapes_of s) (object.Vector v) ≡ true → option_map_or (same_domain domain) (domain_at (shapes_of s) (object.Vector v)) true ≡ true →
+  pub vector_operand : (v : VectorId) → is_live (shapes_of s) (object.Vector v) ≡ true → option_map_or (same_domain domain) (domain_at (shapes_of s) (object.Vector v)) true ≡ true →
       (x : Vector) × (vector_at s v ≡ Some x) × (x.domain ≡ domain)
   vector_operand v live same =
       let found = there vector_shape s.vectors v.0 live in
       (found.0, found.1, domain_is (domain_at (shapes_of s) (object.Vector v)) domain found.0.domain same (vector_domain-at s v found.0 found.1))
 
--- the inner dimension of a first input, as it is turned
-abbrev inner_of : Bool → Matrix → ℕ
-inner_of true m = m.nrows
-inner_of false m = m.ncols
-
 module _ (s : Store) (a : MatrixId) (m : Matrix) (at : matrix_at s a ≡ Some m) where
-  turned_ncols-at : (tran : Bool) → turned_ncols (shapes_of s) tran a ≡ inner_of tran m
-  turned_ncols-at true = nrows-at s a m at
-  turned_ncols-at false = ncols-at s a m at
-
-  turned_at : (tran : Bool) (domain : Domain) → m.domain ≡ domain → (nrows : ℕ) → turned_nrows (shapes_of s) tran a ≡ nrows → IsTurnedAt s tran a domain nrows (inner_of tran m)
-  turned_at true domain same nrows e = record { matrix = m; at = at; same_domain = same; same_nrows = refl; same_ncols = sym (ncols-at s a m at) ∙ e }
-  turned_at false domain same nrows e = record { matrix = m; at = at; same_domain = same; same_nrows = sym (nrows-at s a m at) ∙ e; same_ncols = refl }
+  -- its dimensions, as it is turned
+  pub turned_is : (tran : Bool) (domain : Domain) → m.domain ≡ domain → (nrows ncols : ℕ) → turned_nrows (shapes_of s) tran a ≡ nrows → turned_ncols (shapes_of s) tran a ≡ ncols → IsTurnedAt s tran a domain nrows ncols
+  turned_is true domain same nrows ncols e g = record { matrix = m; at = at; same_domain = same; same_nrows = sym (nrows-at s a m at) ∙ g; same_ncols = sym (ncols-at s a m at) ∙ e }
+  turned_is false domain same nrows ncols e g = record { matrix = m; at = at; same_domain = same; same_nrows = sym (nrows-at s a m at) ∙ e; same_ncols = sym (ncols-at s a m at) ∙ g }
 
 -- the operands of mxv, by its output x; the matrix has `inner` columns, as it is turned
 pub record MxvOperands (s : Store) (x : Vector) (tran : Bool) (mask : Option VectorId) (accum : Option BinaryOp) (semiring : SemiringParts) (a : MatrixId) (u : VectorId) : Type 0 where
@@ -77,30 +69,30 @@ mxv_operands s w x at tran mask accum semiring a u initialized one_domain fits =
     let m = matrix_operand s x.domain a live.0 inputs.0 in
     let y = vector_operand s x.domain u live_rest.0 (and_parts _ _ inputs.1).0 in
     record {
-      inner = inner_of tran m.0;
-      matrix = turned_at s a m.0 m.1 tran x.domain m.2 x.size (eqb-true _ _ dims.0 ∙ size-at s w x at);
-      vector = record { vector = y.0; at = y.1; same_domain = y.2; same_size = sym (size-at s u y.0 y.1) ∙ sym (eqb-true _ _ dims_rest.0) ∙ turned_ncols-at s a m.0 m.1 tran };
+      inner = turned_ncols (shapes_of s) tran a;
+      matrix = turned_is s a m.0 m.1 tran x.domain m.2 x.size _ (eqb-true _ _ dims.0 ∙ size-at s w x at) refl;
+      vector = record { vector = y.0; at = y.1; same_domain = y.2; same_size = sym (size-at s u y.0 y.1) ∙ sym (eqb-true _ _ dims_rest.0) };
       masked = vector_mask-there s w x at mask live_rest.1 dims_rest.1;
       adds = sym (same_domain-true x.domain (monoid_domain semiring.monoid) given.0);
       multiplies = given_rest.0;
       accumulates = given_rest.1;
     }
 
--- the operands of vxm, by its output x; the matrix has `inner` rows
-pub record VxmOperands (s : Store) (x : Vector) (mask : Option VectorId) (accum : Option BinaryOp) (semiring : SemiringParts) (u : VectorId) (a : MatrixId) : Type 0 where
+-- the operands of vxm, by its output x; the matrix has `inner` rows, as it is turned
+pub record VxmOperands (s : Store) (x : Vector) (tran1 : Bool) (mask : Option VectorId) (accum : Option BinaryOp) (semiring : SemiringParts) (u : VectorId) (a : MatrixId) : Type 0 where
   pub inner : ℕ
   pub vector : IsVectorAt s u x.domain inner
-  pub matrix : IsMatrixAt s a x.domain inner x.size
+  pub matrix : IsTurnedAt s tran1 a x.domain inner x.size
   pub masked : IsVectorMask s mask x.size
   pub adds : monoid_domain semiring.monoid ≡ x.domain
   pub multiplies : op_domain semiring.op ≡ x.domain
   pub accumulates : AccumulatesIn x.domain accum
 
-pub vxm_operands : (s : Store) (w : VectorId) (x : Vector) → vector_at s w ≡ Some x → (mask : Option VectorId) (accum : Option BinaryOp) (semiring : SemiringParts) (u : VectorId) (a : MatrixId) →
+pub vxm_operands : (s : Store) (w : VectorId) (x : Vector) → vector_at s w ≡ Some x → (tran1 : Bool) (mask : Option VectorId) (accum : Option BinaryOp) (semiring : SemiringParts) (u : VectorId) (a : MatrixId) →
     list_all (is_live (shapes_of s)) (object.Vector w ∷ object.Vector u ∷ object.Matrix a ∷ vector_mask mask) ≡ true →
     is_one_domain (shapes_of s) (object.Vector w ∷ object.Vector u ∷ object.Matrix a ∷ []) (monoid_domain semiring.monoid ∷ op_domain semiring.op ∷ accum_domains accum) ≡ true →
-    vxm_fits (shapes_of s) w mask u a ≡ true → VxmOperands s x mask accum semiring u a
-vxm_operands s w x at mask accum semiring u a initialized one_domain fits =
+    vxm_fits (shapes_of s) tran1 w mask u a ≡ true → VxmOperands s x tran1 mask accum semiring u a
+vxm_operands s w x at tran1 mask accum semiring u a initialized one_domain fits =
     let live = and_parts _ _ (and_parts _ _ initialized).1 in
     let live_rest = and_parts _ _ live.1 in
     let domains = of_output (shapes_of s) (object.Vector w) x.domain (object.Vector u ∷ object.Matrix a ∷ []) (monoid_domain semiring.monoid ∷ op_domain semiring.op ∷ accum_domains accum) (vector_domain-at s w x at) one_domain in
@@ -112,30 +104,30 @@ vxm_operands s w x at mask accum semiring u a initialized one_domain fits =
     let y = vector_operand s x.domain u live.0 inputs.0 in
     let m = matrix_operand s x.domain a live_rest.0 (and_parts _ _ inputs.1).0 in
     record {
-      inner = m.0.nrows;
-      vector = record { vector = y.0; at = y.1; same_domain = y.2; same_size = sym (size-at s u y.0 y.1) ∙ sym (eqb-true _ _ dims_rest.0) ∙ nrows-at s a m.0 m.1 };
-      matrix = record { matrix = m.0; at = m.1; same_domain = m.2; same_nrows = refl; same_ncols = sym (ncols-at s a m.0 m.1) ∙ eqb-true _ _ dims.0 ∙ size-at s w x at };
+      inner = turned_nrows (shapes_of s) tran1 a;
+      vector = record { vector = y.0; at = y.1; same_domain = y.2; same_size = sym (size-at s u y.0 y.1) ∙ sym (eqb-true _ _ dims_rest.0) };
+      matrix = turned_is s a m.0 m.1 tran1 x.domain m.2 _ x.size refl (eqb-true _ _ dims.0 ∙ size-at s w x at);
       masked = vector_mask-there s w x at mask live_rest.1 dims_rest.1;
       adds = sym (same_domain-true x.domain (monoid_domain semiring.monoid) given.0);
       multiplies = given_rest.0;
       accumulates = given_rest.1;
     }
 
--- the operands of mxm, by its output m; the first matrix has `inner` columns, as it is turned
-pub record MxmOperands (s : Store) (m : Matrix) (tran : Bool) (mask : Option MatrixId) (accum : Option BinaryOp) (semiring : SemiringParts) (a b : MatrixId) : Type 0 where
+-- the operands of mxm, by its output m; the first matrix has `inner` columns and the second so many rows, each as it is turned
+pub record MxmOperands (s : Store) (m : Matrix) (tran tran1 : Bool) (mask : Option MatrixId) (accum : Option BinaryOp) (semiring : SemiringParts) (a b : MatrixId) : Type 0 where
   pub inner : ℕ
   pub first : IsTurnedAt s tran a m.domain m.nrows inner
-  pub second : IsMatrixAt s b m.domain inner m.ncols
+  pub second : IsTurnedAt s tran1 b m.domain inner m.ncols
   pub masked : IsMatrixMask s mask m.nrows m.ncols
   pub adds : monoid_domain semiring.monoid ≡ m.domain
   pub multiplies : op_domain semiring.op ≡ m.domain
   pub accumulates : AccumulatesIn m.domain accum
 
-pub mxm_operands : (s : Store) (c : MatrixId) (m : Matrix) → matrix_at s c ≡ Some m → (tran : Bool) (mask : Option MatrixId) (accum : Option BinaryOp) (semiring : SemiringParts) (a b : MatrixId) →
+pub mxm_operands : (s : Store) (c : MatrixId) (m : Matrix) → matrix_at s c ≡ Some m → (tran tran1 : Bool) (mask : Option MatrixId) (accum : Option BinaryOp) (semiring : SemiringParts) (a b : MatrixId) →
     list_all (is_live (shapes_of s)) (object.Matrix c ∷ object.Matrix a ∷ object.Matrix b ∷ matrix_mask mask) ≡ true →
     is_one_domain (shapes_of s) (object.Matrix c ∷ object.Matrix a ∷ object.Matrix b ∷ []) (monoid_domain semiring.monoid ∷ op_domain semiring.op ∷ accum_domains accum) ≡ true →
-    mxm_fits (shapes_of s) tran c mask a b ≡ true → MxmOperands s m tran mask accum semiring a b
-mxm_operands s c m at tran mask accum semiring a b initialized one_domain fits =
+    mxm_fits (shapes_of s) tran tran1 c mask a b ≡ true → MxmOperands s m tran tran1 mask accum semiring a b
+mxm_operands s c m at tran tran1 mask accum semiring a b initialized one_domain fits =
     let live = and_parts _ _ (and_parts _ _ initialized).1 in
     let live_rest = and_parts _ _ live.1 in
     let domains = of_output (shapes_of s) (object.Matrix c) m.domain (object.Matrix a ∷ object.Matrix b ∷ []) (monoid_domain semiring.monoid ∷ op_domain semiring.op ∷ accum_domains accum) (matrix_domain-at s c m at) one_domain in
@@ -148,15 +140,9 @@ mxm_operands s c m at tran mask accum semiring a b initialized one_domain fits =
     let x = matrix_operand s m.domain a live.0 inputs.0 in
     let y = matrix_operand s m.domain b live_rest.0 (and_parts _ _ inputs.1).0 in
     record {
-      inner = inner_of tran x.0;
-      first = turned_at s a x.0 x.1 tran m.domain x.2 m.nrows (eqb-true _ _ rows.0 ∙ nrows-at s c m at);
-      second = record {
-        matrix = y.0;
-        at = y.1;
-        same_domain = y.2;
-        same_nrows = sym (nrows-at s b y.0 y.1) ∙ sym (eqb-true _ _ between.0) ∙ turned_ncols-at s a x.0 x.1 tran;
-        same_ncols = sym (ncols-at s b y.0 y.1) ∙ eqb-true _ _ columns.0 ∙ ncols-at s c m at;
-      };
+      inner = turned_ncols (shapes_of s) tran a;
+      first = turned_is s a x.0 x.1 tran m.domain x.2 m.nrows _ (eqb-true _ _ rows.0 ∙ nrows-at s c m at) refl;
+      second = turned_is s b y.0 y.1 tran1 m.domain y.2 _ m.ncols (sym (eqb-true _ _ between.0)) (eqb-true _ _ columns.0 ∙ ncols-at s c m at);
       masked = matrix_mask-there s c m at mask live_rest.1 between.1;
       adds = sym (same_domain-true m.domain (monoid_domain semiring.monoid) given.0);
       multiplies = given_rest.0;
@@ -182,8 +168,8 @@ reduce_rows_operands s w x at tran mask accum monoid a initialized one_domain fi
     let dims = and_parts _ _ fits in
     let m = matrix_operand s x.domain a live.0 (and_parts _ _ domains.0).0 in
     record {
-      inner = inner_of tran m.0;
-      matrix = turned_at s a m.0 m.1 tran x.domain m.2 x.size (eqb-true _ _ dims.0 ∙ size-at s w x at);
+      inner = turned_ncols (shapes_of s) tran a;
+      matrix = turned_is s a m.0 m.1 tran x.domain m.2 x.size _ (eqb-true _ _ dims.0 ∙ size-at s w x at) refl;
       masked = vector_mask-there s w x at mask live.1 dims.1;
       folds = given.0;
       accumulates = given.1;

@@ -65,22 +65,22 @@ input_vector-entries s v domain size whole is =
     (subst (λ (n : ℕ). AreVectorEntries n x.domain x.entries) is.same_size
     (vector_entries_are x (of_some IsVector (vector_at s v) x is.at whole))))
 
--- the entries of a first input, as it is turned
+-- the entries of an input, as it is turned
 pub input_turned-entries : (s : Store) (tran : Bool) (a : MatrixId) (domain : Domain) (nrows ncols : ℕ) → IfSome (matrix_at s a) IsMatrix → IsTurnedAt s tran a domain nrows ncols →
     AreMatrixEntries nrows ncols domain (turned tran (matrix_entries s a))
 input_turned-entries s true a domain nrows ncols whole is = transposed_makes_entries ncols nrows domain (matrix_entries s a) (input_matrix-entries s a domain ncols nrows whole is)
 input_turned-entries s false a domain nrows ncols whole is = input_matrix-entries s a domain nrows ncols whole is
 
 -- the results of the element-wise operations
-pub ewise_matrices-entries : (s : Store) (m : Matrix) (tran : Bool) (mask : Option MatrixId) (accum : Option BinaryOp) (op : BinaryOp) (a b : MatrixId) → IfSome (matrix_at s a) IsMatrix → IfSome (matrix_at s b) IsMatrix →
-    EwiseMatrices s m tran mask accum op a b →
-    AreMatrixEntries m.nrows m.ncols m.domain (ewise_add cell_cmp op (turned tran (matrix_entries s a)) (matrix_entries s b))
-    × AreMatrixEntries m.nrows m.ncols m.domain (ewise_mult cell_cmp op (turned tran (matrix_entries s a)) (matrix_entries s b))
-ewise_matrices-entries s m tran mask accum op a b whole_a whole_b are =
+pub ewise_matrices-entries : (s : Store) (m : Matrix) (tran tran1 : Bool) (mask : Option MatrixId) (accum : Option BinaryOp) (op : BinaryOp) (a b : MatrixId) → IfSome (matrix_at s a) IsMatrix → IfSome (matrix_at s b) IsMatrix →
+    EwiseMatrices s m tran tran1 mask accum op a b →
+    AreMatrixEntries m.nrows m.ncols m.domain (ewise_add cell_cmp op (turned tran (matrix_entries s a)) (turned tran1 (matrix_entries s b)))
+    × AreMatrixEntries m.nrows m.ncols m.domain (ewise_mult cell_cmp op (turned tran (matrix_entries s a)) (turned tran1 (matrix_entries s b)))
+ewise_matrices-entries s m tran tran1 mask accum op a b whole_a whole_b are =
     let x : MatrixEntries = turned tran (matrix_entries s a) in
-    let y = matrix_entries s b in
+    let y : MatrixEntries = turned tran1 (matrix_entries s b) in
     let first = input_turned-entries s tran a m.domain m.nrows m.ncols whole_a are.first in
-    let second = input_matrix-entries s b m.domain m.nrows m.ncols whole_b are.second in
+    let second = input_turned-entries s tran1 b m.domain m.nrows m.ncols whole_b are.second in
     let Of : Domain → MatrixEntries → Type 0 = λ domain es. AreMatrixEntries m.nrows m.ncols domain es in
     subst (λ (domain : Domain). Of domain (ewise_add cell_cmp op x y) × Of domain (ewise_mult cell_cmp op x y)) are.computes
     (ewise_makes_entries cell_cmp cell_cmp_total cell_cmp-IsAntisymmetric (IsCellBelow m.nrows m.ncols) op x y

@@ -1,25 +1,25 @@
 -- believed: The object that a call changes, its output, and what the call makes of it: GraphBLAS C API 2.0, the methods of "Matrix
 -- methods" and "Vector methods", and "Operations". Inputs, mask and old output are those of the store before the call, so that one
 -- object may be all of them.
-use Rattle.std.specs.Prelude.{[], if◌then◌else◌, Option, Some, None}
+use Rattle.std.specs.Prelude.{ℕ, ◌*◌, Bool, [], if◌then◌else◌, Option, Some, None}
 use Rattle.std.specs.Option.{option_map, option_map_or}
 use Rattle.std.specs.Ordering.{nat_cmp}
 use Rattle.std.specs.FinMap.{put}
+use Rattle.grb_core.specs.declared.operator.BinaryOp.{BinaryOp}
 use Rattle.grb_core.specs.Entries.{cell_cmp, MatrixEntries, VectorEntries, cells_of, without_entry, built_from}
 use Rattle.grb_core.specs.Results.{ewise_add, ewise_mult, mxv_of, mxm_of, reduce_rows_of, turned, vxm_of}
 use Rattle.grb_core.specs.Contents.{Matrix, Vector, edited_matrix, edited_vector, resized_matrix, resized_vector}
+use Rattle.grb_core.specs.Maps.{applied, kronecker_of, selected_cells, selected_indices}
 use Rattle.grb_call.specs.declared.call.Call.{Call}
 use Rattle.grb_call.specs.declared.call.Call.TheVariants as call
-use Rattle.grb_call.specs.declared.descriptor.Descriptor.{Descriptor}
 use Rattle.grb_call.specs.declared.ids.MatrixId.{MatrixId}
 use Rattle.grb_call.specs.declared.ids.VectorId.{VectorId}
 use Rattle.grb_call.specs.declared.ids.Object.{Object}
 use Rattle.grb_call.specs.declared.ids.Object.TheVariants as object
-use Rattle.grb_call.specs.declared.operation.Input.{Input}
 use Rattle.grb_call.specs.declared.operation.Input.TheVariants.{First, Second}
 use Rattle.grb_call.specs.declared.operation.Operation.{Operation}
 use Rattle.grb_call.specs.declared.operation.OperationKind.{OperationKind}
-use Rattle.grb_call.specs.declared.operation.OperationKind.TheVariants.{EwiseAdd, EwiseMult, Product, Rows}
+use Rattle.grb_call.specs.declared.operation.OperationKind.TheVariants.{EwiseAdd, EwiseMult, Product, Rows, Transpose, Apply, Select, Kronecker}
 use Rattle.grb_call.specs.Kinds.{enters}
 use Rattle.grb_call.specs.Operation.{operation_of, turns}
 use Rattle.grb_call.specs.Status.{object_of}
@@ -54,35 +54,62 @@ abbrev pub vector_read : StoredObjects → Object → VectorEntries
 vector_read r (object.Matrix a) = []
 vector_read r (object.Vector v) = entries_of_vector r v
 
--- the entries of an input that is a matrix, as the descriptor turns it
-abbrev pub matrix_input : StoredObjects → Descriptor → Input → MatrixId → MatrixEntries
-matrix_input r d input a = turned (turns d input) (entries_of_matrix r a)
+-- the entries of an input that is a matrix, turned or not
+abbrev pub matrix_input : StoredObjects → Bool → MatrixId → MatrixEntries
+matrix_input r tran a = turned tran (entries_of_matrix r a)
 
--- the entries of the matrix that an operation computes of its inputs, as the descriptor turns them; none where it computes a vector
-abbrev pub matrix_computed : StoredObjects → OperationKind → Descriptor → Option Object → Option Object → Option MatrixEntries
-matrix_computed r (EwiseAdd op) d (Some (object.Matrix a)) (Some (object.Matrix b)) = Some (ewise_add cell_cmp op (matrix_input r d First a) (matrix_input r d Second b))
-matrix_computed r (EwiseMult op) d (Some (object.Matrix a)) (Some (object.Matrix b)) = Some (ewise_mult cell_cmp op (matrix_input r d First a) (matrix_input r d Second b))
-matrix_computed r (Product semiring) d (Some (object.Matrix a)) (Some (object.Matrix b)) = Some (mxm_of semiring (matrix_input r d First a) (matrix_input r d Second b))
-matrix_computed r _ d _ _ = None
+-- how many rows and columns it has so; 0 where it is not there
+abbrev pub input_nrows : StoredObjects → Bool → MatrixId → ℕ
+input_nrows r tran a = option_map_or (λ m. if tran then m.ncols else m.nrows) (r.matrix a) 0
+
+abbrev pub input_ncols : StoredObjects → Bool → MatrixId → ℕ
+input_ncols r tran a = option_map_or (λ m. if tran then m.nrows else m.ncols) (r.matrix a) 0
+
+-- the Kronecker product of two inputs, each turned or not
+abbrev pub kronecker_computed : StoredObjects → BinaryOp → Bool → Bool → MatrixId → MatrixId → MatrixEntries
+kronecker_computed r op tran tran1 a b =
+    kronecker_of op (input_nrows r tran1 b) (input_ncols r tran1 b) (input_nrows r tran a * input_nrows r tran1 b) (input_ncols r tran a * input_ncols r tran1 b)
+    (matrix_input r tran a) (matrix_input r tran1 b)
+
+-- the entries of the matrix that an operation computes of its inputs, each turned where it is a matrix and the `Bool` for it is true; none where
+-- it computes a vector
+abbrev pub matrix_computed : StoredObjects → OperationKind → Bool → Bool → Option Object → Option Object → Option MatrixEntries
+matrix_computed r (EwiseAdd op) tran tran1 (Some (object.Matrix a)) (Some (object.Matrix b)) = Some (ewise_add cell_cmp op (matrix_input r tran a) (matrix_input r tran1 b))
+matrix_computed r (EwiseMult op) tran tran1 (Some (object.Matrix a)) (Some (object.Matrix b)) = Some (ewise_mult cell_cmp op (matrix_input r tran a) (matrix_input r tran1 b))
+matrix_computed r (Product semiring) tran tran1 (Some (object.Matrix a)) (Some (object.Matrix b)) = Some (mxm_of semiring (matrix_input r tran a) (matrix_input r tran1 b))
+matrix_computed r Transpose tran tran1 (Some (object.Matrix a)) None = Some (matrix_input r tran a)
+matrix_computed r (Apply f) tran tran1 (Some (object.Matrix a)) None = Some (applied f (matrix_input r tran a))
+matrix_computed r (Select t) tran tran1 (Some (object.Matrix a)) None = Some (selected_cells t (matrix_input r tran a))
+matrix_computed r (Kronecker op) tran tran1 (Some (object.Matrix a)) (Some (object.Matrix b)) = Some (kronecker_computed r op tran tran1 a b)
+matrix_computed r _ tran tran1 _ _ = None
 
 -- the same of a vector; none where the operation computes a matrix
-abbrev pub vector_computed : StoredObjects → OperationKind → Descriptor → Option Object → Option Object → Option VectorEntries
-vector_computed r (EwiseAdd op) d (Some (object.Vector u)) (Some (object.Vector v)) = Some (ewise_add nat_cmp op (entries_of_vector r u) (entries_of_vector r v))
-vector_computed r (EwiseMult op) d (Some (object.Vector u)) (Some (object.Vector v)) = Some (ewise_mult nat_cmp op (entries_of_vector r u) (entries_of_vector r v))
-vector_computed r (Product semiring) d (Some (object.Matrix a)) (Some (object.Vector u)) = Some (mxv_of semiring (matrix_input r d First a) (entries_of_vector r u))
-vector_computed r (Product semiring) d (Some (object.Vector u)) (Some (object.Matrix a)) = Some (vxm_of semiring (entries_of_vector r u) (matrix_input r d Second a))
-vector_computed r (Rows monoid) d (Some (object.Matrix a)) None = Some (reduce_rows_of monoid (matrix_input r d First a))
-vector_computed r _ d _ _ = None
+abbrev pub vector_computed : StoredObjects → OperationKind → Bool → Bool → Option Object → Option Object → Option VectorEntries
+vector_computed r (EwiseAdd op) tran tran1 (Some (object.Vector u)) (Some (object.Vector v)) = Some (ewise_add nat_cmp op (entries_of_vector r u) (entries_of_vector r v))
+vector_computed r (EwiseMult op) tran tran1 (Some (object.Vector u)) (Some (object.Vector v)) = Some (ewise_mult nat_cmp op (entries_of_vector r u) (entries_of_vector r v))
+vector_computed r (Product semiring) tran tran1 (Some (object.Matrix a)) (Some (object.Vector u)) = Some (mxv_of semiring (matrix_input r tran a) (entries_of_vector r u))
+vector_computed r (Product semiring) tran tran1 (Some (object.Vector u)) (Some (object.Matrix a)) = Some (vxm_of semiring (entries_of_vector r u) (matrix_input r tran1 a))
+vector_computed r (Rows monoid) tran tran1 (Some (object.Matrix a)) None = Some (reduce_rows_of monoid (matrix_input r tran a))
+vector_computed r (Apply f) tran tran1 (Some (object.Vector u)) None = Some (applied f (entries_of_vector r u))
+vector_computed r (Select t) tran tran1 (Some (object.Vector u)) None = Some (selected_indices t (entries_of_vector r u))
+vector_computed r _ tran tran1 _ _ = None
+
+-- what an operation computes of its inputs, as its descriptor turns them
+abbrev pub matrix_of : StoredObjects → Operation → Option MatrixEntries
+matrix_of r o = matrix_computed r o.kind (turns o.kind o.d First) (turns o.kind o.d Second) o.first o.second
+
+abbrev pub vector_of : StoredObjects → Operation → Option VectorEntries
+vector_of r o = vector_computed r o.kind (turns o.kind o.d First) (turns o.kind o.d Second) o.first o.second
 
 -- the matrix that an operation leaves of this one: what it computes is written into it, where that is a matrix
 abbrev pub matrix_operated : StoredObjects → Operation → Matrix → Matrix
 matrix_operated r o m =
-    option_map_or (λ computed. written_matrix (option_map (matrix_read r) o.mask) o.accum o.d computed m) (matrix_computed r o.kind o.d o.first o.second) m
+    option_map_or (λ computed. written_matrix (option_map (matrix_read r) o.mask) o.accum o.d computed m) (matrix_of r o) m
 
 -- the same of a vector
 abbrev pub vector_operated : StoredObjects → Operation → Vector → Vector
 vector_operated r o x =
-    option_map_or (λ computed. written_vector (option_map (vector_read r) o.mask) o.accum o.d computed x) (vector_computed r o.kind o.d o.first o.second) x
+    option_map_or (λ computed. written_vector (option_map (vector_read r) o.mask) o.accum o.d computed x) (vector_of r o) x
 
 -- the matrix that the call makes of the one that it changes and does not end, by the objects that it reads
 abbrev pub matrix_made : StoredObjects → Call → Matrix → Matrix

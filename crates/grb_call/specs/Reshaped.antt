@@ -13,4 +13,5 @@ changes_shapes (call.ResizeMatrix a nrows ncols) = true
 changes_shapes (call.ResizeVector v size) = true
 changes_shapes (call.DupMatrix a) = true
 changes_shapes (call.DupVector v) = true
+changes_shapes (call.Diag v diagonal) = true
 changes_shapes _ = false

@@ -15,10 +15,11 @@ use Rattle.grb_call.specs.Operation.{operation_of}
 use Rattle.grb_call.specs.Operands.{named}
 
 -- the object that a call is about, of those that were made before it: the one that it changes, reads or has changes done of; of an
--- operation its output. A new or a dup has none
+-- operation its output. A call that makes an object has none
 abbrev pub object_of : Call → Option Object
 object_of (call.DupMatrix a) = None
 object_of (call.DupVector v) = None
+object_of (call.Diag v diagonal) = None
 object_of c = option_or (option_map (λ o. o.output) (operation_of c)) (named c)
 
 -- the object that an answer says was made

@@ -16,6 +16,8 @@ macro_rules! an_operation {
             | Call::Vxm { .. }
             | Call::Mxm { .. }
             | Call::ReduceRows { .. }
+            | Call::WriteMatrix { .. }
+            | Call::WriteVector { .. }
     };
 }
 
@@ -33,7 +35,7 @@ pub enum Extent {
 /// What a call does to the store, or reads of it (own).
 #[derive(Clone, Copy, Debug, PartialEq, Eq)]
 pub enum Class {
-    /// It makes an object: a new, or a dup.
+    /// It makes an object: a new, a dup, or a diag.
     Makes,
     /// It changes or ends one object, by what it brings itself.
     Edits,
@@ -66,7 +68,8 @@ impl Call {
             Call::NewMatrix { .. }
             | Call::NewVector { .. }
             | Call::DupMatrix { .. }
-            | Call::DupVector { .. } => Class::Makes,
+            | Call::DupVector { .. }
+            | Call::Diag { .. } => Class::Makes,
             Call::FreeMatrix { .. }
             | Call::FreeVector { .. }
             | Call::SetMatrix { .. }

@@ -1,6 +1,6 @@
 //! The descriptor of an operation, and the modes of a wait.
 
-/// How an operation reads its mask and writes its output.
+/// How an operation reads its mask and its inputs, and writes its output.
 ///
 /// Source: GraphBLAS C API 2.0, "Descriptors".
 #[derive(Clone, Copy, Debug, PartialEq, Eq)]
@@ -13,6 +13,8 @@ pub struct Descriptor {
     pub replace: bool,
     /// The first input, where it is a matrix, is read transposed: its rows and columns change places (`GrB_TRAN` of `GrB_INP0`).
     pub tran: bool,
+    /// The second input, where it is a matrix, is read transposed (`GrB_TRAN` of `GrB_INP1`).
+    pub tran1: bool,
 }
 
 /// How far a wait has the work of an object done.

@@ -1,14 +1,14 @@
 //! Whether the operands of an operation fit together: that its mask is there, one domain, and dimensions.
-ghost use Rattle.std.specs.Prelude.{◌≡◌, ◌++◌};
+ghost use Rattle.std.specs.Prelude.{◌≡◌, ◌++◌, ◌*◌, ◌==◌};
 ghost use Rattle.std.specs.List.{list_all};
-ghost use Rattle.grb_call.specs.Operation.{if_any, operation_inputs, operation_objects, kind_domains, accum_domains, operation_domains};
-ghost use Rattle.grb_call.specs.Refused.{same_domain, are_of_domain, is_one_domain, same_size, dims_at, has_dims, mask_dims, mask_fits, ewise_fits, product_fits, rows_fit, operation_fits, turned_dims, turned_ncols, turned_nrows};
+ghost use Rattle.grb_call.specs.Operation.{accum_domains, function_domains, if_any, kind_domains, operation_domains, operation_inputs, operation_objects, test_domains, turns};
+ghost use Rattle.grb_call.specs.Refused.{same_domain, are_of_domain, is_one_domain, same_size, dims_at, has_dims, mask_dims, mask_fits, ewise_fits, kronecker_fits, operation_fits, product_fits, rows_fit, same_fits, turned_dims, turned_ncols, turned_nrows};
 ghost use Rattle.grb_call.specs.Shapes.{is_live};
 
 use crate::ids::{MatrixId, Object, VectorId};
 use crate::operation::{Input, Operation, OperationKind};
 use crate::shapes::Shapes;
-use grb_core::{BinaryOp, Domain};
+use grb_core::{BinaryOp, Domain, Function, Test};
 
 /// Whether the object, if there is one, was made, and not freed.
 fn is_live_if_any(shapes: &Shapes, object: Option<Object>) -> bool
@@ -42,16 +42,53 @@ fn are_inputs_of(shapes: &Shapes, domain: Domain, operation: &Operation) -> bool
         & is_of_domain_if_any(shapes, domain, operation.second)
 }
 
+/// Whether what a function brings is of the domain.
+fn is_function_of(domain: Domain, f: Function) -> bool
+    ensures { result ≡ list_all (same_domain domain) (function_domains f) }
+{
+    match f {
+        Function::Unary(op) => domain == op.domain(),
+        Function::First(x, op) => (domain == x.domain()) & (domain == op.domain()),
+        Function::Second(op, x) => (domain == op.domain()) & (domain == x.domain()),
+    }
+}
+
+/// Whether what a test brings is of the domain; a test of places brings nothing.
+fn is_test_of(domain: Domain, test: Test) -> bool
+    ensures { result ≡ list_all (same_domain domain) (test_domains test) }
+{
+    match test {
+        Test::ValueEq(x)
+        | Test::ValueNe(x)
+        | Test::ValueLt(x)
+        | Test::ValueLe(x)
+        | Test::ValueGt(x)
+        | Test::ValueGe(x) => domain == x.domain(),
+        Test::Tril(_)
+        | Test::Triu(_)
+        | Test::Diag(_)
+        | Test::Offdiag(_)
+        | Test::RowLe(_)
+        | Test::RowGt(_)
+        | Test::ColLe(_)
+        | Test::ColGt(_) => true,
+    }
+}
+
 /// Whether what an operation computes with is of the domain; of a semiring both its parts.
 fn computes_in(domain: Domain, kind: OperationKind) -> bool
     ensures { result ≡ list_all (same_domain domain) (kind_domains kind) }
 {
     match kind {
-        OperationKind::EwiseAdd(op) | OperationKind::EwiseMult(op) => domain == op.domain(),
+        OperationKind::EwiseAdd(op) | OperationKind::EwiseMult(op) | OperationKind::Kronecker(op) =>
+            domain == op.domain(),
         OperationKind::Product(semiring) => {
             (domain == semiring.monoid().domain()) & (domain == semiring.op().domain())
         }
         OperationKind::Rows(monoid) => domain == monoid.domain(),
+        OperationKind::Transpose => true,
+        OperationKind::Apply(f) => is_function_of(domain, f),
+        OperationKind::Select(test) => is_test_of(domain, test),
     }
 }
 
@@ -159,12 +196,16 @@ fn same_size(shapes: &Shapes, u: VectorId, v: VectorId) -> bool
     shapes.size(u) == shapes.size(v)
 }
 
-/// Whether the inputs of an element-wise operation, each as the descriptor turns it, have the dimensions of the output, and the mask fits.
-fn ewise_fits(shapes: &Shapes, operation: &Operation, masked: bool) -> bool
-    ensures { result ≡ ewise_fits shapes.now.objects operation.now.d operation.now.output operation.now.first operation.now.second masked }
+/// Whether the inputs of an element-wise operation, each turned where it is so said, have the dimensions of the output, and the mask fits.
+fn ewise_fits(
+    shapes: &Shapes,
+    first: bool,
+    second: bool,
+    operation: &Operation,
+    masked: bool,
+) -> bool
+    ensures { result ≡ ewise_fits shapes.now.objects first second operation.now.output operation.now.first operation.now.second masked }
 {
-    let first = operation.d.turns(Input::First);
-    let second = operation.d.turns(Input::Second);
     match (operation.output, operation.first, operation.second) {
         (Object::Matrix(c), Some(Object::Matrix(a)), Some(Object::Matrix(b))) => {
             turned_dims(shapes, first, a, c) & turned_dims(shapes, second, b, c) & masked
@@ -176,12 +217,16 @@ fn ewise_fits(shapes: &Shapes, operation: &Operation, masked: bool) -> bool
     }
 }
 
-/// Whether the dimensions of a product's inputs, each as the descriptor turns it, fit together with those of the output, and the mask fits.
-fn product_fits(shapes: &Shapes, operation: &Operation, masked: bool) -> bool
-    ensures { result ≡ product_fits shapes.now.objects operation.now.d operation.now.output operation.now.first operation.now.second masked }
+/// Whether the dimensions of a product's inputs, each turned where it is so said, fit together with those of the output, and the mask fits.
+fn product_fits(
+    shapes: &Shapes,
+    first: bool,
+    second: bool,
+    operation: &Operation,
+    masked: bool,
+) -> bool
+    ensures { result ≡ product_fits shapes.now.objects first second operation.now.output operation.now.first operation.now.second masked }
 {
-    let first = operation.d.turns(Input::First);
-    let second = operation.d.turns(Input::Second);
     match (operation.output, operation.first, operation.second) {
         (Object::Matrix(c), Some(Object::Matrix(a)), Some(Object::Matrix(b))) => {
             (turned_nrows(shapes, first, a) == shapes.nrows(c))
@@ -203,13 +248,71 @@ fn product_fits(shapes: &Shapes, operation: &Operation, masked: bool) -> bool
     }
 }
 
-/// Whether a reduction's matrix, as the descriptor turns it, has a row for each place of the output, and the mask fits.
-fn rows_fit(shapes: &Shapes, operation: &Operation, masked: bool) -> bool
-    ensures { result ≡ rows_fit shapes.now.objects operation.now.d operation.now.output operation.now.first operation.now.second masked }
+/// Whether a reduction's matrix, turned where it is so said, has a row for each place of the output, and the mask fits.
+fn rows_fit(shapes: &Shapes, first: bool, second: bool, operation: &Operation, masked: bool) -> bool
+    ensures { result ≡ rows_fit shapes.now.objects first second operation.now.output operation.now.first operation.now.second masked }
 {
     match (operation.output, operation.first, operation.second) {
         (Object::Vector(w), Some(Object::Matrix(a)), None) => {
-            (turned_nrows(shapes, operation.d.turns(Input::First), a) == shapes.size(w)) & masked
+            (turned_nrows(shapes, first, a) == shapes.size(w)) & masked
+        }
+        _ => false,
+    }
+}
+
+/// Whether the only input of an operation on each entry, turned where it is so said, has the dimensions of the output, and the mask fits.
+fn same_fits(
+    shapes: &Shapes,
+    first: bool,
+    second: bool,
+    operation: &Operation,
+    masked: bool,
+) -> bool
+    ensures { result ≡ same_fits shapes.now.objects first second operation.now.output operation.now.first operation.now.second masked }
+{
+    match (operation.output, operation.first, operation.second) {
+        (Object::Matrix(c), Some(Object::Matrix(a)), None) => {
+            turned_dims(shapes, first, a, c) & masked
+        }
+        (Object::Vector(w), Some(Object::Vector(u)), None) => same_size(shapes, u, w) & masked,
+        _ => false,
+    }
+}
+
+/// Whether two numbers multiplied make a third.
+fn is_product(a: u64, b: u64, product: u64) -> bool
+    ensures { result ≡ (a * b == product) }
+{
+    match a.checked_mul(b) {
+        Some(n) => n == product,
+        None => false,
+    }
+}
+
+/// Whether the output of a Kronecker product has as many rows, and columns, as those of both inputs, each turned where it is so said, make
+/// together, and the mask fits.
+fn kronecker_fits(
+    shapes: &Shapes,
+    first: bool,
+    second: bool,
+    operation: &Operation,
+    masked: bool,
+) -> bool
+    ensures { result ≡ kronecker_fits shapes.now.objects first second operation.now.output operation.now.first operation.now.second masked }
+{
+    match (operation.output, operation.first, operation.second) {
+        (Object::Matrix(c), Some(Object::Matrix(a)), Some(Object::Matrix(b))) => {
+            let (rows, more_rows) = (
+                turned_nrows(shapes, first, a),
+                turned_nrows(shapes, second, b),
+            );
+            let (columns, more_columns) = (
+                turned_ncols(shapes, first, a),
+                turned_ncols(shapes, second, b),
+            );
+            is_product(rows, more_rows, shapes.nrows(c))
+                & is_product(columns, more_columns, shapes.ncols(c))
+                & masked
         }
         _ => false,
     }
@@ -220,11 +323,17 @@ pub(crate) fn operation_fits(shapes: &Shapes, operation: &Operation) -> bool
     ensures { result ≡ operation_fits shapes.now.objects operation.now }
 {
     let masked = mask_fits(shapes, operation.mask, mask_dims(shapes, operation));
+    let first = operation.turns(Input::First);
+    let second = operation.turns(Input::Second);
     match operation.kind {
         OperationKind::EwiseAdd(_) | OperationKind::EwiseMult(_) => {
-            ewise_fits(shapes, operation, masked)
+            ewise_fits(shapes, first, second, operation, masked)
         }
-        OperationKind::Product(_) => product_fits(shapes, operation, masked),
-        OperationKind::Rows(_) => rows_fit(shapes, operation, masked),
+        OperationKind::Product(_) => product_fits(shapes, first, second, operation, masked),
+        OperationKind::Rows(_) => rows_fit(shapes, first, second, operation, masked),
+        OperationKind::Transpose | OperationKind::Apply(_) | OperationKind::Select(_) => {
+            same_fits(shapes, first, second, operation, masked)
+        }
+        OperationKind::Kronecker(_) => kronecker_fits(shapes, first, second, operation, masked),
     }
 }

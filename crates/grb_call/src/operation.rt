@@ -7,7 +7,7 @@ use crate::call::Call;
 use crate::class::Class;
 use crate::descriptor::Descriptor;
 use crate::ids::Object;
-use grb_core::{BinaryOp, Monoid, Semiring};
+use grb_core::{BinaryOp, Function, Monoid, Semiring, Test, turns_input};
 
 /// What an operation computes of its inputs, before mask, accumulator and descriptor say how that is written.
 ///
@@ -22,6 +22,14 @@ pub enum OperationKind {
     Product(Semiring),
     /// The values of each row of one matrix, combined (`GrB_Matrix_reduce`).
     Rows(Monoid),
+    /// One matrix with its rows and columns exchanged (`GrB_transpose`).
+    Transpose,
+    /// What a function makes of each value of one input (`GrB_Matrix_apply`, `GrB_Vector_apply`).
+    Apply(Function),
+    /// The entries of one input that pass a test (`GrB_select`).
+    Select(Test),
+    /// The operator of each value of one matrix with each value of another (`GrB_kronecker`).
+    Kronecker(BinaryOp),
 }
 
 /// Which input of an operation.
@@ -35,21 +43,8 @@ pub enum Input {
     Second,
 }
 
-impl Descriptor {
-    /// Whether the input is read transposed where it is a matrix: the first where the descriptor says `tran`, the second never. Takes no
-    /// memory.
-    pub fn turns(&self, input: Input) -> bool
-        ensures { result ≡ turns self.now input }
-    {
-        match input {
-            Input::First => self.tran,
-            Input::Second => false,
-        }
-    }
-}
-
-/// An operation: what each of the eight calls that write a result into an output has in common. Which of them it is, the kind and the sorts
-/// of its objects say.
+/// An operation: what all calls that write a result into an output have in common. Which of them it is, the kind and the sorts of its objects
+/// say.
 ///
 /// Source: GraphBLAS C API 2.0, "Operations"; the one shape for all is own.
 #[derive(Clone, Copy, Debug, PartialEq, Eq)]
@@ -60,14 +55,32 @@ pub struct Operation {
     pub mask: Option<Object>,
     /// What combines an old value with a new one; none puts the new one in its place.
     pub accum: Option<BinaryOp>,
-    /// The first input, if there is one: each of the eight calls has it.
+    /// The first input, if there is one: each call has it.
     pub first: Option<Object>,
-    /// The second input, if there is one: a reduction has none.
+    /// The second input, if there is one: element-wise operations and products have it.
     pub second: Option<Object>,
     /// What is computed of the inputs.
     pub kind: OperationKind,
-    /// How the mask and the inputs are read ([`Descriptor::turns`]), and what becomes of the places that are not selected.
+    /// How the mask and the inputs are read ([`Operation::turns`]), and what becomes of the places that are not selected.
     pub d: Descriptor,
+}
+
+impl Operation {
+    /// Whether the input is read transposed where it is a matrix: the first where the descriptor says `tran`, the second where it says
+    /// `tran1`. What transpose reads is turned once more, and the only input of a function whose first argument is bound stands second.
+    /// Takes no memory.
+    ///
+    /// Source: GraphBLAS C API 2.0, "Descriptors", "transpose" and "apply".
+    pub fn turns(&self, input: Input) -> bool
+        ensures { result ≡ turns self.now.kind self.now.d input }
+    {
+        match (input, self.kind) {
+            (Input::First, OperationKind::Transpose) => !self.d.tran,
+            (Input::First, OperationKind::Apply(f)) => turns_input(f, self.d.tran, self.d.tran1),
+            (Input::First, _) => self.d.tran,
+            (Input::Second, _) => self.d.tran1,
+        }
+    }
 }
 
 impl Call {
@@ -86,6 +99,8 @@ impl Call {
             Call::Mxm { semiring, .. } | Call::Mxv { semiring, .. } | Call::Vxm { semiring, .. } =>
                 { OperationKind::Product(*semiring) }
             Call::ReduceRows { monoid, .. } => OperationKind::Rows(*monoid),
+            Call::WriteMatrix { term, .. } => term.kind(),
+            Call::WriteVector { term, .. } => term.kind(),
             _ => unreachable!(),
         }
     }
@@ -98,12 +113,16 @@ impl Call {
         match self {
             Call::EwiseAddMatrix { c, mask, .. }
             | Call::EwiseMultMatrix { c, mask, .. }
-            | Call::Mxm { c, mask, .. } => (Object::Matrix(*c), mask.map(|m| Object::Matrix(m))),
+            | Call::Mxm { c, mask, .. }
+            | Call::WriteMatrix { c, mask, .. } => {
+                (Object::Matrix(*c), mask.map(|m| Object::Matrix(m)))
+            }
             Call::EwiseAddVector { w, mask, .. }
             | Call::EwiseMultVector { w, mask, .. }
             | Call::Mxv { w, mask, .. }
             | Call::Vxm { w, mask, .. }
-            | Call::ReduceRows { w, mask, .. } => {
+            | Call::ReduceRows { w, mask, .. }
+            | Call::WriteVector { w, mask, .. } => {
                 (Object::Vector(*w), mask.map(|m| Object::Vector(m)))
             }
             _ => unreachable!(),
@@ -125,6 +144,8 @@ impl Call {
             Call::Mxv { a, u, .. } => (Some(Object::Matrix(*a)), Some(Object::Vector(*u))),
             Call::Vxm { u, a, .. } => (Some(Object::Vector(*u)), Some(Object::Matrix(*a))),
             Call::ReduceRows { a, .. } => (Some(Object::Matrix(*a)), None),
+            Call::WriteMatrix { term, .. } => (Some(term.first()), term.second()),
+            Call::WriteVector { term, .. } => (Some(term.first()), None),
             _ => unreachable!(),
         }
     }
@@ -142,7 +163,9 @@ impl Call {
             | Call::Mxv { accum, d, .. }
             | Call::Vxm { accum, d, .. }
             | Call::Mxm { accum, d, .. }
-            | Call::ReduceRows { accum, d, .. } => (*accum, *d),
+            | Call::ReduceRows { accum, d, .. }
+            | Call::WriteMatrix { accum, d, .. }
+            | Call::WriteVector { accum, d, .. } => (*accum, *d),
             _ => unreachable!(),
         }
     }

@@ -40,16 +40,19 @@ impl Call {
             | Call::ResizeVector { v, .. }
             | Call::DupVector { v }
             | Call::BuildVector { v, .. }
+            | Call::Diag { v, .. }
             | Call::ReduceVector { v, .. }
             | Call::WaitVector { v, .. } => Some(Object::Vector(*v)),
             Call::EwiseAddMatrix { c, .. }
             | Call::EwiseMultMatrix { c, .. }
-            | Call::Mxm { c, .. } => Some(Object::Matrix(*c)),
+            | Call::Mxm { c, .. }
+            | Call::WriteMatrix { c, .. } => Some(Object::Matrix(*c)),
             Call::EwiseAddVector { w, .. }
             | Call::EwiseMultVector { w, .. }
             | Call::Mxv { w, .. }
             | Call::Vxm { w, .. }
-            | Call::ReduceRows { w, .. } => Some(Object::Vector(*w)),
+            | Call::ReduceRows { w, .. }
+            | Call::WriteVector { w, .. } => Some(Object::Vector(*w)),
             Call::NewMatrix { .. } | Call::NewVector { .. } => None,
         }
     }

@@ -1,15 +1,20 @@
-pub mod Builds
 mod Crossed
+mod Prelude
+mod Transposes
+pub mod Builds
+pub mod Diagonals
 pub mod Dimensions
+pub mod Each
 pub mod Edits
 pub mod Folds
 pub mod Gridded
 pub mod Made
 pub mod Maps
 pub mod MonoidLaws
-mod Prelude
+pub mod Products
+pub mod Pulls
 pub mod ResultLaws
 pub mod ResultRows
 pub mod Rows
-mod Transposes
+pub mod Whole
 pub mod Written

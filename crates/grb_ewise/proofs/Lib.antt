@@ -3,6 +3,7 @@ pub mod Alike
 pub mod Columns
 pub mod Counting
 pub mod Cutting
+pub mod ReadInputs
 pub mod Inside
 pub mod Lent
 pub mod Made

@@ -1,6 +1,7 @@
 pub mod Premises
 pub mod Written
 pub mod Made
+pub mod Inputs
 pub mod Marks
 pub mod Rows
 pub mod Transposing

@@ -6,6 +6,7 @@ use Rattle.std.specs.declared.cmp.Ordering.{Ordering}
 use Rattle.grb_core.specs.declared.domain.Domain.{Domain}
 use Rattle.grb_core.specs.declared.operator.BinaryOp.{BinaryOp}
 use Rattle.grb_core.specs.declared.value.Value.{Value}
+use Rattle.grb_core.specs.Contents.{Matrix}
 use Rattle.grb_core.specs.Mask.{is_inside}
 use Rattle.grb_core.specs.Written.{AccumulatesIn}
 use Rattle.grb_call.specs.declared.descriptor.Descriptor.{Descriptor}
@@ -26,12 +27,19 @@ pub record IsVectorOutput (output : SparseVectorView) (mask : Option (Bor Sparse
   pub mask_size : IfSome mask (λ m. m.now.vector.size ≡ output.vector.size)
   pub accumulates : AccumulatesIn output.vector.domain accum
 
--- an input of this domain, with so many rows and columns where it is read transposed, or not
+-- the rows and the columns of a matrix that is read transposed, or not
+abbrev pub rows_read : Bool → Matrix → ℕ
+rows_read tran a = if tran then a.ncols else a.nrows
+
+abbrev pub columns_read : Bool → Matrix → ℕ
+columns_read tran a = if tran then a.nrows else a.ncols
+
+-- an input of this domain, with so many rows and columns as it is read
 pub record IsMatrixInput (tran : Bool) (of : Domain) (nrows ncols : ℕ) (m : SparseMatrixView) : Type 0 where
   pub assembled : m.assembled ≡ true
   pub domain : m.matrix.domain ≡ of
-  pub rows : (if tran then m.matrix.ncols else m.matrix.nrows) ≡ nrows
-  pub columns : (if tran then m.matrix.nrows else m.matrix.ncols) ≡ ncols
+  pub rows : rows_read tran m.matrix ≡ nrows
+  pub columns : columns_read tran m.matrix ≡ ncols
 
 -- an input of this domain and of this size
 pub record IsVectorInput (of : Domain) (size : ℕ) (v : SparseVectorView) : Type 0 where

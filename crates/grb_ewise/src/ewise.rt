@@ -1,20 +1,22 @@
 //! eWiseAdd and eWiseMult of vectors and of matrices.
-ghost use Rattle.std.specs.Prelude.{◌≡◌, true, IfOk, if◌then◌else◌, false};
+ghost use Rattle.std.specs.Prelude.{◌≡◌, true, IfOk};
 ghost use Rattle.std.specs.Ordering.{nat_cmp};
 ghost use Rattle.grb_core.specs.Operator.{op_domain, value_of_op};
 ghost use Rattle.grb_core.specs.Entries.{cell_cmp};
+ghost use Rattle.grb_core.specs.Contents.{edited_matrix};
 ghost use Rattle.grb_core.specs.Written.{pointwise};
 ghost use Rattle.grb_core.specs.Results.{ewise_add, ewise_mult, turned};
 ghost use Rattle.grb_kernels.specs.Pairing.{paired};
-ghost use Rattle.grb_ewise.specs.Objects.{IsLike, contents_of_matrix};
-ghost use Rattle.grb_ewise.specs.Premises.{IsMatrixInput, IsMatrixOutput, IsVectorInput, IsVectorOutput};
+ghost use Rattle.grb_ewise.specs.Made.{turned_matrix};
+ghost use Rattle.grb_ewise.specs.Premises.{IsMatrixInput, IsMatrixOutput, IsVectorInput, IsVectorOutput, columns_read, rows_read};
 ghost use Rattle.grb_ewise.specs.Written.{written_into_matrix, written_into_vector};
 
+use crate::inputs::read_matrix;
 use crate::pairing::pair;
 use crate::transposing::transposed;
 use crate::writing::{write_masked_matrix, write_masked_vector};
 use grb_call::Descriptor;
-use grb_core::BinaryOp;
+use grb_core::{BinaryOp, transposed_exchanges_rows_and_columns};
 use grb_kernels::Pairing;
 use grb_sparse::{SparseMatrix, SparseVector};
 use std::alloc::{AllocError, Global};
@@ -28,7 +30,7 @@ use std::alloc::{AllocError, Global};
 /// - `accum`: combines the old value and the computed one where both are there; `None` for the computed one alone.
 /// - `op`: makes one value of that of `u` and that of `v`, in this order.
 /// - `u`, `v`: the first and the second input.
-/// - `descriptor`: how the mask is read, whether what lies outside of it is removed; its `tran` is not read.
+/// - `descriptor`: how the mask is read, whether what lies outside of it is removed; `tran` and `tran1` are not read.
 ///
 /// All are of one domain, the mask aside, and of one size. Time and memory are in proportion to the stored entries.
 ///
@@ -63,7 +65,7 @@ pub fn ewise_add_vector(
 /// - `accum`: combines the old value and the computed one where both are there; `None` for the computed one alone.
 /// - `op`: makes one value of that of `u` and that of `v`, in this order.
 /// - `u`, `v`: the first and the second input.
-/// - `descriptor`: how the mask is read, whether what lies outside of it is removed; its `tran` is not read.
+/// - `descriptor`: how the mask is read, whether what lies outside of it is removed; `tran` and `tran1` are not read.
 ///
 /// All are of one domain, the mask aside, and of one size. Time and memory are in proportion to the stored entries.
 ///
@@ -90,30 +92,35 @@ pub fn ewise_mult_vector(
     write_masked_vector(alloc, output, mask, accum, descriptor, computed)
 }
 
-/// A matrix, transposed where `tran` says so, and another one combined by an operator of their domain. Where it is not, nothing is copied.
-/// `AllocError` where memory is refused; then nothing is made.
-fn pair_turned(
+/// Two matrices as they are read, combined by an operator of their domain. Where both are read transposed, what they make is turned in
+/// place of both. `AllocError` where memory is refused; then nothing is made.
+fn pair_read(
     alloc: Global,
     pairing: Pairing,
     op: BinaryOp,
     a: &SparseMatrix,
     b: &SparseMatrix,
     tran: bool,
+    tran1: bool,
 ) -> Result<SparseMatrix, AllocError>
     requires a_assembled { a.now.assembled ≡ true }
     requires b_assembled { b.now.assembled ≡ true }
     requires a_domain { a.now.matrix.domain ≡ op_domain op }
     requires b_domain { b.now.matrix.domain ≡ op_domain op }
-    requires rows { b.now.matrix.nrows ≡ (if tran then a.now.matrix.ncols else a.now.matrix.nrows) }
-    requires columns { b.now.matrix.ncols ≡ (if tran then a.now.matrix.nrows else a.now.matrix.ncols) }
-    ensures { IfOk result (λ made. IsLike (contents_of_matrix b.now) (pointwise cell_cmp (paired pairing (value_of_op op)) (turned tran a.now.matrix.entries) b.now.matrix.entries) (contents_of_matrix made)) }
+    requires rows { rows_read tran1 b.now.matrix ≡ rows_read tran a.now.matrix }
+    requires columns { columns_read tran1 b.now.matrix ≡ columns_read tran a.now.matrix }
+    ensures matrix { IfOk result (λ made. made.matrix ≡ edited_matrix (λ m. pointwise cell_cmp (paired pairing (value_of_op op)) m (turned tran1 b.now.matrix.entries)) (turned_matrix tran a.now.matrix)) }
+    ensures assembled { IfOk result (λ made. made.assembled ≡ true) }
 {
-    if tran {
-        let first = transposed(alloc, a)?;
-        let of_turned = pair(alloc, pairing, op, &first, b)?;
-        return Ok(of_turned);
+    if tran & tran1 {
+        transposed_exchanges_rows_and_columns();
+        let of_both = pair(alloc, pairing, op, a, b)?;
+        let turned = transposed(alloc, &of_both)?;
+        return Ok(turned);
     }
-    let made = pair(alloc, pairing, op, a, b)?;
+    let first = read_matrix(alloc, a, tran)?;
+    let second = read_matrix(alloc, b, tran1)?;
+    let made = pair(alloc, pairing, op, first.matrix(), second.matrix())?;
     Ok(made)
 }
 
@@ -125,11 +132,11 @@ fn pair_turned(
 /// - `accum`: combines the old value and the computed one where both are there; `None` for the computed one alone.
 /// - `op`: makes one value of that of `a` and that of `b`, in this order.
 /// - `a`, `b`: the first and the second input.
-/// - `descriptor`: how the mask is read, whether what lies outside of it is removed, and whether `a` is read transposed.
+/// - `descriptor`: how the mask is read, whether what lies outside of it is removed, whether `a` is read transposed, and whether `b` is.
 ///
-/// All are of one domain, the mask aside, and of the same dimensions, those of `a` exchanged where the descriptor says `tran`: then `a`
-/// stands for its transposed, which is made first, as `transposed` does. Else nothing is copied, and time and memory are in proportion to
-/// the stored entries.
+/// All are of one domain, the mask aside, and of the same dimensions, those of `a` exchanged where the descriptor says `tran`, and those of
+/// `b` where it says `tran1`: then the matrix stands for its transposed, which is made first, as `transposed` does; where both are, what
+/// they make is turned instead. Else nothing is copied, and time and memory are in proportion to the stored entries.
 ///
 /// Source: GraphBLAS C API 2.0, "eWiseAdd".
 pub fn ewise_add_matrix(
@@ -145,12 +152,13 @@ pub fn ewise_add_matrix(
     requires output { IsMatrixOutput output.now mask accum }
     requires op_domain { op_domain op ≡ output.now.matrix.domain }
     requires a { IsMatrixInput descriptor.tran output.now.matrix.domain output.now.matrix.nrows output.now.matrix.ncols a.now }
-    requires b { IsMatrixInput false output.now.matrix.domain output.now.matrix.nrows output.now.matrix.ncols b.now }
+    requires b { IsMatrixInput descriptor.tran1 output.now.matrix.domain output.now.matrix.nrows output.now.matrix.ncols b.now }
     ensures matrix { IfOk result (λ made. made.matrix ≡ written_into_matrix output.now mask.entry accum descriptor
-        (ewise_add cell_cmp op (turned descriptor.tran a.now.matrix.entries) b.now.matrix.entries)) }
+        (ewise_add cell_cmp op (turned descriptor.tran a.now.matrix.entries) (turned descriptor.tran1 b.now.matrix.entries))) }
     ensures assembled { IfOk result (λ made. made.assembled ≡ true) }
 {
-    let computed = pair_turned(alloc, Pairing::Union, op, a, b, descriptor.tran)?;
+    let (tran, tran1) = (descriptor.tran, descriptor.tran1);
+    let computed = pair_read(alloc, Pairing::Union, op, a, b, tran, tran1)?;
     write_masked_matrix(alloc, output, mask, accum, descriptor, computed)
 }
 
@@ -162,11 +170,11 @@ pub fn ewise_add_matrix(
 /// - `accum`: combines the old value and the computed one where both are there; `None` for the computed one alone.
 /// - `op`: makes one value of that of `a` and that of `b`, in this order.
 /// - `a`, `b`: the first and the second input.
-/// - `descriptor`: how the mask is read, whether what lies outside of it is removed, and whether `a` is read transposed.
+/// - `descriptor`: how the mask is read, whether what lies outside of it is removed, whether `a` is read transposed, and whether `b` is.
 ///
-/// All are of one domain, the mask aside, and of the same dimensions, those of `a` exchanged where the descriptor says `tran`: then `a`
-/// stands for its transposed, which is made first, as `transposed` does. Else nothing is copied, and time and memory are in proportion to
-/// the stored entries.
+/// All are of one domain, the mask aside, and of the same dimensions, those of `a` exchanged where the descriptor says `tran`, and those of
+/// `b` where it says `tran1`: then the matrix stands for its transposed, which is made first, as `transposed` does; where both are, what
+/// they make is turned instead. Else nothing is copied, and time and memory are in proportion to the stored entries.
 ///
 /// Source: GraphBLAS C API 2.0, "eWiseMult".
 pub fn ewise_mult_matrix(
@@ -182,11 +190,12 @@ pub fn ewise_mult_matrix(
     requires output { IsMatrixOutput output.now mask accum }
     requires op_domain { op_domain op ≡ output.now.matrix.domain }
     requires a { IsMatrixInput descriptor.tran output.now.matrix.domain output.now.matrix.nrows output.now.matrix.ncols a.now }
-    requires b { IsMatrixInput false output.now.matrix.domain output.now.matrix.nrows output.now.matrix.ncols b.now }
+    requires b { IsMatrixInput descriptor.tran1 output.now.matrix.domain output.now.matrix.nrows output.now.matrix.ncols b.now }
     ensures matrix { IfOk result (λ made. made.matrix ≡ written_into_matrix output.now mask.entry accum descriptor
-        (ewise_mult cell_cmp op (turned descriptor.tran a.now.matrix.entries) b.now.matrix.entries)) }
+        (ewise_mult cell_cmp op (turned descriptor.tran a.now.matrix.entries) (turned descriptor.tran1 b.now.matrix.entries))) }
     ensures assembled { IfOk result (λ made. made.assembled ≡ true) }
 {
-    let computed = pair_turned(alloc, Pairing::Intersection, op, a, b, descriptor.tran)?;
+    let (tran, tran1) = (descriptor.tran, descriptor.tran1);
+    let computed = pair_read(alloc, Pairing::Intersection, op, a, b, tran, tran1)?;
     write_masked_matrix(alloc, output, mask, accum, descriptor, computed)
 }

@@ -9,6 +9,7 @@
 #![tactic(auto)]
 
 mod ewise;
+mod inputs;
 mod marks;
 mod objects;
 mod pairing;
@@ -20,6 +21,7 @@ mod typed_rows;
 mod writing;
 
 pub use ewise::{ewise_add_matrix, ewise_add_vector, ewise_mult_matrix, ewise_mult_vector};
+pub use inputs::{MatrixRead, read_matrix};
 pub use ranks::{distinct, is_worth_opening, place_of, ranks_of};
 pub use stored::{Stored, keep_bools, keep_numbers};
 pub use transposing::transposed;

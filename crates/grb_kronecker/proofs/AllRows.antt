@@ -13,10 +13,10 @@ use Rattle.grb_core.specs.Entries.{MatrixEntries, VectorEntries}
 use Rattle.grb_core.specs.Results.{row_of}
 use Rattle.grb_core.proofs.Maps.{same_entries_at}
 use Rattle.grb_ewise.proofs.MatrixRows.{find-row, row-sorted}
-use Rattle.grb_terms.specs.Maps.{kronecker_of}
+use Rattle.grb_core.specs.Maps.{kronecker_of}
 use Rattle.grb_kronecker.specs.Crossing.{crossed}
 use Rattle.grb_kronecker.specs.Rows.{AreIn, product_rows}
-use Rattle.grb_terms.proofs.Products.{kronecker_outside, kronecker_sorted}
+use Rattle.grb_core.proofs.Products.{kronecker_outside, kronecker_sorted}
 use Rattle.grb_kronecker.proofs.Products.{rows_are_crossed}
 use Rattle.grb_kronecker.proofs.ProductRows.{length-product, get_or-product, find_place}
 

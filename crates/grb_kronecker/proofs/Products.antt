@@ -16,10 +16,10 @@ use Rattle.grb_core.specs.Results.{row_of}
 use Rattle.grb_core.specs.Written.{both_values}
 use Rattle.grb_core.proofs.Maps.{same_entries_at}
 use Rattle.grb_ewise.proofs.MatrixRows.{find-row, row-sorted}
-use Rattle.grb_terms.specs.Maps.{kronecker_of}
-use Rattle.grb_terms.proofs.Each.{holds}
-use Rattle.grb_terms.proofs.Products.{kronecker_inside, kronecker_outside, kronecker_sorted}
-use Rattle.grb_terms.proofs.Pulls.{IsAmong, find-outside}
+use Rattle.grb_core.specs.Maps.{kronecker_of}
+use Rattle.grb_core.proofs.Each.{holds}
+use Rattle.grb_core.proofs.Products.{kronecker_inside, kronecker_outside, kronecker_sorted}
+use Rattle.grb_core.proofs.Pulls.{IsAmong, find-outside}
 use Rattle.grb_kronecker.specs.Crossing.{crossed}
 use Rattle.grb_kronecker.specs.Rows.{AreIn}
 use Rattle.grb_kronecker.proofs.Found.{find-crossed}

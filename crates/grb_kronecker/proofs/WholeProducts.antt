@@ -1,5 +1,5 @@
 -- A Kronecker product of whole matrices is whole.
-use Rattle.std.proofs.Common.{◌≡◌, ℕ, Bool, true, false, ◌*◌, ◌/◌, ◌%◌, ◌<◌, refl, sym, ap, subst, ◌∙◌, arith}
+use Rattle.std.proofs.Common.{◌≡◌, ℕ, Bool, true, false, ◌*◌, ◌/◌, ◌%◌, ◌<◌, sym, ap, subst, ◌∙◌, arith}
 use Rattle.std.specs.Prelude.{IsTrue, All, Some}
 use Rattle.std.specs.List.{AllByRecursion}
 use Rattle.std.specs.FinMap.{is_sorted}
@@ -14,19 +14,20 @@ use Rattle.grb_core.specs.Contents.{Matrix, IsMatrix, IsDimension}
 use Rattle.grb_core.specs.Written.{both_values}
 use Rattle.grb_core.proofs.Made.{within-pointwise}
 use Rattle.grb_core.specs.Results.{transposed, turned}
-use Rattle.grb_ewise.specs.Premises.{IsMatrixInput}
+use Rattle.grb_ewise.specs.Premises.{IsMatrixInput, columns_read, rows_read}
 use Rattle.grb_ewise.proofs.WholeMatrix.{matrix_of}
 use Rattle.grb_sparse.specs.Matrix.{SparseMatrixView}
-use Rattle.grb_maps.specs.Turned.{turned_matrix}
-use Rattle.grb_kronecker.specs.Factors.{AreFactors, columns_read, rows_read}
-use Rattle.grb_terms.specs.Pulled.{pulled_matrix}
-use Rattle.grb_terms.specs.Maps.{kronecker_of}
-use Rattle.grb_terms.proofs.Each.{made_true}
+use Rattle.grb_ewise.specs.Made.{turned_matrix}
+use Rattle.grb_ewise.proofs.ReadInputs.{domain_read, ncols_read, nrows_read}
+use Rattle.grb_kronecker.specs.Factors.{AreFactors}
+use Rattle.grb_core.specs.Pulled.{pulled_matrix}
+use Rattle.grb_core.specs.Maps.{kronecker_of}
+use Rattle.grb_core.proofs.Each.{made_true}
 use Rattle.std.proofs.Common.{mul-pos}
 use Rattle.std.proofs.lemmas.Bool.Decides.{nat_tests}
 use Rattle.grb_kronecker.specs.Product.{product_matrix}
-use Rattle.grb_terms.proofs.Products.{kronecker_sorted}
-use Rattle.grb_terms.proofs.Pulls.{within-cells_made}
+use Rattle.grb_core.proofs.Products.{kronecker_sorted}
+use Rattle.grb_core.proofs.Pulls.{within-cells_made}
 
 product-within : (op : BinaryOp) (m n r c : ℕ) (a b : MatrixEntries) → AllByRecursion (λ e. (e.0.0 < m * r) × (e.0.1 < n * c)) (kronecker_of op r c (m * r) (n * c) a b)
 product-within op m n r c a b =
@@ -68,26 +69,27 @@ entries_read op true false nrows ncols a b r c = λ i. kronecker_of op b.nrows b
 entries_read op false true nrows ncols a b r c = λ i. kronecker_of op b.ncols b.nrows (r i) (c i) a.entries (transposed b.entries)
 entries_read op false false nrows ncols a b r c = λ i. kronecker_of op b.nrows b.ncols (r i) (c i) a.entries b.entries
 
-turned_domain : (tran : Bool) (a : Matrix) → (turned_matrix tran a).domain ≡ a.domain
-turned_domain true a = refl
-turned_domain false a = refl
+-- two matrices in place of those as they are read
+module _ (tran tran1 : Bool) (a b first second : Matrix) (p : first ≡ turned_matrix tran a) (q : second ≡ turned_matrix tran1 b) where
+  pub rows_made : (n : ℕ) → rows_read tran a * rows_read tran1 b ≡ n → first.nrows * second.nrows ≡ n
+  rows_made n h = ap (λ (m : Matrix). m.nrows * second.nrows) p ∙ ap (λ (m : Matrix). (turned_matrix tran a).nrows * m.nrows) q
+      ∙ ap (λ k. k * (turned_matrix tran1 b).nrows) (nrows_read tran a) ∙ ap (λ k. rows_read tran a * k) (nrows_read tran1 b) ∙ h
 
-turned_rows : (tran : Bool) (a : Matrix) → (turned_matrix tran a).nrows ≡ rows_read tran a
-turned_rows true a = refl
-turned_rows false a = refl
+  pub columns_made : (n : ℕ) → columns_read tran a * columns_read tran1 b ≡ n → first.ncols * second.ncols ≡ n
+  columns_made n h = ap (λ (m : Matrix). m.ncols * second.ncols) p ∙ ap (λ (m : Matrix). (turned_matrix tran a).ncols * m.ncols) q
+      ∙ ap (λ k. k * (turned_matrix tran1 b).ncols) (ncols_read tran a) ∙ ap (λ k. columns_read tran a * k) (ncols_read tran1 b) ∙ h
 
-turned_columns : (tran : Bool) (a : Matrix) → (turned_matrix tran a).ncols ≡ columns_read tran a
-turned_columns true a = refl
-turned_columns false a = refl
+  pub matrix_made : (op : BinaryOp) → product_matrix op first second ≡ product_matrix op (turned_matrix tran a) (turned_matrix tran1 b)
+  matrix_made op = λ i. product_matrix op (p i) (q i)
 
--- fits the output
+-- the product fits the output
 pub product_read : (op : BinaryOp) (tran tran1 : Bool) (of : Domain) (nrows ncols : ℕ) (a b made : SparseMatrixView) → AreFactors tran tran1 of nrows ncols a b
     → made.assembled ≡ true → made.matrix ≡ product_matrix op (turned_matrix tran a.matrix) (turned_matrix tran1 b.matrix) → IsMatrixInput false of nrows ncols made
 product_read op tran tran1 of nrows ncols a b made h s e = record {
   assembled = s;
-  domain = ap (λ (m : Matrix). m.domain) e ∙ turned_domain tran a.matrix ∙ h.a_domain;
-  rows = ap (λ (m : Matrix). m.nrows) e ∙ ap (λ n. n * (turned_matrix tran1 b.matrix).nrows) (turned_rows tran a.matrix) ∙ ap (λ n. rows_read tran a.matrix * n) (turned_rows tran1 b.matrix) ∙ h.rows;
-  columns = ap (λ (m : Matrix). m.ncols) e ∙ ap (λ n. n * (turned_matrix tran1 b.matrix).ncols) (turned_columns tran a.matrix) ∙ ap (λ n. columns_read tran a.matrix * n) (turned_columns tran1 b.matrix)
+  domain = ap (λ (m : Matrix). m.domain) e ∙ domain_read tran a.matrix ∙ h.a_domain;
+  rows = ap (λ (m : Matrix). m.nrows) e ∙ ap (λ n. n * (turned_matrix tran1 b.matrix).nrows) (nrows_read tran a.matrix) ∙ ap (λ n. rows_read tran a.matrix * n) (nrows_read tran1 b.matrix) ∙ h.rows;
+  columns = ap (λ (m : Matrix). m.ncols) e ∙ ap (λ n. n * (turned_matrix tran1 b.matrix).ncols) (ncols_read tran a.matrix) ∙ ap (λ n. columns_read tran a.matrix * n) (ncols_read tran1 b.matrix)
       ∙ h.columns;
 }
 

@@ -1,16 +1,9 @@
 -- believed: What kronecker asks of its inputs (own): no change waits in either, both are of the domain of the output, and it has as many rows
 -- and as many columns as those of the first and of the second, as they are read, make together.
-use Rattle.std.specs.Prelude.{◌≡◌, ℕ, ◌*◌, Bool, true, if◌then◌else◌}
+use Rattle.std.specs.Prelude.{◌≡◌, ℕ, ◌*◌, Bool, true}
 use Rattle.grb_core.specs.declared.domain.Domain.{Domain}
-use Rattle.grb_core.specs.Contents.{Matrix}
 use Rattle.grb_sparse.specs.Matrix.{SparseMatrixView}
-
--- the rows and the columns of a matrix that is read transposed, or not
-abbrev pub rows_read : Bool → Matrix → ℕ
-rows_read tran a = if tran then a.ncols else a.nrows
-
-abbrev pub columns_read : Bool → Matrix → ℕ
-columns_read tran a = if tran then a.nrows else a.ncols
+use Rattle.grb_ewise.specs.Premises.{columns_read, rows_read}
 
 -- two inputs of this domain, whose product has so many rows and columns
 pub record AreFactors (tran tran1 : Bool) (of : Domain) (nrows ncols : ℕ) (a b : SparseMatrixView) : Type 0 where

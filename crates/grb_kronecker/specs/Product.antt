@@ -2,7 +2,7 @@
 use Rattle.std.specs.Prelude.{◌*◌}
 use Rattle.grb_core.specs.declared.operator.BinaryOp.{BinaryOp}
 use Rattle.grb_core.specs.Contents.{Matrix}
-use Rattle.grb_terms.specs.Maps.{kronecker_of}
+use Rattle.grb_core.specs.Maps.{kronecker_of}
 
 -- the product: it has the products of the rows and of the columns
 abbrev pub product_matrix : BinaryOp → Matrix → Matrix → Matrix

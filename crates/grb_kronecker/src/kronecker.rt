@@ -2,17 +2,16 @@
 ghost use Rattle.std.specs.Prelude.{◌≡◌, ◌*◌, ◌<◌, ◌^◌, true, IfOk};
 ghost use Rattle.grb_core.specs.Operator.{op_domain};
 ghost use Rattle.grb_core.specs.Results.{turned};
-ghost use Rattle.grb_ewise.specs.Premises.{IsMatrixOutput};
+ghost use Rattle.grb_ewise.specs.Premises.{IsMatrixOutput, columns_read, rows_read};
 ghost use Rattle.grb_ewise.specs.Written.{written_into_matrix};
-ghost use Rattle.grb_terms.specs.Maps.{kronecker_of};
-ghost use Rattle.grb_maps.specs.Turned.{turned_matrix};
-ghost use Rattle.grb_kronecker.specs.Factors.{AreFactors, columns_read, rows_read};
+ghost use Rattle.grb_core.specs.Maps.{kronecker_of};
+ghost use Rattle.grb_kronecker.specs.Factors.{AreFactors};
 ghost use Rattle.grb_kronecker.specs.Product.{product_matrix};
 
 use crate::rows::product_lists;
 use grb_call::Descriptor;
 use grb_core::{BinaryOp, Domain};
-use grb_ewise::{Stored, transposed, write_masked_matrix};
+use grb_ewise::{Stored, read_matrix, write_masked_matrix};
 use grb_kernels::{ByOperator, Operator};
 use grb_sparse::SparseMatrix;
 use std::alloc::{AllocError, Global};
@@ -110,60 +109,6 @@ fn product(
     }
 }
 
-/// The product of a matrix and another one as it is read: that one, or its transposed, which is made first. `AllocError` where memory is
-/// refused; then nothing is made.
-fn product_with(
-    alloc: Global,
-    op: BinaryOp,
-    a: &SparseMatrix,
-    b: &SparseMatrix,
-    tran1: bool,
-) -> Result<SparseMatrix, AllocError>
-    requires a_assembled { a.now.assembled ≡ true }
-    requires b_assembled { b.now.assembled ≡ true }
-    requires a_domain { a.now.matrix.domain ≡ op_domain op }
-    requires b_domain { b.now.matrix.domain ≡ op_domain op }
-    requires few_rows { a.now.matrix.nrows * rows_read tran1 b.now.matrix < 2 ^ 32 }
-    requires few_columns { a.now.matrix.ncols * columns_read tran1 b.now.matrix < 2 ^ 32 }
-    ensures matrix { IfOk result (λ made. made.matrix ≡ product_matrix op a.now.matrix (turned_matrix tran1 b.now.matrix)) }
-    ensures assembled { IfOk result (λ made. made.assembled ≡ true) }
-{
-    if tran1 {
-        let second = transposed(alloc, b)?;
-        let of_turned = product(alloc, op, a, &second)?;
-        return Ok(of_turned);
-    }
-    let made = product(alloc, op, a, b)?;
-    Ok(made)
-}
-
-/// The product of two matrices as they are read. `AllocError` where memory is refused; then nothing is made.
-fn product_of_read(
-    alloc: Global,
-    op: BinaryOp,
-    a: &SparseMatrix,
-    b: &SparseMatrix,
-    tran: bool,
-    tran1: bool,
-) -> Result<SparseMatrix, AllocError>
-    requires a_assembled { a.now.assembled ≡ true }
-    requires b_assembled { b.now.assembled ≡ true }
-    requires a_domain { a.now.matrix.domain ≡ op_domain op }
-    requires b_domain { b.now.matrix.domain ≡ op_domain op }
-    requires few_rows { rows_read tran a.now.matrix * rows_read tran1 b.now.matrix < 2 ^ 32 }
-    requires few_columns { columns_read tran a.now.matrix * columns_read tran1 b.now.matrix < 2 ^ 32 }
-    ensures matrix { IfOk result (λ made. made.matrix ≡ product_matrix op (turned_matrix tran a.now.matrix) (turned_matrix tran1 b.now.matrix)) }
-    ensures assembled { IfOk result (λ made. made.assembled ≡ true) }
-{
-    if tran {
-        let first = transposed(alloc, a)?;
-        let of_turned = product_with(alloc, op, &first, b, tran1)?;
-        return Ok(of_turned);
-    }
-    let made = product_with(alloc, op, a, b, tran1)?;
-    Ok(made)
-}
-
 /// kronecker: the Kronecker product of `a` and `b`, written into `output` by the accumulator, the mask and the descriptor. `AllocError` where
 /// memory is refused; then nothing is made, and `output` is as before.
 ///
@@ -173,8 +118,7 @@ fn product_of_read(
 /// - `op`: makes a value of two, that of `a` first.
 /// - `a`, `b`: the inputs. Where `b` as it is read has `r` rows and `c` columns, row `i` and column `j` of `a` with row `p` and column `q` of
 ///   `b` make row `i r + p` and column `j c + q`.
-/// - `descriptor`: how the mask is read, whether what lies outside of it is removed, and whether `a` is read transposed.
-/// - `tran1`: whether `b` is read transposed.
+/// - `descriptor`: how the mask is read, whether what lies outside of it is removed, whether `a` is read transposed, and whether `b` is.
 ///
 /// All are of one domain, the mask aside. The output has as many rows, and columns, as those of both inputs make together. Time and memory
 /// are in proportion to the entries of the product, the mask or not, and to those of the output and the mask.
@@ -189,17 +133,18 @@ pub fn kronecker_matrix(
     a: &SparseMatrix,
     b: &SparseMatrix,
     descriptor: Descriptor,
-    tran1: bool,
 ) -> Result<SparseMatrix, AllocError>
     requires output { IsMatrixOutput output.now mask accum }
     requires operator { op_domain op ≡ output.now.matrix.domain }
-    requires factors { AreFactors descriptor.tran tran1 output.now.matrix.domain output.now.matrix.nrows output.now.matrix.ncols a.now b.now }
+    requires factors { AreFactors descriptor.tran descriptor.tran1 output.now.matrix.domain output.now.matrix.nrows output.now.matrix.ncols a.now b.now }
     ensures matrix { IfOk result (λ made. made.matrix ≡ written_into_matrix output.now mask.entry accum descriptor
-        (kronecker_of op (rows_read tran1 b.now.matrix) (columns_read tran1 b.now.matrix) output.now.matrix.nrows output.now.matrix.ncols
-        (turned descriptor.tran a.now.matrix.entries) (turned tran1 b.now.matrix.entries))) }
+        (kronecker_of op (rows_read descriptor.tran1 b.now.matrix) (columns_read descriptor.tran1 b.now.matrix) output.now.matrix.nrows output.now.matrix.ncols
+        (turned descriptor.tran a.now.matrix.entries) (turned descriptor.tran1 b.now.matrix.entries))) }
     ensures assembled { IfOk result (λ made. made.assembled ≡ true) }
 {
     output.dims();
-    let computed = product_of_read(alloc, op, a, b, descriptor.tran, tran1)?;
+    let first = read_matrix(alloc, a, descriptor.tran)?;
+    let second = read_matrix(alloc, b, descriptor.tran1)?;
+    let computed = product(alloc, op, first.matrix(), second.matrix())?;
     write_masked_matrix(alloc, output, mask, accum, descriptor, computed)
 }

@@ -8,7 +8,7 @@ ghost use Rattle.grb_core.specs.Entries.{cell_cmp};
 ghost use Rattle.grb_kernels.specs.Typed.{entries_of};
 ghost use Rattle.grb_lists.specs.Cells.{decoded, IsFlat};
 ghost use Rattle.grb_ewise.specs.Rows.{flat_entries};
-ghost use Rattle.grb_terms.specs.Maps.{kronecker_of};
+ghost use Rattle.grb_core.specs.Maps.{kronecker_of};
 ghost use Rattle.grb_kronecker.specs.Crossing.{crossed};
 ghost use Rattle.grb_kronecker.specs.Rows.{AreIn};
 

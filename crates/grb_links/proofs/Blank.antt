@@ -192,6 +192,8 @@ output_is (call.Mxv w mask accum semiring a u d) p e = ap (option_map (λ (o : O
 output_is (call.Vxm w mask accum semiring u a d) p e = ap (option_map (λ (o : Operation). o.output)) e
 output_is (call.Mxm c mask accum semiring a b d) p e = ap (option_map (λ (o : Operation). o.output)) e
 output_is (call.ReduceRows w mask accum monoid a d) p e = ap (option_map (λ (o : Operation). o.output)) e
+output_is (call.WriteMatrix c mask accum term d) p e = ap (option_map (λ (o : Operation). o.output)) e
+output_is (call.WriteVector w mask accum term d) p e = ap (option_map (λ (o : Operation). o.output)) e
 output_is _ p e = cc
 
 plain_masked : {X : Type 0} (mask : Option X) (accum : Option BinaryOp) (comp : Bool) → is_plain mask accum comp ≡ true → mask ≡ None

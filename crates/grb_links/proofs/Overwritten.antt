@@ -1,5 +1,5 @@
 -- What a call leaves that overwrites its output, whatever that stored.
-use Rattle.std.proofs.Common.{◌≡◌, ℕ, Bool, true, false, List, [], ◌∷◌, refl, sym, ap, ◌∙◌, Option, Some, None}
+use Rattle.std.proofs.Common.{◌≡◌, ℕ, Bool, true, false, not, List, [], ◌∷◌, refl, sym, ap, ◌∙◌, Option, Some, None}
 use Rattle.std.specs.Option.{option_map, option_map_or}
 use Rattle.std.specs.declared.cmp.Ordering.{Ordering}
 use Rattle.std.specs.Ordering.{nat_cmp}
@@ -15,6 +15,8 @@ use Rattle.grb_core.specs.Results.{ewise_add, ewise_mult, mxv_of, mxm_of, reduce
 use Rattle.grb_core.specs.Written.{written, written_value}
 use Rattle.grb_core.proofs.Maps.{cell_cmp_total, cell_cmp-IsAntisymmetric, same_entries_at}
 use Rattle.grb_core.proofs.Written.{find-masked, is_sorted-masked}
+use Rattle.grb_core.specs.Functions.{turns_input}
+use Rattle.grb_core.specs.Maps.{applied, selected_cells, selected_indices}
 use Rattle.grb_call.specs.declared.call.Call.{Call}
 use Rattle.grb_call.specs.declared.call.Call.TheVariants as call
 use Rattle.grb_call.specs.declared.descriptor.Descriptor.{Descriptor}
@@ -22,6 +24,9 @@ use Rattle.grb_call.specs.declared.ids.MatrixId.{MatrixId}
 use Rattle.grb_call.specs.declared.ids.VectorId.{VectorId}
 use Rattle.grb_call.specs.declared.ids.Object.{Object}
 use Rattle.grb_call.specs.declared.ids.Object.TheVariants as object
+use Rattle.grb_call.specs.declared.term.MatrixTerm.TheVariants as matrix_term
+use Rattle.grb_call.specs.declared.term.VectorTerm.TheVariants as vector_term
+use Rattle.grb_call.proofs.Operated.{kronecker_by}
 use Rattle.grb_call.specs.Output.{entries_of_matrix, entries_of_vector, output_of, matrix_read, vector_read}
 use Rattle.grb_call.specs.Written.{written_matrix, written_vector}
 use Rattle.grb_slices.specs.Content.{Content, MatrixContent, VectorContent, Contents, content_made, filled_matrix, filled_vector, matrix_held, objects_held, outcome, vector_held}
@@ -117,6 +122,9 @@ module _ (r t : Contents) where
   one_m : (a : MatrixId) (os : List Object) → AgreeOn (is_among (object.Matrix a ∷ os)) r t → entries_of_matrix (objects_held r) a ≡ entries_of_matrix (objects_held t) a
   one_m a os agree = ap (λ (p : Option Content). option_map_or (λ m. m.entries) (matrix_held p) []) (agree_first (object.Matrix a) os agree)
 
+  held_m : (a : MatrixId) (os : List Object) → AgreeOn (is_among (object.Matrix a ∷ os)) r t → matrix_held (r (object.Matrix a)) ≡ matrix_held (t (object.Matrix a))
+  held_m a os agree = ap matrix_held (agree_first (object.Matrix a) os agree)
+
   one_v : (v : VectorId) (os : List Object) → AgreeOn (is_among (object.Vector v ∷ os)) r t → entries_of_vector (objects_held r) v ≡ entries_of_vector (objects_held t) v
   one_v v os agree = ap (λ (p : Option Content). option_map_or (λ x. x.entries) (vector_held p) []) (agree_first (object.Vector v) os agree)
 
@@ -129,13 +137,13 @@ module _ (r t : Contents) where
   over (call.ClearVector v) plain agree shape = of_vector (call.ClearVector v) v _ _ (shape (object.Vector v) refl) (λ x y s. same_vector x.domain y.domain x.size y.size [] [] s.0 s.1 refl)
   over (call.EwiseAddMatrix c mask accum op a b d) plain agree shape =
       of_matrix (call.EwiseAddMatrix c mask accum op a b d) c _ _ (shape (object.Matrix c) refl)
-      (wrote_m (option_map object.Matrix mask) accum d plain _ _ (two (λ x y. ewise_add cell_cmp op (turned d.tran x) y) _ _ _ _ (one_m a (object.Matrix b ∷ []) agree) (one_m b [] (agree_next (object.Matrix a) (object.Matrix b ∷ []) agree))))
+      (wrote_m (option_map object.Matrix mask) accum d plain _ _ (two (λ x y. ewise_add cell_cmp op (turned d.tran x) (turned d.tran1 y)) _ _ _ _ (one_m a (object.Matrix b ∷ []) agree) (one_m b [] (agree_next (object.Matrix a) (object.Matrix b ∷ []) agree))))
   over (call.EwiseMultMatrix c mask accum op a b d) plain agree shape =
       of_matrix (call.EwiseMultMatrix c mask accum op a b d) c _ _ (shape (object.Matrix c) refl)
-      (wrote_m (option_map object.Matrix mask) accum d plain _ _ (two (λ x y. ewise_mult cell_cmp op (turned d.tran x) y) _ _ _ _ (one_m a (object.Matrix b ∷ []) agree) (one_m b [] (agree_next (object.Matrix a) (object.Matrix b ∷ []) agree))))
+      (wrote_m (option_map object.Matrix mask) accum d plain _ _ (two (λ x y. ewise_mult cell_cmp op (turned d.tran x) (turned d.tran1 y)) _ _ _ _ (one_m a (object.Matrix b ∷ []) agree) (one_m b [] (agree_next (object.Matrix a) (object.Matrix b ∷ []) agree))))
   over (call.Mxm c mask accum semiring a b d) plain agree shape =
       of_matrix (call.Mxm c mask accum semiring a b d) c _ _ (shape (object.Matrix c) refl)
-      (wrote_m (option_map object.Matrix mask) accum d plain _ _ (two (λ x y. mxm_of semiring (turned d.tran x) y) _ _ _ _ (one_m a (object.Matrix b ∷ []) agree) (one_m b [] (agree_next (object.Matrix a) (object.Matrix b ∷ []) agree))))
+      (wrote_m (option_map object.Matrix mask) accum d plain _ _ (two (λ x y. mxm_of semiring (turned d.tran x) (turned d.tran1 y)) _ _ _ _ (one_m a (object.Matrix b ∷ []) agree) (one_m b [] (agree_next (object.Matrix a) (object.Matrix b ∷ []) agree))))
   over (call.EwiseAddVector w mask accum op u v d) plain agree shape =
       of_vector (call.EwiseAddVector w mask accum op u v d) w _ _ (shape (object.Vector w) refl)
       (wrote_v (option_map object.Vector mask) accum d plain _ _ (two (ewise_add nat_cmp op) _ _ _ _ (one_v u (object.Vector v ∷ []) agree) (one_v v [] (agree_next (object.Vector u) (object.Vector v ∷ []) agree))))
@@ -147,14 +155,34 @@ module _ (r t : Contents) where
       (wrote_v (option_map object.Vector mask) accum d plain _ _ (two (λ x y. mxv_of semiring (turned d.tran x) y) _ _ _ _ (one_m a (object.Vector u ∷ []) agree) (one_v u [] (agree_next (object.Matrix a) (object.Vector u ∷ []) agree))))
   over (call.Vxm w mask accum semiring u a d) plain agree shape =
       of_vector (call.Vxm w mask accum semiring u a d) w _ _ (shape (object.Vector w) refl)
-      (wrote_v (option_map object.Vector mask) accum d plain _ _ (two (vxm_of semiring) _ _ _ _ (one_v u (object.Matrix a ∷ []) agree) (one_m a [] (agree_next (object.Vector u) (object.Matrix a ∷ []) agree))))
+      (wrote_v (option_map object.Vector mask) accum d plain _ _ (two (λ x y. vxm_of semiring x (turned d.tran1 y)) _ _ _ _ (one_v u (object.Matrix a ∷ []) agree) (one_m a [] (agree_next (object.Vector u) (object.Matrix a ∷ []) agree))))
   over (call.ReduceRows w mask accum monoid a d) plain agree shape =
       of_vector (call.ReduceRows w mask accum monoid a d) w _ _ (shape (object.Vector w) refl)
       (wrote_v (option_map object.Vector mask) accum d plain _ _ (ap (λ x. reduce_rows_of monoid (turned d.tran x)) (one_m a [] agree)))
+  over (call.WriteMatrix c mask accum (matrix_term.Transposed a) d) plain agree shape =
+      of_matrix (call.WriteMatrix c mask accum (matrix_term.Transposed a) d) c _ _ (shape (object.Matrix c) refl)
+      (wrote_m (option_map object.Matrix mask) accum d plain _ _ (ap (turned (not d.tran)) (one_m a [] agree)))
+  over (call.WriteMatrix c mask accum (matrix_term.Applied f a) d) plain agree shape =
+      of_matrix (call.WriteMatrix c mask accum (matrix_term.Applied f a) d) c _ _ (shape (object.Matrix c) refl)
+      (wrote_m (option_map object.Matrix mask) accum d plain _ _ (ap (λ x. applied f (turned (turns_input f d.tran d.tran1) x)) (one_m a [] agree)))
+  over (call.WriteMatrix c mask accum (matrix_term.Selected p a) d) plain agree shape =
+      of_matrix (call.WriteMatrix c mask accum (matrix_term.Selected p a) d) c _ _ (shape (object.Matrix c) refl)
+      (wrote_m (option_map object.Matrix mask) accum d plain _ _ (ap (λ x. selected_cells p (turned d.tran x)) (one_m a [] agree)))
+  over (call.WriteMatrix c mask accum (matrix_term.Kronecker op a b) d) plain agree shape =
+      of_matrix (call.WriteMatrix c mask accum (matrix_term.Kronecker op a b) d) c _ _ (shape (object.Matrix c) refl)
+      (wrote_m (option_map object.Matrix mask) accum d plain _ _
+      (two (kronecker_by op d.tran d.tran1) _ _ _ _ (held_m a (object.Matrix b ∷ []) agree) (held_m b [] (agree_next (object.Matrix a) (object.Matrix b ∷ []) agree))))
+  over (call.WriteVector w mask accum (vector_term.Applied f u) d) plain agree shape =
+      of_vector (call.WriteVector w mask accum (vector_term.Applied f u) d) w _ _ (shape (object.Vector w) refl)
+      (wrote_v (option_map object.Vector mask) accum d plain _ _ (ap (applied f) (one_v u [] agree)))
+  over (call.WriteVector w mask accum (vector_term.Selected p u) d) plain agree shape =
+      of_vector (call.WriteVector w mask accum (vector_term.Selected p u) d) w _ _ (shape (object.Vector w) refl)
+      (wrote_v (option_map object.Vector mask) accum d plain _ _ (ap (selected_indices p) (one_v u [] agree)))
   over (call.NewMatrix domain nrows ncols) plain agree shape = refl
   over (call.NewVector domain size) plain agree shape = refl
   over (call.DupMatrix a) plain agree shape = cc
   over (call.DupVector v) plain agree shape = cc
+  over (call.Diag v diagonal) plain agree shape = cc
   over (call.FreeMatrix a) plain agree shape = refl
   over (call.FreeVector v) plain agree shape = refl
   over _ plain agree shape = cc

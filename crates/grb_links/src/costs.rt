@@ -44,7 +44,11 @@ pub fn work_of(call: &Call, entries: u64) -> u64 {
         Class::Operates => entries
             .saturating_mul(entry_cost(call))
             .saturating_add(EDIT_WORK),
-        Class::Makes | Class::Edits | Class::Reads(_) | Class::AsksDimensions => EDIT_WORK,
+        Class::Makes => match call {
+            Call::Diag { .. } => entries.saturating_mul(ENTRY).saturating_add(EDIT_WORK),
+            _ => EDIT_WORK,
+        },
+        Class::Edits | Class::Reads(_) | Class::AsksDimensions => EDIT_WORK,
     }
 }
 

@@ -14,7 +14,7 @@ use Rattle.grb_kernels.proofs.Lists.{values_of-entries}
 use Rattle.grb_lists.specs.Cells.{decoded}
 use Rattle.grb_lists.proofs.FlatLists.{keys-paired}
 use Rattle.grb_ewise.proofs.Lent.{entries-paired, lent}
-use Rattle.grb_terms.proofs.Each.{holds, made_true, map-each, sorted-each}
+use Rattle.grb_core.proofs.Each.{holds, made_true, map-each, sorted-each}
 use Rattle.grb_maps.specs.Changed.{with_values}
 
 -- by two functions that agree on the values of a domain

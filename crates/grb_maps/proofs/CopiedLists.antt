@@ -19,7 +19,7 @@ use Rattle.grb_ewise.specs.Rows.{flat_entries}
 use Rattle.grb_ewise.proofs.Lent.{entries-paired, lent}
 use Rattle.grb_ewise.proofs.MatrixRows.{rows_from, rows_from-all}
 use Rattle.grb_ewise.proofs.RowMerges.{written_at, length-written, fit-written}
-use Rattle.grb_terms.proofs.Each.{each-some}
+use Rattle.grb_core.proofs.Each.{each-some}
 use Rattle.grb_maps.specs.Changed.{with_values}
 use Rattle.grb_maps.proofs.Between.{between}
 use Rattle.grb_maps.proofs.Changed.{decoded-changed, keys_of-changed, values_of-changed}

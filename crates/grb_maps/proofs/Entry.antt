@@ -6,8 +6,8 @@ use Rattle.grb_core.specs.declared.value.Value.{Value}
 use Rattle.grb_core.specs.Entries.{VectorEntries, before_entries}
 use Rattle.grb_kernels.specs.Typed.{kept}
 use Rattle.grb_kernels.proofs.Lists.{before-append}
-use Rattle.grb_terms.specs.Each.{each_made}
-use Rattle.grb_terms.specs.Maps.{value_if}
+use Rattle.grb_core.specs.Each.{each_made}
+use Rattle.grb_core.specs.Maps.{value_if}
 
 -- what is made of the next entry stands after what was made before
 pub each_on : (g : ℕ → Value → Option Value) (out out' : VectorEntries) (p : ℕ) (x : Value) (w : Option Value) (rest m : VectorEntries)

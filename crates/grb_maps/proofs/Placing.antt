@@ -27,12 +27,12 @@ use Rattle.grb_ewise.specs.Rows.{flat_entries}
 use Rattle.grb_ewise.proofs.Lent.{entries-paired}
 use Rattle.grb_ewise.proofs.WholeMatrix.{matrix_of}
 use Rattle.grb_ewise.proofs.PushedRows.{entries-pushed_row, flat-pushed_row}
-use Rattle.grb_terms.specs.declared.tests.Diagonal.{Diagonal}
-use Rattle.grb_terms.specs.declared.tests.Diagonal.TheVariants as diagonal
-use Rattle.grb_terms.specs.Tests.{up, down}
-use Rattle.grb_terms.specs.Maps.{diagonal_of, diagonal_size, on_diagonal}
-use Rattle.grb_terms.proofs.Each.{holds, made_true}
-use Rattle.grb_terms.proofs.Pulls.{IsAmong, among_or_not, find-cells, find-no_cell, sorted_cells_made}
+use Rattle.grb_core.specs.declared.tests.Diagonal.{Diagonal}
+use Rattle.grb_core.specs.declared.tests.Diagonal.TheVariants as diagonal
+use Rattle.grb_core.specs.Tests.{up, down}
+use Rattle.grb_core.specs.Maps.{diagonal_of, diagonal_size, on_diagonal}
+use Rattle.grb_core.proofs.Each.{holds, made_true}
+use Rattle.grb_core.proofs.Pulls.{IsAmong, among_or_not, find-cells, find-no_cell, sorted_cells_made}
 use Rattle.grb_maps.specs.Placed.{placed}
 use Rattle.grb_maps.proofs.Pushing.{flat_nothing}
 

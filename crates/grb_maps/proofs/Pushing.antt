@@ -13,8 +13,8 @@ use Rattle.grb_lists.specs.Cells.{IsFlat}
 use Rattle.grb_ewise.specs.Rows.{flat_entries}
 use Rattle.grb_ewise.proofs.MatrixRows.{with_row, rows_from, rows_from-more}
 use Rattle.grb_ewise.proofs.PushedRows.{entries-pushed_row, flat-pushed_row}
-use Rattle.grb_terms.specs.Each.{each_made}
-use Rattle.grb_terms.proofs.Each.{each-append}
+use Rattle.grb_core.specs.Each.{each_made}
+use Rattle.grb_core.proofs.Each.{each-append}
 
 -- what is made of the entries of one row
 pub each-with_row : (g : Cell → Value → Option Value) (r : ℕ) (x : VectorEntries) → each_made g (with_row r x) ≡ with_row r (each_made (λ j v. g (r, j) v) x)

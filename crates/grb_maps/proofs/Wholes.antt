@@ -1,5 +1,5 @@
--- What is made of each entry of a whole object is whole, and a matrix that is read transposed.
-use Rattle.std.proofs.Common.{◌≡◌, ℕ, Bool, true, false, sym, subst, ap, refl, ◌∙◌}
+-- What is made of each entry of a whole object is whole.
+use Rattle.std.proofs.Common.{◌≡◌, ℕ, sym, subst}
 use Rattle.std.specs.Prelude.{IsTrue, Option, All, ◌<◌}
 use Rattle.std.specs.Ordering.{nat_cmp}
 use Rattle.std.specs.FinMap.{is_sorted}
@@ -8,15 +8,11 @@ use Rattle.grb_core.specs.declared.domain.Domain.{Domain}
 use Rattle.grb_core.specs.declared.value.Value.{Value}
 use Rattle.grb_core.specs.Value.{IsValueOf}
 use Rattle.grb_core.specs.Entries.{Cell, VectorEntries, MatrixEntries, cell_cmp}
-use Rattle.grb_core.specs.Contents.{Vector, Matrix, IsVector, IsMatrix, edited_matrix}
-use Rattle.grb_core.specs.Results.{turned}
-use Rattle.grb_ewise.specs.Premises.{IsMatrixInput}
+use Rattle.grb_core.specs.Contents.{Vector, Matrix, IsVector, IsMatrix}
 use Rattle.grb_ewise.proofs.Whole.{vector_of}
 use Rattle.grb_ewise.proofs.WholeMatrix.{matrix_of}
-use Rattle.grb_sparse.specs.Matrix.{SparseMatrixView}
-use Rattle.grb_terms.specs.Each.{each_made}
-use Rattle.grb_terms.proofs.Each.{holds, made_true, sorted-each, within-each}
-use Rattle.grb_maps.specs.Turned.{turned_matrix}
+use Rattle.grb_core.specs.Each.{each_made}
+use Rattle.grb_core.proofs.Each.{holds, made_true, sorted-each, within-each}
 
 pub matrix_whole : (g : Cell → Value → Option Value) (d : Domain) (nrows ncols : ℕ) (a : Matrix) (m : MatrixEntries) → IsMatrix a → ◌≡◌ {A = ℕ × ℕ} (nrows, ncols) (a.nrows, a.ncols)
     → m ≡ each_made g a.entries → All (λ e. IsValueOf d e.1) m → IsMatrix (matrix_of d nrows ncols m)
@@ -41,27 +37,3 @@ vector_whole g d size u m h s e v =
           (All-from_recursion (λ (e : ℕ × Value). e.0 < u.size) _ (within-each (λ i. i < u.size) g u.entries (recursion_from_All (λ (e : ℕ × Value). e.0 < u.size) u.entries h.within)));
       of_domain = v;
     })
-
--- what is made of an input as it is read fits the output
-pub input_read : (tran : Bool) (of : Domain) (nrows ncols : ℕ) (a made : SparseMatrixView) (f : MatrixEntries → MatrixEntries) → IsMatrixInput tran of nrows ncols a
-    → made.assembled ≡ true → made.matrix ≡ edited_matrix f (turned_matrix tran a.matrix) → IsMatrixInput false of nrows ncols made
-input_read true of nrows ncols a made f h s e = record {
-  assembled = s;
-  domain = ap (λ (m : Matrix). m.domain) e ∙ h.domain;
-  rows = ap (λ (m : Matrix). m.nrows) e ∙ h.rows;
-  columns = ap (λ (m : Matrix). m.ncols) e ∙ h.columns;
-}
-input_read false of nrows ncols a made f h s e = record {
-  assembled = s;
-  domain = ap (λ (m : Matrix). m.domain) e ∙ h.domain;
-  rows = ap (λ (m : Matrix). m.nrows) e ∙ h.rows;
-  columns = ap (λ (m : Matrix). m.ncols) e ∙ h.columns;
-}
-
-pub entries_read : (tran : Bool) (a : Matrix) → (turned_matrix tran a).entries ≡ turned tran a.entries
-entries_read true a = refl
-entries_read false a = refl
-
-pub domain_read : (tran : Bool) (a : Matrix) → (turned_matrix tran a).domain ≡ a.domain
-domain_read true a = refl
-domain_read false a = refl

@@ -2,4 +2,3 @@ pub mod Bound
 pub mod Changed
 pub mod Placed
 pub mod Runs
-pub mod Turned

@@ -8,21 +8,19 @@ ghost use Rattle.grb_core.specs.Results.{turned};
 ghost use Rattle.grb_ewise.specs.Objects.{IsLike};
 ghost use Rattle.grb_ewise.specs.Premises.{IsMatrixInput, IsMatrixOutput, IsVectorInput, IsVectorOutput};
 ghost use Rattle.grb_ewise.specs.Written.{written_into_matrix, written_into_vector};
-ghost use Rattle.grb_terms.specs.Functions.{IsFunctionOf, turns_input, value_of_function};
-ghost use Rattle.grb_terms.specs.Maps.{applied};
+ghost use Rattle.grb_core.specs.Functions.{IsFunctionOf, turns_input, value_of_function};
+ghost use Rattle.grb_core.specs.Maps.{applied};
 ghost use Rattle.grb_maps.specs.Changed.{with_values};
 ghost use Rattle.grb_maps.specs.Bound.{bound_value};
-ghost use Rattle.grb_maps.specs.Turned.{turned_matrix};
 
 use crate::bound::{BoundFirst, BoundSecond};
 use crate::objects::EachObject;
 use crate::typed::Compared;
 use grb_call::Descriptor;
-use grb_core::{BinaryOp, Domain, Value};
-use grb_ewise::{transposed, write_masked_matrix, write_masked_vector};
+use grb_core::{BinaryOp, Domain, Function, UnaryOp, Value, turns_input};
+use grb_ewise::{read_matrix, write_masked_matrix, write_masked_vector};
 use grb_kernels::{ByOperator, Operator, Scalar};
 use grb_sparse::{SparseMatrix, SparseVector};
-use grb_terms::{Function, UnaryOp, turns_input};
 use std::alloc::{AllocError, Global};
 use std::marker::PhantomData;
 
@@ -120,27 +118,6 @@ fn change_matrix(alloc: Global, f: Function, a: &SparseMatrix) -> Result<SparseM
     }
 }
 
-/// The same of a matrix, or of its transposed, which is made first. `AllocError` where memory is refused; then nothing is made.
-fn change_turned(
-    alloc: Global,
-    f: Function,
-    a: &SparseMatrix,
-    tran: bool,
-) -> Result<SparseMatrix, AllocError>
-    requires assembled { a.now.assembled ≡ true }
-    requires function { IsFunctionOf a.now.matrix.domain f }
-    ensures matrix { IfOk result (λ made. made.matrix ≡ edited_matrix (applied f) (turned_matrix tran a.now.matrix)) }
-    ensures assembled { IfOk result (λ made. made.assembled ≡ true) }
-{
-    if tran {
-        let first = transposed(alloc, a)?;
-        let of_turned = change_matrix(alloc, f, &first)?;
-        return Ok(of_turned);
-    }
-    let made = change_matrix(alloc, f, a)?;
-    Ok(made)
-}
-
 /// The vector with each value by a function. `AllocError` where memory is refused; then nothing is made.
 fn change_vector(alloc: Global, f: Function, u: &SparseVector) -> Result<SparseVector, AllocError>
     requires assembled { u.now.assembled ≡ true }
@@ -168,9 +145,8 @@ fn change_vector(alloc: Global, f: Function, u: &SparseVector) -> Result<SparseV
 /// - `accum`: combines the old value and the computed one where both are there; `None` for the computed one alone.
 /// - `f`: makes a value of each.
 /// - `a`: the input. It stands second where the function has its first argument bound, and first otherwise.
-/// - `descriptor`: how the mask is read, whether what lies outside of it is removed, and whether an input that stands first is read
-///   transposed.
-/// - `tran1`: whether an input that stands second is read transposed.
+/// - `descriptor`: how the mask is read, whether what lies outside of it is removed, and whether `a` is read transposed: by `tran` where it
+///   stands first, and by `tran1` where it stands second.
 ///
 /// All are of one domain, the mask aside, and of the same dimensions, those of `a` exchanged where it is read transposed. Time and memory
 /// are in proportion to the stored entries.
@@ -184,16 +160,16 @@ pub fn apply_matrix(
     f: Function,
     a: &SparseMatrix,
     descriptor: Descriptor,
-    tran1: bool,
 ) -> Result<SparseMatrix, AllocError>
     requires output { IsMatrixOutput output.now mask accum }
     requires function { IsFunctionOf output.now.matrix.domain f }
-    requires a { IsMatrixInput (turns_input f descriptor.tran tran1) output.now.matrix.domain output.now.matrix.nrows output.now.matrix.ncols a.now }
+    requires a { IsMatrixInput (turns_input f descriptor.tran descriptor.tran1) output.now.matrix.domain output.now.matrix.nrows output.now.matrix.ncols a.now }
     ensures matrix { IfOk result (λ made. made.matrix ≡ written_into_matrix output.now mask.entry accum descriptor
-        (applied f (turned (turns_input f descriptor.tran tran1) a.now.matrix.entries))) }
+        (applied f (turned (turns_input f descriptor.tran descriptor.tran1) a.now.matrix.entries))) }
     ensures assembled { IfOk result (λ made. made.assembled ≡ true) }
 {
-    let computed = change_turned(alloc, f, a, turns_input(f, descriptor.tran, tran1))?;
+    let input = read_matrix(alloc, a, turns_input(f, descriptor.tran, descriptor.tran1))?;
+    let computed = change_matrix(alloc, f, input.matrix())?;
     write_masked_matrix(alloc, output, mask, accum, descriptor, computed)
 }
 
@@ -205,7 +181,7 @@ pub fn apply_matrix(
 /// - `accum`: combines the old value and the computed one where both are there; `None` for the computed one alone.
 /// - `f`: makes a value of each.
 /// - `u`: the input.
-/// - `descriptor`: how the mask is read, whether what lies outside of it is removed; its `tran` is not read.
+/// - `descriptor`: how the mask is read, whether what lies outside of it is removed; `tran` and `tran1` are not read.
 ///
 /// All are of one domain, the mask aside, and of one size. Time and memory are in proportion to the stored entries.
 ///

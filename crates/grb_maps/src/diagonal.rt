@@ -9,16 +9,15 @@ ghost use Rattle.grb_core.specs.Entries.{cell_cmp};
 ghost use Rattle.grb_kernels.specs.Typed.{entries_of};
 ghost use Rattle.grb_lists.specs.Cells.{decoded, IsFlat};
 ghost use Rattle.grb_ewise.specs.Rows.{flat_entries};
-ghost use Rattle.grb_terms.specs.Maps.{diagonal_matrix, diagonal_size};
-ghost use Rattle.grb_terms.specs.Tests.{down, up};
+ghost use Rattle.grb_core.specs.Maps.{diagonal_matrix, diagonal_size};
+ghost use Rattle.grb_core.specs.Tests.{down, up};
 ghost use Rattle.grb_maps.specs.Placed.{placed};
 
-use grb_core::Domain;
+use grb_core::{Diagonal, Domain, diagonal_size};
 use grb_ewise::Stored;
 use grb_kernels::EntrySlice;
 use grb_lists::FlatRows;
 use grb_sparse::{SparseMatrix, SparseVector};
-use grb_terms::{Diagonal, diagonal_size};
 use std::alloc::{AllocError, Global};
 
 /// Puts each entry of a vector into empty lists as a row of its own, so much further down and so much further to the right.

@@ -3,7 +3,7 @@ ghost use Rattle.std.specs.Prelude.{◌≡◌, ◌≤◌, ℕ, length, Option, I
 ghost use Rattle.grb_core.specs.declared.value.Value.{Value};
 ghost use Rattle.grb_kernels.specs.Typed.{kept, entries_of, first_entries};
 ghost use Rattle.grb_kernels.specs.Merging.{owned, lent};
-ghost use Rattle.grb_terms.specs.Each.{each_made};
+ghost use Rattle.grb_core.specs.Each.{each_made};
 
 use grb_kernels::{EntryList, EntrySlice, Scalar, emit};
 use std::alloc::{AllocError, Global};

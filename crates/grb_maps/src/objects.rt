@@ -3,7 +3,7 @@ ghost use Rattle.std.specs.Prelude.{◌≡◌, ℕ, true, All, IfOk};
 ghost use Rattle.grb_core.specs.Value.{IsValueOf};
 ghost use Rattle.grb_core.specs.Entries.{Cell};
 ghost use Rattle.grb_ewise.specs.Objects.{Contents, IsLike, contents_of_vector, contents_of_matrix};
-ghost use Rattle.grb_terms.specs.Each.{each_made};
+ghost use Rattle.grb_core.specs.Each.{each_made};
 ghost use Rattle.grb_maps.specs.Changed.{with_values};
 
 use crate::changing::{Change, change_rows, change_values};

@@ -9,7 +9,7 @@ ghost use Rattle.grb_kernels.specs.Typed.{entries_of};
 ghost use Rattle.grb_lists.specs.Cells.{decoded, in_row, IsFlat};
 ghost use Rattle.grb_lists.specs.Stored.{row_entries, started_at};
 ghost use Rattle.grb_ewise.specs.Rows.{flat_entries};
-ghost use Rattle.grb_terms.specs.Each.{each_made};
+ghost use Rattle.grb_core.specs.Each.{each_made};
 
 use crate::each::{Each, make_row};
 use grb_ewise::Stored;

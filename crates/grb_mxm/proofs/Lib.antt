@@ -8,3 +8,4 @@ pub mod States
 pub mod MaskedProduct
 pub mod Names
 pub mod TrueRows
+pub mod ReadFactors

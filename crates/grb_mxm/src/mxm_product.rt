@@ -1,5 +1,5 @@
 //! The product of two matrices.
-ghost use Rattle.std.specs.Prelude.{◌≡◌, ◌<◌, ℕ, length, true, All, IsTrue, IfOk, IfSome, if◌then◌else◌, false};
+ghost use Rattle.std.specs.Prelude.{◌≡◌, ◌<◌, ℕ, length, true, All, IsTrue, IfOk, IfSome, false};
 ghost use Rattle.std.specs.Option.{option_map};
 ghost use Rattle.std.specs.FinMap.{is_sorted};
 ghost use Rattle.grb_core.specs.Operator.{op_domain};
@@ -10,7 +10,7 @@ ghost use Rattle.grb_core.specs.Written.{written};
 ghost use Rattle.grb_core.specs.Results.{mxm_of, turned};
 ghost use Rattle.grb_lists.specs.Cells.{decoded, IsFlat};
 ghost use Rattle.grb_ewise.specs.Rows.{flat_entries};
-ghost use Rattle.grb_ewise.specs.Premises.{IsMatrixInput, IsMatrixOutput};
+ghost use Rattle.grb_ewise.specs.Premises.{IsMatrixInput, IsMatrixOutput, columns_read, rows_read};
 ghost use Rattle.grb_ewise.specs.Written.{written_into_matrix};
 ghost use Rattle.grb_mxm.specs.Rows.{AreRows, selected_product, bounding};
 
@@ -19,7 +19,7 @@ use crate::rows::MadeRows;
 use crate::true_rows::InBits;
 use grb_call::Descriptor;
 use grb_core::{BinaryOp, Domain, Semiring};
-use grb_ewise::{Stored, transposed, write_inside_matrix, write_masked_matrix};
+use grb_ewise::{Stored, read_matrix, write_inside_matrix, write_masked_matrix};
 use grb_lists::FlatRows;
 use grb_semirings::{Folded, MatrixRows, by_semiring, lend_matrix};
 use grb_sparse::SparseMatrix;
@@ -112,29 +112,35 @@ fn bounding_lists(mask: Option<&SparseMatrix>, comp: bool) -> Option<&FlatRows>
     }
 }
 
-/// The same with the first matrix transposed, where `tran` says so. Where it does not, nothing is copied. `AllocError` where memory is
-/// refused; then nothing is made.
-fn turned_product(
+/// The same of two matrices as they are read. `AllocError` where memory is refused; then nothing is made.
+fn product_read(
     alloc: Global,
     semiring: Semiring,
     structure: bool,
-    tran: bool,
     mask: Option<&FlatRows>,
     a: &SparseMatrix,
     b: &SparseMatrix,
+    tran: bool,
+    tran1: bool,
 ) -> Result<SparseMatrix, AllocError>
-    requires a { IsMatrixInput tran (op_domain semiring.op) (if tran then a.now.matrix.ncols else a.now.matrix.nrows) b.now.matrix.nrows a.now }
-    requires b { IsMatrixInput false (op_domain semiring.op) b.now.matrix.nrows b.now.matrix.ncols b.now }
+    requires a { IsMatrixInput tran (op_domain semiring.op) (rows_read tran a.now.matrix) (rows_read tran1 b.now.matrix) a.now }
+    requires b { IsMatrixInput tran1 (op_domain semiring.op) (rows_read tran1 b.now.matrix) (columns_read tran1 b.now.matrix) b.now }
     requires mask_ordered { IfSome mask (λ m. IsTrue (is_sorted cell_cmp (decoded m.now.entries))) }
-    requires mask_in_range { IfSome mask (λ m. All (λ e. e.0.1 < b.now.matrix.ncols) (decoded m.now.entries)) }
-    ensures matrix { IfOk result (λ made. made.matrix ≡ record { domain = a.now.matrix.domain; nrows = (if tran then a.now.matrix.ncols else a.now.matrix.nrows); ncols = b.now.matrix.ncols; entries = selected_product semiring structure (option_map (λ m. decoded m.now.entries) mask.entry) (turned tran a.now.matrix.entries) b.now.matrix.entries }) }
+    requires mask_in_range { IfSome mask (λ m. All (λ e. e.0.1 < columns_read tran1 b.now.matrix) (decoded m.now.entries)) }
+    ensures matrix { IfOk result (λ made. made.matrix ≡ record { domain = a.now.matrix.domain; nrows = rows_read tran a.now.matrix; ncols = columns_read tran1 b.now.matrix; entries = selected_product semiring structure (option_map (λ m. decoded m.now.entries) mask.entry) (turned tran a.now.matrix.entries) (turned tran1 b.now.matrix.entries) }) }
     ensures assembled { IfOk result (λ made. made.assembled ≡ true) }
 {
-    if tran {
-        let first = transposed(alloc, a)?;
-        return product(alloc, semiring, structure, mask, &first, b);
-    }
-    product(alloc, semiring, structure, mask, a, b)
+    let first = read_matrix(alloc, a, tran)?;
+    let second = read_matrix(alloc, b, tran1)?;
+    let made = product(
+        alloc,
+        semiring,
+        structure,
+        mask,
+        first.matrix(),
+        second.matrix(),
+    )?;
+    Ok(made)
 }
 
 /// The product of two matrices: at each row of `a` and each column of `b` the fold, by the semiring's monoid, of what its operator makes of
@@ -146,11 +152,11 @@ fn turned_product(
 /// - `accum`: combines the old value and the computed one where both are there; `None` for the computed one alone.
 /// - `semiring`: its operator multiplies, its monoid adds up the products.
 /// - `a`, `b`: the first and the second input; the value of `a` comes first in a product.
-/// - `descriptor`: how the mask is read, whether what lies outside of it is removed, and whether `a` is read transposed.
+/// - `descriptor`: how the mask is read, whether what lies outside of it is removed, whether `a` is read transposed, and whether `b` is.
 ///
 /// All are of one domain, the mask aside; `b` has one row for each column of `a`, and the output and the mask have the rows of `a` and the
-/// columns of `b`. Where the descriptor says `tran`, `a` stands here for its transposed, which is made first, as `grb_ewise::transposed`
-/// does; else nothing is copied.
+/// columns of `b`. Where the descriptor says `tran`, `a` stands here for its transposed, and where it says `tran1`, `b` for its own: that is
+/// made first, as `grb_ewise::transposed` does; else nothing is copied.
 ///
 /// A mask that is given and not complemented bounds the work: sums are made at the cells that it selects alone, for the
 /// rows in which it stores something, in time in proportion to the products that are looked at and to the mask's entries. Else time is in
@@ -178,15 +184,15 @@ pub fn mxm(
 ) -> Result<SparseMatrix, AllocError>
     requires output { IsMatrixOutput output.now mask accum }
     requires semiring_domain { op_domain semiring.op ≡ output.now.matrix.domain }
-    requires a { IsMatrixInput descriptor.tran output.now.matrix.domain output.now.matrix.nrows b.now.matrix.nrows a.now }
-    requires b { IsMatrixInput false output.now.matrix.domain b.now.matrix.nrows output.now.matrix.ncols b.now }
+    requires a { IsMatrixInput descriptor.tran output.now.matrix.domain output.now.matrix.nrows (rows_read descriptor.tran1 b.now.matrix) a.now }
+    requires b { IsMatrixInput descriptor.tran1 output.now.matrix.domain (rows_read descriptor.tran1 b.now.matrix) output.now.matrix.ncols b.now }
     ensures matrix { IfOk result (λ made. made.matrix ≡ written_into_matrix output.now mask.entry accum descriptor
-        (mxm_of semiring (turned descriptor.tran a.now.matrix.entries) b.now.matrix.entries)) }
+        (mxm_of semiring (turned descriptor.tran a.now.matrix.entries) (turned descriptor.tran1 b.now.matrix.entries))) }
     ensures assembled { IfOk result (λ made. made.assembled ≡ true) }
 {
     let bound = bounding_lists(mask, descriptor.comp);
-    let (structure, tran) = (descriptor.structure, descriptor.tran);
-    let computed = turned_product(alloc, semiring, structure, tran, bound, a, b)?;
+    let (structure, tran, tran1) = (descriptor.structure, descriptor.tran, descriptor.tran1);
+    let computed = product_read(alloc, semiring, structure, bound, a, b, tran, tran1)?;
     if descriptor.comp {
         let masked = write_masked_matrix(alloc, output, mask, accum, descriptor, computed)?;
         return Ok(masked);

@@ -5,6 +5,7 @@ use Rattle.std.specs.Option.{option_map_or}
 use Rattle.std.proofs.lemmas.Bool.{and_parts}
 use Rattle.grb_core.specs.declared.refusal.Refusal.{Refusal}
 use Rattle.grb_core.specs.Contents.{Matrix, Vector}
+use Rattle.grb_core.specs.Maps.{diagonal_matrix}
 use Rattle.grb_call.specs.declared.call.Call.{Call}
 use Rattle.grb_call.specs.declared.call.Call.TheVariants as call
 use Rattle.grb_call.specs.declared.ids.MatrixId.{MatrixId}
@@ -103,6 +104,7 @@ module _ (n : NumbersSeen) (s : Store) (are : AreNumbersOf n s) where
   changed-seen (call.NewVector domain size) taken = with_vector-seen _
   changed-seen (call.DupMatrix a) taken = (λ i. with_matrix t (holds.matrix a i)) ∙ with_matrix-seen _
   changed-seen (call.DupVector v) taken = (λ i. with_vector t (holds.vector v i)) ∙ with_vector-seen _
+  changed-seen (call.Diag v diagonal) taken = (λ i. with_matrix t (option_map (diagonal_matrix diagonal) (holds.vector v i))) ∙ with_matrix-seen _
   changed-seen c taken = output-seen c taken
 
   after_by : (o p : Option Refusal) (x y : Store) → o ≡ p → (o ≡ None → x ≡ seen_store n y) → option_map_or (λ _. t) o x ≡ seen_store n (option_map_or (λ _. s) p y)

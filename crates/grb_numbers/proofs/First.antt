@@ -2,6 +2,8 @@
 use Rattle.std.proofs.Common.{◌≡◌, ℕ, ◌<◌, List, length, refl, sym, ap, ◌∙◌, arith, Option, None, Some}
 use Rattle.grb_call.specs.declared.call.Call.{Call}
 use Rattle.grb_call.specs.declared.call.Call.TheVariants as call
+use Rattle.grb_call.specs.declared.term.MatrixTerm.TheVariants as matrix_term
+use Rattle.grb_call.specs.declared.term.VectorTerm.TheVariants as vector_term
 use Rattle.grb_call.specs.After.{answer}
 use Rattle.grb_call.specs.Shapes.{object_at}
 use Rattle.grb_numbers.specs.Inside.{Renaming, inwards, outside_reply, renamed}
@@ -49,6 +51,18 @@ renamed-none (call.Mxm c None accum semiring a b d) = refl
 renamed-none (call.Mxm c (Some m) accum semiring a b d) = refl
 renamed-none (call.ReduceRows w None accum monoid a d) = refl
 renamed-none (call.ReduceRows w (Some m) accum monoid a d) = refl
+renamed-none (call.WriteMatrix c None accum (matrix_term.Transposed a) d) = refl
+renamed-none (call.WriteMatrix c (Some m) accum (matrix_term.Transposed a) d) = refl
+renamed-none (call.WriteMatrix c None accum (matrix_term.Applied f a) d) = refl
+renamed-none (call.WriteMatrix c (Some m) accum (matrix_term.Applied f a) d) = refl
+renamed-none (call.WriteMatrix c None accum (matrix_term.Selected t a) d) = refl
+renamed-none (call.WriteMatrix c (Some m) accum (matrix_term.Selected t a) d) = refl
+renamed-none (call.WriteMatrix c None accum (matrix_term.Kronecker op a b) d) = refl
+renamed-none (call.WriteMatrix c (Some m) accum (matrix_term.Kronecker op a b) d) = refl
+renamed-none (call.WriteVector w None accum (vector_term.Applied f u) d) = refl
+renamed-none (call.WriteVector w (Some m) accum (vector_term.Applied f u) d) = refl
+renamed-none (call.WriteVector w None accum (vector_term.Selected t u) d) = refl
+renamed-none (call.WriteVector w (Some m) accum (vector_term.Selected t u) d) = refl
 renamed-none _ = refl
 
 inwards-first : inwards first_numbers ≡ none

@@ -3,13 +3,14 @@ use Rattle.std.proofs.Common.{◌≡◌, Bool, true, false, if◌then◌else◌,
 use Rattle.std.specs.Option.{option_map_or, option_or}
 use Rattle.grb_call.specs.declared.call.Call.{Call}
 use Rattle.grb_call.specs.declared.call.Call.TheVariants as call
+use Rattle.grb_call.specs.declared.term.MatrixTerm.TheVariants as matrix_term
+use Rattle.grb_call.specs.declared.term.VectorTerm.TheVariants as vector_term
 use Rattle.grb_call.specs.declared.ids.Object.{Object}
 use Rattle.grb_call.specs.declared.operation.Operation.{Operation}
 use Rattle.grb_call.specs.Kinds.{enters}
 use Rattle.grb_call.specs.Operands.{named, operands, masks, given_domains}
 use Rattle.grb_call.specs.Operation.{if_any, operation_of, operation_objects}
 use Rattle.grb_call.specs.Output.{output_of}
-use Rattle.grb_call.specs.Refused.{has_valid_values}
 use Rattle.grb_call.specs.Status.{object_of}
 use Rattle.grb_numbers.specs.Inside.{Renaming, renamed, renamed_object}
 
@@ -36,6 +37,18 @@ module _ (r : Renaming) where
   operation_of-renamed (call.Mxm c (Some m) accum semiring a b d) = refl
   operation_of-renamed (call.ReduceRows w None accum monoid a d) = refl
   operation_of-renamed (call.ReduceRows w (Some m) accum monoid a d) = refl
+  operation_of-renamed (call.WriteMatrix c None accum (matrix_term.Transposed a) d) = refl
+  operation_of-renamed (call.WriteMatrix c (Some m) accum (matrix_term.Transposed a) d) = refl
+  operation_of-renamed (call.WriteMatrix c None accum (matrix_term.Applied f a) d) = refl
+  operation_of-renamed (call.WriteMatrix c (Some m) accum (matrix_term.Applied f a) d) = refl
+  operation_of-renamed (call.WriteMatrix c None accum (matrix_term.Selected t a) d) = refl
+  operation_of-renamed (call.WriteMatrix c (Some m) accum (matrix_term.Selected t a) d) = refl
+  operation_of-renamed (call.WriteMatrix c None accum (matrix_term.Kronecker op a b) d) = refl
+  operation_of-renamed (call.WriteMatrix c (Some m) accum (matrix_term.Kronecker op a b) d) = refl
+  operation_of-renamed (call.WriteVector w None accum (vector_term.Applied f u) d) = refl
+  operation_of-renamed (call.WriteVector w (Some m) accum (vector_term.Applied f u) d) = refl
+  operation_of-renamed (call.WriteVector w None accum (vector_term.Selected t u) d) = refl
+  operation_of-renamed (call.WriteVector w (Some m) accum (vector_term.Selected t u) d) = refl
   operation_of-renamed _ = refl
 
   pub named-renamed : (c : Call) → named (renamed r c) ≡ option_map (renamed_object r) (named c)
@@ -46,12 +59,14 @@ module _ (r : Renaming) where
   enters-renamed (call.NewMatrix domain nrows ncols) = refl
   enters-renamed _ = refl
 
-  pub valid-renamed : (c : Call) → has_valid_values (renamed r c) ≡ has_valid_values c
-  valid-renamed (call.NewMatrix domain nrows ncols) = refl
-  valid-renamed _ = refl
-
   pub given-renamed : (c : Call) → given_domains (renamed r c) ≡ given_domains c
   given-renamed (call.NewMatrix domain nrows ncols) = refl
+  given-renamed (call.WriteMatrix c mask accum (matrix_term.Transposed a) d) = refl
+  given-renamed (call.WriteMatrix c mask accum (matrix_term.Applied f a) d) = refl
+  given-renamed (call.WriteMatrix c mask accum (matrix_term.Selected t a) d) = refl
+  given-renamed (call.WriteMatrix c mask accum (matrix_term.Kronecker op a b) d) = refl
+  given-renamed (call.WriteVector w mask accum (vector_term.Applied f u) d) = refl
+  given-renamed (call.WriteVector w mask accum (vector_term.Selected t u) d) = refl
   given-renamed _ = refl
 
   if_any-renamed : (o : Option Object) → if_any (option_map (renamed_object r) o) ≡ map (renamed_object r) (if_any o)
@@ -95,6 +110,7 @@ module _ (r : Renaming) where
   object_of-renamed : (c : Call) → object_of (renamed r c) ≡ option_map (renamed_object r) (object_of c)
   object_of-renamed (call.DupMatrix a) = refl
   object_of-renamed (call.DupVector v) = refl
+  object_of-renamed (call.Diag v diagonal) = refl
   object_of-renamed c = refl
 
   output_by : (b : Bool) (o : Option Object) → (if b then option_map (renamed_object r) o else None) ≡ option_map (renamed_object r) (if b then o else None)

@@ -28,7 +28,7 @@ abbrev v : ℕ → VectorId
 v n = record { 0 = n }
 
 abbrev descriptor : Descriptor
-descriptor = record { structure = false; comp = false; replace = false; tran = false }
+descriptor = record { structure = false; comp = false; replace = false; tran = false; tran1 = false }
 
 -- a number that was given before and not carried over has no inner one; those that are given here go on after the two
 inner_numbers : map (inner_number two_of_seven) (0 ∷ 2 ∷ 3 ∷ 5 ∷ 6 ∷ 7 ∷ 9 ∷ []) ≡ no_number ∷ 0 ∷ no_number ∷ 1 ∷ no_number ∷ 2 ∷ 4 ∷ []

@@ -1,13 +1,14 @@
 -- A call on a store, and the same call with other numbers on a store that holds the same objects at those numbers.
-use Rattle.std.proofs.Common.{◌≡◌, ℕ, ◌&&◌, ◌==◌, Bool, true, not, nat_lt, if◌then◌else◌, List, [], ◌∷◌, ◌++◌, map, refl, sym, ap, ◌∙◌, Option, None, Some, option_map, is_some}
+use Rattle.std.proofs.Common.{◌≡◌, ℕ, ◌*◌, ◌&&◌, ◌==◌, Bool, true, not, nat_lt, if◌then◌else◌, List, [], ◌∷◌, ◌++◌, map, refl, sym, ap, ◌∙◌, Option, None, Some, option_map, is_some}
 use Rattle.std.specs.List.{list_all}
 use Rattle.std.specs.Option.{option_map_or, option_or}
 use Rattle.grb_core.specs.declared.domain.Domain.{Domain}
 use Rattle.grb_core.specs.declared.refusal.Refusal.TheVariants.{UninitializedObject, InvalidValue, InvalidIndex, DomainMismatch, DimensionMismatch, OutputNotEmpty, IndexOutOfBounds}
 use Rattle.grb_core.specs.Entries.{nvals_of}
+use Rattle.grb_core.specs.Contents.{is_dimension}
+use Rattle.grb_core.specs.Maps.{diagonal_size}
 use Rattle.grb_call.specs.declared.call.Call.{Call}
 use Rattle.grb_call.specs.declared.call.Call.TheVariants as call
-use Rattle.grb_call.specs.declared.descriptor.Descriptor.{Descriptor}
 use Rattle.grb_call.specs.declared.ids.MatrixId.{MatrixId}
 use Rattle.grb_call.specs.declared.ids.VectorId.{VectorId}
 use Rattle.grb_call.specs.declared.ids.Object.{Object}
@@ -15,16 +16,16 @@ use Rattle.grb_call.specs.declared.ids.Object.TheVariants as object
 use Rattle.grb_call.specs.declared.operation.Input.TheVariants.{First, Second}
 use Rattle.grb_call.specs.declared.operation.Operation.{Operation}
 use Rattle.grb_call.specs.declared.operation.OperationKind.{OperationKind}
-use Rattle.grb_call.specs.declared.operation.OperationKind.TheVariants.{EwiseAdd, EwiseMult, Product, Rows}
+use Rattle.grb_call.specs.declared.operation.OperationKind.TheVariants.{EwiseAdd, EwiseMult, Product, Rows, Transpose, Apply, Select, Kronecker}
 use Rattle.grb_call.specs.After.{has_old_entries, refused_build, refused}
 use Rattle.grb_call.specs.Operands.{operands, masks, given_domains}
 use Rattle.grb_call.specs.Operation.{operation_of, turns}
-use Rattle.grb_call.specs.Refused.{is_initialized, has_valid_index, is_cell_of, is_index_of, same_domain, are_of_domain, is_one_domain, has_one_domain, dims_at, has_dims, mask_fits, turned_nrows, turned_ncols, turned_dims, ewise_fits, product_fits, rows_fit, fitting_of, operation_fits, has_fitting_dims, refused_by_shapes, is_in_bounds}
+use Rattle.grb_call.specs.Refused.{is_initialized, has_valid_values, has_valid_index, is_cell_of, is_index_of, same_domain, are_of_domain, is_one_domain, has_one_domain, dims_at, has_dims, mask_fits, turned_nrows, turned_ncols, turned_dims, ewise_fits, product_fits, rows_fit, same_fits, kronecker_fits, fitting_of, operation_fits, has_fitting_dims, refused_by_shapes, is_in_bounds}
 use Rattle.grb_call.specs.Shapes.{ObjectShapes, matrix_shape_at, vector_shape_at, is_live, domain_at, nrows_at, ncols_at, size_at}
 use Rattle.grb_call.specs.Store.{Store, shapes_of, matrix_at, vector_at, matrix_shape, vector_shape, matrix_entries, vector_entries}
 use Rattle.grb_call.proofs.ShapesAfter.{object_at-map}
 use Rattle.grb_numbers.specs.Inside.{Renaming, renamed, renamed_object}
-use Rattle.grb_numbers.proofs.Renamed.{renamed_operation, operation_of-renamed, valid-renamed, given-renamed, operands_are, objects-renamed}
+use Rattle.grb_numbers.proofs.Renamed.{renamed_operation, operation_of-renamed, given-renamed, operands_are, objects-renamed}
 
 list_all-map : {X Y : Type 0} (p : Y → Bool) (f : X → Y) (xs : List X) → list_all (λ x. p (f x)) xs ≡ list_all p (map f xs)
 list_all-map p f [] = refl
@@ -76,6 +77,10 @@ module _ (t s : Store) (r : Renaming) (same : HoldsSame t s r) where
   index-same : (v : VectorId) (i : ℕ) → is_index_of T v i ≡ is_index_of S (r.vector v) i
   index-same v i = λ x. nat_lt i (size v x)
 
+  valid_values-same : (c : Call) → has_valid_values T c ≡ has_valid_values S (renamed r c)
+  valid_values-same (call.Diag v diagonal) = λ i. is_dimension (diagonal_size diagonal (size v i))
+  valid_values-same _ = refl
+
   valid_index-same : (c : Call) → has_valid_index T c ≡ has_valid_index S (renamed r c)
   valid_index-same (call.SetMatrix a i j value) = cell-same a i j
   valid_index-same (call.SetVector v i value) = index-same v i
@@ -121,37 +126,53 @@ module _ (t s : Store) (r : Renaming) (same : HoldsSame t s r) where
   turned-same : (tran : Bool) (a c : MatrixId) → turned_dims T tran a c ≡ turned_dims S tran (r.matrix a) (r.matrix c)
   turned-same tran a c = λ i. (turned_nrows-same tran a i == nrows c i) && (turned_ncols-same tran a i == ncols c i)
 
-  ewise-same : (d : Descriptor) (o : Object) (p q : Option Object) (m n : Bool) → m ≡ n →
-      ewise_fits T d o p q m ≡ ewise_fits S d (renamed_object r o) (option_map (renamed_object r) p) (option_map (renamed_object r) q) n
-  ewise-same d (object.Matrix c) (Some (object.Matrix a)) (Some (object.Matrix b)) m n e = λ i. turned-same (turns d First) a c i && (turned-same (turns d Second) b c i && e i)
-  ewise-same d (object.Vector w) (Some (object.Vector u)) (Some (object.Vector v)) m n e = λ i. (size u i == size w i) && ((size v i == size w i) && e i)
-  ewise-same d _ _ _ m n e = refl
+  ewise-same : (tran tran1 : Bool) (o : Object) (p q : Option Object) (m n : Bool) → m ≡ n →
+      ewise_fits T tran tran1 o p q m ≡ ewise_fits S tran tran1 (renamed_object r o) (option_map (renamed_object r) p) (option_map (renamed_object r) q) n
+  ewise-same tran tran1 (object.Matrix c) (Some (object.Matrix a)) (Some (object.Matrix b)) m n e = λ i. turned-same tran a c i && (turned-same tran1 b c i && e i)
+  ewise-same tran tran1 (object.Vector w) (Some (object.Vector u)) (Some (object.Vector v)) m n e = λ i. (size u i == size w i) && ((size v i == size w i) && e i)
+  ewise-same tran tran1 _ _ _ m n e = refl
 
-  product-same : (d : Descriptor) (o : Object) (p q : Option Object) (m n : Bool) → m ≡ n →
-      product_fits T d o p q m ≡ product_fits S d (renamed_object r o) (option_map (renamed_object r) p) (option_map (renamed_object r) q) n
-  product-same d (object.Matrix c) (Some (object.Matrix a)) (Some (object.Matrix b)) m n e =
-      λ i. (turned_nrows-same (turns d First) a i == nrows c i)
-      && ((turned_ncols-same (turns d Second) b i == ncols c i) && ((turned_ncols-same (turns d First) a i == turned_nrows-same (turns d Second) b i) && e i))
-  product-same d (object.Vector w) (Some (object.Matrix a)) (Some (object.Vector u)) m n e =
-      λ i. (turned_nrows-same (turns d First) a i == size w i) && ((turned_ncols-same (turns d First) a i == size u i) && e i)
-  product-same d (object.Vector w) (Some (object.Vector u)) (Some (object.Matrix a)) m n e =
-      λ i. (turned_ncols-same (turns d Second) a i == size w i) && ((turned_nrows-same (turns d Second) a i == size u i) && e i)
-  product-same d _ _ _ m n e = refl
+  product-same : (tran tran1 : Bool) (o : Object) (p q : Option Object) (m n : Bool) → m ≡ n →
+      product_fits T tran tran1 o p q m ≡ product_fits S tran tran1 (renamed_object r o) (option_map (renamed_object r) p) (option_map (renamed_object r) q) n
+  product-same tran tran1 (object.Matrix c) (Some (object.Matrix a)) (Some (object.Matrix b)) m n e =
+      λ i. (turned_nrows-same tran a i == nrows c i)
+      && ((turned_ncols-same tran1 b i == ncols c i) && ((turned_ncols-same tran a i == turned_nrows-same tran1 b i) && e i))
+  product-same tran tran1 (object.Vector w) (Some (object.Matrix a)) (Some (object.Vector u)) m n e =
+      λ i. (turned_nrows-same tran a i == size w i) && ((turned_ncols-same tran a i == size u i) && e i)
+  product-same tran tran1 (object.Vector w) (Some (object.Vector u)) (Some (object.Matrix a)) m n e =
+      λ i. (turned_ncols-same tran1 a i == size w i) && ((turned_nrows-same tran1 a i == size u i) && e i)
+  product-same tran tran1 _ _ _ m n e = refl
 
-  rows-same : (d : Descriptor) (o : Object) (p q : Option Object) (m n : Bool) → m ≡ n →
-      rows_fit T d o p q m ≡ rows_fit S d (renamed_object r o) (option_map (renamed_object r) p) (option_map (renamed_object r) q) n
-  rows-same d (object.Vector w) (Some (object.Matrix a)) None m n e = λ i. (turned_nrows-same (turns d First) a i == size w i) && e i
-  rows-same d _ _ _ m n e = refl
+  rows-same : (tran tran1 : Bool) (o : Object) (p q : Option Object) (m n : Bool) → m ≡ n →
+      rows_fit T tran tran1 o p q m ≡ rows_fit S tran tran1 (renamed_object r o) (option_map (renamed_object r) p) (option_map (renamed_object r) q) n
+  rows-same tran tran1 (object.Vector w) (Some (object.Matrix a)) None m n e = λ i. (turned_nrows-same tran a i == size w i) && e i
+  rows-same tran tran1 _ _ _ m n e = refl
 
-  kind-same : (kind : OperationKind) (d : Descriptor) (o : Object) (p q : Option Object) (m n : Bool) → m ≡ n →
-      fitting_of kind T d o p q m ≡ fitting_of kind S d (renamed_object r o) (option_map (renamed_object r) p) (option_map (renamed_object r) q) n
+  each-same : (tran tran1 : Bool) (o : Object) (p q : Option Object) (m n : Bool) → m ≡ n →
+      same_fits T tran tran1 o p q m ≡ same_fits S tran tran1 (renamed_object r o) (option_map (renamed_object r) p) (option_map (renamed_object r) q) n
+  each-same tran tran1 (object.Matrix c) (Some (object.Matrix a)) None m n e = λ i. turned-same tran a c i && e i
+  each-same tran tran1 (object.Vector w) (Some (object.Vector u)) None m n e = λ i. (size u i == size w i) && e i
+  each-same tran tran1 _ _ _ m n e = refl
+
+  kronecker-same : (tran tran1 : Bool) (o : Object) (p q : Option Object) (m n : Bool) → m ≡ n →
+      kronecker_fits T tran tran1 o p q m ≡ kronecker_fits S tran tran1 (renamed_object r o) (option_map (renamed_object r) p) (option_map (renamed_object r) q) n
+  kronecker-same tran tran1 (object.Matrix c) (Some (object.Matrix a)) (Some (object.Matrix b)) m n e =
+      λ i. (turned_nrows-same tran a i * turned_nrows-same tran1 b i == nrows c i) && ((turned_ncols-same tran a i * turned_ncols-same tran1 b i == ncols c i) && e i)
+  kronecker-same tran tran1 _ _ _ m n e = refl
+
+  kind-same : (kind : OperationKind) (tran tran1 : Bool) (o : Object) (p q : Option Object) (m n : Bool) → m ≡ n →
+      fitting_of kind T tran tran1 o p q m ≡ fitting_of kind S tran tran1 (renamed_object r o) (option_map (renamed_object r) p) (option_map (renamed_object r) q) n
   kind-same (EwiseAdd op) = ewise-same
   kind-same (EwiseMult op) = ewise-same
   kind-same (Product semiring) = product-same
   kind-same (Rows monoid) = rows-same
+  kind-same Transpose = each-same
+  kind-same (Apply f) = each-same
+  kind-same (Select p) = each-same
+  kind-same (Kronecker op) = kronecker-same
 
   fits-same : (o : Operation) → operation_fits T o ≡ operation_fits S (renamed_operation r o)
-  fits-same o = kind-same o.kind o.d o.output o.first o.second _ _ (mask-same o.mask o.output)
+  fits-same o = kind-same o.kind (turns o.kind o.d First) (turns o.kind o.d Second) o.output o.first o.second _ _ (mask-same o.mask o.output)
 
   any_fits : (q : Option Operation) → option_map_or (operation_fits T) q true ≡ option_map_or (operation_fits S) (option_map (renamed_operation r) q) true
   any_fits None = refl
@@ -164,7 +185,7 @@ module _ (t s : Store) (r : Renaming) (same : HoldsSame t s r) where
   by_shapes-same : (c : Call) → refused_by_shapes T c ≡ refused_by_shapes S (renamed r c)
   by_shapes-same c = λ i.
       if not (initialized-same c i) then Some UninitializedObject
-      else (if not (sym (valid-renamed r c) i) then Some InvalidValue
+      else (if not (valid_values-same c i) then Some InvalidValue
       else (if not (valid_index-same c i) then Some InvalidIndex
       else (if not (has_one_domain-same c i) then Some DomainMismatch
       else (if not (has_fitting_dims-same c i) then Some DimensionMismatch

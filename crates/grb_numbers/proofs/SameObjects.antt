@@ -1,5 +1,5 @@
 -- What a call leaves of an object and answers, in two stores that hold the same objects at its numbers.
-use Rattle.std.proofs.Common.{◌≡◌, refl, sym, ap, ◌∙◌, Option, None, Some, option_map, Ok, Err}
+use Rattle.std.proofs.Common.{◌≡◌, Bool, refl, sym, ap, ◌∙◌, Option, None, Some, option_map, Ok, Err}
 use Rattle.std.specs.Option.{option_map_or}
 use Rattle.std.specs.Ordering.{nat_cmp}
 use Rattle.std.specs.FinMap.{find}
@@ -8,24 +8,25 @@ use Rattle.grb_core.specs.declared.value.Value.{Value}
 use Rattle.grb_core.specs.Contents.{Matrix, Vector}
 use Rattle.grb_core.specs.Entries.{cell_cmp, nvals_of}
 use Rattle.grb_core.specs.Results.{ewise_add, ewise_mult, mxv_of, mxm_of, reduce_of, reduce_rows_of, turned, vxm_of}
+use Rattle.grb_core.specs.declared.operator.BinaryOp.{BinaryOp}
+use Rattle.grb_core.specs.Maps.{applied, selected_cells, selected_indices}
 use Rattle.grb_call.specs.declared.call.Call.{Call}
 use Rattle.grb_call.specs.declared.call.Call.TheVariants as call
-use Rattle.grb_call.specs.declared.descriptor.Descriptor.{Descriptor}
+use Rattle.grb_call.proofs.Operated.{kronecker_by}
 use Rattle.grb_call.specs.declared.ids.MatrixId.{MatrixId}
 use Rattle.grb_call.specs.declared.ids.VectorId.{VectorId}
 use Rattle.grb_call.specs.declared.ids.Object.{Object}
 use Rattle.grb_call.specs.declared.ids.Object.TheVariants as object
-use Rattle.grb_call.specs.declared.operation.Input.{Input}
 use Rattle.grb_call.specs.declared.operation.Input.TheVariants.{First, Second}
 use Rattle.grb_call.specs.declared.operation.Operation.{Operation}
 use Rattle.grb_call.specs.declared.operation.OperationKind.{OperationKind}
-use Rattle.grb_call.specs.declared.operation.OperationKind.TheVariants.{EwiseAdd, EwiseMult, Product, Rows}
+use Rattle.grb_call.specs.declared.operation.OperationKind.TheVariants.{EwiseAdd, EwiseMult, Product, Rows, Transpose, Apply, Select, Kronecker}
 use Rattle.grb_call.specs.declared.reply.Reply.{Reply}
 use Rattle.grb_call.specs.declared.reply.Reply.TheVariants as reply
 use Rattle.grb_call.specs.After.{get_reply, reply_of, refused, answer}
 use Rattle.grb_call.specs.Numbers.{next_matrix, next_vector}
 use Rattle.grb_call.specs.Operation.{operation_of, turns}
-use Rattle.grb_call.specs.Output.{StoredObjects, objects_in, entries_of_matrix, entries_of_vector, matrix_read, vector_read, matrix_input, matrix_computed, vector_computed, matrix_operated, vector_operated, matrix_made, vector_made, matrix_left, vector_left}
+use Rattle.grb_call.specs.Output.{StoredObjects, objects_in, entries_of_matrix, entries_of_vector, kronecker_computed, matrix_read, vector_read, matrix_input, matrix_computed, vector_computed, matrix_operated, vector_operated, matrix_made, vector_made, matrix_left, vector_left}
 use Rattle.grb_call.specs.Store.{Store}
 use Rattle.grb_call.specs.Written.{written_matrix, written_vector}
 use Rattle.grb_numbers.specs.Inside.{Renaming, renamed, renamed_answer, renamed_object, renamed_reply}
@@ -45,24 +46,33 @@ module _ (t s : Store) (r : Renaming) (same : HoldsSame t s r) where
   entries_v : (v : VectorId) → entries_of_vector O v ≡ entries_of_vector P (r.vector v)
   entries_v v = v_entries t s r same v
 
-  input-same : (d : Descriptor) (input : Input) (a : MatrixId) → matrix_input O d input a ≡ matrix_input P d input (r.matrix a)
-  input-same d input a = λ i. turned (turns d input) (entries_m a i)
+  input-same : (tran : Bool) (a : MatrixId) → matrix_input O tran a ≡ matrix_input P tran (r.matrix a)
+  input-same tran a = λ i. turned tran (entries_m a i)
 
-  matrix_computed-same : (kind : OperationKind) (d : Descriptor) (p q : Option Object) →
-      matrix_computed O kind d p q ≡ matrix_computed P kind d (option_map (renamed_object r) p) (option_map (renamed_object r) q)
-  matrix_computed-same (EwiseAdd op) d (Some (object.Matrix a)) (Some (object.Matrix b)) = λ i. Some (ewise_add cell_cmp op (input-same d First a i) (input-same d Second b i))
-  matrix_computed-same (EwiseMult op) d (Some (object.Matrix a)) (Some (object.Matrix b)) = λ i. Some (ewise_mult cell_cmp op (input-same d First a i) (input-same d Second b i))
-  matrix_computed-same (Product semiring) d (Some (object.Matrix a)) (Some (object.Matrix b)) = λ i. Some (mxm_of semiring (input-same d First a i) (input-same d Second b i))
-  matrix_computed-same _ d _ _ = refl
+  kronecker-same : (op : BinaryOp) (tran tran1 : Bool) (a b : MatrixId) → kronecker_computed O op tran tran1 a b ≡ kronecker_computed P op tran tran1 (r.matrix a) (r.matrix b)
+  kronecker-same op tran tran1 a b = λ i. kronecker_by op tran tran1 (same.matrix a i) (same.matrix b i)
 
-  vector_computed-same : (kind : OperationKind) (d : Descriptor) (p q : Option Object) →
-      vector_computed O kind d p q ≡ vector_computed P kind d (option_map (renamed_object r) p) (option_map (renamed_object r) q)
-  vector_computed-same (EwiseAdd op) d (Some (object.Vector u)) (Some (object.Vector v)) = λ i. Some (ewise_add nat_cmp op (entries_v u i) (entries_v v i))
-  vector_computed-same (EwiseMult op) d (Some (object.Vector u)) (Some (object.Vector v)) = λ i. Some (ewise_mult nat_cmp op (entries_v u i) (entries_v v i))
-  vector_computed-same (Product semiring) d (Some (object.Matrix a)) (Some (object.Vector u)) = λ i. Some (mxv_of semiring (input-same d First a i) (entries_v u i))
-  vector_computed-same (Product semiring) d (Some (object.Vector u)) (Some (object.Matrix a)) = λ i. Some (vxm_of semiring (entries_v u i) (input-same d Second a i))
-  vector_computed-same (Rows monoid) d (Some (object.Matrix a)) None = λ i. Some (reduce_rows_of monoid (input-same d First a i))
-  vector_computed-same _ d _ _ = refl
+  matrix_computed-same : (kind : OperationKind) (tran tran1 : Bool) (p q : Option Object) →
+      matrix_computed O kind tran tran1 p q ≡ matrix_computed P kind tran tran1 (option_map (renamed_object r) p) (option_map (renamed_object r) q)
+  matrix_computed-same (EwiseAdd op) tran tran1 (Some (object.Matrix a)) (Some (object.Matrix b)) = λ i. Some (ewise_add cell_cmp op (input-same tran a i) (input-same tran1 b i))
+  matrix_computed-same (EwiseMult op) tran tran1 (Some (object.Matrix a)) (Some (object.Matrix b)) = λ i. Some (ewise_mult cell_cmp op (input-same tran a i) (input-same tran1 b i))
+  matrix_computed-same (Product semiring) tran tran1 (Some (object.Matrix a)) (Some (object.Matrix b)) = λ i. Some (mxm_of semiring (input-same tran a i) (input-same tran1 b i))
+  matrix_computed-same Transpose tran tran1 (Some (object.Matrix a)) None = λ i. Some (input-same tran a i)
+  matrix_computed-same (Apply f) tran tran1 (Some (object.Matrix a)) None = λ i. Some (applied f (input-same tran a i))
+  matrix_computed-same (Select p) tran tran1 (Some (object.Matrix a)) None = λ i. Some (selected_cells p (input-same tran a i))
+  matrix_computed-same (Kronecker op) tran tran1 (Some (object.Matrix a)) (Some (object.Matrix b)) = λ i. Some (kronecker-same op tran tran1 a b i)
+  matrix_computed-same _ tran tran1 _ _ = refl
+
+  vector_computed-same : (kind : OperationKind) (tran tran1 : Bool) (p q : Option Object) →
+      vector_computed O kind tran tran1 p q ≡ vector_computed P kind tran tran1 (option_map (renamed_object r) p) (option_map (renamed_object r) q)
+  vector_computed-same (EwiseAdd op) tran tran1 (Some (object.Vector u)) (Some (object.Vector v)) = λ i. Some (ewise_add nat_cmp op (entries_v u i) (entries_v v i))
+  vector_computed-same (EwiseMult op) tran tran1 (Some (object.Vector u)) (Some (object.Vector v)) = λ i. Some (ewise_mult nat_cmp op (entries_v u i) (entries_v v i))
+  vector_computed-same (Product semiring) tran tran1 (Some (object.Matrix a)) (Some (object.Vector u)) = λ i. Some (mxv_of semiring (input-same tran a i) (entries_v u i))
+  vector_computed-same (Product semiring) tran tran1 (Some (object.Vector u)) (Some (object.Matrix a)) = λ i. Some (vxm_of semiring (entries_v u i) (input-same tran1 a i))
+  vector_computed-same (Rows monoid) tran tran1 (Some (object.Matrix a)) None = λ i. Some (reduce_rows_of monoid (input-same tran a i))
+  vector_computed-same (Apply f) tran tran1 (Some (object.Vector u)) None = λ i. Some (applied f (entries_v u i))
+  vector_computed-same (Select p) tran tran1 (Some (object.Vector u)) None = λ i. Some (selected_indices p (entries_v u i))
+  vector_computed-same _ tran tran1 _ _ = refl
 
   matrix_mask-same : (mask : Option Object) → option_map (matrix_read O) mask ≡ option_map (matrix_read P) (option_map (renamed_object r) mask)
   matrix_mask-same None = refl
@@ -76,11 +86,11 @@ module _ (t s : Store) (r : Renaming) (same : HoldsSame t s r) where
 
   matrix_operated-same : (o : Operation) (m : Matrix) → matrix_operated O o m ≡ matrix_operated P (renamed_operation r o) m
   matrix_operated-same o m =
-      λ i. option_map_or (λ computed. written_matrix (matrix_mask-same o.mask i) o.accum o.d computed m) (matrix_computed-same o.kind o.d o.first o.second i) m
+      λ i. option_map_or (λ computed. written_matrix (matrix_mask-same o.mask i) o.accum o.d computed m) (matrix_computed-same o.kind (turns o.kind o.d First) (turns o.kind o.d Second) o.first o.second i) m
 
   vector_operated-same : (o : Operation) (x : Vector) → vector_operated O o x ≡ vector_operated P (renamed_operation r o) x
   vector_operated-same o x =
-      λ i. option_map_or (λ computed. written_vector (vector_mask-same o.mask i) o.accum o.d computed x) (vector_computed-same o.kind o.d o.first o.second i) x
+      λ i. option_map_or (λ computed. written_vector (vector_mask-same o.mask i) o.accum o.d computed x) (vector_computed-same o.kind (turns o.kind o.d First) (turns o.kind o.d Second) o.first o.second i) x
 
   any_matrix : (q : Option Operation) (m : Matrix) → option_map_or (λ o. matrix_operated O o m) q m ≡ option_map_or (λ o. matrix_operated P o m) (option_map (renamed_operation r) q) m
   any_matrix None m = refl
@@ -141,6 +151,7 @@ module _ (t s : Store) (r : Renaming) (same : HoldsSame t s r) where
     reply-same (call.NewVector domain size) = ap reply.MadeVector vector
     reply-same (call.DupMatrix a) = ap reply.MadeMatrix matrix
     reply-same (call.DupVector v) = ap reply.MadeVector vector
+    reply-same (call.Diag v diagonal) = ap reply.MadeMatrix matrix
     reply-same (call.GetMatrix a i j) = (λ x. get_reply (find cell_cmp (i, j) (m_entries t s r same a x))) ∙ get-renamed q _
     reply-same (call.GetVector v i) = (λ x. get_reply (find nat_cmp i (v_entries t s r same v x))) ∙ get-renamed q _
     reply-same (call.NvalsMatrix a) = λ i. reply.Count (nvals_of (m_entries t s r same a i))

@@ -10,6 +10,10 @@ use Rattle.grb_call.specs.declared.ids.Object.{Object}
 use Rattle.grb_call.specs.declared.ids.Object.TheVariants as object
 use Rattle.grb_call.specs.declared.reply.Reply.{Reply}
 use Rattle.grb_call.specs.declared.reply.Reply.TheVariants as reply
+use Rattle.grb_call.specs.declared.term.MatrixTerm.{MatrixTerm}
+use Rattle.grb_call.specs.declared.term.MatrixTerm.TheVariants as matrix_term
+use Rattle.grb_call.specs.declared.term.VectorTerm.{VectorTerm}
+use Rattle.grb_call.specs.declared.term.VectorTerm.TheVariants as vector_term
 use Rattle.grb_numbers.specs.Numbers.{NumbersSeen, no_number, inner_number, outer_number}
 
 -- other numbers for those of matrices and of vectors
@@ -20,6 +24,17 @@ pub record Renaming : Type 0 where
 abbrev pub renamed_object : Renaming → Object → Object
 renamed_object r (object.Matrix a) = object.Matrix (r.matrix a)
 renamed_object r (object.Vector v) = object.Vector (r.vector v)
+
+-- a term with other numbers
+abbrev pub renamed_matrix_term : Renaming → MatrixTerm → MatrixTerm
+renamed_matrix_term r (matrix_term.Transposed a) = matrix_term.Transposed (r.matrix a)
+renamed_matrix_term r (matrix_term.Applied f a) = matrix_term.Applied f (r.matrix a)
+renamed_matrix_term r (matrix_term.Selected t a) = matrix_term.Selected t (r.matrix a)
+renamed_matrix_term r (matrix_term.Kronecker op a b) = matrix_term.Kronecker op (r.matrix a) (r.matrix b)
+
+abbrev pub renamed_vector_term : Renaming → VectorTerm → VectorTerm
+renamed_vector_term r (vector_term.Applied f u) = vector_term.Applied f (r.vector u)
+renamed_vector_term r (vector_term.Selected t u) = vector_term.Selected t (r.vector u)
 
 -- the call with other numbers, and all else as it was
 abbrev pub renamed : Renaming → Call → Call
@@ -53,6 +68,9 @@ renamed r (call.Mxv w mask accum semiring a u d) = call.Mxv (r.vector w) (option
 renamed r (call.Vxm w mask accum semiring u a d) = call.Vxm (r.vector w) (option_map r.vector mask) accum semiring (r.vector u) (r.matrix a) d
 renamed r (call.Mxm c mask accum semiring a b d) = call.Mxm (r.matrix c) (option_map r.matrix mask) accum semiring (r.matrix a) (r.matrix b) d
 renamed r (call.ReduceRows w mask accum monoid a d) = call.ReduceRows (r.vector w) (option_map r.vector mask) accum monoid (r.matrix a) d
+renamed r (call.WriteMatrix c mask accum term d) = call.WriteMatrix (r.matrix c) (option_map r.matrix mask) accum (renamed_matrix_term r term) d
+renamed r (call.WriteVector w mask accum term d) = call.WriteVector (r.vector w) (option_map r.vector mask) accum (renamed_vector_term r term) d
+renamed r (call.Diag v diagonal) = call.Diag (r.vector v) diagonal
 renamed r (call.ReduceMatrix a monoid) = call.ReduceMatrix (r.matrix a) monoid
 renamed r (call.ReduceVector v monoid) = call.ReduceVector (r.vector v) monoid
 renamed r (call.WaitMatrix a mode) = call.WaitMatrix (r.matrix a) mode

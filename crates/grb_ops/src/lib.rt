@@ -1,4 +1,5 @@
-//! The operations of the standard over sparse objects, from the crates that have them. Their laws are in `grb_laws`.
+//! The operations of the standard over sparse objects, from the crates that have them. Their laws are in `grb_laws`, and those of maps and
+//! filters in `grb_core`.
 #![tactic(auto)]
 
 pub use grb_ewise::{
@@ -6,6 +7,9 @@ pub use grb_ewise::{
     write_masked_matrix, write_masked_vector,
 };
 pub use grb_folds::{reduce_matrix, reduce_vector};
+pub use grb_kronecker::kronecker_matrix;
+pub use grb_maps::{
+    apply_matrix, apply_vector, diagonal_matrix, select_matrix, select_vector, transpose_matrix,
+};
 pub use grb_mxm::mxm;
-pub use grb_pull::{mxv, reduce_rows};
-pub use grb_push::vxm;
+pub use grb_pull::{mxv, reduce_rows, vxm};

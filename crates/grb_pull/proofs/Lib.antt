@@ -1,4 +1,5 @@
 pub mod Asked
+pub mod Exchanges
 pub mod Full
 pub mod RowLists
 pub mod RowSums

@@ -180,7 +180,7 @@ fn multiply_by<T: Stored + Folded + Drop>(
 
 /// The product of a matrix and a vector, as a vector: at the rows that are wanted. `AllocError` where memory is refused; then nothing is
 /// made.
-fn product(
+pub(crate) fn product(
     alloc: Global,
     semiring: Semiring,
     wanted: &Wanted,
@@ -252,7 +252,8 @@ fn turned_product(
 /// those that it does not store, and with the complement of a structural mask those that it stores, or of no mask all. By a structural mask
 /// the products are written as they are, and not masked again.
 ///
-/// With `tran` the matrix is the transposed of `a`, whose rows are the columns of `a`. It is not made: time and memory are those of `vxm`.
+/// With `tran` the matrix is the transposed of `a`, whose rows are the columns of `a`. It is not made: time and memory are those of `vxm`
+/// without `tran1`. `tran1` is not read.
 ///
 /// Source: GraphBLAS C API 2.0, "mxv".
 pub fn mxv(

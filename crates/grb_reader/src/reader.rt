@@ -343,7 +343,7 @@ impl Reader {
         ensures { result ≡ reply_of (store_of (known self.now)) call.now }
     {
         match call {
-            Call::NewMatrix { .. } | Call::DupMatrix { .. } => {
+            Call::NewMatrix { .. } | Call::DupMatrix { .. } | Call::Diag { .. } => {
                 Reply::MadeMatrix(MatrixId(self.targets.shapes().matrices()))
             }
             Call::NewVector { .. } | Call::DupVector { .. } => {

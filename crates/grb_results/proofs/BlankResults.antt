@@ -34,6 +34,8 @@ operation_there (call.Mxv w mask accum semiring a u d) e = (_, refl)
 operation_there (call.Vxm w mask accum semiring u a d) e = (_, refl)
 operation_there (call.Mxm c mask accum semiring a b d) e = (_, refl)
 operation_there (call.ReduceRows w mask accum monoid a d) e = (_, refl)
+operation_there (call.WriteMatrix c mask accum term d) e = (_, refl)
+operation_there (call.WriteVector w mask accum term d) e = (_, refl)
 operation_there _ e = cc
 
 -- the store before the call at a place, where an object stores nothing

@@ -1,6 +1,11 @@
 -- Results of calls, by what objects hold after some of the calls.
 use Rattle.std.proofs.Common.{◌≡◌, ◌≢◌, ℕ, zero, suc, ◌+◌, ◌-◌, ◌<◌, ◌≤◌, true, false, List, [], ◌∷◌, ◌++◌, length, take, get_or, append_assoc, refl, sym, ap, subst, ◌∙◌, Option, Some, None, is_some, slice_set, length-set, arith}
 use Rattle.grb_results.proofs.Prelude.{slice_get, IfSome, option_map, Call, Object, objects_read, refused_by_shapes, Store, empty_store, shapes_of, after_all, Content, Contents, content_at, outcome, Learnt, Table, SharedContent, last_of, is_among, AgreeOn, AreOneHistory, Follows, IsLearnt, contents_after, target_in, AreHeld, AreResults, AreTaken, IsFrom, IsResult, IsTable, LinksTo, MayMake, Mine, Theirs, forgets, objects_needed, IsEdit, content_of, dups_one, edits_one, needs_all, after_these, is_accepted, link_there, made_here, node_there, same_calls, same_target, since_at, since_long, since_of, some_target, store_before, the_target, there, end_none, some_same, take_suc, within_of}
+use Rattle.grb_core.specs.declared.tests.Diagonal.{Diagonal}
+use Rattle.grb_call.specs.declared.call.Call.TheVariants as call
+use Rattle.grb_call.specs.declared.ids.Object.TheVariants as object
+use Rattle.grb_call.specs.declared.ids.VectorId.{VectorId}
+use Rattle.grb_slices.specs.Content.{diagonal_content}
 use Rattle.grb_slices.proofs.Effects.{other}
 use Rattle.grb_slices.proofs.Wants.{among_first, among_next}
 use Rattle.grb_links.specs.declared.node.Node.{Node}
@@ -70,6 +75,12 @@ module _ (cs : List Call) (t : Table) (is : IsTable cs t) (k : ℕ) (near : k < 
   dup_result c before v here dups follows result =
       let one = dups_one c dups in
       result_is c v here (one.outcome_is (contents_after cs k) ∙ follows_held c one.object before v here (needs_all c one.keeps ∙ one.reads) follows result)
+
+  -- and a diagonal of it
+  pub diagonal_result : (o : VectorId) (d : Diagonal) (before : ℕ) (v made : SharedContent) → slice_get cs k ≡ Some (call.Diag o d) → Follows t.learnt k before → IsResult cs before v →
+      diagonal_content d (Some (content_of v)) ≡ Some (content_of made) → IsResult cs k made
+  diagonal_result o d before v made here follows result is =
+      result_is (call.Diag o d) made here (ap (diagonal_content d) (follows_held (call.Diag o d) (object.Vector o) before v here refl follows result) ∙ is)
 
   -- an object that the call reads, by its place
   pub read_held : (read : List Object) → ((c : Call) → slice_get cs k ≡ Some c → read ≡ objects_needed c) → (place d : ℕ) (node : Node) (o : Object) (v : SharedContent) → slice_get read place ≡ Some o →

@@ -91,6 +91,7 @@ target_edits u (call.NewMatrix domain nrows ncols) e = cc
 target_edits u (call.NewVector domain size) e = cc
 target_edits u (call.DupMatrix a) e = cc
 target_edits u (call.DupVector v) e = cc
+target_edits u (call.Diag v diagonal) e = cc
 target_edits u _ e = refl
 
 target_operates : (u : ObjectShapes) (c : Call) → class_of c ≡ Operates → target_of u c ≡ output_of c
@@ -98,6 +99,7 @@ target_operates u (call.NewMatrix domain nrows ncols) e = cc
 target_operates u (call.NewVector domain size) e = cc
 target_operates u (call.DupMatrix a) e = cc
 target_operates u (call.DupVector v) e = cc
+target_operates u (call.Diag v diagonal) e = cc
 target_operates u _ e = refl
 
 no_build : (s : Store) (c : Call) → class_of c ≡ Operates → refused_build s c ≡ None

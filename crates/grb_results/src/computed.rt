@@ -1,6 +1,7 @@
 //! The result of one call, of the results that it reads.
 ghost use Rattle.std.specs.Prelude.{◌≡◌, ◌<◌, ◌≤◌, ◌^◌, false, true, List, Some, None, length, slice_get, IfOk, IfSome, OnOk};
 ghost use Rattle.grb_call.specs.declared.call.Call.{Call};
+ghost use Rattle.grb_call.specs.declared.call.Call.TheVariants.{Diag};
 ghost use Rattle.grb_call.specs.Kinds.{class_of};
 ghost use Rattle.grb_call.specs.Operands.{objects_read};
 ghost use Rattle.grb_links.specs.Overwrites.{forgets, inputs_of, is_clear, objects_needed};
@@ -8,9 +9,9 @@ ghost use Rattle.grb_links.specs.Learnt.{contents_after};
 ghost use Rattle.grb_results.specs.Results.{HoldsAlso, IsBlankAt, IsResult, IsTable, IsToMake};
 ghost use Rattle.grb_links.specs.Dup.{is_dup};
 
-use crate::made::{blank, clear, hold, new_object, operated};
+use crate::made::{blank, clear, diagonal_of, hold, new_object, operated};
 use crate::table::Table;
-use grb_call::{Call, Class, Object, objects_read};
+use grb_call::{Call, Class, Diagonal, Object, VectorId, objects_read};
 use grb_links::{forgets, is_clear, is_dup};
 use grb_objects::SharedContent;
 use grb_slices::CallList;
@@ -265,6 +266,30 @@ impl Table {
         }
     }
 
+    /// What the call at this place makes, which puts a vector on a diagonal. `AllocError` where memory is refused.
+    fn diagonal_at<S, C: CallList<S>>(
+        &self,
+        calls: &C,
+        source: &S,
+        v: VectorId,
+        diagonal: Diagonal,
+        at: u32,
+    ) -> Result<Option<SharedContent>, AllocError>
+        requires table { IsTable (C.calls source.now calls.now) self.now }
+        requires all { length self.now.results.items ≡ length (C.calls source.now calls.now) }
+        requires to_make { IsToMake (C.calls source.now calls.now) (length (C.calls source.now calls.now)) at }
+        requires call { slice_get (C.calls source.now calls.now) at ≡ Some (Diag v diagonal) }
+        ensures { IfOk result (λ found. IfSome found (IsResult (C.calls source.now calls.now) at)) }
+    {
+        let Some(before) = self.learnt.first_link(at as usize) else {
+            return Ok(None);
+        };
+        match self.shared(before)? {
+            Some(value) => diagonal_of(self.alloc, diagonal, value),
+            None => Ok(None),
+        }
+    }
+
     /// What the call at this place makes or computes, where all that it reads is kept; none of a call that ends its object or only reads.
     /// `AllocError` where memory is refused.
     pub(crate) fn computed_at<S, C: CallList<S>>(
@@ -296,7 +321,13 @@ impl Table {
                 if is_dup(call) {
                     return self.dup_at(calls, source, call, at);
                 }
-                new_object(self.alloc, call)
+                match call {
+                    Call::Diag { v, diagonal } => {
+                        self.assemble_read(at)?;
+                        self.diagonal_at(calls, source, *v, *diagonal, at)
+                    }
+                    _ => new_object(self.alloc, call),
+                }
             }
             Class::Edits => {
                 if is_clear(call) {

@@ -30,7 +30,7 @@ impl Table {
         }
     }
 
-    /// What the operation with this node costs, about: by the entries of what it reads, where all of that is kept.
+    /// What the operation, or the diag, with this node costs, about: by the entries of what it reads, where all of that is kept.
     fn work_of_reads(&self, node: &Node, call: &Call) -> u64 {
         let mut entries: u64 = 0;
         'links: for at in 0..node.links.len() {
@@ -50,7 +50,11 @@ impl Table {
         match call.class() {
             Class::Operates => self.work_of_reads(node, call),
             Class::Edits => work_of_edit(call),
-            Class::Makes | Class::Reads(_) | Class::AsksDimensions => EDIT_WORK,
+            Class::Makes => match call {
+                Call::Diag { .. } => self.work_of_reads(node, call),
+                _ => EDIT_WORK,
+            },
+            Class::Reads(_) | Class::AsksDimensions => EDIT_WORK,
         }
     }
 

@@ -5,8 +5,9 @@ ghost use Rattle.grb_call.specs.declared.ids.Object.{Object};
 ghost use Rattle.grb_call.specs.Kinds.{class_of};
 ghost use Rattle.grb_call.specs.Operands.{objects_read};
 ghost use Rattle.grb_call.specs.Refused.{has_valid_values, refused_by_shapes};
+ghost use Rattle.grb_call.specs.Shapes.{ObjectShapes};
 ghost use Rattle.grb_call.specs.Store.{Store, shapes_of};
-ghost use Rattle.grb_slices.specs.Content.{Contents, content_at, outcome};
+ghost use Rattle.grb_slices.specs.Content.{Contents, content_at, diagonal_content, outcome};
 ghost use Rattle.grb_slices.specs.Slice.{is_among};
 ghost use Rattle.grb_slices.specs.Steps.{AgreeOn};
 ghost use Rattle.grb_links.specs.Overwrites.{blank_of};
@@ -14,10 +15,11 @@ ghost use Rattle.grb_objects.specs.SharedContent.{is_free};
 ghost use Rattle.grb_results.specs.Results.{AreHeld, MayMake};
 ghost use Rattle.grb_results.specs.Value.{IsEdit, content_of};
 
-use grb_call::{Call, Class, Object};
-use grb_core::is_dimension;
+use grb_call::{Call, Class, Diagonal, Object};
+use grb_core::{diagonal_size, is_dimension};
 use grb_links::{Shape, forgets};
 use grb_objects::SharedContent;
+use grb_ops::diagonal_matrix;
 use grb_sparse::{SparseMatrix, SparseVector};
 use grb_state::Bench;
 use std::alloc::{AllocError, Global};
@@ -53,9 +55,9 @@ pub(crate) fn edit(alloc: Global, value: &mut SharedContent, call: &Call) -> Res
     value.edit(alloc, call)
 }
 
-/// What a call makes that reads nothing: a new object. `AllocError` where memory is refused.
+/// What a call makes that reads nothing: a new object; none of any other call. `AllocError` where memory is refused.
 pub(crate) fn new_object(alloc: Global, call: &Call) -> Result<Option<SharedContent>, AllocError>
-    requires { has_valid_values call.now ≡ true }
+    requires { (shapes : ObjectShapes) × (has_valid_values shapes call.now ≡ true) }
     ensures { IfOk result (λ made. IfSome made (λ v. (r : Contents) → outcome r call.now ≡ Some (content_of v))) }
 {
     match call {
@@ -73,6 +75,27 @@ pub(crate) fn new_object(alloc: Global, call: &Call) -> Result<Option<SharedCont
         }
         _ => Ok(None),
     }
+}
+
+/// What a call makes that puts the vector of this content on a diagonal; none where that is no vector, or where no matrix can have so many
+/// rows. `AllocError` where memory is refused.
+pub(crate) fn diagonal_of(
+    alloc: Global,
+    diagonal: Diagonal,
+    value: SharedContent,
+) -> Result<Option<SharedContent>, AllocError>
+    ensures { IfOk result (λ made. IfSome made (λ v. diagonal_content diagonal (Some (content_of value)) ≡ Some (content_of v))) }
+{
+    let mut value = value;
+    value.assemble(alloc)?;
+    let Some(v) = value.vector() else {
+        return Ok(None);
+    };
+    if !is_dimension(diagonal_size(diagonal, v.dims())) {
+        return Ok(None);
+    }
+    let matrix = diagonal_matrix(alloc, diagonal, v)?;
+    Ok(Some(SharedContent::of_matrix(alloc, matrix)?))
 }
 
 /// Puts what an object holds on the bench, next to others. `AllocError` where memory is refused.

@@ -4,6 +4,7 @@ mod PrintedRows
 pub mod AloneRuns
 pub mod CommandLineReads
 pub mod DefaultReads
+pub mod Entries
 pub mod Explained
 pub mod FileBytes
 pub mod LoadLemmas

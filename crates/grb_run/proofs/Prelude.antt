@@ -9,14 +9,16 @@ pub use Rattle.grb_order.specs.declared.limits.TheConstants.{MOST_ROOM, MOST_SEA
 pub use Rattle.grb_run.specs.Calls.{call_of}
 pub use Rattle.grb_run.specs.CommandLine.{faults_of, number_spelled, room_option, script_argument}
 pub use Rattle.grb_run.specs.Loads.{AreScriptSteps, AreSteps, AreThreadSteps, Files, IsReadInto, IsStep, IsStepFault, IsWhyNotLoaded, Steps, StopsWith, all_of, steps_listed}
-pub use Rattle.grb_run.specs.Printed.{IsAnswer, IsDone, IsFilled, IsRun, IsSaid, Standing, WasServed, answer_in, answers_in, done, filled, filling, making, printed, standing_after, start, statement_done}
-pub use Rattle.grb_run.specs.ReplyLine.{reply_line}
+pub use Rattle.grb_run.specs.Printed.{IsAnswer, IsDone, IsFilled, IsLoadDone, IsRun, IsSaid, Standing, WasServed, answer_in, answers_in, done, filled, filling, load_done, making, printed, standing_after, start, statement_done, with_asked}
+pub use Rattle.grb_replies.specs.ReplyLine.{reply_line}
 pub use Rattle.grb_run.specs.Run.{EndsWith, Wrote, WroteBeginning, seats_of}
 pub use Rattle.grb_run.specs.SectionSteps.{commands_of, loads_among, steps_with}
-pub use Rattle.grb_run.specs.Sections.{Answers, AreAnswers, AreThreadsTold, AreTold, IsFillTold, IsLoadTold, IsScriptRun, IsStepTold, IsTold, MeetsAll, Stage, in_order}
+pub use Rattle.grb_run.specs.Sections.{Answers, AreAnswers, AreThreadsTold, AreTold, IsFillTold, IsLoadTold, IsScriptRun, IsStatementTold, IsStepTold, IsTold, MeetsAll, Stage, in_order}
 pub use Rattle.grb_run.specs.Threads.{AreAsked, AreEnded, AreGathered, AreJobs, AreThreadsRun, IsEnded, IsGathered, IsJob, IsStopOf}
 pub use Rattle.grb_run.specs.declared.fault.RunFault.{RunFault}
 pub use Rattle.grb_run.specs.declared.loads.Step.{Step}
+pub use Rattle.grb_run.specs.Told.{IsToldBy, asked, entries_named, told_by}
+pub use Rattle.grb_replies.specs.declared.step_answer.StepAnswer.{StepAnswer}
 pub use Rattle.grb_run.specs.declared.threads.FinishedSection.{FinishedSection}
 pub use Rattle.grb_run.specs.declared.threads.Job.{Job}
 pub use Rattle.grb_script.specs.Script.{Sections, listed, sections_of}

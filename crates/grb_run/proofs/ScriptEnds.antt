@@ -1,7 +1,7 @@
 -- How a run of a script ends: its sections answered, its threads stopped, or its sink failed.
 use Rattle.std.proofs.Common.{◌≡◌, ℕ, ◌+◌, ◌*◌, ◌<◌, ◌≤◌, List, [], ◌∷◌, ◌++◌, length, refl, sym, ap, ◌∙◌, subst, append-nil, arith}
 use Rattle.std.specs.Prelude.{Option, None}
-use Rattle.grb_run.proofs.Prelude.{length-map, flat_map, MOST_SEATS, Answer, Shared, Knowing, AreNew, reply_line, room_of, Sections, listed, sections_of, script_fault, RunFault, Step, Files, Steps, AreScriptSteps, EndsWith, WroteBeginning, seats_of, Stage, AreTold, AreAnswers, AreThreadsRun, IsStopOf}
+use Rattle.grb_run.proofs.Prelude.{length-map, flat_map, MOST_SEATS, StepAnswer, Shared, Knowing, AreNew, reply_line, room_of, Sections, listed, sections_of, script_fault, RunFault, Step, Files, Steps, AreScriptSteps, EndsWith, WroteBeginning, seats_of, Stage, AreTold, AreAnswers, AreThreadsRun, IsStopOf}
 use Rattle.grb_call.specs.declared.ids.Object.{Object}
 use Rattle.grb_market.specs.Sink.{AppendsBeginning}
 use Rattle.grb_script.specs.declared.script.Script.{Script}
@@ -11,14 +11,14 @@ use Rattle.grb_run.specs.Source.{IsGiven}
 use Rattle.grb_run.proofs.ScriptRuns.{run_alone}
 
 -- where there are no thread sections, nothing is run
-pub none_run : (context : Shared) (main : Stage) (passes : List Knowing) (threads : List (List Step)) (before : List Answer) → length threads ≡ 0 → length passes ≡ length threads
+pub none_run : (context : Shared) (main : Stage) (passes : List Knowing) (threads : List (List Step)) (before : List StepAnswer) → length threads ≡ 0 → length passes ≡ length threads
     → AreThreadsRun context main passes threads before main.pass before
 none_run context main [] [] before none count = record { answers = []; ended = []; told = tt; meets = refl; all_are = sym (append-nil before) }
 none_run context main (p ∷ passes) [] before none count = absurd (omega (arith, count))
 none_run context main passes (steps ∷ threads) before none count = absurd (omega (arith, none))
 
 -- main, the threads and the last section, one behind another
-pub all_answered : (room : ℕ) (context : Shared) (script : Steps) (n : ℕ) (pass : Knowing) (passes : List Knowing) (objects : List Object) (after_main : Stage) (first all last total : List Answer)
+pub all_answered : (room : ℕ) (context : Shared) (script : Steps) (n : ℕ) (pass : Knowing) (passes : List Knowing) (objects : List Object) (after_main : Stage) (first all last total : List StepAnswer)
     (met : Knowing) (after_finally : Stage) → room_of context.order ≡ room → n ≡ length script.threads → AreNew context.order (n + 1) (pass ∷ passes) (n + 1) → objects ≡ []
     → AreTold context (record { objects = objects; pass = pass }) script.main first after_main → AreThreadsRun context after_main passes script.threads first met all
     → AreTold context (record { objects = after_main.objects; pass = met }) script.finally last after_finally → total ≡ all ++ last → AreAnswers room script total
@@ -76,7 +76,7 @@ stopped room told files text script before after given none fits loaded same run
 stopped room told files text script before after given none fits loaded same run.CannotWrite is = absurd is
 
 -- what is written where the sink failed
-pub began : (room : ℕ) (told : Option (List ℕ)) (files : Files) (text : List ℕ) (script : Steps) (all : List Answer) (lines : List ℕ) (before after : Option (List ℕ))
+pub began : (room : ℕ) (told : Option (List ℕ)) (files : Files) (text : List ℕ) (script : Steps) (all : List StepAnswer) (lines : List ℕ) (before after : Option (List ℕ))
     → IsGiven told MAX_SCRIPT text → script_fault text ≡ None → seats_of room text ≤ MOST_SEATS → AreScriptSteps files (sections_of text) script → AreAnswers room script all → lines ≡ flat_map reply_line all
     → AppendsBeginning before after lines → WroteBeginning room told files before after
 began room told files text script all lines before after given none fits loaded are of_answers appended = record {

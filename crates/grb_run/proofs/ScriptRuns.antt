@@ -1,10 +1,10 @@
 -- A script without thread sections runs as one section.
 use Rattle.std.proofs.Common.{◌≡◌, ℕ, ◌+◌, List, [], ◌∷◌, ◌++◌, length, refl, sym, ap, ◌∙◌, subst, append-nil, arith}
-use Rattle.grb_run.proofs.Prelude.{flat_map, Answer, Shared, Knowing, known, IsAlone, AreNew, Step, Steps, IsRun, start, Stage, Answers, in_order, AreTold, AreThreadsTold, MeetsAll, IsScriptRun}
+use Rattle.grb_run.proofs.Prelude.{flat_map, StepAnswer, Shared, Knowing, known, IsAlone, AreNew, Step, Steps, IsRun, start, Stage, Answers, in_order, AreTold, AreThreadsTold, MeetsAll, IsScriptRun}
 use Rattle.grb_run.proofs.AloneRuns.{standing, run_of, AreTold-append}
 use Rattle.grb_run.proofs.OnePass.{new_pass, first_pass}
 
-none_told : (context : Shared) (main : Stage) (passes : List Knowing) (threads : List (List Step)) (answers : List (List Answer)) (ended : List Knowing) → threads ≡ []
+none_told : (context : Shared) (main : Stage) (passes : List Knowing) (threads : List (List Step)) (answers : List (List StepAnswer)) (ended : List Knowing) → threads ≡ []
     → AreThreadsTold context main passes threads answers ended → (answers ≡ []) × (ended ≡ [])
 none_told context main [] [] [] [] none told = (refl, refl)
 none_told context main (p ∷ passes) [] answers ended none told = absurd told
@@ -32,7 +32,7 @@ run_alone room script answers run none =
     let all = run_of run.context first (script.main ++ script.finally) (answers.main ++ answers.finally) run.after_finally alone whole in
     let begins : standing first ≡ start = ap (λ h. record { objects = []; history = h }) (ap known is) in
     let ordered : answers.main ++ answers.finally ≡ in_order answers = ap (λ l. l ++ answers.finally) (sym (append-nil answers.main))
-    ∙ ap (λ (l : List (List Answer)). (answers.main ++ flat_map (λ (more : List Answer). more) l) ++ answers.finally) (sym none_there.0) in
+    ∙ ap (λ (l : List (List StepAnswer)). (answers.main ++ flat_map (λ (more : List StepAnswer). more) l) ++ answers.finally) (sym none_there.0) in
     subst (λ l. IsRun room start (script.main ++ script.finally) l) ordered
     (subst (λ at. IsRun room at (script.main ++ script.finally) (answers.main ++ answers.finally)) begins
     (subst (λ r. IsRun r (standing first) (script.main ++ script.finally) (answers.main ++ answers.finally)) run.room_is all))

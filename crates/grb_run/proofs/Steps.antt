@@ -1,6 +1,6 @@
 -- Steps that are answered, one behind another.
 use Rattle.std.proofs.Common.{◌≡◌, ℕ, false, List, [], ◌∷◌, ◌++◌, length, refl, sym, ap, ◌∙◌, subst, append_assoc}
-use Rattle.grb_run.proofs.Prelude.{Result, Ok, Err, IfOk, AllocError, Answered, Answer, Shared, call_of, Loaded, Statement, Step, making, filling, Stage, IsTold, IsFillTold, IsLoadTold, IsStepTold, AreTold}
+use Rattle.grb_run.proofs.Prelude.{Result, Ok, Err, IfOk, AllocError, Answered, Answer, StepAnswer, Shared, call_of, Loaded, Statement, Step, making, filling, Stage, IsTold, IsFillTold, IsLoadTold, IsStepTold, AreTold}
 use Rattle.std.specs.Result.{is_err}
 use Rattle.grb_run.specs.Objects.{made_sort, objects_after}
 
@@ -9,10 +9,10 @@ none_left [] n is none = refl
 none_left (x ∷ rest) n is none = cc
 
 -- one step more of a section
-pub AreTold-next : (context : Shared) (all here rest : List Step) (from at next : Stage) (s : Step) (answers now : List Answer) (a : Answer) → here ≡ s ∷ rest
+pub AreTold-next : (context : Shared) (all here rest : List Step) (from at next : Stage) (s : Step) (answers now : List StepAnswer) (a : StepAnswer) → here ≡ s ∷ rest
     → now ≡ answers ++ a ∷ [] → IsStepTold context at s a next
-    → ((more : List Answer) (after : Stage) → AreTold context at here more after → AreTold context from all (answers ++ more) after)
-    → (more : List Answer) (after : Stage) → AreTold context next rest more after → AreTold context from all (now ++ more) after
+    → ((more : List StepAnswer) (after : Stage) → AreTold context at here more after → AreTold context from all (answers ++ more) after)
+    → (more : List StepAnswer) (after : Stage) → AreTold context next rest more after → AreTold context from all (now ++ more) after
 AreTold-next context all here rest from at next s answers now a are pushed told so_far more after run =
     subst (λ l. AreTold context from all l after) (sym (append_assoc answers (a ∷ []) more) ∙ ap (λ l. l ++ more) (sym pushed))
     (so_far (a ∷ more) after (subst (λ steps. AreTold context at steps (a ∷ more) after) (sym are) (next, told, run)))

@@ -1,6 +1,6 @@
 -- Thread sections: jobs, what their threads return, and how main's pass gathers it.
 use Rattle.std.proofs.Common.{◌≡◌, ℕ, ◌<◌, List, [], ◌∷◌, ◌++◌, length, refl, sym, ap, ◌∙◌, subst, append_assoc, append-nil, arith, suc}
-use Rattle.grb_run.proofs.Prelude.{Result, Ok, Err, IfOk, flat_map, slice_index_or, remove, AllocError, All-nil, All-cons, Answer, Shared, Knowing, Making, IsPassOf, Step, FinishedSection, Job, Stage, AreTold, AreThreadsTold, MeetsAll, IsJob, AreJobs, IsEnded, AreEnded, AreAsked, IsGathered, AreGathered, AreThreadsRun}
+use Rattle.grb_run.proofs.Prelude.{Result, Ok, Err, IfOk, flat_map, slice_index_or, remove, AllocError, All-nil, All-cons, StepAnswer, Shared, Knowing, Making, IsPassOf, Step, FinishedSection, Job, Stage, AreTold, AreThreadsTold, MeetsAll, IsJob, AreJobs, IsEnded, AreEnded, AreAsked, IsGathered, AreGathered, AreThreadsRun}
 use Rattle.std.specs.Prelude.{All}
 use Rattle.std.specs.PromisedHandle.{KeepsAt, KeepsEach}
 use Rattle.std.specs.declared.thread.PromisedHandle.{PromisedHandle}
@@ -75,18 +75,18 @@ module _ (context : Shared) where
     )
 
   -- one thread section more that is gathered
-  pub AreGathered-next : (first : Knowing) (begun : List Answer) (all here rest : List (Result FinishedSection AllocError)) (one : FinishedSection) (main next : Knowing) (before more : List Answer)
+  pub AreGathered-next : (first : Knowing) (begun : List StepAnswer) (all here rest : List (Result FinishedSection AllocError)) (one : FinishedSection) (main next : Knowing) (before more : List StepAnswer)
       → here ≡ Ok one ∷ rest → IsGathered context main before one next more
-      → ((after : Knowing) (answers : List Answer) → AreGathered context main before here after answers → AreGathered context first begun all after answers)
-      → (after : Knowing) (answers : List Answer) → AreGathered context next more rest after answers → AreGathered context first begun all after answers
+      → ((after : Knowing) (answers : List StepAnswer) → AreGathered context main before here after answers → AreGathered context first begun all after answers)
+      → (after : Knowing) (answers : List StepAnswer) → AreGathered context next more rest after answers → AreGathered context first begun all after answers
   AreGathered-next first begun all here rest one main next before more here_is is so_far after answers are =
       so_far after answers (subst (λ l. AreGathered context main before l after answers) (sym here_is) (next, more, is, are))
 
   -- all of it together
-  gathered : (main : Stage) (passes : List Knowing) (threads : List (List Step)) (jobs : List Job) (results : List (Result FinishedSection AllocError)) (p : Knowing) (before : List Answer)
-      (after : Knowing) (all : List Answer) → AreJobs context main passes threads jobs → AreEnded context jobs results → AreGathered context p before results after all
-      → (answers : List (List Answer)) × (ended : List Knowing) × AreThreadsTold context main passes threads answers ended × MeetsAll context p ended after
-      × (all ≡ before ++ flat_map (λ (more : List Answer). more) answers)
+  gathered : (main : Stage) (passes : List Knowing) (threads : List (List Step)) (jobs : List Job) (results : List (Result FinishedSection AllocError)) (p : Knowing) (before : List StepAnswer)
+      (after : Knowing) (all : List StepAnswer) → AreJobs context main passes threads jobs → AreEnded context jobs results → AreGathered context p before results after all
+      → (answers : List (List StepAnswer)) × (ended : List Knowing) × AreThreadsTold context main passes threads answers ended × MeetsAll context p ended after
+      × (all ≡ before ++ flat_map (λ (more : List StepAnswer). more) answers)
   gathered main [] [] [] [] p before after all jobs ended are = ([], [], tt, are.0, are.1 ∙ sym (append-nil before))
   gathered main [] [] [] (r ∷ results) p before after all jobs ended are = absurd ended
   gathered main (q ∷ passes) (steps ∷ threads) (job ∷ more_jobs) [] p before after all jobs ended are = absurd ended
@@ -101,7 +101,7 @@ module _ (context : Shared) where
         one.pass ∷ rest.1,
         (record { met = job.pass; meets = jobs.0.meets; objects = ended.0.objects; told = told }, rest.2),
         (are.0, is.meets, rest.3),
-        rest.4 ∙ ap (λ l. l ++ flat_map (λ (more : List Answer). more) rest.0) is.answers_are ∙ append_assoc before one.answers.items (flat_map (λ (more : List Answer). more) rest.0),
+        rest.4 ∙ ap (λ l. l ++ flat_map (λ (more : List StepAnswer). more) rest.0) is.answers_are ∙ append_assoc before one.answers.items (flat_map (λ (more : List StepAnswer). more) rest.0),
       )
   gathered main passes threads jobs results p before after all are_jobs ended are = absurd are_jobs
 
@@ -121,7 +121,7 @@ module _ (context : Shared) where
     made = m.made;
   }
 
-  told_alike : (objects : List Object) (p : Knowing) (made : Making) (passes : List Knowing) (threads : List (List Step)) (answers : List (List Answer)) (ended : List Knowing)
+  told_alike : (objects : List Object) (p : Knowing) (made : Making) (passes : List Knowing) (threads : List (List Step)) (answers : List (List StepAnswer)) (ended : List Knowing)
       → AreThreadsTold context (record { objects = objects; pass = record p { made = made } }) passes threads answers ended → AreThreadsTold context (record { objects = objects; pass = p }) passes threads answers ended
   told_alike objects p made [] [] [] [] are = tt
   told_alike objects p made (new ∷ passes) (steps ∷ threads) (answers ∷ more) (ended ∷ all) are =
@@ -129,14 +129,14 @@ module _ (context : Shared) where
       (record { met = is.met; meets = met_other new is.met p made is.meets; objects = is.objects; told = is.told }, told_alike objects p made passes threads more all are.1)
   told_alike objects p made passes threads answers ended are = absurd are
 
-  meets_alike : (objects : List Object) (p : Knowing) (made : Making) (passes : List Knowing) (threads : List (List Step)) (answers : List (List Answer)) (ended : List Knowing) (after : Knowing) → (length threads ≡ 0 → ⊥)
+  meets_alike : (objects : List Object) (p : Knowing) (made : Making) (passes : List Knowing) (threads : List (List Step)) (answers : List (List StepAnswer)) (ended : List Knowing) (after : Knowing) → (length threads ≡ 0 → ⊥)
       → AreThreadsTold context (record { objects = objects; pass = record p { made = made } }) passes threads answers ended → MeetsAll context (record p { made = made }) ended after → MeetsAll context p ended after
   meets_alike objects p made [] [] [] [] after some are meets = absurd (some refl)
   meets_alike objects p made (new ∷ passes) (steps ∷ threads) (answers ∷ more) (ended ∷ all) after some are meets = (meets.0, met_first p meets.0 ended made meets.1, meets.2)
   meets_alike objects p made passes threads answers ended after some are meets = absurd are
 
   -- nor in what thread sections come to, where there are some
-  pub threads_alike : (objects : List Object) (p : Knowing) (made : Making) (passes : List Knowing) (threads : List (List Step)) (before : List Answer) (after : Knowing) (all : List Answer) → (length threads ≡ 0 → ⊥)
+  pub threads_alike : (objects : List Object) (p : Knowing) (made : Making) (passes : List Knowing) (threads : List (List Step)) (before : List StepAnswer) (after : Knowing) (all : List StepAnswer) → (length threads ≡ 0 → ⊥)
       → AreThreadsRun context (record { objects = objects; pass = record p { made = made } }) passes threads before after all → AreThreadsRun context (record { objects = objects; pass = p }) passes threads before after all
   threads_alike objects p made passes threads before after all some run = record {
     answers = run.answers;
@@ -146,8 +146,8 @@ module _ (context : Shared) where
     all_are = run.all_are;
   }
 
-  pub threads_run : (main : Stage) (passes : List Knowing) (threads : List (List Step)) (jobs : List Job) (results : List (Result FinishedSection AllocError)) (before : List Answer) (after : Knowing)
-      (all : List Answer) → AreJobs context main passes threads jobs → AreEnded context jobs results → AreGathered context main.pass before results after all
+  pub threads_run : (main : Stage) (passes : List Knowing) (threads : List (List Step)) (jobs : List Job) (results : List (Result FinishedSection AllocError)) (before : List StepAnswer) (after : Knowing)
+      (all : List StepAnswer) → AreJobs context main passes threads jobs → AreEnded context jobs results → AreGathered context main.pass before results after all
       → AreThreadsRun context main passes threads before after all
   threads_run main passes threads jobs results before after all are_jobs ended are =
       let it = gathered main passes threads jobs results main.pass before after all are_jobs ended are in

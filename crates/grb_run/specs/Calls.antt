@@ -5,6 +5,9 @@ use Rattle.grb_core.specs.declared.monoid.Monoid.{Monoid}
 use Rattle.grb_call.specs.declared.call.Call.{Call}
 use Rattle.grb_call.specs.declared.call.Call.TheVariants as call
 use Rattle.grb_call.specs.declared.descriptor.WaitMode.{WaitMode}
+use Rattle.grb_call.specs.declared.descriptor.WaitMode.TheVariants as mode
+use Rattle.grb_call.specs.declared.term.MatrixTerm.TheVariants as of_matrix
+use Rattle.grb_call.specs.declared.term.VectorTerm.TheVariants as of_vector
 use Rattle.grb_call.specs.declared.ids.MatrixId.{MatrixId}
 use Rattle.grb_call.specs.declared.ids.Object.{Object}
 use Rattle.grb_call.specs.declared.ids.VectorId.{VectorId}
@@ -15,6 +18,10 @@ use Rattle.grb_script.specs.declared.product.Product.{Product}
 use Rattle.grb_script.specs.declared.product.Reduction.{Reduction}
 use Rattle.grb_script.specs.declared.statement.Statement.{Statement}
 use Rattle.grb_script.specs.declared.statement.Statement.TheVariants as statement
+use Rattle.grb_script.specs.declared.term.Application.{Application}
+use Rattle.grb_script.specs.declared.term.KroneckerProduct.{KroneckerProduct}
+use Rattle.grb_script.specs.declared.term.Selection.{Selection}
+use Rattle.grb_script.specs.declared.term.Transposition.{Transposition}
 use Rattle.grb_run.specs.Objects.{matrix_named, vector_named}
 
 -- the calls on a whole object, by its sort
@@ -84,7 +91,28 @@ abbrev pub wait_call : List Object → ℕ → Sort → WaitMode → Call
 wait_call objects name sort.Matrix mode = call.WaitMatrix (matrix_named objects name) mode
 wait_call objects name sort.Vector mode = call.WaitVector (vector_named objects name) mode
 
--- the call that a statement makes
+-- the calls of a transposition, of a function of each value, of a test of each entry and of a Kronecker product, by the sort of all
+-- their objects
+abbrev pub transpose_call : List Object → Transposition → Call
+transpose_call objects t = call.WriteMatrix (matrix_named objects t.output) (mask_matrix objects t.mask) t.accum (of_matrix.Transposed (matrix_named objects t.input)) t.descriptor
+
+abbrev pub apply_call : List Object → Application → Sort → Call
+apply_call objects p sort.Matrix =
+    call.WriteMatrix (matrix_named objects p.output) (mask_matrix objects p.mask) p.accum (of_matrix.Applied p.function (matrix_named objects p.input)) p.descriptor
+apply_call objects p sort.Vector =
+    call.WriteVector (vector_named objects p.output) (mask_vector objects p.mask) p.accum (of_vector.Applied p.function (vector_named objects p.input)) p.descriptor
+
+abbrev pub select_call : List Object → Selection → Sort → Call
+select_call objects s sort.Matrix =
+    call.WriteMatrix (matrix_named objects s.output) (mask_matrix objects s.mask) s.accum (of_matrix.Selected s.test (matrix_named objects s.input)) s.descriptor
+select_call objects s sort.Vector =
+    call.WriteVector (vector_named objects s.output) (mask_vector objects s.mask) s.accum (of_vector.Selected s.test (vector_named objects s.input)) s.descriptor
+
+abbrev pub kronecker_call : List Object → KroneckerProduct → Call
+kronecker_call objects p =
+    call.WriteMatrix (matrix_named objects p.output) (mask_matrix objects p.mask) p.accum (of_matrix.Kronecker p.op (matrix_named objects p.left) (matrix_named objects p.right)) p.descriptor
+
+-- the call that a statement makes: that of 'tuples' is a wait for the completion of its object
 abbrev pub call_of : List Object → Statement → Call
 call_of objects (statement.Matrix domain nrows ncols) = call.NewMatrix domain nrows ncols
 call_of objects (statement.Vector domain size) = call.NewVector domain size
@@ -111,3 +139,9 @@ call_of objects (statement.Mxm p) = mxm_call objects p
 call_of objects (statement.Reduce r) = reduce_call objects r
 call_of objects (statement.Total name sort monoid) = total_call objects name sort monoid
 call_of objects (statement.Wait name sort mode) = wait_call objects name sort mode
+call_of objects (statement.Transpose t) = transpose_call objects t
+call_of objects (statement.Apply p) = apply_call objects p p.sort
+call_of objects (statement.Select s) = select_call objects s s.sort
+call_of objects (statement.Kronecker p) = kronecker_call objects p
+call_of objects (statement.Diag name diagonal) = call.Diag (vector_named objects name) diagonal
+call_of objects (statement.Tuples name sort) = wait_call objects name sort mode.Complete

@@ -4,10 +4,10 @@ pub mod Files
 pub mod Loads
 pub mod Objects
 pub mod Printed
-pub mod ReplyLine
 pub mod Run
 pub mod RunFault
 pub mod SectionSteps
 pub mod Sections
 pub mod Source
 pub mod Threads
+pub mod Told

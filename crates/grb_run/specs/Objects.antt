@@ -7,7 +7,7 @@ use Rattle.grb_call.specs.declared.ids.Object.{Object}
 use Rattle.grb_call.specs.declared.ids.Object.TheVariants as object
 use Rattle.grb_call.specs.declared.ids.VectorId.{VectorId}
 use Rattle.grb_call.specs.declared.reply.Reply.TheVariants as reply
-use Rattle.grb_run.specs.ReplyLine.{Answer}
+use Rattle.grb_replies.specs.ReplyLine.{Answer}
 use Rattle.grb_script.specs.declared.names.Sort.{Sort}
 use Rattle.grb_script.specs.declared.names.Sort.TheVariants as sort
 use Rattle.grb_script.specs.declared.statement.Statement.{Statement}
@@ -45,6 +45,7 @@ abbrev pub made_sort : Statement → Option Sort
 made_sort (statement.Matrix domain nrows ncols) = Some sort.Matrix
 made_sort (statement.Vector domain size) = Some sort.Vector
 made_sort (statement.Dup name sort) = Some sort
+made_sort (statement.Diag name diagonal) = Some sort.Matrix
 made_sort _ = None
 
 -- what a new name stands for whose statement makes an object of this sort and was answered this

@@ -19,7 +19,10 @@ use Rattle.grb_run.specs.declared.loads.Step.{Step}
 use Rattle.grb_run.specs.declared.loads.Step.TheVariants as step
 use Rattle.grb_run.specs.Calls.{call_of}
 use Rattle.grb_run.specs.Objects.{made_sort, objects_after}
-use Rattle.grb_run.specs.ReplyLine.{reply_line}
+use Rattle.grb_replies.specs.declared.step_answer.StepAnswer.{StepAnswer}
+use Rattle.grb_replies.specs.declared.step_answer.StepAnswer.TheVariants as told
+use Rattle.grb_replies.specs.ReplyLine.{reply_line}
+use Rattle.grb_run.specs.Told.{asked, told_by, IsToldBy}
 
 -- the call would be entered, and the history has all the calls that there is room for
 abbrev pub is_full : ℕ → History → Call → Bool
@@ -53,7 +56,7 @@ sum_of domain.Uint64 = monoid.Plus
 abbrev pub filling : ℕ → Loaded → Statement
 filling name m = statement.BuildMatrix name m.tuples (sum_of m.domain)
 
--- the answer to a statement where neither memory nor a record is refused, and where the script stands behind it
+-- the answer to a statement's call where neither memory nor a record is refused, and where the script stands behind it
 abbrev pub statement_done : ℕ → Standing → Statement → Answer × Standing
 statement_done room at s = let a = answer_in room at.history (call_of at.objects s) in (a, standing_after at s a)
 
@@ -63,13 +66,21 @@ abbrev pub filled : ℕ → Standing → Statement → Answer → Answer × Stan
 filled room at s (Err refusal) = (Err refusal, at)
 filled room at s (Ok reply) = statement_done room at s
 
--- the same of a step
-abbrev pub done : ℕ → Standing → Step → Answer × Standing
-done room at (step.Statement s) = statement_done room at s
-done room at (step.Load m) = let made = statement_done room at (making m) in filled room made.1 (filling (length at.objects) m) made.0
+-- the same of both statements of a load
+abbrev pub load_done : ℕ → Standing → Loaded → Answer × Standing
+load_done room at m = let made = statement_done room at (making m) in filled room made.1 (filling (length at.objects) m) made.0
+
+-- what a statement is answered, by the answer to its call and by where the script stands behind that
+abbrev pub with_asked : Standing → Statement → Answer × Standing → StepAnswer × Standing
+with_asked at s d = (told_by (asked at.objects (store_of d.1.history) s) d.0, d.1)
+
+-- what a step is answered where neither memory nor a record is refused, and where the script stands behind it
+abbrev pub done : ℕ → Standing → Step → StepAnswer × Standing
+done room at (step.Statement s) = with_asked at s (statement_done room at s)
+done room at (step.Load m) = let d = load_done room at m in (told.Call d.0, d.1)
 
 -- the answers to these steps, one behind another, where neither memory nor a record is refused
-abbrev pub answers_in : ℕ → Standing → List Step → List Answer
+abbrev pub answers_in : ℕ → Standing → List Step → List StepAnswer
 answers_in room at [] = []
 answers_in room at (s ∷ more) = let d = done room at s in d.0 ∷ answers_in room d.1 more
 
@@ -79,7 +90,7 @@ IsAnswer room h c (Err OutOfMemory) = MayLackMemory room 0 h c
 IsAnswer room h c (Err Panic) = MayLackRecord room h c
 IsAnswer room h c a = a ≡ answer_in room h c
 
--- the answer to a statement, and where the script stands behind it
+-- the answer to a statement's call, and where the script stands behind it
 pub record IsSaid (room : ℕ) (at : Standing) (s : Statement) (a : Answer) (after : Standing) : Type 0 where
   pub answer : IsAnswer room at.history (call_of at.objects s) a
   pub after_is : after ≡ standing_after at s a
@@ -96,20 +107,32 @@ pub record IsLoadDone (room : ℕ) (at : Standing) (m : Loaded) (a : Answer) (af
   pub makes : IsSaid room at (making m) made between
   pub fills : IsFilled room between (filling (length at.objects) m) made a after
 
+-- what a statement is answered, and where the script stands behind it
+pub record IsStatementDone (room : ℕ) (at : Standing) (s : Statement) (a : StepAnswer) (after : Standing) : Type 0 where
+  pub answer : Answer
+  pub said : IsSaid room at s answer after
+  pub tells : IsToldBy (asked at.objects (store_of after.history) s) answer a
+
+-- the same of a load
+pub record IsLoadAnswered (room : ℕ) (at : Standing) (m : Loaded) (a : StepAnswer) (after : Standing) : Type 0 where
+  pub answer : Answer
+  pub loaded : IsLoadDone room at m answer after
+  pub tells : a ≡ told.Call answer
+
 -- the same of a step
-abbrev pub IsDone : ℕ → Standing → Step → Answer → Standing → Type 0
-IsDone room at (step.Statement s) a after = IsSaid room at s a after
-IsDone room at (step.Load m) a after = IsLoadDone room at m a after
+abbrev pub IsDone : ℕ → Standing → Step → StepAnswer → Standing → Type 0
+IsDone room at (step.Statement s) a after = IsStatementDone room at s a after
+IsDone room at (step.Load m) a after = IsLoadAnswered room at m a after
 
 -- the answers to these steps, one behind another
-abbrev pub IsRun : ℕ → Standing → List Step → List Answer → Type 0
+abbrev pub IsRun : ℕ → Standing → List Step → List StepAnswer → Type 0
 IsRun room at [] [] = Unit {0}
 IsRun room at (s ∷ more) (a ∷ answers) = (after : Standing) × IsDone room at s a after × IsRun room after more answers
 IsRun room at _ _ = ⊥
 
 -- neither memory nor a record was refused
-abbrev pub WasServed : Answer → Type 0
-WasServed a = (a ≢ Err OutOfMemory) × (a ≢ Err Panic)
+abbrev pub WasServed : StepAnswer → Type 0
+WasServed a = (a ≢ told.Call (Err OutOfMemory)) × (a ≢ told.Call (Err Panic))
 
 -- what these steps print in a store with room for so many calls, where neither memory nor a record is refused
 abbrev pub printed : ℕ → List Step → List ℕ

@@ -14,7 +14,7 @@ use Rattle.grb_script.specs.Script.{sections_of}
 use Rattle.grb_run.specs.Loads.{Files, StopsWith, Steps, AreScriptSteps, all_of}
 use Rattle.grb_run.specs.Printed.{IsRun, WasServed, printed, start}
 use Rattle.grb_run.specs.Sections.{Answers, in_order, IsScriptRun}
-use Rattle.grb_run.specs.ReplyLine.{reply_line}
+use Rattle.grb_replies.specs.ReplyLine.{reply_line}
 use Rattle.grb_market.specs.Sink.{AppendsBeginning}
 use Rattle.grb_run.specs.Source.{FaultCounts, counted, IsGiven}
 

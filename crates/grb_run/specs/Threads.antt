@@ -4,7 +4,6 @@ use Rattle.std.specs.declared.alloc.AllocError.{AllocError}
 use Rattle.std.specs.declared.thread.PromisedHandle.{PromisedHandle}
 use Rattle.std.specs.List.{flat_map}
 use Rattle.grb_call.specs.declared.ids.Object.{Object}
-use Rattle.grb_context.specs.Explains.{Answer}
 use Rattle.grb_context.specs.Known.{Shared, Knowing, IsPassOf}
 use Rattle.grb_context.specs.Meeting.{Met}
 use Rattle.grb_run.specs.declared.fault.RunFault.{RunFault}
@@ -12,6 +11,7 @@ use Rattle.grb_run.specs.declared.fault.RunFault.TheVariants as run
 use Rattle.grb_run.specs.declared.loads.Step.{Step}
 use Rattle.grb_run.specs.declared.threads.ThreadPromise.{ThreadPromise}
 use Rattle.grb_run.specs.declared.threads.FinishedSection.{FinishedSection}
+use Rattle.grb_replies.specs.declared.step_answer.StepAnswer.{StepAnswer}
 use Rattle.grb_run.specs.declared.threads.Job.{Job}
 use Rattle.grb_run.specs.Sections.{Stage, AreTold, AreThreadsTold, MeetsAll}
 
@@ -45,23 +45,23 @@ AreAsked context (job ∷ jobs) (one ∷ running) = (one.promise.context.value �
 AreAsked context _ _ = ⊥
 
 -- main's pass met that of a thread section, and the section's answers stand behind those before
-pub record IsGathered (context : Shared) (main : Knowing) (before : List Answer) (ended : FinishedSection) (after : Knowing) (answers : List Answer) : Type 0 where
+pub record IsGathered (context : Shared) (main : Knowing) (before : List StepAnswer) (ended : FinishedSection) (after : Knowing) (answers : List StepAnswer) : Type 0 where
   pub meets : Met context main after ended.pass (Ok tt)
   pub answers_are : answers ≡ before ++ ended.answers.items
 
-abbrev pub AreGathered : Shared → Knowing → List Answer → List (Result FinishedSection AllocError) → Knowing → List Answer → Type 0
+abbrev pub AreGathered : Shared → Knowing → List StepAnswer → List (Result FinishedSection AllocError) → Knowing → List StepAnswer → Type 0
 AreGathered context main before [] after answers = (after ≡ main) × (answers ≡ before)
 AreGathered context main before (Ok one ∷ ended) after answers =
-    (next : Knowing) × (more : List Answer) × IsGathered context main before one next more × AreGathered context next more ended after answers
+    (next : Knowing) × (more : List StepAnswer) × IsGathered context main before one next more × AreGathered context next more ended after answers
 AreGathered context main before (Err e ∷ ended) after answers = ⊥
 
 -- the thread sections were run, main's pass met theirs, and their answers stand behind those before
-pub record AreThreadsRun (context : Shared) (main : Stage) (passes : List Knowing) (threads : List (List Step)) (before : List Answer) (after : Knowing) (all : List Answer) : Type 0 where
-  pub answers : List (List Answer)
+pub record AreThreadsRun (context : Shared) (main : Stage) (passes : List Knowing) (threads : List (List Step)) (before : List StepAnswer) (after : Knowing) (all : List StepAnswer) : Type 0 where
+  pub answers : List (List StepAnswer)
   pub ended : List Knowing
   pub told : AreThreadsTold context main passes threads answers ended
   pub meets : MeetsAll context main.pass ended after
-  pub all_are : all ≡ before ++ flat_map (λ (more : List Answer). more) answers
+  pub all_are : all ≡ before ++ flat_map (λ (more : List StepAnswer). more) answers
 
 -- why thread sections did not run to their ends
 abbrev pub IsStop : RunFault → Type 0

@@ -3,7 +3,7 @@ ghost use Rattle.std.specs.Prelude.{◌≡◌};
 ghost use Rattle.grb_run.specs.Calls.{call_of};
 
 use crate::objects::{Named, mask_named};
-use grb_call::{Call, Object};
+use grb_call::{Call, MatrixTerm, Object, VectorTerm, WaitMode};
 use grb_script::{Sort, Statement};
 
 /// The call of this variant on the object that a name stands for, with what else it takes.
@@ -38,8 +38,21 @@ macro_rules! operation {
     };
 }
 
-/// The call that a statement makes, where the names so far stand for these objects. The list of a build goes into its call. Takes no
-/// memory.
+/// The write of what a term computes into the output of a statement, by the names that stand in the statement.
+macro_rules! writes {
+    ($objects:expr, $says:expr, $call:ident, $output:ident, $term:expr) => {
+        Call::$call {
+            $output: Named::named($objects, $says.output),
+            mask: mask_named($objects, $says.mask),
+            accum: $says.accum,
+            term: $term,
+            d: $says.descriptor,
+        }
+    };
+}
+
+/// The call that a statement makes, where the names so far stand for these objects. The list of a build goes into its call. That of
+/// `tuples` is a wait for the completion of its object. Takes no memory.
 pub fn call_of(objects: &[Object], statement: Statement) -> Call
     ensures { result ≡ call_of objects.now statement }
 {
@@ -93,6 +106,65 @@ pub fn call_of(objects: &[Object], statement: Statement) -> Call
             by_sort!(objects, name, sort, ReduceMatrix, ReduceVector, monoid)
         }
         Statement::Wait { name, sort, mode } => {
+            by_sort!(objects, name, sort, WaitMatrix, WaitVector, mode)
+        }
+        Statement::Transpose(says) => {
+            let a = Named::named(objects, says.input);
+            writes!(objects, says, WriteMatrix, c, MatrixTerm::Transposed { a })
+        }
+        Statement::Apply(says) => {
+            let f = says.function;
+            match says.sort {
+                Sort::Matrix => {
+                    let a = Named::named(objects, says.input);
+                    writes!(objects, says, WriteMatrix, c, MatrixTerm::Applied { f, a })
+                }
+                Sort::Vector => {
+                    let u = Named::named(objects, says.input);
+                    writes!(objects, says, WriteVector, w, VectorTerm::Applied { f, u })
+                }
+            }
+        }
+        Statement::Select(says) => {
+            let test = says.test;
+            match says.sort {
+                Sort::Matrix => {
+                    let a = Named::named(objects, says.input);
+                    writes!(
+                        objects,
+                        says,
+                        WriteMatrix,
+                        c,
+                        MatrixTerm::Selected { test, a }
+                    )
+                }
+                Sort::Vector => {
+                    let u = Named::named(objects, says.input);
+                    writes!(
+                        objects,
+                        says,
+                        WriteVector,
+                        w,
+                        VectorTerm::Selected { test, u }
+                    )
+                }
+            }
+        }
+        Statement::Kronecker(says) => {
+            let op = says.op;
+            let a = Named::named(objects, says.left);
+            let b = Named::named(objects, says.right);
+            writes!(
+                objects,
+                says,
+                WriteMatrix,
+                c,
+                MatrixTerm::Kronecker { op, a, b }
+            )
+        }
+        Statement::Diag { name, diagonal } => on!(objects, name, Diag { v, diagonal }),
+        Statement::Tuples { name, sort } => {
+            let mode = WaitMode::Complete;
             by_sort!(objects, name, sort, WaitMatrix, WaitVector, mode)
         }
     }

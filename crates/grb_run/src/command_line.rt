@@ -19,7 +19,9 @@ const AFTER_HELP: &str =
     "A line `thread 1` begins a section that runs after the lines before it, next to\n\
     those of `thread 2` and so on; a line `finally` begins the last section. A first\n\
     line `version 2` adds the statement `vxm`, the option `tran`, and thread sections\n\
-    up to 255. docs/FORMATS.md has each statement, refusal and fault.\n\n\
+    up to 255; `version 3` adds to these `transpose`, `apply`, `select`, `kronecker`,\n\
+    `diag`, `tuples` and the option `tran1`. docs/FORMATS.md has each statement,\n\
+    refusal and fault.\n\n\
     Exit status: 0 where all lines were written, or help was; 1 where the run ended\n\
     early, and standard error says why; 2 where the command line is faulty.";
 

@@ -12,12 +12,12 @@ ghost use Rattle.grb_run.specs.Threads.{IsStopOf};
 use crate::fault::RunFault;
 use crate::gate::Gate;
 use crate::loads::{ScriptSteps, script_steps};
-use crate::reply_line::{Answer, text_of};
 use crate::section::answers_by;
 use crate::source::Source;
 use crate::threads::{check_sections, run_threads};
 use grb_context::{Context, Pass};
-use grb_market::{Sink, put_all};
+use grb_market::Sink;
+use grb_replies::{StepAnswer, put_lines};
 use grb_script::read_script;
 use std::alloc::{AllocError, Global};
 use std::sync::Wait;
@@ -54,7 +54,7 @@ fn run_sections<R: Threads + Wait + Sync, G: Gate + Sync>(
     passes: Vec<Pass>,
     script: ScriptSteps,
     gate: &G,
-) -> Result<Vec<Answer>, RunFault>
+) -> Result<Vec<StepAnswer>, RunFault>
     requires main { IsPassOf context.now main.old }
     requires passes { All (IsPassOf context.now) passes.items }
     requires new { AreNew context.now.order (length script.threads.items + 1) (main.old ∷ passes.items) (length script.threads.items + 1) }
@@ -95,7 +95,7 @@ fn answers_to<R: Threads + Wait + Sync, G: Gate + Sync>(
     room: u32,
     script: ScriptSteps,
     gate: &G,
-) -> Result<Vec<Answer>, RunFault>
+) -> Result<Vec<StepAnswer>, RunFault>
     requires room { (0 < room) × (room ≤ MOST_ROOM) }
     requires threads { length script.threads.items < MOST_PASSES }
     requires seats { room * (length script.threads.items + 1) ≤ MOST_SEATS }
@@ -112,9 +112,9 @@ fn answers_to<R: Threads + Wait + Sync, G: Gate + Sync>(
 /// The script is read whole. Then `room` times the number of its passes, main's and one for each thread section, is held against
 /// `MOST_SEATS`, and then the file of each of its loads is read, in their order; where one has a fault, nothing is run. Main runs first.
 /// Then each thread section runs on a thread and with a pass of its own, all at the same time, and when all have ended the last section
-/// runs with main's pass. All memory is taken before the first byte is put: where it is refused outside of the calls nothing is written. A
-/// call for which it is refused is answered so, in its line. The gate is called round each statement, with the number of its section, which
-/// for main and the last section is 0; the statements of the last section are counted after those of main.
+/// runs with main's pass. The lines are put as they are made, and none is held. They take no memory, so where that is refused outside of the
+/// calls nothing is written; a call for which it is refused is answered so, in its line. The gate is called round each statement, with the
+/// number of its section, which for main and the last section is 0; the statements of the last section are counted after those of main.
 pub fn run_script<R: Threads + Wait + Sync, S: Source, W: Sink, G: Gate + Sync>(
     rt: &R,
     alloc: Global,
@@ -138,7 +138,6 @@ pub fn run_script<R: Threads + Wait + Sync, S: Source, W: Sink, G: Gate + Sync>(
     check_sections(room, script.threads.len())?;
     let steps = script_steps(alloc, source, script)?;
     let answers = answers_to(rt, alloc, room, steps, gate)?;
-    let lines = text_of(alloc, &answers)?;
-    put_all(sink, lines.as_bytes())?;
+    put_lines(sink, &answers)?;
     Ok(())
 }

@@ -70,7 +70,8 @@ impl SectionSteps {
                     | Statement::BuildMatrix { .. }
                     | Statement::BuildVector { .. }
                     | Statement::Total { .. }
-                    | Statement::Wait { .. } => return true,
+                    | Statement::Wait { .. }
+                    | Statement::Tuples { .. } => return true,
                     _ => {}
                 }
             }

@@ -4,8 +4,8 @@ ghost use Rattle.std.specs.Option.{option_map};
 ghost use Rattle.grb_call.specs.declared.ids.Object.{Object};
 ghost use Rattle.grb_run.specs.Objects.{matrix_named, vector_named, new_object, made_sort, objects_after};
 
-use crate::reply_line::Answer;
 use grb_call::{MatrixId, Object, Reply, VectorId};
+use grb_replies::Answer;
 use grb_script::{Sort, Statement};
 use std::alloc::AllocError;
 
@@ -62,7 +62,7 @@ pub fn made_sort(statement: &Statement) -> Option<Sort>
     ensures { result ≡ made_sort statement.now }
 {
     match statement {
-        Statement::Matrix { .. } => Some(Sort::Matrix),
+        Statement::Matrix { .. } | Statement::Diag { .. } => Some(Sort::Matrix),
         Statement::Vector { .. } => Some(Sort::Vector),
         Statement::Dup { sort, .. } => Some(*sort),
         _ => None,

@@ -3,17 +3,19 @@ ghost use Rattle.std.specs.Prelude.{◌≡◌, IfOk};
 ghost use Rattle.grb_context.specs.Answered.{Answered};
 ghost use Rattle.grb_context.specs.Known.{IsPassOf};
 ghost use Rattle.grb_run.specs.Calls.{call_of};
+ghost use Rattle.grb_script.specs.declared.statement.Statement.TheVariants as statements;
 ghost use Rattle.grb_run.specs.Objects.{made_sort, objects_after};
-ghost use Rattle.grb_run.specs.Sections.{IsStepTold, AreTold};
+ghost use Rattle.grb_run.specs.Sections.{IsLoadTold, IsStatementTold, IsStepTold, AreTold};
 
 use crate::calls::call_of;
 use crate::gate::Gate;
 use crate::loads::{SectionSteps, Step, filling, making, step_of};
-use crate::objects::{keep_object, made_sort};
-use crate::reply_line::Answer;
-use grb_call::Object;
+use crate::objects::{Named, keep_object, made_sort};
+use grb_call::{MatrixId, Object, VectorId};
 use grb_context::{Context, Pass};
-use grb_script::Statement;
+use grb_market::Loaded;
+use grb_replies::{Answer, MatrixSnapshot, StepAnswer, VectorSnapshot};
+use grb_script::{Sort, Statement};
 use std::alloc::{AllocError, Global};
 
 /// Makes the call of a statement, and keeps what its name stands for. `AllocError` where memory is refused to the place of the name; the
@@ -35,32 +37,90 @@ fn answer_to(
     Ok(answer)
 }
 
-/// Makes the calls of a step: that of a statement; or those that make and fill the matrix of a load, which is kept for the next name. Where
-/// it is not made, nothing is filled. `AllocError` where memory is refused to the list of the build, and then no call is made; or to the
-/// place of the name, and then the call was made, and nothing is filled.
+/// The entries of the object of this name behind a wait for its completion, or why that is refused. They are shared and not copied.
+/// `OutOfMemory` also where 2^63 - 1 hold them.
+fn entries_named(
+    context: &Context,
+    pass: &mut Pass,
+    objects: &[Object],
+    name: usize,
+    sort: Sort,
+) -> StepAnswer
+    requires pass { IsPassOf context.now pass.old }
+    ensures pass { IsPassOf context.now pass.new }
+    ensures told { IsStatementTold context.now (record { objects = objects.now; pass = pass.old }) (statements.Tuples name sort) result
+        (record { objects = objects.now; pass = pass.new }) }
+{
+    match sort {
+        Sort::Matrix => match context.snapshot_matrix(pass, MatrixId::named(objects, name)) {
+            Ok(matrix) => StepAnswer::Matrix(MatrixSnapshot::of(matrix)),
+            Err(refusal) => StepAnswer::Call(Err(refusal)),
+        },
+        Sort::Vector => match context.snapshot_vector(pass, VectorId::named(objects, name)) {
+            Ok(vector) => StepAnswer::Vector(VectorSnapshot::of(vector)),
+            Err(refusal) => StepAnswer::Call(Err(refusal)),
+        },
+    }
+}
+
+/// Makes the call of a statement, and keeps what its name stands for. `tuples` is answered the entries behind its wait, where that is not
+/// refused. `AllocError` where memory is refused to the place of the name; the call was made then.
+fn answer_to_statement(
+    context: &Context,
+    pass: &mut Pass,
+    objects: &mut Vec<Object>,
+    statement: Statement,
+) -> Result<StepAnswer, AllocError>
+    requires pass { IsPassOf context.now pass.old }
+    ensures pass { IsPassOf context.now pass.new }
+    ensures told { IfOk result (λ answer. IsStatementTold context.now (record { objects = objects.old.items; pass = pass.old }) statement answer
+        (record { objects = objects.new.items; pass = pass.new })) }
+{
+    match statement {
+        Statement::Tuples { name, sort } => Ok(entries_named(context, pass, objects, name, sort)),
+        _ => Ok(StepAnswer::Call(answer_to(context, pass, objects, statement)?)),
+    }
+}
+
+/// Makes the calls that make and fill the matrix of a load, which is kept for the next name. Where it is not made, nothing is filled.
+/// `AllocError` where memory is refused to the list of the build, and then no call is made; or to the place of the name, and then the call
+/// was made, and nothing is filled.
+fn answer_to_load(
+    context: &Context,
+    pass: &mut Pass,
+    objects: &mut Vec<Object>,
+    loaded: Loaded,
+) -> Result<Answer, AllocError>
+    requires pass { IsPassOf context.now pass.old }
+    ensures pass { IsPassOf context.now pass.new }
+    ensures told { IfOk result (λ answer. IsLoadTold context.now (record { objects = objects.old.items; pass = pass.old }) loaded answer
+        (record { objects = objects.new.items; pass = pass.new })) }
+{
+    let name = objects.len();
+    let first = making(&loaded);
+    let second = filling(name, loaded)?;
+    let made = answer_to(context, pass, objects, first)?;
+    if made.is_err() {
+        return Ok(made);
+    }
+    answer_to(context, pass, objects, second)
+}
+
+/// Makes the calls of a step: that of a statement, or those of a load. `AllocError` as of these.
 fn answer_to_step(
     context: &Context,
     pass: &mut Pass,
     objects: &mut Vec<Object>,
     step: Step,
-) -> Result<Answer, AllocError>
+) -> Result<StepAnswer, AllocError>
     requires pass { IsPassOf context.now pass.old }
     ensures pass { IsPassOf context.now pass.new }
     ensures told { IfOk result (λ answer. IsStepTold context.now (record { objects = objects.old.items; pass = pass.old }) step answer
         (record { objects = objects.new.items; pass = pass.new })) }
 {
     match step {
-        Step::Statement(statement) => answer_to(context, pass, objects, statement),
-        Step::Load(loaded) => {
-            let name = objects.len();
-            let first = making(&loaded);
-            let second = filling(name, loaded)?;
-            let made = answer_to(context, pass, objects, first)?;
-            if made.is_err() {
-                return Ok(made);
-            }
-            answer_to(context, pass, objects, second)
-        }
+        Step::Statement(statement) => answer_to_statement(context, pass, objects, statement),
+        Step::Load(loaded) => Ok(StepAnswer::Call(answer_to_load(context, pass, objects, loaded)?)),
     }
 }
 
@@ -75,7 +135,7 @@ pub(crate) fn answers_by<G: Gate>(
     steps: SectionSteps,
     begun: u32,
     gate: &G,
-) -> Result<Vec<Answer>, AllocError>
+) -> Result<Vec<StepAnswer>, AllocError>
     requires pass { IsPassOf context.now pass.old }
     ensures pass { IsPassOf context.now pass.new }
     ensures told { IfOk result (λ answers. AreTold context.now (record { objects = objects.old.items; pass = pass.old }) steps answers.items

@@ -9,10 +9,10 @@ ghost use Rattle.grb_run.specs.Threads.{IsJob, AreJobs, IsEnded, AreEnded, AreAs
 use crate::fault::RunFault;
 use crate::gate::Gate;
 use crate::loads::SectionSteps;
-use crate::reply_line::Answer;
 use crate::section::answers_by;
 use grb_call::Object;
 use grb_context::{Context, MOST_SEATS, Pass};
+use grb_replies::StepAnswer;
 use std::alloc::{AllocError, Global};
 use std::snapshot::Snapshot;
 use std::sync::Wait;
@@ -46,7 +46,7 @@ pub(crate) struct Job {
 #[derive(Drop)]
 pub(crate) struct FinishedSection {
     pass: Pass,
-    answers: Vec<Answer>,
+    answers: Vec<StepAnswer>,
 }
 
 /// What the thread of a job promises of what it returns.
@@ -242,7 +242,7 @@ fn run_jobs<R: Threads + Wait + Sync, G: Gate + Sync>(
 fn gather_from(
     context: &Context,
     main: &mut Pass,
-    answers: &mut Vec<Answer>,
+    answers: &mut Vec<StepAnswer>,
     ended: &mut FinishedSection,
 ) -> Result<(), RunFault>
     requires main { IsPassOf context.now main.old }
@@ -264,7 +264,7 @@ fn gather_from(
 fn gather(
     context: &Context,
     main: &mut Pass,
-    answers: &mut Vec<Answer>,
+    answers: &mut Vec<StepAnswer>,
     mut ended: FinishedSection,
 ) -> Result<(), RunFault>
     requires main { IsPassOf context.now main.old }
@@ -280,7 +280,7 @@ fn gather(
 fn gather_all(
     context: &Context,
     main: &mut Pass,
-    answers: &mut Vec<Answer>,
+    answers: &mut Vec<StepAnswer>,
     ended: Vec<Result<FinishedSection, AllocError>>,
 ) -> Result<(), RunFault>
     requires main { IsPassOf context.now main.old }
@@ -332,7 +332,7 @@ pub(crate) fn run_threads<R: Threads + Wait + Sync, G: Gate + Sync>(
     objects: &[Object],
     passes: Vec<Pass>,
     threads: Vec<SectionSteps>,
-    answers: &mut Vec<Answer>,
+    answers: &mut Vec<StepAnswer>,
     gate: &G,
 ) -> Result<(), RunFault>
     requires main { IsPassOf context.now main.old }

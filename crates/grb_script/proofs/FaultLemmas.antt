@@ -1,7 +1,7 @@
 -- The first fault of a line is that of the lowest number of those that apply.
 use Rattle.std.proofs.Common.{◌≡◌, ℕ, ◌+◌, ◌≤◌, Bool, true, false, ◌&&◌, ◌||◌, cond, nat_eq, List, ◌∷◌, Option, Some, None, Ok, Err, Result, is_some, refl, sym, ap, subst, ◌∙◌, arith, inl, inr}
 use Rattle.std.specs.Prelude.{not}
-use Rattle.grb_script.proofs.Prelude.{list_all, option_map, option_map_or, option_to_list, cases_eq, Line, FaultKind, Version, Form, MatrixForm, VectorForm, DupForm, FreeForm, NvalsForm, SizeForm, ClearForm, RemoveForm, GetForm, ResizeForm, SetForm, BuildForm, EwiseForm, ProductForm, ReduceForm, TotalForm, WaitForm, form_of, load_of, Word, words_of, has_allowed_bytes, is_load, is_section, OptionWords, section_of, Sort, asks_load, asks_statement, loading, Name, sort_of, stands, number_in, same_sort, are_of, are_of_product, build_of, ewise_on, get_at, left_sort, made, mask_is_of, masked, output_sort, product_on, reading, reduction_on, remove_at, resize_to, right_sort, saying, set_at, tran_fits, used, where_found, Scope, line_fault, section_fault, wording_fault, version_by, says_nothing}
+use Rattle.grb_script.proofs.Prelude.{list_all, option_map, option_map_or, option_to_list, cases_eq, Line, FaultKind, Version, Form, MatrixForm, VectorForm, DupForm, FreeForm, NvalsForm, SizeForm, ClearForm, RemoveForm, GetForm, ResizeForm, SetForm, BuildForm, EwiseForm, ProductForm, ReduceForm, TotalForm, WaitForm, TransposeForm, ApplyForm, SelectForm, KroneckerForm, DiagForm, TuplesForm, form_of, load_of, Word, words_of, has_allowed_bytes, is_load, is_section, OptionWords, section_of, Sort, asks_load, asks_statement, loading, Name, sort_of, stands, number_in, same_sort, are_of, are_of_product, build_of, diag_of, ewise_on, kronecker_on, transpose_on, same_fit, get_at, left_sort, made, mask_is_of, masked, output_sort, product_on, reading, reduction_on, remove_at, resize_to, right_sort, saying, set_at, turn_fits, used, where_found, Scope, line_fault, section_fault, wording_fault, version_by, says_nothing}
 use Rattle.std.specs.Result.{result_err}
 use Rattle.grb_core.specs.declared.operator.BinaryOp.{BinaryOp}
 use Rattle.grb_core.specs.declared.monoid.Monoid.{Monoid}
@@ -10,6 +10,8 @@ use Rattle.grb_core.specs.Monoid.{monoid_domain}
 use Rattle.grb_core.specs.Operator.{op_domain}
 use Rattle.grb_core.specs.Semiring.{SemiringParts}
 use Rattle.grb_call.specs.Refused.{same_domain}
+use Rattle.grb_call.specs.declared.descriptor.Descriptor.{Descriptor}
+use Rattle.grb_core.specs.declared.tests.Diagonal.{Diagonal}
 use Rattle.grb_words.specs.declared.fault.FaultKind.TheVariants as kind
 use Rattle.grb_words.specs.declared.indices.Indices.{Indices}
 use Rattle.grb_words.specs.declared.indices.Indices.TheVariants as indices
@@ -21,7 +23,7 @@ use Rattle.grb_words.specs.Tuples.{vector_tuples, matrix_tuples}
 use Rattle.grb_script.specs.declared.names.Sort.TheVariants as sort
 use Rattle.grb_script.specs.declared.statement.Statement.{Statement}
 use Rattle.grb_script.specs.declared.statement.Statement.TheVariants as statement
-use Rattle.grb_script.specs.Faults.{fault_number, IsLowestFault, Sense, Silent, SectionWords, LoadWords, StatementWords, sense_of, is_section_here, has_form, makes_new, uses_known, is_of, sort_by, mask_sorts, are_groups, form_has_sorts, has_sorts, form_has_semiring, has_semiring, used_names, AppliesToLine}
+use Rattle.grb_script.specs.Faults.{fault_number, IsLowestFault, Sense, Silent, SectionWords, LoadWords, StatementWords, sense_of, is_section_here, has_form, makes_new, uses_known, is_of, sort_by, mask_sorts, are_groups, are_alike, form_has_sorts, has_sorts, form_has_semiring, has_semiring, used_names, AppliesToLine}
 
 -- the fault of a number
 of_number : ℕ → FaultKind
@@ -199,26 +201,51 @@ of_sort s o = option_map_or (same_sort s) o true
 abbrev all_of : Sort → Option Sort → Option Sort → Option Sort → Bool → Bool
 all_of s a b c mask = of_sort s a && (of_sort s b && (of_sort s c && mask))
 
-ewise-none : (tran : Bool) (s t u : Sort)
-    → (are_of s (0, t) (0, u) None && tran_fits s tran) ≡ (all_of sort.Matrix (Some s) (Some t) (Some u) true || (all_of sort.Vector (Some s) (Some t) (Some u) true && not tran))
-ewise-none tran sort.Matrix sort.Matrix sort.Matrix = refl
-ewise-none tran sort.Matrix sort.Matrix sort.Vector = refl
-ewise-none tran sort.Matrix sort.Vector u = refl
-ewise-none tran sort.Vector sort.Matrix u = refl
-ewise-none tran sort.Vector sort.Vector sort.Matrix = refl
-ewise-none tran sort.Vector sort.Vector sort.Vector = refl
+ewise-none : (d : Descriptor) (s t u : Sort)
+    → (are_of s (0, t) (0, u) None && turn_fits s d) ≡ (all_of sort.Matrix (Some s) (Some t) (Some u) true || (all_of sort.Vector (Some s) (Some t) (Some u) true && not d.tran && not d.tran1))
+ewise-none d sort.Matrix sort.Matrix sort.Matrix = refl
+ewise-none d sort.Matrix sort.Matrix sort.Vector = refl
+ewise-none d sort.Matrix sort.Vector u = refl
+ewise-none d sort.Vector sort.Matrix u = refl
+ewise-none d sort.Vector sort.Vector sort.Matrix = refl
+ewise-none d sort.Vector sort.Vector sort.Vector = refl
 
-ewise-some : (tran : Bool) (s t u v : Sort)
-    → (are_of s (0, t) (0, u) (Some (0, v)) && tran_fits s tran)
-    ≡ (all_of sort.Matrix (Some s) (Some t) (Some u) (of_sort sort.Matrix (Some v) && true) || (all_of sort.Vector (Some s) (Some t) (Some u) (of_sort sort.Vector (Some v) && true) && not tran))
-ewise-some tran sort.Matrix sort.Matrix sort.Matrix sort.Matrix = refl
-ewise-some tran sort.Matrix sort.Matrix sort.Matrix sort.Vector = refl
-ewise-some tran sort.Matrix sort.Matrix sort.Vector v = refl
-ewise-some tran sort.Matrix sort.Vector u v = refl
-ewise-some tran sort.Vector sort.Matrix u v = refl
-ewise-some tran sort.Vector sort.Vector sort.Matrix v = refl
-ewise-some tran sort.Vector sort.Vector sort.Vector sort.Matrix = refl
-ewise-some tran sort.Vector sort.Vector sort.Vector sort.Vector = refl
+ewise-some : (d : Descriptor) (s t u v : Sort)
+    → (are_of s (0, t) (0, u) (Some (0, v)) && turn_fits s d)
+    ≡ (all_of sort.Matrix (Some s) (Some t) (Some u) (of_sort sort.Matrix (Some v) && true) || (all_of sort.Vector (Some s) (Some t) (Some u) (of_sort sort.Vector (Some v) && true) && not d.tran && not d.tran1))
+ewise-some d sort.Matrix sort.Matrix sort.Matrix sort.Matrix = refl
+ewise-some d sort.Matrix sort.Matrix sort.Matrix sort.Vector = refl
+ewise-some d sort.Matrix sort.Matrix sort.Vector v = refl
+ewise-some d sort.Matrix sort.Vector u v = refl
+ewise-some d sort.Vector sort.Matrix u v = refl
+ewise-some d sort.Vector sort.Vector sort.Matrix v = refl
+ewise-some d sort.Vector sort.Vector sort.Vector sort.Matrix = refl
+ewise-some d sort.Vector sort.Vector sort.Vector sort.Vector = refl
+
+-- the same of a statement with one input
+abbrev both_of : Sort → Option Sort → Option Sort → Bool → Bool
+both_of s a b mask = of_sort s a && (of_sort s b && mask)
+
+same-none : (d : Descriptor) (s t : Sort)
+    → same_fit (0, s) (0, t) None d ≡ (both_of sort.Matrix (Some s) (Some t) true || (both_of sort.Vector (Some s) (Some t) true && not d.tran && not d.tran1))
+same-none d sort.Matrix sort.Matrix = refl
+same-none d sort.Matrix sort.Vector = refl
+same-none d sort.Vector sort.Matrix = refl
+same-none d sort.Vector sort.Vector = refl
+
+same-some : (d : Descriptor) (s t v : Sort)
+    → same_fit (0, s) (0, t) (Some (0, v)) d
+    ≡ (both_of sort.Matrix (Some s) (Some t) (of_sort sort.Matrix (Some v) && true) || (both_of sort.Vector (Some s) (Some t) (of_sort sort.Vector (Some v) && true) && not d.tran && not d.tran1))
+same-some d sort.Matrix sort.Matrix sort.Matrix = refl
+same-some d sort.Matrix sort.Matrix sort.Vector = refl
+same-some d sort.Matrix sort.Vector v = refl
+same-some d sort.Vector sort.Matrix v = refl
+same-some d sort.Vector sort.Vector sort.Matrix = refl
+same-some d sort.Vector sort.Vector sort.Vector = refl
+
+diags : (diagonal : Diagonal) (n : ℕ) (s : Sort) → result_err (diag_of n s diagonal) ≡ by_form true true (same_sort sort.Vector s && true) true
+diags diagonal n sort.Matrix = refl
+diags diagonal n sort.Vector = refl
 
 -- three tests and that of a mask, as a list has them
 four : (a b c d : Bool) → (a && b && c && d) ≡ (a && (b && (c && (d && true))))
@@ -233,6 +260,20 @@ three false b c = refl
 three true false c = refl
 three true true false = refl
 three true true true = refl
+
+-- the same where the first test stands apart
+one_and_three : (a b c d : Bool) → (a && (b && c && d)) ≡ (a && (b && (c && (d && true))))
+one_and_three false b c d = refl
+one_and_three true false c d = refl
+one_and_three true true false d = refl
+one_and_three true true true false = refl
+one_and_three true true true true = refl
+
+one_and_two : (a b c : Bool) → (a && (b && c && true)) ≡ (a && (b && (c && true)))
+one_and_two false b c = refl
+one_and_two true false c = refl
+one_and_two true true false = refl
+one_and_two true true true = refl
 
 three_with : (a b d : Bool) → (a && b && d) ≡ (a && (b && (d && true)))
 three_with false b d = refl
@@ -254,22 +295,40 @@ module _ (names : List Name) where
   mask_of s mask = list_all (is_of names s) (option_to_list mask)
 
   -- whether the sorts of an element-wise statement fit, by those of its names and by its mask, and by the sort of that
-  abbrev ewise_sorts : Bool → Option Sort → Option Sort → Option Sort → Option Word → Bool
-  ewise_sorts tran a b c mask = all_of sort.Matrix a b c (mask_of sort.Matrix mask) || (all_of sort.Vector a b c (mask_of sort.Vector mask) && not tran)
+  abbrev ewise_sorts : Descriptor → Option Sort → Option Sort → Option Sort → Option Word → Bool
+  ewise_sorts d a b c mask = all_of sort.Matrix a b c (mask_of sort.Matrix mask) || (all_of sort.Vector a b c (mask_of sort.Vector mask) && not d.tran && not d.tran1)
 
-  abbrev ewise_by_mask : Bool → Sort → Sort → Sort → Option Sort → Bool
-  ewise_by_mask tran s t u v =
-      all_of sort.Matrix (Some s) (Some t) (Some u) (of_sort sort.Matrix v && true) || (all_of sort.Vector (Some s) (Some t) (Some u) (of_sort sort.Vector v && true) && not tran)
+  abbrev ewise_by_mask : Descriptor → Sort → Sort → Sort → Option Sort → Bool
+  ewise_by_mask d s t u v =
+      all_of sort.Matrix (Some s) (Some t) (Some u) (of_sort sort.Matrix v && true) || (all_of sort.Vector (Some s) (Some t) (Some u) (of_sort sort.Vector v && true) && not d.tran && not d.tran1)
 
   ewise-first : (w : Ewise) (output left right : Word) (op : BinaryOp) (o : OptionWords)
       → result_err (saying names (EwiseForm w output left right op o)) ≡ by_form true (list_all (stands names) (used_names (EwiseForm w output left right op o))) (form_has_sorts names (EwiseForm w output left right op o)) true
   ewise-first w output left right op o =
-      used-first names output _ (stands names left && (stands names right && mask_stands o.mask)) (λ a. ewise_sorts o.descriptor.tran a (sort_of names left) (sort_of names right) o.mask) true (λ n s.
-      used-first names left _ (stands names right && mask_stands o.mask) (λ b. ewise_sorts o.descriptor.tran (Some s) b (sort_of names right) o.mask) true (λ i t.
-      used-first names right _ (mask_stands o.mask) (λ c. ewise_sorts o.descriptor.tran (Some s) (Some t) c o.mask) true (λ j u.
-      masked-first names o.mask (λ mask. ewise_on w (n, s) (i, t) (j, u) mask op o) (ewise_sorts o.descriptor.tran (Some s) (Some t) (Some u)) (ewise_by_mask o.descriptor.tran s t u) true (λ name. refl)
-      (sorted (are_of s (i, t) (j, u) None && tran_fits s o.descriptor.tran) _ ∙ ap (λ b. by_form true true b true) (ewise-none o.descriptor.tran s t u))
-      (λ m v. sorted (are_of s (i, t) (j, u) (Some (m, v)) && tran_fits s o.descriptor.tran) _ ∙ ap (λ b. by_form true true b true) (ewise-some o.descriptor.tran s t u v)))))
+      used-first names output _ (stands names left && (stands names right && mask_stands o.mask)) (λ a. ewise_sorts o.descriptor a (sort_of names left) (sort_of names right) o.mask) true (λ n s.
+      used-first names left _ (stands names right && mask_stands o.mask) (λ b. ewise_sorts o.descriptor (Some s) b (sort_of names right) o.mask) true (λ i t.
+      used-first names right _ (mask_stands o.mask) (λ c. ewise_sorts o.descriptor (Some s) (Some t) c o.mask) true (λ j u.
+      masked-first names o.mask (λ mask. ewise_on w (n, s) (i, t) (j, u) mask op o) (ewise_sorts o.descriptor (Some s) (Some t) (Some u)) (ewise_by_mask o.descriptor s t u) true (λ name. refl)
+      (sorted (are_of s (i, t) (j, u) None && turn_fits s o.descriptor) _ ∙ ap (λ b. by_form true true b true) (ewise-none o.descriptor s t u))
+      (λ m v. sorted (are_of s (i, t) (j, u) (Some (m, v)) && turn_fits s o.descriptor) _ ∙ ap (λ b. by_form true true b true) (ewise-some o.descriptor s t u v)))))
+
+  -- the same of a statement with one input
+  abbrev same_sorts : Descriptor → Option Sort → Option Sort → Option Word → Bool
+  same_sorts d a b mask = both_of sort.Matrix a b (mask_of sort.Matrix mask) || (both_of sort.Vector a b (mask_of sort.Vector mask) && not d.tran && not d.tran1)
+
+  abbrev same_by_mask : Descriptor → Sort → Sort → Option Sort → Bool
+  same_by_mask d s t v =
+      both_of sort.Matrix (Some s) (Some t) (of_sort sort.Matrix v && true) || (both_of sort.Vector (Some s) (Some t) (of_sort sort.Vector v && true) && not d.tran && not d.tran1)
+
+  same-first : (output input : Word) (o : OptionWords) (says : ℕ × Sort → ℕ × Sort → Option (ℕ × Sort) → Statement)
+      → result_err (used names output (λ n s. used names input (λ i t. masked names o.mask (λ mask. cond (same_fit (n, s) (i, t) mask o.descriptor) (Ok (says (n, s) (i, t) mask)) (Err kind.WrongKind)))))
+      ≡ by_form true (list_all (stands names) (output ∷ input ∷ option_to_list o.mask)) (are_alike names (output ∷ input ∷ option_to_list o.mask) o.descriptor) true
+  same-first output input o says =
+      used-first names output _ (stands names input && mask_stands o.mask) (λ a. same_sorts o.descriptor a (sort_of names input) o.mask) true (λ n s.
+      used-first names input _ (mask_stands o.mask) (λ b. same_sorts o.descriptor (Some s) b o.mask) true (λ i t.
+      masked-first names o.mask (λ mask. cond (same_fit (n, s) (i, t) mask o.descriptor) (Ok (says (n, s) (i, t) mask)) (Err kind.WrongKind)) (same_sorts o.descriptor (Some s) (Some t)) (same_by_mask o.descriptor s t) true (λ name. refl)
+      (sorted (same_fit (n, s) (i, t) None o.descriptor) _ ∙ ap (λ b. by_form true true b true) (same-none o.descriptor s t))
+      (λ m v. sorted (same_fit (n, s) (i, t) (Some (m, v)) o.descriptor) _ ∙ ap (λ b. by_form true true b true) (same-some o.descriptor s t v))))
 
   -- whether what a list of names asks for is so
   abbrev are_sorts : List (Word × Sort) → Bool
@@ -316,6 +375,44 @@ module _ (names : List Name) where
       (λ m v. sorted (same_sort sort.Vector s && same_sort sort.Matrix t && mask_is_of sort.Vector (Some (m, v))) _
       ∙ ap (λ b. by_form true true b true) (three_with (same_sort sort.Vector s) (same_sort sort.Matrix t) (same_sort sort.Vector v)))))
 
+  -- the same of a transposition
+  abbrev transpose_sorts : Option Sort → Option Sort → Option Word → Bool
+  transpose_sorts a b mask = of_sort sort.Matrix a && (of_sort sort.Matrix b && are_sorts (mask_sorts sort.Matrix mask))
+
+  abbrev transpose_by_mask : Sort → Sort → Option Sort → Bool
+  transpose_by_mask s t v = of_sort sort.Matrix (Some s) && (of_sort sort.Matrix (Some t) && (of_sort sort.Matrix v && true))
+
+  transpose-first : (output input : Word) (o : OptionWords)
+      → result_err (saying names (TransposeForm output input o))
+      ≡ by_form true (list_all (stands names) (output ∷ input ∷ option_to_list o.mask)) (are_sorts ((output, sort.Matrix) ∷ (input, sort.Matrix) ∷ mask_sorts sort.Matrix o.mask)) true
+  transpose-first output input o =
+      used-first names output _ (stands names input && mask_stands o.mask) (λ a. transpose_sorts a (sort_of names input) o.mask) true (λ n s.
+      used-first names input _ (mask_stands o.mask) (λ b. transpose_sorts (Some s) b o.mask) true (λ i t.
+      masked-first names o.mask (λ mask. transpose_on (n, s) (i, t) mask o) (transpose_sorts (Some s) (Some t)) (transpose_by_mask s t) true (λ name. refl)
+      (sorted (same_sort sort.Matrix s && same_sort sort.Matrix t && mask_is_of sort.Matrix None) _ ∙ ap (λ b. by_form true true b true) (two (same_sort sort.Matrix s) (same_sort sort.Matrix t)))
+      (λ m v. sorted (same_sort sort.Matrix s && same_sort sort.Matrix t && mask_is_of sort.Matrix (Some (m, v))) _
+      ∙ ap (λ b. by_form true true b true) (three_with (same_sort sort.Matrix s) (same_sort sort.Matrix t) (same_sort sort.Matrix v)))))
+
+  -- and of a Kronecker product
+  abbrev kronecker_sorts : Option Sort → Option Sort → Option Sort → Option Word → Bool
+  kronecker_sorts a b c mask = of_sort sort.Matrix a && (of_sort sort.Matrix b && (of_sort sort.Matrix c && are_sorts (mask_sorts sort.Matrix mask)))
+
+  abbrev kronecker_by_mask : Sort → Sort → Sort → Option Sort → Bool
+  kronecker_by_mask s t u v = of_sort sort.Matrix (Some s) && (of_sort sort.Matrix (Some t) && (of_sort sort.Matrix (Some u) && (of_sort sort.Matrix v && true)))
+
+  kronecker-first : (output left right : Word) (op : BinaryOp) (o : OptionWords)
+      → result_err (saying names (KroneckerForm output left right op o))
+      ≡ by_form true (list_all (stands names) (output ∷ left ∷ right ∷ option_to_list o.mask))
+      (are_sorts ((output, sort.Matrix) ∷ (left, sort.Matrix) ∷ (right, sort.Matrix) ∷ mask_sorts sort.Matrix o.mask)) true
+  kronecker-first output left right op o =
+      used-first names output _ (stands names left && (stands names right && mask_stands o.mask)) (λ a. kronecker_sorts a (sort_of names left) (sort_of names right) o.mask) true (λ n s.
+      used-first names left _ (stands names right && mask_stands o.mask) (λ b. kronecker_sorts (Some s) b (sort_of names right) o.mask) true (λ i t.
+      used-first names right _ (mask_stands o.mask) (λ c. kronecker_sorts (Some s) (Some t) c o.mask) true (λ j u.
+      masked-first names o.mask (λ mask. kronecker_on (n, s) (i, t) (j, u) mask op o) (kronecker_sorts (Some s) (Some t) (Some u)) (kronecker_by_mask s t u) true (λ name. refl)
+      (sorted (same_sort sort.Matrix s && are_of sort.Matrix (i, t) (j, u) None) _ ∙ ap (λ b. by_form true true b true) (one_and_two (same_sort sort.Matrix s) (same_sort sort.Matrix t) (same_sort sort.Matrix u)))
+      (λ m v. sorted (same_sort sort.Matrix s && are_of sort.Matrix (i, t) (j, u) (Some (m, v))) _
+      ∙ ap (λ b. by_form true true b true) (one_and_three (same_sort sort.Matrix s) (same_sort sort.Matrix t) (same_sort sort.Matrix u) (same_sort sort.Matrix v))))))
+
   -- the tests of a form
   abbrev form_fault : Form → Option FaultKind
   form_fault f = by_form (makes_new names (StatementWords (Some f))) (uses_known names (StatementWords (Some f))) (form_has_sorts names f) (form_has_semiring f)
@@ -341,6 +438,16 @@ module _ (names : List Name) where
   form-first (ReduceForm output input monoid o) = reduction-first output input monoid o
   form-first (TotalForm name monoid) = plain-first names name (λ n s. statement.Total n s monoid)
   form-first (WaitForm name mode) = plain-first names name (λ n s. statement.Wait n s mode)
+  form-first (TransposeForm output input o) = transpose-first output input o
+  form-first (ApplyForm output input f o) =
+      same-first output input o (λ p q mask. statement.Apply (record { sort = p.1; output = p.0; mask = option_map (λ m. m.0) mask; accum = o.accum; function = f; input = q.0; descriptor = o.descriptor }))
+  form-first (SelectForm output input test o) =
+      same-first output input o (λ p q mask. statement.Select (record { sort = p.1; output = p.0; mask = option_map (λ m. m.0) mask; accum = o.accum; test = test; input = q.0; descriptor = o.descriptor }))
+  form-first (KroneckerForm output left right op o) = kronecker-first output left right op o
+  form-first (DiagForm name vector diagonal) =
+      made-first names name (used names vector (λ n s. diag_of n s diagonal)) (stands names vector && true) (is_of names sort.Vector vector && true) true
+      (used-first names vector (λ n s. diag_of n s diagonal) true (λ o. option_map_or (same_sort sort.Vector) o true && true) true (diags diagonal))
+  form-first (TuplesForm name) = plain-first names name (λ n s. statement.Tuples n s)
 
 -- the fault of words by what they are
 abbrev sense_fault : Version → Scope → Sense → Option FaultKind

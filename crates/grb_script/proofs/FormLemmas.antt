@@ -1,6 +1,6 @@
 -- What form words have, and what a statement of it leaves of the names.
 use Rattle.std.proofs.Common.{◌≡◌, ◌≢◌, ℕ, ◌-◌, ◌≤◌, Bool, true, false, List, [], ◌∷◌, length, get_or, take, drop, Option, Some, None, Ok, Err, Bor, Result, if◌then◌else◌, refl, sym, ap, ◌∙◌, arith}
-use Rattle.grb_script.proofs.Prelude.{take_all, option_and_then, option_map, option_map_or, ok_or, FaultKind, UnknownName, Sort, Word, Name, name_found, Version, options_in, product_options, is_name, keyword_in, monoid_of, operator_of, semiring_of, wait_mode_of, Form, SetForm, BuildForm, EwiseForm, ProductForm, ReduceForm, TotalForm, WaitForm, ewise_form, product_form, reduce_form, total_form, wait_form, form_of_placed, indices_of, indices_and_value_of, values_in, matrix_form, vector_form, whole_form, placed_form, set_form, build_form, form_with, form_of, reading, used, masked, mask_found, where_found, names_behind, set_at, now_of}
+use Rattle.grb_script.proofs.Prelude.{take_all, option_and_then, option_map, option_map_or, ok_or, FaultKind, UnknownName, Sort, Word, Name, name_found, Version, options_in, product_turns, function_turns, function_first, test_first, is_name, keyword_in, monoid_of, operator_of, semiring_of, wait_mode_of, Form, SetForm, BuildForm, EwiseForm, ProductForm, ReduceForm, TotalForm, WaitForm, TransposeForm, ApplyForm, SelectForm, KroneckerForm, ewise_form, product_form, reduce_form, total_form, wait_form, transpose_form, apply_form, select_form, kronecker_form, diag_form, form_of_placed, indices_of, indices_and_value_of, values_in, matrix_form, vector_form, whole_form, placed_form, set_form, build_form, form_with, form_of, reading, used, masked, mask_found, where_found, names_behind, set_at, now_of}
 use Rattle.grb_words.specs.declared.fault.FaultKind.TheVariants.{Statement}
 use Rattle.grb_words.specs.declared.keyword.Ewise.{Ewise}
 use Rattle.grb_words.specs.declared.keyword.Keyword.{Keyword}
@@ -9,7 +9,8 @@ use Rattle.grb_words.specs.declared.keyword.Multiply.{Multiply}
 use Rattle.grb_words.specs.declared.keyword.Placed.{Placed}
 use Rattle.grb_words.specs.declared.keyword.Placed.TheVariants.{Remove, Get, Resize}
 use Rattle.grb_words.specs.declared.keyword.Whole.{Whole}
-use Rattle.grb_words.specs.declared.keyword.Whole.TheVariants.{Free, Nvals, Size, Clear}
+use Rattle.grb_words.specs.declared.keyword.Whole.TheVariants.{Free, Nvals, Size, Clear, Tuples}
+use Rattle.grb_words.specs.declared.options.Turns.TheVariants.{First, Both}
 use Rattle.grb_core.specs.declared.value.Value.{Value}
 use Rattle.grb_script.specs.declared.statement.Statement.{Statement as SaidStatement}
 use Rattle.grb_words.specs.declared.indices.Indices.{Indices}
@@ -117,6 +118,18 @@ module _ (names : List Name) where
   reading-wait_form name (a ∷ []) h = absurd (h refl)
   reading-wait_form name (a ∷ b ∷ more) h = refl
 
+  pub reading-kronecker_form : (version : Version) (output : Word) (words : List (Bor (List ℕ))) → (3 ≤ length words → ⊥) → reading names (kronecker_form version output (now_of words)) ≡ Err Statement
+  reading-kronecker_form version output [] h = refl
+  reading-kronecker_form version output (a ∷ []) h = refl
+  reading-kronecker_form version output (a ∷ b ∷ []) h = refl
+  reading-kronecker_form version output (a ∷ b ∷ c ∷ more) h = absurd (h (omega arith))
+
+  pub reading-diag_form : (name : Word) (words : List (Bor (List ℕ))) → (length words ≡ 2 → ⊥) → reading names (diag_form name (now_of words)) ≡ Err Statement
+  reading-diag_form name [] h = refl
+  reading-diag_form name (a ∷ []) h = refl
+  reading-diag_form name (a ∷ b ∷ []) h = absurd (h refl)
+  reading-diag_form name (a ∷ b ∷ c ∷ more) h = refl
+
   -- what a statement says that uses three names and a mask which stand
   pub used-three : (output left right : Word) (mask : Option Word) (says : ℕ × Sort → ℕ × Sort → ℕ × Sort → Option (ℕ × Sort) → Result SaidStatement FaultKind)
       (p q r : ℕ × Sort) (m : Option (ℕ × Sort)) → Ok p ≡ ok_or (name_found names output) UnknownName → Ok q ≡ ok_or (name_found names left) UnknownName
@@ -128,6 +141,18 @@ module _ (names : List Name) where
       let is_right = some_of_ok (name_found names right) UnknownName r of_right in
       λ k. option_map_or
       (λ n. option_map_or (λ i. option_map_or (λ j. where_found (λ found. says (n.0, n.1) (i.0, i.1) (j.0, j.1) found) (of_mask k)) (is_right k) (Err UnknownName)) (is_left k) (Err UnknownName))
+      (is_output k)
+      (Err UnknownName)
+
+  -- the same of two names
+  pub used-two : (output input : Word) (mask : Option Word) (says : ℕ × Sort → ℕ × Sort → Option (ℕ × Sort) → Result SaidStatement FaultKind)
+      (p q : ℕ × Sort) (m : Option (ℕ × Sort)) → Ok p ≡ ok_or (name_found names output) UnknownName → Ok q ≡ ok_or (name_found names input) UnknownName → Ok m ≡ mask_found names mask
+      → says p q m ≡ used names output (λ n s. used names input (λ i t. masked names mask (λ found. says (n, s) (i, t) found)))
+  used-two output input mask says p q m of_output of_input of_mask =
+      let is_output = some_of_ok (name_found names output) UnknownName p of_output in
+      let is_input = some_of_ok (name_found names input) UnknownName q of_input in
+      λ k. option_map_or
+      (λ n. option_map_or (λ i. where_found (λ found. says (n.0, n.1) (i.0, i.1) found) (of_mask k)) (is_input k) (Err UnknownName))
       (is_output k)
       (Err UnknownName)
 
@@ -153,6 +178,7 @@ module _ (names : List Name) where
   names_behind-whole Nvals name [] = refl
   names_behind-whole Size name [] = refl
   names_behind-whole Clear name [] = refl
+  names_behind-whole Tuples name [] = refl
   names_behind-whole w name (x ∷ more) = refl
 
   pub names_behind-placed : (w : Placed) (name : Word) (others : List Word) → names_behind names (placed_form w name others) ≡ names
@@ -180,7 +206,7 @@ module _ (names : List Name) where
   names_behind-ewise version w output (left ∷ right ∷ op ∷ options) =
       kept-where (is_name left) _
       (kept-where (is_name right) _
-      (kept-and_then (λ f. option_map (EwiseForm w output left right f) (options_in version options)) (λ f. kept-map (EwiseForm w output left right f) (λ o. refl) (options_in version options)) (operator_of op)))
+      (kept-and_then (λ f. option_map (EwiseForm w output left right f) (options_in version Both options)) (λ f. kept-map (EwiseForm w output left right f) (λ o. refl) (options_in version Both options)) (operator_of op)))
 
   pub names_behind-product : (version : Version) (w : Multiply) (output : Word) (others : List Word) → names_behind names (product_form version w output others) ≡ names
   names_behind-product version w output [] = refl
@@ -189,14 +215,14 @@ module _ (names : List Name) where
   names_behind-product version w output (left ∷ right ∷ semiring ∷ options) =
       kept-where (is_name left) _
       (kept-where (is_name right) _
-      (kept-and_then (λ s. option_map (ProductForm w output left right s) (product_options version w options)) (λ s. kept-map (ProductForm w output left right s) (λ o. refl) (product_options version w options)) (semiring_of semiring)))
+      (kept-and_then (λ s. option_map (ProductForm w output left right s) (options_in version (product_turns w) options)) (λ s. kept-map (ProductForm w output left right s) (λ o. refl) (options_in version (product_turns w) options)) (semiring_of semiring)))
 
   pub names_behind-reduce : (version : Version) (output : Word) (others : List Word) → names_behind names (reduce_form version output others) ≡ names
   names_behind-reduce version output [] = refl
   names_behind-reduce version output (input ∷ []) = refl
   names_behind-reduce version output (input ∷ monoid ∷ options) =
       kept-where (is_name input) _
-      (kept-and_then (λ m. option_map (ReduceForm output input m) (options_in version options)) (λ m. kept-map (ReduceForm output input m) (λ o. refl) (options_in version options)) (monoid_of monoid))
+      (kept-and_then (λ m. option_map (ReduceForm output input m) (options_in version First options)) (λ m. kept-map (ReduceForm output input m) (λ o. refl) (options_in version First options)) (monoid_of monoid))
 
   pub names_behind-total : (name : Word) (others : List Word) → names_behind names (total_form name others) ≡ names
   names_behind-total name [] = refl
@@ -208,17 +234,48 @@ module _ (names : List Name) where
   names_behind-wait name (mode ∷ []) = kept-map (WaitForm name) (λ m. refl) (wait_mode_of mode)
   names_behind-wait name (a ∷ b ∷ more) = refl
 
+  pub names_behind-transpose : (version : Version) (output : Word) (others : List Word) → names_behind names (transpose_form version output others) ≡ names
+  names_behind-transpose version output [] = refl
+  names_behind-transpose version output (input ∷ options) =
+      kept-where (is_name input) _ (kept-map (TransposeForm output input) (λ o. refl) (options_in version First options))
+
+  pub names_behind-apply : (version : Version) (output : Word) (others : List Word) → names_behind names (apply_form version output others) ≡ names
+  names_behind-apply version output [] = refl
+  names_behind-apply version output (input ∷ others) =
+      kept-where (is_name input) _
+      (kept-and_then (λ f. option_map (ApplyForm output input f.0) (options_in version (function_turns f.0) f.1)) (λ f. kept-map (ApplyForm output input f.0) (λ o. refl) (options_in version (function_turns f.0) f.1)) (function_first others))
+
+  pub names_behind-select : (version : Version) (output : Word) (others : List Word) → names_behind names (select_form version output others) ≡ names
+  names_behind-select version output [] = refl
+  names_behind-select version output (input ∷ others) =
+      kept-where (is_name input) _
+      (kept-and_then (λ t. option_map (SelectForm output input t.0) (options_in version First t.1)) (λ t. kept-map (SelectForm output input t.0) (λ o. refl) (options_in version First t.1)) (test_first others))
+
+  pub names_behind-kronecker : (version : Version) (output : Word) (others : List Word) → names_behind names (kronecker_form version output others) ≡ names
+  names_behind-kronecker version output [] = refl
+  names_behind-kronecker version output (left ∷ []) = refl
+  names_behind-kronecker version output (left ∷ right ∷ []) = refl
+  names_behind-kronecker version output (left ∷ right ∷ op ∷ options) =
+      kept-where (is_name left) _
+      (kept-where (is_name right) _
+      (kept-and_then (λ f. option_map (KroneckerForm output left right f) (options_in version Both options)) (λ f. kept-map (KroneckerForm output left right f) (λ o. refl) (options_in version Both options)) (operator_of op)))
+
   -- nor do the forms of all other keywords
-  pub names_behind-other : (version : Version) (k : Keyword) (name : Word) (others : List Word) → k ≢ keyword.Matrix → k ≢ keyword.Vector → k ≢ keyword.Dup → names_behind names (form_with version k name others) ≡ names
-  names_behind-other version keyword.Matrix name others m v d = absurd (m refl)
-  names_behind-other version keyword.Vector name others m v d = absurd (v refl)
-  names_behind-other version keyword.Dup name others m v d = absurd (d refl)
-  names_behind-other version (keyword.Whole w) name others m v d = names_behind-whole w name others
-  names_behind-other version (keyword.Placed w) name others m v d = names_behind-placed w name others
-  names_behind-other version keyword.Set name others m v d = names_behind-set name others
-  names_behind-other version keyword.Build name others m v d = names_behind-build name others
-  names_behind-other version (keyword.Ewise w) name others m v d = names_behind-ewise version w name others
-  names_behind-other version (keyword.Multiply w) name others m v d = names_behind-product version w name others
-  names_behind-other version keyword.Reduce name others m v d = names_behind-reduce version name others
-  names_behind-other version keyword.Total name others m v d = names_behind-total name others
-  names_behind-other version keyword.Wait name others m v d = names_behind-wait name others
+  pub names_behind-other : (version : Version) (k : Keyword) (name : Word) (others : List Word) → k ≢ keyword.Matrix → k ≢ keyword.Vector → k ≢ keyword.Dup → k ≢ keyword.Diag → names_behind names (form_with version k name others) ≡ names
+  names_behind-other version keyword.Matrix name others m v d g = absurd (m refl)
+  names_behind-other version keyword.Vector name others m v d g = absurd (v refl)
+  names_behind-other version keyword.Dup name others m v d g = absurd (d refl)
+  names_behind-other version keyword.Diag name others m v d g = absurd (g refl)
+  names_behind-other version (keyword.Whole w) name others m v d g = names_behind-whole w name others
+  names_behind-other version (keyword.Placed w) name others m v d g = names_behind-placed w name others
+  names_behind-other version keyword.Set name others m v d g = names_behind-set name others
+  names_behind-other version keyword.Build name others m v d g = names_behind-build name others
+  names_behind-other version (keyword.Ewise w) name others m v d g = names_behind-ewise version w name others
+  names_behind-other version (keyword.Multiply w) name others m v d g = names_behind-product version w name others
+  names_behind-other version keyword.Reduce name others m v d g = names_behind-reduce version name others
+  names_behind-other version keyword.Total name others m v d g = names_behind-total name others
+  names_behind-other version keyword.Wait name others m v d g = names_behind-wait name others
+  names_behind-other version keyword.Transpose name others m v d g = names_behind-transpose version name others
+  names_behind-other version keyword.Apply name others m v d g = names_behind-apply version name others
+  names_behind-other version keyword.Select name others m v d g = names_behind-select version name others
+  names_behind-other version keyword.Kronecker name others m v d g = names_behind-kronecker version name others

@@ -1,11 +1,10 @@
 -- Where the lines of a script stand, and what their words say.
-use Rattle.std.proofs.Common.{inl, inr, ◌≡◌, ℕ, ◌≤◌, ◌==◌, Bool, true, false, if◌then◌else◌, List, [], ◌∷◌, ◌++◌, length, take, get_or, Option, Some, None, refl, sym, ap, ◌∙◌, true≢false, arith, length-append}
-use Rattle.grb_script.proofs.Prelude.{◌⊎◌, codes, option_map, option_map_or, option_to_list, bytes_eq, false_from_ne_true, and_parts, or_cases, or_parts, append-nil, take-append-le, Version, Form, MatrixForm, VectorForm, DupForm, form_of, load_of, Word, is_load, is_section, is_skipped, section_of, numeral_value, Sort, asking, names_made, names_behind_load, names_behind_words, IsAsked, Name, sort_of, names_behind, Scope, begun, main_behind, main_kept, with_names, with_version, seen, IsKept, section_fault, saying_fault, wording_fault, version_by, says_nothing}
+use Rattle.std.proofs.Common.{inl, inr, ◌≡◌, ℕ, ◌≤◌, ◌==◌, Bool, true, false, if◌then◌else◌, List, [], ◌∷◌, ◌++◌, length, take, get_or, Option, Some, None, is_some, refl, sym, ap, ◌∙◌, true≢false, arith, length-append}
+use Rattle.grb_script.proofs.Prelude.{◌⊎◌, codes, option_map, option_map_or, option_to_list, bytes_eq, false_from_ne_true, and_parts, or_cases, or_parts, append-nil, take-append-le, Version, Form, MatrixForm, VectorForm, DupForm, DiagForm, form_of, load_of, Word, is_load, is_section, is_skipped, section_of, numeral_value, Sort, asking, names_made, names_behind_load, names_behind_words, IsAsked, Name, sort_of, names_behind, Scope, begun, main_behind, main_kept, with_names, with_version, seen, IsKept, section_fault, saying_fault, wording_fault, version_by, version_named, says_nothing}
 use Rattle.std.specs.Result.{result_err, result_ok}
 use Rattle.std.proofs.lemmas.Slice.Eq.{bytes_eq-Decides}
 use Rattle.grb_words.specs.declared.section.Section.{Section}
 use Rattle.grb_words.specs.declared.section.Section.TheVariants as section
-use Rattle.grb_words.specs.Version.{is_version_two}
 use Rattle.grb_script.specs.declared.command.Command.{Command}
 use Rattle.grb_script.specs.declared.line.LineMeaning.TheVariants as meaning
 use Rattle.grb_script.specs.declared.names.Sort.TheVariants as sort
@@ -23,24 +22,27 @@ section_of-skipped (word ∷ []) h = ap (λ b. if b then Some section.Finally el
 section_of-skipped (word ∷ k ∷ []) h = ap (λ b. if b then option_map section.Thread (numeral_value k) else None) (other_word word (codes "thread") h refl)
 section_of-skipped (word ∷ k ∷ x ∷ more) h = refl
 
--- 'version 2' alone
-is_version_two-words : (words : List Word) → is_version_two words ≡ true → words ≡ codes "version" ∷ codes "2" ∷ []
-is_version_two-words [] h = cc
-is_version_two-words (first ∷ []) h = cc
-is_version_two-words (first ∷ number ∷ []) h =
-    let both = and_parts (bytes_eq first (codes "version")) (bytes_eq number (codes "2")) h in
-    λ j. (bytes_eq-Decides first (codes "version")).0 both.0 j ∷ (bytes_eq-Decides number (codes "2")).0 both.1 j ∷ []
-is_version_two-words (first ∷ number ∷ x ∷ more) h = cc
+-- words that name a version begin no section
+named-first : (b : Bool) (later : Option Version) → is_some (if b then later else None) ≡ true → b ≡ true
+named-first true later h = refl
+named-first false later h = h
+
+section_of-version : (words : List Word) → is_some (version_named words) ≡ true → section_of words ≡ None
+section_of-version [] h = refl
+section_of-version (first ∷ []) h = absurd (true≢false (sym h))
+section_of-version (first ∷ number ∷ []) h =
+    ap (λ word. section_of (word ∷ number ∷ [])) ((bytes_eq-Decides first (codes "version")).0 (named-first (bytes_eq first (codes "version")) _ h))
+section_of-version (first ∷ number ∷ x ∷ more) h = refl
 
 -- words that say nothing begin no section
 pub section_of-silent : (settled : Option Version) (words : List Word) → says_nothing settled words ≡ true → section_of words ≡ None
 section_of-silent (Some version) words h = section_of-skipped words h
 section_of-silent None words h =
-    by (or_cases (is_skipped words) (is_version_two words) h)
+    by (or_cases (is_skipped words) (is_some (version_named words)) h)
   where
-    by : (is_skipped words ≡ true) ⊎ (is_version_two words ≡ true) → section_of words ≡ None
+    by : (is_skipped words ≡ true) ⊎ (is_some (version_named words) ≡ true) → section_of words ≡ None
     by (inl skipped) = section_of-skipped words skipped
-    by (inr is) = ap section_of (is_version_two-words words is)
+    by (inr is) = section_of-version words is
 
 -- words that do not begin with the word of a section begin none
 pub section_of-other : (words : List Word) → is_section words ≡ false → section_of words ≡ None
@@ -64,6 +66,7 @@ names_behind-extends : (names : List Name) (form : Option Form) → Extends name
 names_behind-extends names (Some (MatrixForm name domain nrows ncols)) = ((name, sort.Matrix) ∷ [], refl)
 names_behind-extends names (Some (VectorForm name domain size)) = ((name, sort.Vector) ∷ [], refl)
 names_behind-extends names (Some (DupForm name source)) = with_copy names name (sort_of names source)
+names_behind-extends names (Some (DiagForm name vector diagonal)) = ((name, sort.Matrix) ∷ [], refl)
 names_behind-extends names _ = same names
 
 names_behind_load-extends : (names : List Name) (load : Option (Word × Word)) → Extends names (names_behind_load names load)

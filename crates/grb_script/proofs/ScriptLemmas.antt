@@ -5,7 +5,7 @@ use Rattle.std.proofs.lemmas.Bool.Decides.{nat_tests}
 use Rattle.std.proofs.lemmas.List.Sums.{take_while-cons}
 use Rattle.grb_words.specs.declared.section.Section.{Section}
 use Rattle.grb_words.specs.declared.section.Section.TheVariants as section
-use Rattle.grb_words.specs.declared.version.Version.TheVariants.{One, Two}
+use Rattle.grb_words.specs.declared.version.Version.TheVariants.{One, Two, Three}
 use Rattle.grb_script.specs.declared.command.Command.{Command}
 use Rattle.grb_script.specs.declared.fault.ReadFault.{ReadFault}
 use Rattle.grb_script.specs.declared.fault.ReadFault.TheVariants as read
@@ -67,10 +67,11 @@ module _ (p : List Line × Line) (more : List (List Line × Line)) where
         finally = sym (append_assoc ended.finally (finally_part here commands) (finally_part (Some next) (section_commands more) ++ finally_in more)) j;
       })
 
--- no version has more thread sections than version 2
+-- no version has more thread sections than version 2 has
 most_threads-le : (version : Version) → most_threads version ≤ most_threads Two
 most_threads-le One = omega arith
 most_threads-le Two = omega arith
+most_threads-le Three = omega arith
 
 -- the thread sections so far are numbered in their order, and there are at most as many as in version 2
 abbrev pub IsCounted : Option Section → ℕ → Type 0

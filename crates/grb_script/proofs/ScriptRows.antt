@@ -8,6 +8,10 @@ use Rattle.grb_core.specs.declared.monoid.Monoid.TheVariants as monoid
 use Rattle.grb_core.specs.declared.operator.BinaryOp.TheVariants as op
 use Rattle.grb_core.specs.declared.value.Value.TheVariants as value
 use Rattle.grb_words.specs.declared.fault.FaultKind.TheVariants.{Section, Statement}
+use Rattle.grb_core.specs.declared.functions.Function.TheVariants as function
+use Rattle.grb_core.specs.declared.functions.UnaryOp.TheVariants as unary
+use Rattle.grb_core.specs.declared.tests.Diagonal.TheVariants as diagonal
+use Rattle.grb_core.specs.declared.tests.Test.TheVariants as test
 use Rattle.grb_script.specs.declared.command.Command.TheVariants as command
 use Rattle.grb_script.specs.declared.names.Sort.TheVariants as sort
 use Rattle.grb_script.specs.declared.statement.Statement.{Statement as SaidStatement}
@@ -232,7 +236,7 @@ no_columns = refl
 
 -- element-wise statements
 abbrev plain : Descriptor
-plain = record { structure = false; comp = false; replace = false; tran = false }
+plain = record { structure = false; comp = false; replace = false; tran = false; tran1 = false }
 
 abbrev three : List ℕ
 three = ended (codes "vector c uint64 3") ++ ended (codes "vector a uint64 3") ++ ended (codes "matrix M uint64 3 3")
@@ -243,7 +247,7 @@ sums = three ++ ended (codes "ewiseadd c a c plus") ++ ended (codes "ewisemult M
 element_wise : (script_fault sums ≡ None) × (main_of sums ≡ says 1 (statement.Vector domain.Uint64 3) ∷ says 2 (statement.Vector domain.Uint64 3) ∷ says 3 (statement.Matrix domain.Uint64 3 3)
     ∷ says 4 (statement.EwiseAdd (record { sort = sort.Vector; output = 0; mask = None; accum = None; op = op.Plus; left = 1; right = 0; descriptor = plain }))
     ∷ says 5 (statement.EwiseMult (record { sort = sort.Matrix; output = 2; mask = Some 2; accum = Some op.Minus; op = op.First; left = 2; right = 2; descriptor = plain }))
-    ∷ says 6 (statement.EwiseAdd (record { sort = sort.Vector; output = 0; mask = Some 0; accum = Some op.Max; op = op.Second; left = 1; right = 1; descriptor = record { structure = true; comp = true; replace = true; tran = false } })) ∷ [])
+    ∷ says 6 (statement.EwiseAdd (record { sort = sort.Vector; output = 0; mask = Some 0; accum = Some op.Max; op = op.Second; left = 1; right = 1; descriptor = record { structure = true; comp = true; replace = true; tran = false; tran1 = false } })) ∷ [])
 element_wise = (refl, refl)
 
 options_out_of_order : IsFaulty (three ++ ended (codes "ewiseadd c a a plus comp structure")) 4 Statement
@@ -349,7 +353,7 @@ abbrev second : List ℕ
 second = ended (codes "version 2") ++ three
 
 abbrev turned : Descriptor
-turned = record { structure = false; comp = false; replace = false; tran = true }
+turned = record { structure = false; comp = false; replace = false; tran = true; tran1 = false }
 
 abbrev turns : List ℕ
 turns =
@@ -361,7 +365,7 @@ turned_statements : (script_fault turns ≡ None) × (main_of turns ≡ says 2 (
     ∷ says 6 (statement.Mxv (record { output = 0; mask = None; accum = None; semiring = record { monoid = monoid.Plus; op = op.Times }; left = 2; right = 1; descriptor = turned }))
     ∷ says 7 (statement.Vxm (record { output = 0; mask = Some 1; accum = Some op.Plus; semiring = record { monoid = monoid.Min; op = op.Minus }; left = 1; right = 2; descriptor = plain }))
     ∷ says 8 (statement.Mxm (record { output = 2; mask = None; accum = None; semiring = record { monoid = monoid.Max; op = op.Plus }; left = 2; right = 2; descriptor = turned }))
-    ∷ says 9 (statement.Reduce (record { output = 0; mask = Some 1; accum = Some op.Min; monoid = monoid.Plus; input = 2; descriptor = record { structure = true; comp = true; replace = true; tran = true } })) ∷ [])
+    ∷ says 9 (statement.Reduce (record { output = 0; mask = Some 1; accum = Some op.Min; monoid = monoid.Plus; input = 2; descriptor = record { structure = true; comp = true; replace = true; tran = true; tran1 = false } })) ∷ [])
 turned_statements = (refl, refl)
 
 tran_of_vxm : IsFaulty (second ++ ended (codes "vxm c x M plus.times tran")) 5 Statement
@@ -394,3 +398,144 @@ semiring_of_vxm = refl
 -- sections are numbered from 1 there too
 section_in_version_two : IsFaulty (ended (codes "version 2") ++ ended (codes "thread 2")) 2 Section
 section_in_version_two = refl
+
+-- `version 3` on line 1 asks for nothing either, and the names of its words are names too
+abbrev third : List ℕ
+third = ended (codes "version 3") ++ three
+
+abbrev turned_second : Descriptor
+turned_second = record { structure = false; comp = false; replace = false; tran = false; tran1 = true }
+
+abbrev turned_both : Descriptor
+turned_both = record { structure = false; comp = false; replace = false; tran = true; tran1 = true }
+
+abbrev maps : List ℕ
+maps =
+    third ++ ended (codes "transpose M M tran") ++ ended (codes "apply M M ainv mask M structure comp accum plus replace tran") ++ ended (codes "apply c a 9 minus mask a") ++ ended (codes "apply M M true lor tran1")
+    ++ ended (codes "apply c c minus 1") ++ ended (codes "select c a rowle 1") ++ ended (codes "select M M tril -2 tran") ++ ended (codes "select c a valuene false") ++ ended (codes "kronecker M M M times mask M tran tran1")
+
+maps_read : (script_fault maps ≡ None) × (main_of maps ≡ says 2 (statement.Vector domain.Uint64 3) ∷ says 3 (statement.Vector domain.Uint64 3) ∷ says 4 (statement.Matrix domain.Uint64 3 3)
+    ∷ says 5 (statement.Transpose (record { output = 2; mask = None; input = 2; accum = None; descriptor = turned }))
+    ∷ says 6 (statement.Apply (record { sort = sort.Matrix; output = 2; mask = Some 2; input = 2; accum = Some op.Plus; function = function.Unary unary.Ainv; descriptor = record { structure = true; comp = true; replace = true; tran = true; tran1 = false } }))
+    ∷ says 7 (statement.Apply (record { sort = sort.Vector; output = 0; mask = Some 1; input = 1; accum = None; function = function.First (value.Uint64 9) op.Minus; descriptor = plain }))
+    ∷ says 8 (statement.Apply (record { sort = sort.Matrix; output = 2; mask = None; input = 2; accum = None; function = function.First (value.Bool true) op.Lor; descriptor = turned_second }))
+    ∷ says 9 (statement.Apply (record { sort = sort.Vector; output = 0; mask = None; input = 0; accum = None; function = function.Second op.Minus (value.Uint64 1); descriptor = plain }))
+    ∷ says 10 (statement.Select (record { sort = sort.Vector; output = 0; mask = None; input = 1; accum = None; test = test.RowLe 1; descriptor = plain }))
+    ∷ says 11 (statement.Select (record { sort = sort.Matrix; output = 2; mask = None; input = 2; accum = None; test = test.Tril (diagonal.Below 2); descriptor = turned }))
+    ∷ says 12 (statement.Select (record { sort = sort.Vector; output = 0; mask = None; input = 1; accum = None; test = test.ValueNe (value.Bool false); descriptor = plain }))
+    ∷ says 13 (statement.Kronecker (record { output = 2; mask = Some 2; left = 2; right = 2; accum = None; op = op.Times; descriptor = turned_both })) ∷ [])
+maps_read = (refl, refl)
+
+-- the second input of what stood before, and a matrix with a vector on a diagonal
+abbrev more : List ℕ
+more =
+    third ++ ended (codes "ewiseadd M M M plus tran1") ++ ended (codes "mxm M M M max.plus tran tran1") ++ ended (codes "vxm c a M min.minus tran1") ++ ended (codes "diag D a -4294967295")
+    ++ ended (codes "diag diag c 0") ++ ended (codes "tuples D") ++ ended (codes "tuples a") ++ ended (codes "free diag")
+
+more_read : (script_fault more ≡ None) × (main_of more ≡ says 2 (statement.Vector domain.Uint64 3) ∷ says 3 (statement.Vector domain.Uint64 3) ∷ says 4 (statement.Matrix domain.Uint64 3 3)
+    ∷ says 5 (statement.EwiseAdd (record { sort = sort.Matrix; output = 2; mask = None; accum = None; op = op.Plus; left = 2; right = 2; descriptor = turned_second }))
+    ∷ says 6 (statement.Mxm (record { output = 2; mask = None; accum = None; semiring = record { monoid = monoid.Max; op = op.Plus }; left = 2; right = 2; descriptor = turned_both }))
+    ∷ says 7 (statement.Vxm (record { output = 0; mask = None; accum = None; semiring = record { monoid = monoid.Min; op = op.Minus }; left = 1; right = 2; descriptor = turned_second }))
+    ∷ says 8 (statement.Diag 1 (diagonal.Below 4294967295)) ∷ says 9 (statement.Diag 0 (diagonal.Above 0)) ∷ says 10 (statement.Tuples 3 sort.Matrix) ∷ says 11 (statement.Tuples 1 sort.Vector)
+    ∷ says 12 (statement.Free 4 sort.Matrix) ∷ [])
+more_read = (refl, refl)
+
+version_three_behind_a_comment : IsFaulty (ended (codes "# script") ++ ended (codes "version 3")) 2 Statement
+version_three_behind_a_comment = refl
+
+version_three_behind_version_two : IsFaulty (ended (codes "version 2") ++ ended (codes "version 3")) 2 Statement
+version_three_behind_version_two = refl
+
+version_four : IsFaulty (ended (codes "version 4")) 1 Statement
+version_four = refl
+
+-- none of its words is one in the versions before
+transpose_in_version_two : IsFaulty (second ++ ended (codes "transpose M M")) 5 Statement
+transpose_in_version_two = refl
+
+tuples_in_version_one : IsFaulty (three ++ ended (codes "tuples M")) 4 Statement
+tuples_in_version_one = refl
+
+diag_in_version_one : IsFaulty (ended (codes "diag D x 0")) 1 Statement
+diag_in_version_one = refl
+
+tran1_in_version_two : IsFaulty (second ++ ended (codes "ewiseadd M M M plus tran1")) 5 Statement
+tran1_in_version_two = refl
+
+tran1_of_vxm_in_version_two : IsFaulty (second ++ ended (codes "vxm c a M plus.times tran1")) 5 Statement
+tran1_of_vxm_in_version_two = refl
+
+-- each statement has the options of its inputs alone, in their order
+tran1_of_transpose : IsFaulty (third ++ ended (codes "transpose M M tran1")) 5 Statement
+tran1_of_transpose = refl
+
+tran1_of_mxv : IsFaulty (third ++ ended (codes "mxv c M a plus.times tran1")) 5 Statement
+tran1_of_mxv = refl
+
+tran_where_the_value_stands_first : IsFaulty (third ++ ended (codes "apply M M 9 minus tran")) 5 Statement
+tran_where_the_value_stands_first = refl
+
+tran1_where_the_value_stands_second : IsFaulty (third ++ ended (codes "apply M M minus 9 tran1")) 5 Statement
+tran1_where_the_value_stands_second = refl
+
+tran1_before_tran : IsFaulty (third ++ ended (codes "mxm M M M plus.times tran1 tran")) 5 Statement
+tran1_before_tran = refl
+
+-- words of diagonals, of functions and of tests
+negative_zero : IsFaulty (third ++ ended (codes "diag D a -0")) 5 Statement
+negative_zero = refl
+
+far_diagonal : IsFaulty (third ++ ended (codes "diag D a 4294967296")) 5 Statement
+far_diagonal = refl
+
+diagonal_of_a_leading_zero : IsFaulty (third ++ ended (codes "select M M triu 01")) 5 Statement
+diagonal_of_a_leading_zero = refl
+
+negative_row : IsFaulty (third ++ ended (codes "select c a rowle -1")) 5 Statement
+negative_row = refl
+
+test_without_number : IsFaulty (third ++ ended (codes "select c a tril")) 5 Statement
+test_without_number = refl
+
+two_operators : IsFaulty (third ++ ended (codes "apply c a plus minus")) 5 Statement
+two_operators = refl
+
+two_values : IsFaulty (third ++ ended (codes "apply c a 1 2")) 5 Statement
+two_values = refl
+
+value_alone : IsFaulty (third ++ ended (codes "apply c a 1")) 5 Statement
+value_alone = refl
+
+-- names, and what they stand for
+diag_of_itself : IsFaulty (third ++ ended (codes "diag D D 0")) 5 UnknownName
+diag_of_itself = refl
+
+diag_of_a_taken_name : IsFaulty (third ++ ended (codes "diag a a 0")) 5 NameTaken
+diag_of_a_taken_name = refl
+
+diag_of_a_matrix : IsFaulty (third ++ ended (codes "diag D M 0")) 5 WrongKind
+diag_of_a_matrix = refl
+
+transpose_of_vectors : IsFaulty (third ++ ended (codes "transpose c a")) 5 WrongKind
+transpose_of_vectors = refl
+
+kronecker_of_a_vector : IsFaulty (third ++ ended (codes "kronecker M M a times")) 5 WrongKind
+kronecker_of_a_vector = refl
+
+sorts_of_apply : IsFaulty (third ++ ended (codes "apply c M ainv")) 5 WrongKind
+sorts_of_apply = refl
+
+mask_of_select : IsFaulty (third ++ ended (codes "select c a rowle 1 mask M")) 5 WrongKind
+mask_of_select = refl
+
+unknown_mask_of_apply : IsFaulty (third ++ ended (codes "apply c M ainv mask x")) 5 UnknownName
+unknown_mask_of_apply = refl
+
+tran_of_select_of_vectors : IsFaulty (third ++ ended (codes "select c a rowle 1 tran")) 5 WrongKind
+tran_of_select_of_vectors = refl
+
+tran1_of_apply_of_vectors : IsFaulty (third ++ ended (codes "apply c a 9 minus tran1")) 5 WrongKind
+tran1_of_apply_of_vectors = refl
+
+tran1_of_element_wise_vectors : IsFaulty (third ++ ended (codes "ewisemult c a a plus tran1")) 5 WrongKind
+tran1_of_element_wise_vectors = refl

@@ -7,6 +7,7 @@ use Rattle.grb_core.specs.declared.value.Value.{Value}
 use Rattle.grb_core.specs.Monoid.{monoid_domain}
 use Rattle.grb_core.specs.Operator.{op_domain}
 use Rattle.grb_call.specs.Refused.{same_domain}
+use Rattle.grb_call.specs.declared.descriptor.Descriptor.{Descriptor}
 use Rattle.grb_market.specs.Line.{Line}
 use Rattle.grb_words.specs.declared.fault.FaultKind.{FaultKind}
 use Rattle.grb_words.specs.declared.fault.FaultKind.TheVariants as kind
@@ -15,7 +16,7 @@ use Rattle.grb_words.specs.declared.indices.Indices.TheVariants as indices
 use Rattle.grb_words.specs.declared.keyword.Multiply.TheVariants as multiply
 use Rattle.grb_words.specs.declared.section.Section.{Section}
 use Rattle.grb_words.specs.declared.version.Version.{Version}
-use Rattle.grb_words.specs.Form.{Form, MatrixForm, VectorForm, DupForm, FreeForm, NvalsForm, SizeForm, ClearForm, RemoveForm, GetForm, ResizeForm, SetForm, BuildForm, EwiseForm, ProductForm, ReduceForm, TotalForm, WaitForm, form_of, load_of}
+use Rattle.grb_words.specs.Form.{Form, MatrixForm, VectorForm, DupForm, FreeForm, NvalsForm, SizeForm, ClearForm, RemoveForm, GetForm, ResizeForm, SetForm, BuildForm, EwiseForm, ProductForm, ReduceForm, TotalForm, WaitForm, TransposeForm, ApplyForm, SelectForm, KroneckerForm, DiagForm, TuplesForm, form_of, load_of}
 use Rattle.grb_words.specs.Line.{Word, words_of, has_allowed_bytes, is_load, is_section}
 use Rattle.grb_words.specs.Section.{section_of}
 use Rattle.grb_words.specs.Tuples.{vector_tuples, matrix_tuples}
@@ -72,6 +73,7 @@ abbrev pub made_name : Form → Option Word
 made_name (MatrixForm name domain nrows ncols) = Some name
 made_name (VectorForm name domain size) = Some name
 made_name (DupForm name source) = Some name
+made_name (DiagForm name vector diagonal) = Some name
 made_name _ = None
 
 -- the names that a statement uses
@@ -93,6 +95,12 @@ used_names (ProductForm w output left right semiring o) = output ∷ left ∷ ri
 used_names (ReduceForm output input monoid o) = output ∷ input ∷ option_to_list o.mask
 used_names (TotalForm name monoid) = name ∷ []
 used_names (WaitForm name mode) = name ∷ []
+used_names (TransposeForm output input o) = output ∷ input ∷ option_to_list o.mask
+used_names (ApplyForm output input f o) = output ∷ input ∷ option_to_list o.mask
+used_names (SelectForm output input test o) = output ∷ input ∷ option_to_list o.mask
+used_names (KroneckerForm output left right op o) = output ∷ left ∷ right ∷ option_to_list o.mask
+used_names (DiagForm name vector diagonal) = vector ∷ []
+used_names (TuplesForm name) = name ∷ []
 
 -- the name that it makes does not stand
 abbrev pub makes_new : List Name → Sense → Bool
@@ -128,6 +136,9 @@ read_sorts (ProductForm multiply.Mxv w a u semiring o) = (w, sort.Vector) ∷ (a
 read_sorts (ProductForm multiply.Vxm w u a semiring o) = (w, sort.Vector) ∷ (u, sort.Vector) ∷ (a, sort.Matrix) ∷ mask_sorts sort.Vector o.mask
 read_sorts (ProductForm multiply.Mxm c a b semiring o) = (c, sort.Matrix) ∷ (a, sort.Matrix) ∷ (b, sort.Matrix) ∷ mask_sorts sort.Matrix o.mask
 read_sorts (ReduceForm w a monoid o) = (w, sort.Vector) ∷ (a, sort.Matrix) ∷ mask_sorts sort.Vector o.mask
+read_sorts (TransposeForm c a o) = (c, sort.Matrix) ∷ (a, sort.Matrix) ∷ mask_sorts sort.Matrix o.mask
+read_sorts (KroneckerForm c a b op o) = (c, sort.Matrix) ∷ (a, sort.Matrix) ∷ (b, sort.Matrix) ∷ mask_sorts sort.Matrix o.mask
+read_sorts (DiagForm name vector diagonal) = (vector, sort.Vector) ∷ []
 read_sorts _ = []
 
 -- the values of a build are whole groups for an object of this sort
@@ -135,13 +146,17 @@ abbrev pub are_groups : List Value → Sort → Bool
 are_groups values sort.Matrix = is_some (matrix_tuples values)
 are_groups values sort.Vector = is_some (vector_tuples values)
 
--- what the names of a form stand for is of the sorts that it asks for: the names of an element-wise statement all of matrices, or, where it
--- does not transpose, all of vectors; the list of a build whole groups
+-- these names stand for matrices, or, where no input is read transposed, for vectors
+abbrev pub are_alike : List Name → List Word → Descriptor → Bool
+are_alike names words d = list_all (is_of names sort.Matrix) words || (list_all (is_of names sort.Vector) words && not d.tran && not d.tran1)
+
+-- what the names of a form stand for is of the sorts that it asks for: the names of an element-wise statement, of an `apply` and of a
+-- `select` all of matrices, or, where it does not transpose, all of vectors; the list of a build whole groups
 abbrev pub form_has_sorts : List Name → Form → Bool
 form_has_sorts names (BuildForm name dup values) = option_map_or (are_groups values) (sort_of names name) true
-form_has_sorts names (EwiseForm w output left right op o) =
-    list_all (is_of names sort.Matrix) (output ∷ left ∷ right ∷ option_to_list o.mask)
-    || (list_all (is_of names sort.Vector) (output ∷ left ∷ right ∷ option_to_list o.mask) && not o.descriptor.tran)
+form_has_sorts names (EwiseForm w output left right op o) = are_alike names (output ∷ left ∷ right ∷ option_to_list o.mask) o.descriptor
+form_has_sorts names (ApplyForm output input f o) = are_alike names (output ∷ input ∷ option_to_list o.mask) o.descriptor
+form_has_sorts names (SelectForm output input test o) = are_alike names (output ∷ input ∷ option_to_list o.mask) o.descriptor
 form_has_sorts names form = list_all (λ p. is_of names p.1 p.0) (read_sorts form)
 
 abbrev pub has_sorts : List Name → Sense → Bool

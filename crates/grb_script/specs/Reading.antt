@@ -10,6 +10,10 @@ use Rattle.grb_core.specs.Monoid.{monoid_domain}
 use Rattle.grb_core.specs.Operator.{op_domain}
 use Rattle.grb_core.specs.Semiring.{SemiringParts}
 use Rattle.grb_call.specs.Refused.{same_domain}
+use Rattle.grb_call.specs.declared.descriptor.Descriptor.{Descriptor}
+use Rattle.grb_core.specs.declared.functions.Function.{Function}
+use Rattle.grb_core.specs.declared.tests.Diagonal.{Diagonal}
+use Rattle.grb_core.specs.declared.tests.Test.{Test}
 use Rattle.grb_script.specs.declared.ewise.Elementwise.{Elementwise}
 use Rattle.grb_script.specs.declared.product.Product.{Product}
 use Rattle.grb_words.specs.declared.keyword.Multiply.{Multiply}
@@ -30,7 +34,7 @@ use Rattle.grb_words.specs.Line.{Word}
 use Rattle.grb_script.specs.Names.{Name, sort_of, stands, name_found, same_sort}
 use Rattle.grb_words.specs.Options.{OptionWords}
 use Rattle.grb_words.specs.Tuples.{vector_tuples, matrix_tuples}
-use Rattle.grb_words.specs.Form.{Form, MatrixForm, VectorForm, DupForm, FreeForm, NvalsForm, SizeForm, ClearForm, RemoveForm, GetForm, ResizeForm, SetForm, BuildForm, EwiseForm, ProductForm, ReduceForm, TotalForm, WaitForm}
+use Rattle.grb_words.specs.Form.{Form, MatrixForm, VectorForm, DupForm, FreeForm, NvalsForm, SizeForm, ClearForm, RemoveForm, GetForm, ResizeForm, SetForm, BuildForm, EwiseForm, ProductForm, ReduceForm, TotalForm, WaitForm, TransposeForm, ApplyForm, SelectForm, KroneckerForm, DiagForm, TuplesForm}
 
 -- a statement by the number and the sort of its name, and by its indices: one number at a vector, two at a matrix
 abbrev pub set_at : ℕ → Sort → Indices → Value → Result Statement FaultKind
@@ -76,15 +80,15 @@ mask_is_of sort mask = option_map_or (λ m. same_sort sort m.1) mask true
 abbrev pub are_of : Sort → ℕ × Sort → ℕ × Sort → Option (ℕ × Sort) → Bool
 are_of sort left right mask = same_sort sort left.1 && same_sort sort right.1 && mask_is_of sort mask
 
--- whether a statement on objects of this sort may say, or not, that its first input is transposed: that of vectors may not
-abbrev pub tran_fits : Sort → Bool → Bool
-tran_fits sort.Matrix tran = true
-tran_fits sort.Vector tran = not tran
+-- whether a statement on objects of this sort may say what this descriptor says of transposed inputs: that of vectors has none
+abbrev pub turn_fits : Sort → Descriptor → Bool
+turn_fits sort.Matrix d = true
+turn_fits sort.Vector d = not d.tran && not d.tran1
 
 -- the same by the numbers and the sorts of its names, in the order output, first input, second input, mask
 abbrev pub ewise_on : Ewise → ℕ × Sort → ℕ × Sort → ℕ × Sort → Option (ℕ × Sort) → BinaryOp → OptionWords → Result Statement FaultKind
 ewise_on w output left right mask op o =
-    if are_of output.1 left right mask && tran_fits output.1 o.descriptor.tran
+    if are_of output.1 left right mask && turn_fits output.1 o.descriptor
     then Ok (ewise_statement w (record {
       sort = output.1;
       output = output.0;
@@ -159,6 +163,73 @@ reduction_on output input mask monoid o =
     }))
     else Err kind.WrongKind
 
+-- the transposition of a matrix by the same
+abbrev pub transpose_on : ℕ × Sort → ℕ × Sort → Option (ℕ × Sort) → OptionWords → Result Statement FaultKind
+transpose_on output input mask o =
+    if same_sort sort.Matrix output.1 && same_sort sort.Matrix input.1 && mask_is_of sort.Matrix mask
+    then Ok (statement.Transpose (record {
+      output = output.0;
+      mask = option_map (λ m. m.0) mask;
+      input = input.0;
+      accum = o.accum;
+      descriptor = o.descriptor;
+    }))
+    else Err kind.WrongKind
+
+-- whether the objects of both names, and that of the mask where one is given, are of one sort, of which inputs may be read as this
+-- descriptor says
+abbrev pub same_fit : ℕ × Sort → ℕ × Sort → Option (ℕ × Sort) → Descriptor → Bool
+same_fit output input mask d = same_sort output.1 input.1 && mask_is_of output.1 mask && turn_fits output.1 d
+
+-- a function of each value of an object, and a test of each entry, by the same
+abbrev pub apply_on : ℕ × Sort → ℕ × Sort → Option (ℕ × Sort) → Function → OptionWords → Result Statement FaultKind
+apply_on output input mask f o =
+    if same_fit output input mask o.descriptor
+    then Ok (statement.Apply (record {
+      sort = output.1;
+      output = output.0;
+      mask = option_map (λ m. m.0) mask;
+      accum = o.accum;
+      function = f;
+      input = input.0;
+      descriptor = o.descriptor;
+    }))
+    else Err kind.WrongKind
+
+abbrev pub select_on : ℕ × Sort → ℕ × Sort → Option (ℕ × Sort) → Test → OptionWords → Result Statement FaultKind
+select_on output input mask test o =
+    if same_fit output input mask o.descriptor
+    then Ok (statement.Select (record {
+      sort = output.1;
+      output = output.0;
+      mask = option_map (λ m. m.0) mask;
+      accum = o.accum;
+      test = test;
+      input = input.0;
+      descriptor = o.descriptor;
+    }))
+    else Err kind.WrongKind
+
+-- a Kronecker product of matrices by the same, in the order output, first input, second input, mask
+abbrev pub kronecker_on : ℕ × Sort → ℕ × Sort → ℕ × Sort → Option (ℕ × Sort) → BinaryOp → OptionWords → Result Statement FaultKind
+kronecker_on output left right mask op o =
+    if same_sort sort.Matrix output.1 && are_of sort.Matrix left right mask
+    then Ok (statement.Kronecker (record {
+      output = output.0;
+      mask = option_map (λ m. m.0) mask;
+      accum = o.accum;
+      op = op;
+      left = left.0;
+      right = right.0;
+      descriptor = o.descriptor;
+    }))
+    else Err kind.WrongKind
+
+-- a matrix with the vector of this name on a diagonal
+abbrev pub diag_of : ℕ → Sort → Diagonal → Result Statement FaultKind
+diag_of n sort.Vector diagonal = Ok (statement.Diag n diagonal)
+diag_of n sort.Matrix diagonal = Err kind.WrongKind
+
 -- what a statement says that makes this name
 abbrev pub made : List Name → Word → Result Statement FaultKind → Result Statement FaultKind
 made names name says = if stands names name then Err kind.NameTaken else says
@@ -198,16 +269,25 @@ saying names (ReduceForm output input monoid o) =
     used names output (λ n s. used names input (λ i t. masked names o.mask (λ mask. reduction_on (n, s) (i, t) mask monoid o)))
 saying names (TotalForm name monoid) = used names name (λ n sort. Ok (statement.Total n sort monoid))
 saying names (WaitForm name mode) = used names name (λ n sort. Ok (statement.Wait n sort mode))
+saying names (TransposeForm output input o) = used names output (λ n s. used names input (λ i t. masked names o.mask (λ mask. transpose_on (n, s) (i, t) mask o)))
+saying names (ApplyForm output input f o) = used names output (λ n s. used names input (λ i t. masked names o.mask (λ mask. apply_on (n, s) (i, t) mask f o)))
+saying names (SelectForm output input test o) = used names output (λ n s. used names input (λ i t. masked names o.mask (λ mask. select_on (n, s) (i, t) mask test o)))
+saying names (KroneckerForm output left right op o) =
+    used names output (λ n s. used names left (λ i t. used names right (λ j u. masked names o.mask (λ mask. kronecker_on (n, s) (i, t) (j, u) mask op o))))
+saying names (DiagForm name vector diagonal) = made names name (used names vector (λ n sort. diag_of n sort diagonal))
+saying names (TuplesForm name) = used names name (λ n sort. Ok (statement.Tuples n sort))
 
 -- the same of words that may have no form
 abbrev pub reading : List Name → Option Form → Result Statement FaultKind
 reading names form = option_map_or (saying names) form (Err kind.Statement)
 
--- the names that stand behind a statement of this form: one more where it makes one. A copy is of the sort of what it copies
+-- the names that stand behind a statement of this form: one more where it makes one. A copy is of the sort of what it copies, and what
+-- has a vector on a diagonal is a matrix
 abbrev pub names_behind : List Name → Option Form → List Name
 names_behind names (Some (MatrixForm name domain nrows ncols)) = names ++ (name, sort.Matrix) ∷ []
 names_behind names (Some (VectorForm name domain size)) = names ++ (name, sort.Vector) ∷ []
 names_behind names (Some (DupForm name source)) = option_map_or (λ sort. names ++ (name, sort) ∷ []) (sort_of names source) names
+names_behind names (Some (DiagForm name vector diagonal)) = names ++ (name, sort.Matrix) ∷ []
 names_behind names _ = names
 
 -- this is what the form says, and these are the names behind it

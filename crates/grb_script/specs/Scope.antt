@@ -6,7 +6,7 @@ use Rattle.std.specs.Option.{option_map_or}
 use Rattle.grb_words.specs.declared.section.Section.{Section}
 use Rattle.grb_words.specs.declared.section.Section.TheVariants as section
 use Rattle.grb_words.specs.declared.version.Version.{Version}
-use Rattle.grb_words.specs.declared.version.Version.TheVariants.{One, Two}
+use Rattle.grb_words.specs.declared.version.Version.TheVariants.{One, Two, Three}
 use Rattle.grb_market.specs.Line.{Line}
 use Rattle.grb_words.specs.Line.{Word, words_of}
 use Rattle.grb_words.specs.Section.{section_of}
@@ -23,6 +23,7 @@ section_on line = section_of (words_of line.bytes)
 abbrev pub most_threads : Version → ℕ
 most_threads One = 63
 most_threads Two = 255
+most_threads Three = 255
 
 -- whether this section may stand behind that one, or behind main: thread sections are numbered 1, 2, 3, .. in their order, to the most
 -- that the version has, and 'finally' comes once, after all of them

@@ -4,13 +4,13 @@ ghost use Rattle.std.specs.Option.{ok_or, option_map, option_map_or};
 ghost use Rattle.grb_words.specs.Form.{EwiseForm, ewise_form};
 ghost use Rattle.grb_script.specs.Names.{same_sort};
 ghost use Rattle.grb_words.specs.Options.{spelled};
-ghost use Rattle.grb_script.specs.Reading.{reading, saying, mask_found, mask_is_of, are_of, tran_fits, ewise_on, ewise_statement};
+ghost use Rattle.grb_script.specs.Reading.{reading, saying, mask_found, mask_is_of, are_of, turn_fits, ewise_on, ewise_statement};
 
 use crate::names::{Names, Sort};
 use crate::statement::{Statement, used};
 use grb_call::Descriptor;
 use grb_core::BinaryOp;
-use grb_words::{Ewise, FaultKind, Options, Version, options_in, word};
+use grb_words::{Ewise, FaultKind, Options, Turns, Version, options_in, word};
 
 /// What an element-wise statement says. All its objects are of one sort, and stand by the numbers of their names.
 #[derive(Clone, Copy, Debug, PartialEq, Eq)]
@@ -29,7 +29,7 @@ pub struct Elementwise {
     pub accum: Option<BinaryOp>,
     /// The operator that combines the inputs.
     pub op: BinaryOp,
-    /// How the first input and the mask are read and the output is written. `tran` is false where the sort is that of vectors.
+    /// How the inputs and the mask are read and the output is written. `tran` and `tran1` are false where the sort is that of vectors.
     pub descriptor: Descriptor,
 }
 
@@ -65,13 +65,13 @@ pub(crate) fn are_of(
     is_same_sort(sort, left.1) && is_same_sort(sort, right.1) && mask_is_of(sort, mask)
 }
 
-/// Whether a statement on objects of this sort may say, or not, that its first input is transposed: that of vectors may not.
-fn tran_fits(sort: Sort, tran: bool) -> bool
-    ensures { result ≡ tran_fits sort tran }
+/// Whether a statement on objects of this sort may say what this descriptor says of transposed inputs: that of vectors has none.
+pub(crate) fn turn_fits(sort: Sort, descriptor: Descriptor) -> bool
+    ensures { result ≡ turn_fits sort descriptor }
 {
     match sort {
         Sort::Matrix => true,
-        Sort::Vector => !tran,
+        Sort::Vector => !descriptor.tran && !descriptor.tran1,
     }
 }
 
@@ -110,7 +110,7 @@ fn ewise_on(
 ) -> Result<Statement, FaultKind>
     ensures { result ≡ ewise_on ewise output left right mask op (spelled options.now) }
 {
-    let fits = tran_fits(output.1, options.descriptor.tran);
+    let fits = turn_fits(output.1, options.descriptor);
     if !are_of(output.1, left, right, mask) || !fits {
         return Err(FaultKind::WrongKind);
     }
@@ -165,7 +165,7 @@ fn ewise_by_words(
     let Some(op) = word::operator(op) else {
         return Err(FaultKind::Statement);
     };
-    let Some(options) = options_in(version, options) else {
+    let Some(options) = options_in(version, Turns::Both, options) else {
         return Err(FaultKind::Statement);
     };
     ewise_of(ewise, output, left, right, op, &options, names)

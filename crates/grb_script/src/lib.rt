@@ -15,6 +15,7 @@ mod product;
 mod scope;
 mod script;
 mod statement;
+mod term;
 mod version;
 
 pub use command::{Command, FilePath, NumberedCommand};
@@ -28,3 +29,4 @@ pub use names::Sort;
 pub use product::{Product, Reduction};
 pub use script::{Script, read_script};
 pub use statement::Statement;
+pub use term::{Application, KroneckerProduct, Selection, Transposition};

@@ -21,8 +21,8 @@ pub enum Sort {
     Vector,
 }
 
-/// Whether a line may make a name, by its first byte: the words that make one are `matrix`, `vector`, `dup` and `load`, and spaces may
-/// stand before them.
+/// Whether a line may make a name, by its first byte: the words that make one are `matrix`, `vector`, `dup`, `diag` and `load`, and
+/// spaces may stand before them.
 fn may_make_name(line: &[u8]) -> bool {
     matches!(line, [b'm' | b'v' | b'd' | b'l' | b' ', ..])
 }

@@ -9,7 +9,7 @@ use crate::names::{Names, Sort};
 use crate::statement::{Statement, used};
 use grb_call::Descriptor;
 use grb_core::{BinaryOp, Monoid, Semiring};
-use grb_words::{FaultKind, Multiply, Options, Version, options_in, product_options, word};
+use grb_words::{FaultKind, Multiply, Options, Turns, Version, options_in, product_turns, word};
 
 /// What a statement says that multiplies. All its objects stand by the numbers of their names.
 #[derive(Clone, Copy, Debug, PartialEq, Eq)]
@@ -26,7 +26,7 @@ pub struct Product {
     pub accum: Option<BinaryOp>,
     /// What combines the inputs.
     pub semiring: Semiring,
-    /// How the first input and the mask are read and the output is written. `tran` is false at `vxm`.
+    /// How the inputs and the mask are read and the output is written. `tran` is false at `vxm`, and `tran1` at `mxv`.
     pub descriptor: Descriptor,
 }
 
@@ -43,7 +43,7 @@ pub struct Reduction {
     pub accum: Option<BinaryOp>,
     /// What combines the values of a row.
     pub monoid: Monoid,
-    /// How the input and the mask are read and the output is written.
+    /// How the input and the mask are read and the output is written. `tran1` is false.
     pub descriptor: Descriptor,
 }
 
@@ -179,7 +179,7 @@ fn product_by_words(
     let Some(semiring) = word::semiring(semiring) else {
         return Err(FaultKind::Statement);
     };
-    let Some(options) = product_options(version, multiply, options) else {
+    let Some(options) = options_in(version, product_turns(multiply), options) else {
         return Err(FaultKind::Statement);
     };
     product_of(multiply, output, left, right, semiring, &options, names)
@@ -249,7 +249,7 @@ fn reduction_by_words(
     let Some(monoid) = word::monoid(monoid) else {
         return Err(FaultKind::Statement);
     };
-    let Some(options) = options_in(version, options) else {
+    let Some(options) = options_in(version, Turns::First, options) else {
         return Err(FaultKind::Statement);
     };
     reduction_of(output, input, monoid, &options, names)

@@ -25,7 +25,7 @@ fn most_threads(version: Version) -> u64
 {
     match version {
         Version::One => 63,
-        Version::Two => 255,
+        Version::Two | Version::Three => 255,
     }
 }
 

@@ -146,8 +146,8 @@ fn read_lines(
 /// memory is refused, and then no script is made.
 ///
 /// A line ends with a byte 0x0A, and its words are parted by spaces. A line without words and a comment, whose first byte other
-/// than a space is a `#`, are skipped (own). Where the words of line 1 are `version 2`, it asks for nothing, and the script is written in
-/// version 2 (own).
+/// than a space is a `#`, are skipped (own). Where the words of line 1 are `version 2` or `version 3`, it asks for nothing, and the
+/// script is written in that version (own).
 pub fn read_script(alloc: Global, text: &[u8]) -> Result<Script, ReadFault>
     ensures read { IfOk result (λ script. (script_fault text.now ≡ None) × (listed script ≡ sections_of text.now)) }
     ensures few { IfOk result (λ script. length script.threads.items ≤ most_threads versions.Two) }

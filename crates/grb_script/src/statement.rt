@@ -3,17 +3,20 @@ ghost use Rattle.std.specs.Prelude.{◌≡◌, ◌≢◌, [], ◌∷◌, Some, O
 ghost use Rattle.std.specs.Option.{ok_or};
 ghost use Rattle.grb_script.specs.Names.{name_found};
 ghost use Rattle.grb_words.specs.declared.keyword.Keyword.TheVariants as keywords;
-ghost use Rattle.grb_words.specs.Form.{BuildForm, form_of, form_with, matrix_form, vector_form, dup_form, whole_form, placed_form, set_form, build_form, total_form, wait_form};
-ghost use Rattle.grb_script.specs.Reading.{reading, saying, set_at, remove_at, get_at, resize_to, IsReading, IsWhyUnread};
+ghost use Rattle.grb_words.specs.Form.{BuildForm, form_of, form_with, matrix_form, vector_form, dup_form, whole_form, placed_form, set_form, build_form, total_form, wait_form, diag_form};
+ghost use Rattle.grb_script.specs.Reading.{reading, saying, set_at, remove_at, get_at, resize_to, diag_of, IsReading, IsWhyUnread};
 
 use crate::ewise::{Elementwise, ewise};
 use crate::names::{Names, Sort};
 use crate::product::{Product, Reduction, read_product, read_reduction};
+use crate::term::{
+    Application, KroneckerProduct, Selection, Transposition, apply, kronecker, select, transpose,
+};
 use grb_call::{MatrixTuples, VectorTuples, WaitMode};
-use grb_core::{Domain, Monoid, Value};
+use grb_core::{Diagonal, Domain, Monoid, Value};
 use grb_words::{
-    FaultKind, Indices, Keyword, Placed, Unread, Version, Whole, indices_and_value_of, indices_of,
-    matrix_tuples, values, vector_tuples, word,
+    FaultKind, Indices, Keyword, Placed, Unread, Version, Whole, diagonal_of, indices_and_value_of,
+    indices_of, matrix_tuples, values, vector_tuples, word,
 };
 use std::alloc::Global;
 
@@ -139,6 +142,25 @@ pub enum Statement {
         sort: Sort,
         mode: WaitMode,
     },
+    /// `transpose NAME NAME OPTIONS`.
+    Transpose(Transposition),
+    /// `apply NAME NAME FUNCTION OPTIONS`.
+    Apply(Application),
+    /// `select NAME NAME TEST OPTIONS`.
+    Select(Selection),
+    /// `kronecker NAME NAME NAME OP OPTIONS`.
+    Kronecker(KroneckerProduct),
+    /// `diag NAME NAME D` makes a matrix with the vector of the second name on a diagonal, and the next name for it. The name here is the
+    /// second.
+    Diag {
+        name: usize,
+        diagonal: Diagonal,
+    },
+    /// `tuples NAME`.
+    Tuples {
+        name: usize,
+        sort: Sort,
+    },
 }
 
 /// The number and the sort of the name that a statement uses.
@@ -245,7 +267,55 @@ fn dup(name: &[u8], others: &[&[u8]], names: &mut Names) -> Result<Statement, Un
     Ok(Statement::Dup { name: source, sort })
 }
 
-/// `free NAME`, `nvals NAME`, `size NAME` or `clear NAME`.
+/// The statement that makes a matrix with an object on this diagonal, if the object is a vector.
+fn diag_of(name: usize, sort: Sort, diagonal: Diagonal) -> Result<Statement, FaultKind>
+    ensures { result ≡ diag_of name sort diagonal }
+{
+    match sort {
+        Sort::Vector => Ok(Statement::Diag { name, diagonal }),
+        Sort::Matrix => Err(FaultKind::WrongKind),
+    }
+}
+
+/// `diag NAME NAME D`, by each of its words.
+fn diag_by_words(
+    name: &[u8],
+    vector: &[u8],
+    diagonal: &[u8],
+    names: &mut Names,
+) -> Result<Statement, Unread>
+    ensures read { IfOk result (λ s. IsReading names.old (diag_form name.now (vector.now ∷ diagonal.now ∷ [])) s names.new) }
+    ensures fault { IfErr result (IsWhyUnread names.old (diag_form name.now (vector.now ∷ diagonal.now ∷ []))) }
+{
+    if !word::is_name(vector) {
+        return Err(Unread::Fault(FaultKind::Statement));
+    }
+    let Some(diagonal) = diagonal_of(diagonal) else {
+        return Err(Unread::Fault(FaultKind::Statement));
+    };
+    if names.find(name).is_some() {
+        return Err(Unread::Fault(FaultKind::NameTaken));
+    }
+    let Some((vector, sort)) = names.find(vector) else {
+        return Err(Unread::Fault(FaultKind::UnknownName));
+    };
+    let statement = diag_of(vector, sort, diagonal)?;
+    names.make(name, Sort::Matrix)?;
+    Ok(statement)
+}
+
+/// `diag NAME NAME D`.
+fn diag(name: &[u8], others: &[&[u8]], names: &mut Names) -> Result<Statement, Unread>
+    ensures read { IfOk result (λ s. IsReading names.old (diag_form name.now (map (λ word. word.now) others.now)) s names.new) }
+    ensures fault { IfErr result (IsWhyUnread names.old (diag_form name.now (map (λ word. word.now) others.now))) }
+{
+    let [vector, diagonal] = others else {
+        return Err(Unread::Fault(FaultKind::Statement));
+    };
+    diag_by_words(name, vector, diagonal, names)
+}
+
+/// `free NAME`, `nvals NAME`, `size NAME`, `clear NAME` or `tuples NAME`.
 fn whole(whole: Whole, name: &[u8], others: &[&[u8]], names: &Names) -> Result<Statement, FaultKind>
     ensures { result ≡ reading names.now (whole_form whole name.now (map (λ word. word.now) others.now)) }
 {
@@ -258,6 +328,7 @@ fn whole(whole: Whole, name: &[u8], others: &[&[u8]], names: &Names) -> Result<S
         Whole::Nvals => Statement::Nvals { name, sort },
         Whole::Size => Statement::Size { name, sort },
         Whole::Clear => Statement::Clear { name, sort },
+        Whole::Tuples => Statement::Tuples { name, sort },
     })
 }
 
@@ -432,6 +503,7 @@ fn statement_on(
     requires vector { keyword ≢ keywords.Vector }
     requires dup { keyword ≢ keywords.Dup }
     requires build { keyword ≢ keywords.Build }
+    requires diag { keyword ≢ keywords.Diag }
     ensures { result ≡ reading names.now (form_with version keyword name.now (map (λ word. word.now) others.now)) }
 {
     match keyword {
@@ -443,7 +515,12 @@ fn statement_on(
         Keyword::Reduce => read_reduction(version, name, others, names),
         Keyword::Total => total(name, others, names),
         Keyword::Wait => wait(name, others, names),
-        Keyword::Matrix | Keyword::Vector | Keyword::Dup | Keyword::Build => unreachable!(),
+        Keyword::Transpose => transpose(version, name, others, names),
+        Keyword::Apply => apply(version, name, others, names),
+        Keyword::Select => select(version, name, others, names),
+        Keyword::Kronecker => kronecker(version, name, others, names),
+        Keyword::Matrix | Keyword::Vector | Keyword::Dup | Keyword::Diag | Keyword::Build =>
+            unreachable!(),
     }
 }
 
@@ -464,6 +541,7 @@ fn statement_with(
         Keyword::Matrix => matrix(name, others, names),
         Keyword::Vector => vector(name, others, names),
         Keyword::Dup => dup(name, others, names),
+        Keyword::Diag => diag(name, others, names),
         Keyword::Build => build(alloc, name, others, names),
         _ => Ok(statement_on(version, keyword, name, others, names)?),
     }

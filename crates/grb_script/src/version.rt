@@ -2,7 +2,7 @@
 ghost use Rattle.std.specs.Prelude.{◌≡◌, map};
 ghost use Rattle.grb_script.specs.Version.{version_by, says_nothing};
 
-use grb_words::{Version, is_skipped, is_version_two};
+use grb_words::{Version, is_skipped, version_named};
 
 /// The version in which a line with these words is read, by the version that the lines before it settled: `None` where it is line 1.
 pub(crate) fn version_by(settled: Option<Version>, words: &[&[u8]]) -> Version
@@ -10,8 +10,7 @@ pub(crate) fn version_by(settled: Option<Version>, words: &[&[u8]]) -> Version
 {
     match settled {
         Some(version) => version,
-        None if is_version_two(words) => Version::Two,
-        None => Version::One,
+        None => version_named(words).unwrap_or(Version::One),
     }
 }
 
@@ -19,5 +18,5 @@ pub(crate) fn version_by(settled: Option<Version>, words: &[&[u8]]) -> Version
 pub(crate) fn says_nothing(settled: Option<Version>, words: &[&[u8]]) -> bool
     ensures { result ≡ says_nothing settled (map (λ word. word.now) words.now) }
 {
-    is_skipped(words) || settled.is_none() && is_version_two(words)
+    is_skipped(words) || settled.is_none() && version_named(words).is_some()
 }

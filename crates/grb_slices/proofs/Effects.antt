@@ -6,6 +6,8 @@ use Rattle.grb_core.specs.declared.value.Value.{Value}
 use Rattle.grb_core.specs.declared.monoid.Monoid.{Monoid}
 use Rattle.grb_core.specs.Contents.{Matrix, Vector}
 use Rattle.grb_core.specs.Entries.{nvals_of}
+use Rattle.grb_core.specs.declared.tests.Diagonal.{Diagonal}
+use Rattle.grb_core.specs.Maps.{diagonal_matrix}
 use Rattle.grb_call.specs.declared.call.Call.TheVariants as call
 use Rattle.grb_call.specs.declared.ids.Object.TheVariants as object
 use Rattle.grb_call.specs.declared.operation.Operation.{Operation}
@@ -15,6 +17,7 @@ use Rattle.grb_call.proofs.ObjectLists.{object_at-end}
 use Rattle.grb_call.proofs.ObjectsAfter.{other_matrix-output, other_vector-output}
 use Rattle.grb_call.proofs.Operated.{SameObject, ReadsSame, matrix_made-same, vector_made-same}
 use Rattle.grb_slices.proofs.Outputs.{output_among}
+use Rattle.grb_slices.specs.Content.{diagonal_content}
 use Rattle.grb_slices.proofs.Wants.{among_after, among_before, among_first, among_next}
 
 -- places of a list of objects
@@ -160,11 +163,16 @@ module _ (s : Store) (v : VectorId) (tuples : List (ℕ × Value)) (dup : Monoid
 abbrev taken : Store → Call → Store
 taken s c = option_map_or (λ _. s) (refused_build s c) (changed s c)
 
+diagonal_held : (d : Diagonal) (o : Option Vector) → option_map MatrixContent (option_map (diagonal_matrix d) o) ≡ diagonal_content d (option_map VectorContent o)
+diagonal_held d None = refl
+diagonal_held d (Some x) = refl
+
 own-at : (s : Store) (c : Call) → IfSome (target_of (shapes_of s) c) (λ o. content_at (taken s c) o ≡ outcome (content_at s) c)
 own-at s (call.NewMatrix domain nrows ncols) = ap (option_map MatrixContent) (object_at-count matrix_shape s.matrices _)
 own-at s (call.NewVector domain size) = ap (option_map VectorContent) (object_at-count vector_shape s.vectors _)
 own-at s (call.DupMatrix a) = ap (option_map MatrixContent) (object_at-count matrix_shape s.matrices _)
 own-at s (call.DupVector v) = ap (option_map VectorContent) (object_at-count vector_shape s.vectors _)
+own-at s (call.Diag v diagonal) = ap (option_map MatrixContent) (object_at-count matrix_shape s.matrices _) ∙ diagonal_held diagonal (vector_at s v)
 own-at s (call.FreeMatrix a) = ap (option_map MatrixContent) (object_at-set_own s.matrices a.0 (λ _. None) refl)
 own-at s (call.FreeVector v) = ap (option_map VectorContent) (object_at-set_own s.vectors v.0 (λ _. None) refl)
 own-at s (call.BuildMatrix a tuples dup) = built_m s a tuples dup (matrix_at s a) refl
@@ -185,6 +193,7 @@ module _ (s : Store) where
   other_m : (c : Call) (a : MatrixId) → target_of (shapes_of s) c ≢ Some (object.Matrix a) → matrix_at (changed s c) a ≡ matrix_at s a
   other_m (call.NewMatrix domain nrows ncols) a other = object_at-push_other s.matrices _ a.0 (λ e. other (ap (λ n. Some (object.Matrix (record { 0 = n }))) (length-map s.matrices (option_map matrix_shape) ∙ sym e)))
   other_m (call.DupMatrix b) a other = object_at-push_other s.matrices _ a.0 (λ e. other (ap (λ n. Some (object.Matrix (record { 0 = n }))) (length-map s.matrices (option_map matrix_shape) ∙ sym e)))
+  other_m (call.Diag v diagonal) a other = object_at-push_other s.matrices _ a.0 (λ e. other (ap (λ n. Some (object.Matrix (record { 0 = n }))) (length-map s.matrices (option_map matrix_shape) ∙ sym e)))
   other_m (call.NewVector domain size) a other = refl
   other_m (call.DupVector v) a other = refl
   other_m c a other = other_matrix-output s c (output_of c) a other
@@ -194,6 +203,7 @@ module _ (s : Store) where
   other_v (call.DupVector w) v other = object_at-push_other s.vectors _ v.0 (λ e. other (ap (λ n. Some (object.Vector (record { 0 = n }))) (length-map s.vectors (option_map vector_shape) ∙ sym e)))
   other_v (call.NewMatrix domain nrows ncols) v other = refl
   other_v (call.DupMatrix a) v other = refl
+  other_v (call.Diag w diagonal) v other = refl
   other_v c v other = other_vector-output s c (output_of c) v other
 
   other-changed : (c : Call) (o : Object) → target_of (shapes_of s) c ≢ Some o → content_at (changed s c) o ≡ content_at s o
@@ -273,6 +283,7 @@ frame r t (call.NewMatrix domain nrows ncols) agree = refl
 frame r t (call.NewVector domain size) agree = refl
 frame r t (call.DupMatrix a) agree = agree_first (object.Matrix a) [] agree
 frame r t (call.DupVector v) agree = agree_first (object.Vector v) [] agree
+frame r t (call.Diag v diagonal) agree = ap (diagonal_content diagonal) (agree_first (object.Vector v) [] agree)
 frame r t (call.FreeMatrix a) agree = refl
 frame r t (call.FreeVector v) agree = refl
 frame r t c agree = frame-output r t c (output_of c) refl agree

@@ -11,6 +11,7 @@ use Rattle.grb_slices.proofs.Wants.{is_same_object-self, is_same_object-true, re
 abbrev pub makes_matrix : Call → Bool
 makes_matrix (call.NewMatrix domain nrows ncols) = true
 makes_matrix (call.DupMatrix a) = true
+makes_matrix (call.Diag v diagonal) = true
 makes_matrix _ = false
 
 abbrev pub makes_vector : Call → Bool
@@ -28,6 +29,7 @@ one_more (y ∷ xs) x = ap suc (one_more xs x)
 reshaped_matrices : (s : ObjectShapes) (c : Call) → length (reshaped s c).matrices ≡ more (makes_matrix c) (length s.matrices)
 reshaped_matrices s (call.NewMatrix domain nrows ncols) = one_more s.matrices _
 reshaped_matrices s (call.DupMatrix a) = one_more s.matrices _
+reshaped_matrices s (call.Diag v diagonal) = one_more s.matrices _
 reshaped_matrices s (call.FreeMatrix a) = length-set s.matrices a.0 _
 reshaped_matrices s (call.ResizeMatrix a nrows ncols) = length-set s.matrices a.0 _
 reshaped_matrices s _ = refl
@@ -69,6 +71,7 @@ same_target s t (call.NewMatrix domain nrows ncols) m v = ap (λ n. Some (object
 same_target s t (call.NewVector domain size) m v = ap (λ n. Some (object.Vector (record { 0 = n }))) v
 same_target s t (call.DupMatrix a) m v = ap (λ n. Some (object.Matrix (record { 0 = n }))) m
 same_target s t (call.DupVector x) m v = ap (λ n. Some (object.Vector (record { 0 = n }))) v
+same_target s t (call.Diag x diagonal) m v = ap (λ n. Some (object.Matrix (record { 0 = n }))) m
 same_target s t _ m v = refl
 
 -- a call without a target makes no object, and one with an output neither
@@ -77,6 +80,7 @@ makes_none s (call.NewMatrix domain nrows ncols) e = cc
 makes_none s (call.NewVector domain size) e = cc
 makes_none s (call.DupMatrix a) e = cc
 makes_none s (call.DupVector x) e = cc
+makes_none s (call.Diag x diagonal) e = cc
 makes_none s _ e = (refl, refl)
 
 makes_no_output : (c : Call) (o : Object) → output_of c ≡ Some o → (makes_matrix c ≡ false) × (makes_vector c ≡ false)
@@ -84,6 +88,7 @@ makes_no_output (call.NewMatrix domain nrows ncols) o e = cc
 makes_no_output (call.NewVector domain size) o e = cc
 makes_no_output (call.DupMatrix a) o e = cc
 makes_no_output (call.DupVector x) o e = cc
+makes_no_output (call.Diag x diagonal) o e = cc
 makes_no_output _ o e = (refl, refl)
 
 -- of which sort an object is
@@ -105,6 +110,8 @@ made_as s (call.DupMatrix b) (object.Matrix a) e none = (refl, refl)
 made_as s (call.DupMatrix b) (object.Vector v) e none = cc
 made_as s (call.DupVector x) (object.Matrix a) e none = cc
 made_as s (call.DupVector x) (object.Vector v) e none = (refl, refl)
+made_as s (call.Diag x diagonal) (object.Matrix a) e none = (refl, refl)
+made_as s (call.Diag x diagonal) (object.Vector v) e none = cc
 made_as s _ o e none = let no : ◌≡◌ {A = Option Object} None (Some o) = sym none ∙ e in cc
 
 -- a place where nothing is

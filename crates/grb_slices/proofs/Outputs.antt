@@ -15,4 +15,5 @@ output_target s (call.NewMatrix domain nrows ncols) o e = cc
 output_target s (call.NewVector domain size) o e = cc
 output_target s (call.DupMatrix a) o e = cc
 output_target s (call.DupVector v) o e = cc
+output_target s (call.Diag v diagonal) o e = cc
 output_target s _ o e = e

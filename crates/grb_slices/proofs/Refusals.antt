@@ -1,17 +1,17 @@
 -- Why a call is refused is a matter of what it reads.
-use Rattle.std.proofs.Common.{◌≡◌, ℕ, Bool, true, false, not, ◌&&◌, nat_lt, if◌then◌else◌, List, [], ◌∷◌, refl, sym, ap, ◌∙◌, Option, Some, None, option_map, is_some, IfSome}
+use Rattle.std.proofs.Common.{◌≡◌, ℕ, ◌*◌, Bool, true, false, not, ◌&&◌, nat_lt, if◌then◌else◌, List, [], ◌∷◌, refl, sym, ap, ◌∙◌, Option, Some, None, option_map, is_some, IfSome}
 use Rattle.grb_slices.proofs.Prelude.{◌==◌, list_all, option_map_or, Refusal, UninitializedObject, InvalidValue, InvalidIndex, DomainMismatch, DimensionMismatch, Call, MatrixId, VectorId, Object, given_domains, masks, named, objects_read, operands, ObjectShapes, MatrixShape, VectorShape, matrix_shape_at, vector_shape_at, is_live, domain_at, nrows_at, ncols_at, size_at, is_initialized, has_valid_values, has_valid_index, has_one_domain, has_fitting_dims, same_domain, are_of_domain, is_one_domain, mask_fits, ewise_fits, product_fits, rows_fit, fitting_of, operation_fits, refused_by_shapes, turned_ncols, turned_nrows, Store, shapes_of, matrix_shape, vector_shape, matrix_at, vector_at, object_at-map, Content, MatrixContent, VectorContent, content_at, is_among, AgreeOn}
 use Rattle.grb_core.specs.declared.domain.Domain.{Domain}
-use Rattle.grb_core.specs.Contents.{Matrix, Vector}
+use Rattle.grb_core.specs.Contents.{Matrix, Vector, is_dimension}
+use Rattle.grb_core.specs.Maps.{diagonal_size}
 use Rattle.grb_call.specs.declared.call.Call.TheVariants as call
-use Rattle.grb_call.specs.declared.descriptor.Descriptor.{Descriptor}
 use Rattle.grb_call.specs.declared.ids.Object.TheVariants as object
 use Rattle.grb_call.specs.declared.operation.Input.TheVariants.{First, Second}
 use Rattle.grb_call.specs.declared.operation.Operation.{Operation}
 use Rattle.grb_call.specs.declared.operation.OperationKind.{OperationKind}
-use Rattle.grb_call.specs.declared.operation.OperationKind.TheVariants.{EwiseAdd, EwiseMult, Product, Rows}
+use Rattle.grb_call.specs.declared.operation.OperationKind.TheVariants.{EwiseAdd, EwiseMult, Product, Rows, Transpose, Apply, Select, Kronecker}
 use Rattle.grb_call.specs.Operation.{if_any, operation_inputs, operation_objects, operation_of, turns}
-use Rattle.grb_call.specs.Refused.{dims_at, has_dims, turned_dims}
+use Rattle.grb_call.specs.Refused.{dims_at, has_dims, kronecker_fits, same_fits, turned_dims}
 use Rattle.grb_slices.proofs.Wants.{among_first, among_next, among_before, among_after}
 
 -- the shapes have the same of this object
@@ -23,8 +23,8 @@ abbrev SameOn : ObjectShapes → ObjectShapes → List Object → Type 0
 SameOn s t os = (o : Object) → is_among os o ≡ true → SameAt s t o
 
 -- the refusals of a call whose objects are all there
-abbrev later : Call → Bool → Bool → Bool → Option Refusal
-later c i d f = if not (has_valid_values c) then Some InvalidValue else (if not i then Some InvalidIndex else (if not d then Some DomainMismatch else (if not f then Some DimensionMismatch else None)))
+abbrev later : Bool → Bool → Bool → Bool → Option Refusal
+later v i d f = if not v then Some InvalidValue else (if not i then Some InvalidIndex else (if not d then Some DomainMismatch else (if not f then Some DimensionMismatch else None)))
 
 module _ (s t : ObjectShapes) where
   first : (o : Object) (os : List Object) → SameOn s t (o ∷ os) → SameAt s t o
@@ -75,6 +75,10 @@ module _ (s t : ObjectShapes) where
   index : (v : VectorId) (i : ℕ) → SameAt s t (object.Vector v) → nat_lt i (size_at s v) ≡ nat_lt i (size_at t v)
   index v i e = ap (nat_lt i) (size v e)
 
+  valid_values : (c : Call) → SameOn s t (operands c) → has_valid_values s c ≡ has_valid_values t c
+  valid_values (call.Diag v diagonal) same = ap (λ n. is_dimension (diagonal_size diagonal n)) (size v (first (object.Vector v) [] same))
+  valid_values _ same = refl
+
   valid_index : (c : Call) → SameOn s t (operands c) → has_valid_index s c ≡ has_valid_index t c
   valid_index (call.SetMatrix a i j value) same = cell a i j (first (object.Matrix a) [] same)
   valid_index (call.SetVector v i value) same = index v i (first (object.Vector v) [] same)
@@ -89,6 +93,9 @@ module _ (s t : ObjectShapes) where
 
   same_number : (k m n o : ℕ) → k ≡ m → n ≡ o → (k == n) ≡ (m == o)
   same_number k m n o x y = ap (λ i. i == n) x ∙ ap (λ i. m == i) y
+
+  multiplied : (k m n o : ℕ) → k ≡ m → n ≡ o → k * n ≡ m * o
+  multiplied k m n o x y = ap (λ i. i * n) x ∙ ap (λ i. m * i) y
 
   both : (a b x y : Bool) → a ≡ x → b ≡ y → (a && b) ≡ (x && y)
   both a b x y e f = ap (λ n. n && b) e ∙ ap (λ n. x && n) f
@@ -117,36 +124,53 @@ module _ (s t : ObjectShapes) where
   turned_same tran a c x y = both _ _ _ _ (same_number _ _ _ _ (turned_rows tran a x) (rows c y)) (same_number _ _ _ _ (turned_columns tran a x) (columns c y))
 
   -- how the objects of an operation fit together, by what it computes
-  module _ (d : Descriptor) where
+  module _ (tran tran1 : Bool) where
     ewise_same : (output : Object) (first second : Option Object) (x y : Bool) → SameAt s t output → IfSome first (SameAt s t) → IfSome second (SameAt s t) → x ≡ y →
-        ewise_fits s d output first second x ≡ ewise_fits t d output first second y
+        ewise_fits s tran tran1 output first second x ≡ ewise_fits t tran tran1 output first second y
     ewise_same (object.Matrix c) (Some (object.Matrix a)) (Some (object.Matrix b)) x y one two three masked =
-        both _ _ _ _ (turned_same (turns d First) a c two one) (both _ _ _ _ (turned_same (turns d Second) b c three one) masked)
+        both _ _ _ _ (turned_same tran a c two one) (both _ _ _ _ (turned_same tran1 b c three one) masked)
     ewise_same (object.Vector w) (Some (object.Vector u)) (Some (object.Vector v)) x y one two three masked = both _ _ _ _ (sizes u w two one) (both _ _ _ _ (sizes v w three one) masked)
     ewise_same _ _ _ x y one two three masked = refl
 
     product_same : (output : Object) (first second : Option Object) (x y : Bool) → SameAt s t output → IfSome first (SameAt s t) → IfSome second (SameAt s t) → x ≡ y →
-        product_fits s d output first second x ≡ product_fits t d output first second y
+        product_fits s tran tran1 output first second x ≡ product_fits t tran tran1 output first second y
     product_same (object.Matrix c) (Some (object.Matrix a)) (Some (object.Matrix b)) x y one two three masked =
-        both _ _ _ _ (same_number _ _ _ _ (turned_rows (turns d First) a two) (rows c one)) (both _ _ _ _ (same_number _ _ _ _ (turned_columns (turns d Second) b three) (columns c one))
-        (both _ _ _ _ (same_number _ _ _ _ (turned_columns (turns d First) a two) (turned_rows (turns d Second) b three)) masked))
+        both _ _ _ _ (same_number _ _ _ _ (turned_rows tran a two) (rows c one)) (both _ _ _ _ (same_number _ _ _ _ (turned_columns tran1 b three) (columns c one))
+        (both _ _ _ _ (same_number _ _ _ _ (turned_columns tran a two) (turned_rows tran1 b three)) masked))
     product_same (object.Vector w) (Some (object.Matrix a)) (Some (object.Vector u)) x y one two three masked =
-        both _ _ _ _ (same_number _ _ _ _ (turned_rows (turns d First) a two) (size w one)) (both _ _ _ _ (same_number _ _ _ _ (turned_columns (turns d First) a two) (size u three)) masked)
+        both _ _ _ _ (same_number _ _ _ _ (turned_rows tran a two) (size w one)) (both _ _ _ _ (same_number _ _ _ _ (turned_columns tran a two) (size u three)) masked)
     product_same (object.Vector w) (Some (object.Vector u)) (Some (object.Matrix a)) x y one two three masked =
-        both _ _ _ _ (same_number _ _ _ _ (turned_columns (turns d Second) a three) (size w one)) (both _ _ _ _ (same_number _ _ _ _ (turned_rows (turns d Second) a three) (size u two)) masked)
+        both _ _ _ _ (same_number _ _ _ _ (turned_columns tran1 a three) (size w one)) (both _ _ _ _ (same_number _ _ _ _ (turned_rows tran1 a three) (size u two)) masked)
     product_same _ _ _ x y one two three masked = refl
 
     rows_same : (output : Object) (first second : Option Object) (x y : Bool) → SameAt s t output → IfSome first (SameAt s t) → IfSome second (SameAt s t) → x ≡ y →
-        rows_fit s d output first second x ≡ rows_fit t d output first second y
-    rows_same (object.Vector w) (Some (object.Matrix a)) None x y one two three masked = both _ _ _ _ (same_number _ _ _ _ (turned_rows (turns d First) a two) (size w one)) masked
+        rows_fit s tran tran1 output first second x ≡ rows_fit t tran tran1 output first second y
+    rows_same (object.Vector w) (Some (object.Matrix a)) None x y one two three masked = both _ _ _ _ (same_number _ _ _ _ (turned_rows tran a two) (size w one)) masked
     rows_same _ _ _ x y one two three masked = refl
 
+    each_same : (output : Object) (first second : Option Object) (x y : Bool) → SameAt s t output → IfSome first (SameAt s t) → IfSome second (SameAt s t) → x ≡ y →
+        same_fits s tran tran1 output first second x ≡ same_fits t tran tran1 output first second y
+    each_same (object.Matrix c) (Some (object.Matrix a)) None x y one two three masked = both _ _ _ _ (turned_same tran a c two one) masked
+    each_same (object.Vector w) (Some (object.Vector u)) None x y one two three masked = both _ _ _ _ (sizes u w two one) masked
+    each_same _ _ _ x y one two three masked = refl
+
+    kronecker_same : (output : Object) (first second : Option Object) (x y : Bool) → SameAt s t output → IfSome first (SameAt s t) → IfSome second (SameAt s t) → x ≡ y →
+        kronecker_fits s tran tran1 output first second x ≡ kronecker_fits t tran tran1 output first second y
+    kronecker_same (object.Matrix c) (Some (object.Matrix a)) (Some (object.Matrix b)) x y one two three masked =
+        both _ _ _ _ (same_number _ _ _ _ (multiplied _ _ _ _ (turned_rows tran a two) (turned_rows tran1 b three)) (rows c one))
+        (both _ _ _ _ (same_number _ _ _ _ (multiplied _ _ _ _ (turned_columns tran a two) (turned_columns tran1 b three)) (columns c one)) masked)
+    kronecker_same _ _ _ x y one two three masked = refl
+
     kind_same : (kind : OperationKind) (output : Object) (first second : Option Object) (x y : Bool) → SameAt s t output → IfSome first (SameAt s t) → IfSome second (SameAt s t) → x ≡ y →
-        fitting_of kind s d output first second x ≡ fitting_of kind t d output first second y
+        fitting_of kind s tran tran1 output first second x ≡ fitting_of kind t tran tran1 output first second y
     kind_same (EwiseAdd op) = ewise_same
     kind_same (EwiseMult op) = ewise_same
     kind_same (Product semiring) = product_same
     kind_same (Rows monoid) = rows_same
+    kind_same Transpose = each_same
+    kind_same (Apply f) = each_same
+    kind_same (Select p) = each_same
+    kind_same (Kronecker op) = kronecker_same
 
   any_same : (q : Option Object) → SameOn s t (if_any q) → IfSome q (SameAt s t)
   any_same None same = tt
@@ -158,7 +182,7 @@ module _ (s t : ObjectShapes) where
   any_fitting (Some o) os same masked =
       let output = first o.output (operation_inputs o) same in
       let inputs = next o.output (operation_inputs o) same in
-      kind_same o.d o.kind o.output o.first o.second _ _ output
+      kind_same (turns o.kind o.d First) (turns o.kind o.d Second) o.kind o.output o.first o.second _ _ output
       (any_same o.first (λ p wanted. inputs p (among_before p (if_any o.first) (if_any o.second) wanted))) (any_same o.second (λ p wanted. inputs p (among_after p (if_any o.first) (if_any o.second) wanted)))
       (mask_same o.mask o.output (any_same o.mask masked) output)
 
@@ -169,10 +193,12 @@ module _ (s t : ObjectShapes) where
   refusal_same c same =
       let os : SameOn s t (operands c) = λ o wanted. same o (among_before o (operands c) (masks c) wanted) in
       let ms : SameOn s t (masks c) = λ o wanted. same o (among_after o (operands c) (masks c) wanted) in
-      ap (λ b. if not b then Some UninitializedObject else later c (has_valid_index s c) (has_one_domain s c) (has_fitting_dims s c)) (all_live (objects_read c) same)
-      ∙ (ap (λ b. if not (is_initialized t c) then Some UninitializedObject else later c b (has_one_domain s c) (has_fitting_dims s c)) (valid_index c os)
-      ∙ (ap (λ b. if not (is_initialized t c) then Some UninitializedObject else later c (has_valid_index t c) b (has_fitting_dims s c)) (one_domain (operands c) (given_domains c) os)
-      ∙ ap (λ b. if not (is_initialized t c) then Some UninitializedObject else later c (has_valid_index t c) (has_one_domain t c) b) (fitting c os ms)))
+      let live_t = is_initialized t c in
+      ap (λ b. if not b then Some UninitializedObject else later (has_valid_values s c) (has_valid_index s c) (has_one_domain s c) (has_fitting_dims s c)) (all_live (objects_read c) same)
+      ∙ (ap (λ b. if not live_t then Some UninitializedObject else later b (has_valid_index s c) (has_one_domain s c) (has_fitting_dims s c)) (valid_values c os)
+      ∙ (ap (λ b. if not live_t then Some UninitializedObject else later (has_valid_values t c) b (has_one_domain s c) (has_fitting_dims s c)) (valid_index c os)
+      ∙ (ap (λ b. if not live_t then Some UninitializedObject else later (has_valid_values t c) (has_valid_index t c) b (has_fitting_dims s c)) (one_domain (operands c) (given_domains c) os)
+      ∙ ap (λ b. if not live_t then Some UninitializedObject else later (has_valid_values t c) (has_valid_index t c) (has_one_domain t c) b) (fitting c os ms))))
 
 -- the shape of what an object holds
 abbrev shape_of_matrix : Option Content → Option MatrixShape

@@ -5,6 +5,8 @@ use Rattle.std.specs.List.{list_all}
 use Rattle.std.specs.Option.{option_map, option_map_or}
 use Rattle.grb_core.specs.Contents.{Matrix, Vector}
 use Rattle.grb_core.specs.Entries.{nvals_of}
+use Rattle.grb_core.specs.declared.tests.Diagonal.{Diagonal}
+use Rattle.grb_core.specs.Maps.{diagonal_matrix}
 use Rattle.grb_call.specs.declared.call.Call.{Call}
 use Rattle.grb_call.specs.declared.call.Call.TheVariants as call
 use Rattle.grb_call.specs.declared.ids.Object.{Object}
@@ -33,6 +35,7 @@ target_of s (call.NewMatrix domain nrows ncols) = Some (object.Matrix (record { 
 target_of s (call.NewVector domain size) = Some (object.Vector (record { 0 = length s.vectors }))
 target_of s (call.DupMatrix a) = Some (object.Matrix (record { 0 = length s.matrices }))
 target_of s (call.DupVector v) = Some (object.Vector (record { 0 = length s.vectors }))
+target_of s (call.Diag v diagonal) = Some (object.Matrix (record { 0 = length s.matrices }))
 target_of s c = output_of c
 
 -- the target of a call at its place: none where shapes refuse it
@@ -77,12 +80,17 @@ abbrev pub output_made : Contents → Call → Option Object → Option Content
 output_made r c (Some o) = option_map (content_made r c) (r o)
 output_made r c None = None
 
+-- what a matrix holds that is made of a vector, where that is there
+abbrev pub diagonal_content : Diagonal → Option Content → Option Content
+diagonal_content d c = option_map (λ x. MatrixContent (diagonal_matrix d x)) (vector_held c)
+
 -- what the target of a call that shapes do not refuse holds after it, by what the objects hold before it
 abbrev pub outcome : Contents → Call → Option Content
 outcome r (call.NewMatrix domain nrows ncols) = Some (MatrixContent (record { domain = domain; nrows = nrows; ncols = ncols; entries = [] }))
 outcome r (call.NewVector domain size) = Some (VectorContent (record { domain = domain; size = size; entries = [] }))
 outcome r (call.DupMatrix a) = r (object.Matrix a)
 outcome r (call.DupVector v) = r (object.Vector v)
+outcome r (call.Diag v diagonal) = diagonal_content diagonal (r (object.Vector v))
 outcome r (call.FreeMatrix a) = None
 outcome r (call.FreeVector v) = None
 outcome r c = output_made r c (output_of c)

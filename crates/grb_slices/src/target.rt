@@ -11,7 +11,7 @@ fn next_object(shapes: &Shapes, call: &Call) -> Object
     ensures { Some result ≡ target_of shapes.now.objects call.now }
 {
     match call {
-        Call::NewMatrix { .. } | Call::DupMatrix { .. } => {
+        Call::NewMatrix { .. } | Call::DupMatrix { .. } | Call::Diag { .. } => {
             Object::Matrix(MatrixId(shapes.matrices()))
         }
         Call::NewVector { .. } | Call::DupVector { .. } => {

@@ -47,7 +47,7 @@ pub record IsCall (ms : List (Option SparseMatrixView)) (vs : List (Option Spars
 
 module _ (ms : List (Option SparseMatrixView)) (vs : List (Option SparseVectorView)) where
   module _ (called : Call) (accepted : refused (stored ms vs) called ≡ None) (assembled : AreAssembled ms vs called) where
-    is_call : (other : Call) → called ≡ other → IsCall ms vs called other
+    pub is_call : (other : Call) → called ≡ other → IsCall ms vs called other
     is_call other e = record { is = e; accepted = subst (λ (x : Call). refused (stored ms vs) x ≡ None) e accepted; assembled = subst (λ (x : Call). AreAssembled ms vs x) e assembled }
 
     -- the call with this output

@@ -54,16 +54,16 @@ held f g (Some x ∷ xs) zero e = refl
 held f g (o ∷ xs) (suc n) e = held f g xs n e
 
 -- the tests that an element-wise operation on matrices passed
-pub record MatrixTests (t : ObjectShapes) (tran : Bool) (c : MatrixId) (mask : Option MatrixId) (accum : Option BinaryOp) (op : BinaryOp) (a b : MatrixId) : Type 0 where
+pub record MatrixTests (t : ObjectShapes) (tran tran1 : Bool) (c : MatrixId) (mask : Option MatrixId) (accum : Option BinaryOp) (op : BinaryOp) (a b : MatrixId) : Type 0 where
   pub live : list_all (is_live t) (object.Matrix c ∷ object.Matrix a ∷ object.Matrix b ∷ matrix_mask mask) ≡ true
   pub one_domain : is_one_domain t (object.Matrix c ∷ object.Matrix a ∷ object.Matrix b ∷ []) (op_domain op ∷ accum_domains accum) ≡ true
-  pub fits : ewise_matrices_fit t tran c mask a b ≡ true
+  pub fits : ewise_matrices_fit t tran tran1 c mask a b ≡ true
 
 module _ (s : Store) (c : MatrixId) (mask : Option MatrixId) (accum : Option BinaryOp) (op : BinaryOp) (a b : MatrixId) (d : Descriptor) where
-  pub add_matrix-tests : refused s (call.EwiseAddMatrix c mask accum op a b d) ≡ None → MatrixTests (shapes_of s) d.tran c mask accum op a b
+  pub add_matrix-tests : refused s (call.EwiseAddMatrix c mask accum op a b d) ≡ None → MatrixTests (shapes_of s) d.tran d.tran1 c mask accum op a b
   add_matrix-tests accepted = let p = has_passed s (call.EwiseAddMatrix c mask accum op a b d) accepted in record { live = p.initialized; one_domain = p.one_domain; fits = p.fits }
 
-  pub mult_matrix-tests : refused s (call.EwiseMultMatrix c mask accum op a b d) ≡ None → MatrixTests (shapes_of s) d.tran c mask accum op a b
+  pub mult_matrix-tests : refused s (call.EwiseMultMatrix c mask accum op a b d) ≡ None → MatrixTests (shapes_of s) d.tran d.tran1 c mask accum op a b
   mult_matrix-tests accepted = let p = has_passed s (call.EwiseMultMatrix c mask accum op a b d) accepted in record { live = p.initialized; one_domain = p.one_domain; fits = p.fits }
 
 module _ (ms : List (Option SparseMatrixView)) (vs : List (Option SparseVectorView)) where
@@ -105,7 +105,7 @@ module _ (ms : List (Option SparseMatrixView)) (vs : List (Option SparseVectorVi
   matrix_mask_held None live = tt
   matrix_mask_held (Some x) live = held stored_matrix matrix_shape ms x.0 (and_parts _ _ live).0
 
-  module _ {tran : Bool} (c : MatrixId) (mask : Option MatrixId) (accum : Option BinaryOp) (op : BinaryOp) (a b : MatrixId) (tests : MatrixTests (shapes_of (stored ms vs)) tran c mask accum op a b) where
+  module _ {tran tran1 : Bool} (c : MatrixId) (mask : Option MatrixId) (accum : Option BinaryOp) (op : BinaryOp) (a b : MatrixId) (tests : MatrixTests (shapes_of (stored ms vs)) tran tran1 c mask accum op a b) where
     pub matrix_first-there : is_some (object_at ms a.0) ≡ true
     matrix_first-there = held stored_matrix matrix_shape ms a.0 (and_parts _ _ (and_parts _ _ tests.live).1).0
 
@@ -119,8 +119,8 @@ module _ (ms : List (Option SparseMatrixView)) (vs : List (Option SparseVectorVi
         matrix_mask_held mask last.1
 
     module _ (x : SparseMatrixView) (at_output : object_at ms c.0 ≡ Some x) where
-      pub matrix_are : EwiseMatrices (stored ms vs) x.matrix tran mask accum op a b
-      matrix_are = ewise_matrices (stored ms vs) c x.matrix (at_matrix c x at_output) tran mask accum op a b tests.live tests.one_domain tests.fits
+      pub matrix_are : EwiseMatrices (stored ms vs) x.matrix tran tran1 mask accum op a b
+      matrix_are = ewise_matrices (stored ms vs) c x.matrix (at_matrix c x at_output) tran tran1 mask accum op a b tests.live tests.one_domain tests.fits
 
   -- what is left of the output, where this was computed and written
   module _ (c : MatrixId) (mask : Option MatrixId) (accum : Option BinaryOp) (op : BinaryOp) (a b : MatrixId) (d : Descriptor)
@@ -129,25 +129,25 @@ module _ (ms : List (Option SparseMatrixView)) (vs : List (Option SparseVectorVi
     abbrev matrix_write : Option MatrixEntries → MatrixEntries → Matrix
     matrix_write m computed = edited_matrix (λ old. written cell_cmp (is_inside cell_cmp d.structure d.comp m) d.replace accum old computed) x.matrix
 
-    pub add_matrix-left : made ≡ matrix_write lent (ewise_add cell_cmp op (turned d.tran y.matrix.entries) z.matrix.entries) →
+    pub add_matrix-left : made ≡ matrix_write lent (ewise_add cell_cmp op (turned d.tran y.matrix.entries) (turned d.tran1 z.matrix.entries)) →
         matrix_left (stored ms vs) (call.EwiseAddMatrix c mask accum op a b d) (matrix_at (stored ms vs) c) ≡ Some made
     add_matrix-left is =
         let s = stored ms vs in
         ap (λ (o : Option Matrix). matrix_left s (call.EwiseAddMatrix c mask accum op a b d) o) (at_matrix c x at_output)
         ∙ ap (λ (m : Matrix). Some m) ((writes_matrix (objects_in s) mask accum d x.matrix c).of_ewise_add op a b ∙ sym (is
-        ∙ ap (λ m. matrix_write m (ewise_add cell_cmp op (turned d.tran y.matrix.entries) z.matrix.entries)) same_mask
-        ∙ ap (λ es. matrix_write (option_map (matrix_entries s) mask) (ewise_add cell_cmp op (turned d.tran es) z.matrix.entries)) (sym (matrix_entries-at a y at_first))
-        ∙ ap (λ es. matrix_write (option_map (matrix_entries s) mask) (ewise_add cell_cmp op (turned d.tran (matrix_entries s a)) es)) (sym (matrix_entries-at b z at_second))))
+        ∙ ap (λ m. matrix_write m (ewise_add cell_cmp op (turned d.tran y.matrix.entries) (turned d.tran1 z.matrix.entries))) same_mask
+        ∙ ap (λ es. matrix_write (option_map (matrix_entries s) mask) (ewise_add cell_cmp op (turned d.tran es) (turned d.tran1 z.matrix.entries))) (sym (matrix_entries-at a y at_first))
+        ∙ ap (λ es. matrix_write (option_map (matrix_entries s) mask) (ewise_add cell_cmp op (turned d.tran (matrix_entries s a)) (turned d.tran1 es))) (sym (matrix_entries-at b z at_second))))
 
-    pub mult_matrix-left : made ≡ matrix_write lent (ewise_mult cell_cmp op (turned d.tran y.matrix.entries) z.matrix.entries) →
+    pub mult_matrix-left : made ≡ matrix_write lent (ewise_mult cell_cmp op (turned d.tran y.matrix.entries) (turned d.tran1 z.matrix.entries)) →
         matrix_left (stored ms vs) (call.EwiseMultMatrix c mask accum op a b d) (matrix_at (stored ms vs) c) ≡ Some made
     mult_matrix-left is =
         let s = stored ms vs in
         ap (λ (o : Option Matrix). matrix_left s (call.EwiseMultMatrix c mask accum op a b d) o) (at_matrix c x at_output)
         ∙ ap (λ (m : Matrix). Some m) ((writes_matrix (objects_in s) mask accum d x.matrix c).of_ewise_mult op a b ∙ sym (is
-        ∙ ap (λ m. matrix_write m (ewise_mult cell_cmp op (turned d.tran y.matrix.entries) z.matrix.entries)) same_mask
-        ∙ ap (λ es. matrix_write (option_map (matrix_entries s) mask) (ewise_mult cell_cmp op (turned d.tran es) z.matrix.entries)) (sym (matrix_entries-at a y at_first))
-        ∙ ap (λ es. matrix_write (option_map (matrix_entries s) mask) (ewise_mult cell_cmp op (turned d.tran (matrix_entries s a)) es)) (sym (matrix_entries-at b z at_second))))
+        ∙ ap (λ m. matrix_write m (ewise_mult cell_cmp op (turned d.tran y.matrix.entries) (turned d.tran1 z.matrix.entries))) same_mask
+        ∙ ap (λ es. matrix_write (option_map (matrix_entries s) mask) (ewise_mult cell_cmp op (turned d.tran es) (turned d.tran1 z.matrix.entries))) (sym (matrix_entries-at a y at_first))
+        ∙ ap (λ es. matrix_write (option_map (matrix_entries s) mask) (ewise_mult cell_cmp op (turned d.tran (matrix_entries s a)) (turned d.tran1 es))) (sym (matrix_entries-at b z at_second))))
 
 -- the tests that an element-wise operation on vectors passed
 pub record VectorTests (t : ObjectShapes) (w : VectorId) (mask : Option VectorId) (accum : Option BinaryOp) (op : BinaryOp) (u v : VectorId) : Type 0 where

@@ -85,8 +85,8 @@ module _ (ms : List (Option SparseMatrixView)) (vs : List (Option SparseVectorVi
         let rest = and_parts (is_live (shapes_of (stored ms vs)) (object.Vector u)) _ (and_parts (is_live (shapes_of (stored ms vs)) (object.Vector w)) _ vxm_passed.initialized).1 in
         vector_mask_held ms vs mask (and_parts (is_live (shapes_of (stored ms vs)) (object.Matrix a)) _ rest.1).1
 
-    pub vxm_are : (x : SparseVectorView) → object_at vs w.0 ≡ Some x → VxmOperands (stored ms vs) x.vector mask accum semiring u a
-    vxm_are x at = vxm_operands (stored ms vs) w x.vector (at_vector ms vs w x at) mask accum semiring u a vxm_passed.initialized vxm_passed.one_domain vxm_passed.fits
+    pub vxm_are : (x : SparseVectorView) → object_at vs w.0 ≡ Some x → VxmOperands (stored ms vs) x.vector d.tran1 mask accum semiring u a
+    vxm_are x at = vxm_operands (stored ms vs) w x.vector (at_vector ms vs w x at) d.tran1 mask accum semiring u a vxm_passed.initialized vxm_passed.one_domain vxm_passed.fits
 
   module _ {B : Type 0} (now : B → SparseMatrixView) where
     pub lent_matrix_mask_is : (mask : Option MatrixId) (lent : Option B) → option_map (λ m. Some (now m)) lent ≡ option_map (λ x. object_at ms x.0) mask → (nrows ncols : ℕ) → IsMatrixMask (stored ms vs) mask nrows ncols →
@@ -116,20 +116,20 @@ module _ (ms : List (Option SparseMatrixView)) (vs : List (Option SparseVectorVi
         let rest = and_parts (is_live (shapes_of (stored ms vs)) (object.Matrix a)) _ (and_parts (is_live (shapes_of (stored ms vs)) (object.Matrix c)) _ mxm_passed.initialized).1 in
         matrix_mask_held ms vs mask (and_parts (is_live (shapes_of (stored ms vs)) (object.Matrix b)) _ rest.1).1
 
-    pub mxm_are : (x : SparseMatrixView) → object_at ms c.0 ≡ Some x → MxmOperands (stored ms vs) x.matrix d.tran mask accum semiring a b
-    mxm_are x at = mxm_operands (stored ms vs) c x.matrix (at_matrix ms vs c x at) d.tran mask accum semiring a b mxm_passed.initialized mxm_passed.one_domain mxm_passed.fits
+    pub mxm_are : (x : SparseMatrixView) → object_at ms c.0 ≡ Some x → MxmOperands (stored ms vs) x.matrix d.tran d.tran1 mask accum semiring a b
+    mxm_are x at = mxm_operands (stored ms vs) c x.matrix (at_matrix ms vs c x at) d.tran d.tran1 mask accum semiring a b mxm_passed.initialized mxm_passed.one_domain mxm_passed.fits
 
     pub mxm-left : (x y z : SparseMatrixView) → object_at ms c.0 ≡ Some x → object_at ms a.0 ≡ Some y → object_at ms b.0 ≡ Some z → (lent : Option MatrixEntries) → lent ≡ option_map (matrix_entries (stored ms vs)) mask →
-        (made : Matrix) → made ≡ edited_matrix (λ old. written cell_cmp (is_inside cell_cmp d.structure d.comp lent) d.replace accum old (mxm_of semiring (turned d.tran y.matrix.entries) z.matrix.entries)) x.matrix →
+        (made : Matrix) → made ≡ edited_matrix (λ old. written cell_cmp (is_inside cell_cmp d.structure d.comp lent) d.replace accum old (mxm_of semiring (turned d.tran y.matrix.entries) (turned d.tran1 z.matrix.entries))) x.matrix →
         matrix_left (stored ms vs) (call.Mxm c mask accum semiring a b d) (matrix_at (stored ms vs) c) ≡ Some made
     mxm-left x y z at_output at_first at_second lent same_mask made is =
         let s = stored ms vs in
         let write : Option MatrixEntries → MatrixEntries → Matrix = λ m computed. edited_matrix (λ old. written cell_cmp (is_inside cell_cmp d.structure d.comp m) d.replace accum old computed) x.matrix in
         ap (λ (o : Option Matrix). matrix_left s (call.Mxm c mask accum semiring a b d) o) (at_matrix ms vs c x at_output)
         ∙ ap (λ (m : Matrix). Some m) ((writes_matrix (objects_in s) mask accum d x.matrix c).of_mxm semiring a b ∙ sym (is
-        ∙ ap (λ m. write m (mxm_of semiring (turned d.tran y.matrix.entries) z.matrix.entries)) same_mask
-        ∙ ap (λ (es : MatrixEntries). write (option_map (matrix_entries s) mask) (mxm_of semiring (turned d.tran es) z.matrix.entries)) (sym (matrix_entries-at ms vs a y at_first))
-        ∙ ap (λ (es : MatrixEntries). write (option_map (matrix_entries s) mask) (mxm_of semiring (turned d.tran (matrix_entries s a)) es)) (sym (matrix_entries-at ms vs b z at_second))))
+        ∙ ap (λ m. write m (mxm_of semiring (turned d.tran y.matrix.entries) (turned d.tran1 z.matrix.entries))) same_mask
+        ∙ ap (λ (es : MatrixEntries). write (option_map (matrix_entries s) mask) (mxm_of semiring (turned d.tran es) (turned d.tran1 z.matrix.entries))) (sym (matrix_entries-at ms vs a y at_first))
+        ∙ ap (λ (es : MatrixEntries). write (option_map (matrix_entries s) mask) (mxm_of semiring (turned d.tran (matrix_entries s a)) (turned d.tran1 es))) (sym (matrix_entries-at ms vs b z at_second))))
 
   -- a reduction of rows
   module _ (w : VectorId) (mask : Option VectorId) (accum : Option BinaryOp) (monoid : Monoid) (a : MatrixId) (d : Descriptor)
@@ -164,15 +164,15 @@ module _ (ms : List (Option SparseMatrixView)) (vs : List (Option SparseVectorVi
         ∙ ap (λ (es : VectorEntries). write (option_map (vector_entries s) mask) (mxv_of semiring (turned d.tran (matrix_entries s a)) es)) (sym (vector_entries-at ms vs u z at_vector_input))))
 
     pub vxm-left : (semiring : SemiringParts) (u : VectorId) (a : MatrixId) (z : SparseVectorView) (y : SparseMatrixView) → object_at vs u.0 ≡ Some z → object_at ms a.0 ≡ Some y →
-        made ≡ write lent (vxm_of semiring z.vector.entries y.matrix.entries) →
+        made ≡ write lent (vxm_of semiring z.vector.entries (turned d.tran1 y.matrix.entries)) →
         vector_left (stored ms vs) (call.Vxm w mask accum semiring u a d) (vector_at (stored ms vs) w) ≡ Some made
     vxm-left semiring u a z y at_vector_input at_matrix_input is =
         let s = stored ms vs in
         ap (λ (o : Option Vector). vector_left s (call.Vxm w mask accum semiring u a d) o) (at_vector ms vs w x at_output)
         ∙ ap (λ (v : Vector). Some v) ((writes_vector (objects_in s) mask accum d x.vector w).of_vxm semiring u a ∙ sym (is
-        ∙ ap (λ m. write m (vxm_of semiring z.vector.entries y.matrix.entries)) same_mask
-        ∙ ap (λ (es : MatrixEntries). write (option_map (vector_entries s) mask) (vxm_of semiring z.vector.entries es)) (sym (matrix_entries-at ms vs a y at_matrix_input))
-        ∙ ap (λ (es : VectorEntries). write (option_map (vector_entries s) mask) (vxm_of semiring es (matrix_entries s a))) (sym (vector_entries-at ms vs u z at_vector_input))))
+        ∙ ap (λ m. write m (vxm_of semiring z.vector.entries (turned d.tran1 y.matrix.entries))) same_mask
+        ∙ ap (λ (es : MatrixEntries). write (option_map (vector_entries s) mask) (vxm_of semiring z.vector.entries (turned d.tran1 es))) (sym (matrix_entries-at ms vs a y at_matrix_input))
+        ∙ ap (λ (es : VectorEntries). write (option_map (vector_entries s) mask) (vxm_of semiring es (turned d.tran1 (matrix_entries s a)))) (sym (vector_entries-at ms vs u z at_vector_input))))
 
     pub rows-left : (monoid : Monoid) (a : MatrixId) (y : SparseMatrixView) → object_at ms a.0 ≡ Some y → made ≡ write lent (reduce_rows_of monoid (turned d.tran y.matrix.entries)) →
         vector_left (stored ms vs) (call.ReduceRows w mask accum monoid a d) (vector_at (stored ms vs) w) ≡ Some made

@@ -4,8 +4,10 @@ mod Dispatched
 mod Folded
 mod Lent
 mod LentProducts
+mod LentTerms
 mod Living
-pub mod Numbered
 mod Premises
 mod Settling
 mod Totals
+pub mod LentDiagonal
+pub mod Numbered

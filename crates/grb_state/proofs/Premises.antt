@@ -28,11 +28,6 @@ module _ (ms : List (Option SparseMatrixView)) (vs : List (Option SparseVectorVi
   vector_assembled v y at done = subst (λ (o : Option SparseVectorView). IfSome o (λ x. x.assembled ≡ true)) at done
 
   -- inputs
-  pub matrix_input : (a : MatrixId) (y : SparseMatrixView) → object_at ms a.0 ≡ Some y → (domain : Domain) (nrows ncols : ℕ) → IsMatrixAt (stored ms vs) a domain nrows ncols → IsAssembledMatrix ms a.0 → IsMatrixInput false domain nrows ncols y
-  matrix_input a y at domain nrows ncols is done =
-      let same = lent_matrix_is ms vs a y at domain nrows ncols is in
-      record { assembled = matrix_assembled a y at done; domain = same.0; rows = same.1; columns = same.2 }
-
   pub turned_input : (a : MatrixId) (y : SparseMatrixView) → object_at ms a.0 ≡ Some y → (tran : Bool) (domain : Domain) (nrows ncols : ℕ) → IsTurnedAt (stored ms vs) tran a domain nrows ncols → IsAssembledMatrix ms a.0 → IsMatrixInput tran domain nrows ncols y
   turned_input a y at tran domain nrows ncols is done =
       let same = lent_turned_is ms vs a y at tran domain nrows ncols is in
@@ -84,7 +79,7 @@ module _ (ms : List (Option SparseMatrixView)) (vs : List (Option SparseVectorVi
   }
 
   -- what the operands of an element-wise operation are, which is not refused
-  module _ {tran : Bool} (c : MatrixId) (mask : Option MatrixId) (accum : Option BinaryOp) (op : BinaryOp) (a b : MatrixId) (tests : MatrixTests (shapes_of (stored ms vs)) tran c mask accum op a b)
+  module _ {tran tran1 : Bool} (c : MatrixId) (mask : Option MatrixId) (accum : Option BinaryOp) (op : BinaryOp) (a b : MatrixId) (tests : MatrixTests (shapes_of (stored ms vs)) tran tran1 c mask accum op a b)
       (done : AreAllOf ms vs (object.Matrix c ∷ object.Matrix a ∷ object.Matrix b ∷ matrix_mask mask)) (x : SparseMatrixView) (at_output : object_at ms c.0 ≡ Some x) where
     pub ewise_matrix_output : (lent : Option (Bor SparseMatrixView)) → option_map (λ m. Some m.now) lent ≡ option_map (λ x. object_at ms x.0) mask → IsMatrixOutput x lent accum
     ewise_matrix_output lent e =
@@ -94,8 +89,8 @@ module _ (ms : List (Option SparseMatrixView)) (vs : List (Option SparseVectorVi
     pub ewise_matrix_first : (y : SparseMatrixView) → object_at ms a.0 ≡ Some y → IsMatrixInput tran x.matrix.domain x.matrix.nrows x.matrix.ncols y
     ewise_matrix_first y at = turned_input a y at tran x.matrix.domain x.matrix.nrows x.matrix.ncols (matrix_are ms vs c mask accum op a b tests x at_output).first done.1.0
 
-    pub ewise_matrix_second : (z : SparseMatrixView) → object_at ms b.0 ≡ Some z → IsMatrixInput false x.matrix.domain x.matrix.nrows x.matrix.ncols z
-    ewise_matrix_second z at = matrix_input b z at x.matrix.domain x.matrix.nrows x.matrix.ncols (matrix_are ms vs c mask accum op a b tests x at_output).second done.1.1.0
+    pub ewise_matrix_second : (z : SparseMatrixView) → object_at ms b.0 ≡ Some z → IsMatrixInput tran1 x.matrix.domain x.matrix.nrows x.matrix.ncols z
+    ewise_matrix_second z at = turned_input b z at tran1 x.matrix.domain x.matrix.nrows x.matrix.ncols (matrix_are ms vs c mask accum op a b tests x at_output).second done.1.1.0
 
   module _ (w : VectorId) (mask : Option VectorId) (accum : Option BinaryOp) (op : BinaryOp) (u v : VectorId) (tests : VectorTests (shapes_of (stored ms vs)) w mask accum op u v)
       (done : AreAllOf ms vs (object.Vector w ∷ object.Vector u ∷ object.Vector v ∷ vector_mask mask)) (x : SparseVectorView) (at_output : object_at vs w.0 ≡ Some x) where

@@ -1,13 +1,17 @@
 //! The objects of a state, and what one call more makes of them.
 ghost use Rattle.std.specs.Prelude.{◌≡◌, None, OnOk, OnErr};
+ghost use Rattle.grb_call.specs.declared.call.Call.TheVariants.{Diag};
 ghost use Rattle.grb_call.specs.declared.ids.Object.{Object};
 ghost use Rattle.grb_call.specs.Kinds.{class_of};
 ghost use Rattle.grb_call.specs.After.{changed, refused};
 ghost use Rattle.grb_state.specs.Objects.{store_of, places_of, HasPlaces, IsAssembledIn};
 
 use crate::operations::operate;
-use grb_call::{Call, Class, Object};
-use grb_objects::{Places, SharedObject, assemble, dup, edit, has_many_changes};
+use grb_call::{Call, Class, Diagonal, Object, VectorId};
+use grb_objects::{
+    Places, SharedObject, StoredObject, assemble, dup, edit, has_many_changes, lent,
+};
+use grb_ops::diagonal_matrix;
 use grb_sparse::{SparseMatrix, SparseVector};
 use std::alloc::AllocError;
 
@@ -43,6 +47,23 @@ impl Objects {
         }
     }
 
+    /// Makes the matrix that has the vector on a diagonal. `AllocError` where memory is refused.
+    fn make_diagonal(&mut self, v: VectorId, diagonal: Diagonal) -> Result<(), AllocError>
+        requires accepted { refused (store_of self.old) (Diag v diagonal) ≡ None }
+        requires places { HasPlaces self.old }
+        ensures ok { OnOk result (store_of self.new ≡ changed (store_of self.old) (Diag v diagonal)) }
+        ensures err { OnErr result (store_of self.new ≡ store_of self.old) }
+        ensures places { places_of self.new ≡ places_of self.old }
+    {
+        let alloc = *self.matrices.allocator();
+        assemble(&mut self.vectors, v)?;
+        let mut matrix = diagonal_matrix(alloc, diagonal, lent(&self.vectors, v))?;
+        matrix.make_shareable();
+        let shared = SharedObject::new(alloc, matrix)?;
+        self.matrices.push_reserved(Some(shared));
+        Ok(())
+    }
+
     /// Makes the object that the call makes. `AllocError` where memory is refused.
     fn make(&mut self, call: &Call) -> Result<(), AllocError>
         requires makes { class_of call.now ≡ Class.Makes }
@@ -73,6 +94,7 @@ impl Objects {
             }
             Call::DupMatrix { a } => dup(&mut self.matrices, *a),
             Call::DupVector { v } => dup(&mut self.vectors, *v),
+            Call::Diag { v, diagonal } => self.make_diagonal(*v, *diagonal),
             _ => unreachable!(),
         }
     }

@@ -95,13 +95,13 @@ accum-words words accum rest e =
     let f = flag words (codes "accum") in flag-words words (codes "accum") ∙ accumulated-words f.0 f.1 accum rest e
 
 -- no word is left
-left-none : (words : List Word) (flags : Bool × Bool) (f : Bool × Bool → OptionWords) (o : OptionWords) → option_map f (where_none_left words flags) ≡ Some o → (words ≡ []) × (f flags ≡ o)
+left-none : (words : List Word) (flags : Bool × Bool × Bool) (f : Bool × Bool × Bool → OptionWords) (o : OptionWords) → option_map f (where_none_left words flags) ≡ Some o → (words ≡ []) × (f flags ≡ o)
 left-none [] flags f o e = (refl, (cc))
 left-none (word ∷ more) flags f o e = cc
 
 -- the options behind the accumulator, and those behind the mask
-abbrev with_flags : Option Word → Bool → Bool → Option BinaryOp → Bool × Bool → OptionWords
-with_flags mask structure comp accum last = record { mask = mask; accum = accum; descriptor = record { structure = structure; comp = comp; replace = last.0; tran = last.1 } }
+abbrev with_flags : Option Word → Bool → Bool → Option BinaryOp → Bool × Bool × Bool → OptionWords
+with_flags mask structure comp accum last = record { mask = mask; accum = accum; descriptor = record { structure = structure; comp = comp; replace = last.0; tran = last.1; tran1 = last.2 } }
 
 abbrev behind_accum : Option Word → Bool → Bool → Option BinaryOp × List Word → Option OptionWords
 behind_accum mask structure comp accum = option_map (with_flags mask structure comp accum.0) (last_flags accum.1)
@@ -120,7 +120,8 @@ options_are_spelled words o e =
     let accum = and_then-some (behind_accum mask.0.0 structure.0 comp.0) (accum_option comp.1) o mask.2 in
     let replace = flag accum.0.1 (codes "replace") in
     let tran = flag replace.1 (codes "tran") in
-    let end = left-none tran.1 (replace.0, tran.0) (with_flags mask.0.0 structure.0 comp.0 accum.0.0) o accum.2 in
+    let tran1 = flag tran.1 (codes "tran1") in
+    let end = left-none tran1.1 (replace.0, tran.0, tran1.0) (with_flags mask.0.0 structure.0 comp.0 accum.0.0) o accum.2 in
     mask-words words mask.0.0 mask.0.1 mask.1
     ∙ ap (λ rest. mask_words mask.0.0 ++ rest)
     (flag-words mask.0.1 (codes "structure")
@@ -129,7 +130,8 @@ options_are_spelled words o e =
     ∙ ap (λ rest. word_if comp.0 (codes "comp") ++ rest)
     (accum-words comp.1 accum.0.0 accum.0.1 accum.1
     ∙ ap (λ rest. accum_words accum.0.0 ++ rest) (flag-words accum.0.1 (codes "replace") ∙ ap (λ rest. word_if replace.0 (codes "replace") ++ rest)
-    (flag-words replace.1 (codes "tran") ∙ ap (λ rest. word_if tran.0 (codes "tran") ++ rest) end.0 ∙ last_word tran.0 (codes "tran"))))))
+    (flag-words replace.1 (codes "tran") ∙ ap (λ rest. word_if tran.0 (codes "tran") ++ rest)
+    (flag-words tran.1 (codes "tran1") ∙ ap (λ rest. word_if tran1.0 (codes "tran1") ++ rest) end.0 ∙ last_word tran1.0 (codes "tran1")))))))
     ∙ ap options_words end.1
   where
     last_word : (b : Bool) (word : Word) → word_if b word ++ [] ≡ word_if b word
@@ -144,9 +146,9 @@ flag-given : (b : Bool) (key : Word) (rest : List Word) → flag rest key ≡ (f
 flag-given true key rest absent = ap (λ b. if b then (true, rest) else (false, key ∷ rest)) (same_word key)
 flag-given false key rest absent = absent
 
-module _ (replace tran : Bool) where
+module _ (replace tran tran1 : Bool) where
   abbrev last : List Word
-  last = word_if replace (codes "replace") ++ word_if tran (codes "tran")
+  last = word_if replace (codes "replace") ++ (word_if tran (codes "tran") ++ word_if tran1 (codes "tran1"))
 
   module _ (accum : Option BinaryOp) where
     abbrev from_accum : List Word
@@ -160,44 +162,65 @@ module _ (replace tran : Bool) where
         abbrev from_structure : List Word
         from_structure = word_if structure (codes "structure") ++ from_comp
 
-no_comp : (replace tran : Bool) (accum : Option BinaryOp) → flag (from_accum replace tran accum) (codes "comp") ≡ (false, from_accum replace tran accum)
-no_comp true tran None = refl
-no_comp false true None = refl
-no_comp false false None = refl
-no_comp replace tran (Some op) = refl
+no_comp : (replace tran tran1 : Bool) (accum : Option BinaryOp) → flag (from_accum replace tran tran1 accum) (codes "comp") ≡ (false, from_accum replace tran tran1 accum)
+no_comp true tran tran1 None = refl
+no_comp false true tran1 None = refl
+no_comp false false true None = refl
+no_comp false false false None = refl
+no_comp replace tran tran1 (Some op) = refl
 
-no_structure : (replace tran : Bool) (accum : Option BinaryOp) (comp : Bool) → flag (from_comp replace tran accum comp) (codes "structure") ≡ (false, from_comp replace tran accum comp)
-no_structure true tran None false = refl
-no_structure false true None false = refl
-no_structure false false None false = refl
-no_structure replace tran (Some op) false = refl
-no_structure replace tran accum true = refl
+no_structure : (replace tran tran1 : Bool) (accum : Option BinaryOp) (comp : Bool) → flag (from_comp replace tran tran1 accum comp) (codes "structure") ≡ (false, from_comp replace tran tran1 accum comp)
+no_structure true tran tran1 None false = refl
+no_structure false true tran1 None false = refl
+no_structure false false true None false = refl
+no_structure false false false None false = refl
+no_structure replace tran tran1 (Some op) false = refl
+no_structure replace tran tran1 accum true = refl
 
-mask-read : (mask : Option Word) (replace tran : Bool) (accum : Option BinaryOp) (comp structure : Bool) → IsNamed mask
-    → mask_option (mask_words mask ++ from_structure replace tran accum comp structure) ≡ Some (mask, from_structure replace tran accum comp structure)
-mask-read (Some name) replace tran accum comp structure is =
-    ap (λ b. if b then Some (Some name, from_structure replace tran accum comp structure) else None) is
-mask-read None replace tran accum comp true is = refl
-mask-read None replace tran accum true false is = refl
-mask-read None replace tran (Some op) false false is = refl
-mask-read None true tran None false false is = refl
-mask-read None false true None false false is = refl
-mask-read None false false None false false is = refl
+mask-read : (mask : Option Word) (replace tran tran1 : Bool) (accum : Option BinaryOp) (comp structure : Bool) → IsNamed mask
+    → mask_option (mask_words mask ++ from_structure replace tran tran1 accum comp structure) ≡ Some (mask, from_structure replace tran tran1 accum comp structure)
+mask-read (Some name) replace tran tran1 accum comp structure is =
+    ap (λ b. if b then Some (Some name, from_structure replace tran tran1 accum comp structure) else None) is
+mask-read None replace tran tran1 accum comp true is = refl
+mask-read None replace tran tran1 accum true false is = refl
+mask-read None replace tran tran1 (Some op) false false is = refl
+mask-read None true tran tran1 None false false is = refl
+mask-read None false true tran1 None false false is = refl
+mask-read None false false true None false false is = refl
+mask-read None false false false None false false is = refl
 
-accum-read : (replace tran : Bool) (accum : Option BinaryOp) → accum_option (from_accum replace tran accum) ≡ Some (accum, last replace tran)
-accum-read replace tran (Some op) = ap (option_map (λ op. (Some op, last replace tran))) (operator_of-word op)
-accum-read true tran None = refl
-accum-read false true None = refl
-accum-read false false None = refl
+accum-read : (replace tran tran1 : Bool) (accum : Option BinaryOp) → accum_option (from_accum replace tran tran1 accum) ≡ Some (accum, last replace tran tran1)
+accum-read replace tran tran1 (Some op) = ap (option_map (λ op. (Some op, last replace tran tran1))) (operator_of-word op)
+accum-read true tran tran1 None = refl
+accum-read false true tran1 None = refl
+accum-read false false true None = refl
+accum-read false false false None = refl
 
-flag-replace : (replace tran : Bool) → flag (last replace tran) (codes "replace") ≡ (replace, word_if tran (codes "tran"))
-flag-replace true tran = refl
-flag-replace false true = refl
-flag-replace false false = refl
+flag-replace : (replace tran tran1 : Bool) → flag (last replace tran tran1) (codes "replace") ≡ (replace, word_if tran (codes "tran") ++ word_if tran1 (codes "tran1"))
+flag-replace true tran tran1 = refl
+flag-replace false true tran1 = refl
+flag-replace false false true = refl
+flag-replace false false false = refl
 
-flag-tran : (tran : Bool) → flag (word_if tran (codes "tran")) (codes "tran") ≡ (tran, [])
-flag-tran true = refl
-flag-tran false = refl
+flag-tran : (tran tran1 : Bool) → flag (word_if tran (codes "tran") ++ word_if tran1 (codes "tran1")) (codes "tran") ≡ (tran, word_if tran1 (codes "tran1"))
+flag-tran true tran1 = refl
+flag-tran false true = refl
+flag-tran false false = refl
+
+flag-tran1 : (tran1 : Bool) → flag (word_if tran1 (codes "tran1")) (codes "tran1") ≡ (tran1, [])
+flag-tran1 true = refl
+flag-tran1 false = refl
+
+-- the options by the words behind the last flags, behind 'tran' and behind 'replace'
+module _ (with : Bool × Bool × Bool → OptionWords) where
+  abbrev with_last : List Word → Bool × Bool × Bool → Option OptionWords
+  with_last words last = option_map with (where_none_left words last)
+
+  abbrev behind_tran : Bool → Bool × List Word → Option OptionWords
+  behind_tran replace t = let tran1 = flag t.1 (codes "tran1") in with_last tran1.1 (replace, t.0, tran1.0)
+
+  abbrev behind_replace : Bool × List Word → Option OptionWords
+  behind_replace r = behind_tran r.0 (flag r.1 (codes "tran"))
 
 pub spelled_options_are_read : (o : OptionWords) → IsNamed o.mask → options_of (options_words o) ≡ Some o
 spelled_options_are_read o is =
@@ -205,13 +228,13 @@ spelled_options_are_read o is =
     let comp = o.descriptor.comp in
     let replace = o.descriptor.replace in
     let tran = o.descriptor.tran in
-    ap (option_and_then behind_mask) (mask-read o.mask replace tran o.accum comp structure is)
+    let tran1 = o.descriptor.tran1 in
+    ap (option_and_then behind_mask) (mask-read o.mask replace tran tran1 o.accum comp structure is)
     ∙ ap (λ (s : Bool × List Word). option_and_then (behind_accum o.mask s.0 (flag s.1 (codes "comp")).0) (accum_option (flag s.1 (codes "comp")).1))
-    (flag-given structure (codes "structure") (from_comp replace tran o.accum comp) (no_structure replace tran o.accum comp))
+    (flag-given structure (codes "structure") (from_comp replace tran tran1 o.accum comp) (no_structure replace tran tran1 o.accum comp))
     ∙ ap (λ (c : Bool × List Word). option_and_then (behind_accum o.mask structure c.0) (accum_option c.1))
-    (flag-given comp (codes "comp") (from_accum replace tran o.accum) (no_comp replace tran o.accum))
-    ∙ ap (option_and_then (behind_accum o.mask structure comp)) (accum-read replace tran o.accum)
-    ∙ ap
-    (λ (r : Bool × List Word). let t = flag r.1 (codes "tran") in option_map (with_flags o.mask structure comp o.accum) (where_none_left t.1 (r.0, t.0)))
-    (flag-replace replace tran)
-    ∙ ap (λ (t : Bool × List Word). option_map (with_flags o.mask structure comp o.accum) (where_none_left t.1 (replace, t.0))) (flag-tran tran)
+    (flag-given comp (codes "comp") (from_accum replace tran tran1 o.accum) (no_comp replace tran tran1 o.accum))
+    ∙ ap (option_and_then (behind_accum o.mask structure comp)) (accum-read replace tran tran1 o.accum)
+    ∙ ap (behind_replace (with_flags o.mask structure comp o.accum)) (flag-replace replace tran tran1)
+    ∙ ap (behind_tran (with_flags o.mask structure comp o.accum) replace) (flag-tran tran tran1)
+    ∙ ap (λ (t : Bool × List Word). with_last (with_flags o.mask structure comp o.accum) t.1 (replace, tran, t.0)) (flag-tran1 tran1)

@@ -15,18 +15,27 @@ use Rattle.grb_words.specs.declared.keyword.Placed.{Placed}
 use Rattle.grb_words.specs.declared.keyword.Placed.TheVariants as placed
 use Rattle.grb_words.specs.declared.keyword.Whole.{Whole}
 use Rattle.grb_words.specs.declared.keyword.Whole.TheVariants as whole
+use Rattle.grb_core.specs.declared.functions.Function.{Function}
+use Rattle.grb_core.specs.declared.tests.Diagonal.{Diagonal}
+use Rattle.grb_core.specs.declared.tests.Test.{Test}
 use Rattle.grb_words.specs.declared.indices.Indices.{Indices}
 use Rattle.grb_words.specs.declared.indices.Indices.TheVariants as indices
+use Rattle.grb_words.specs.declared.options.Turns.TheVariants as turn
 use Rattle.grb_words.specs.declared.version.Version.{Version}
+use Rattle.grb_words.specs.Diagonal.{diagonal_of}
+use Rattle.grb_words.specs.Function.{function_first}
 use Rattle.grb_words.specs.Line.{Word}
-use Rattle.grb_words.specs.Options.{OptionWords, options_in, product_options}
+use Rattle.grb_words.specs.Options.{OptionWords, function_turns, options_in, product_turns}
+use Rattle.grb_words.specs.Test.{test_first}
 use Rattle.grb_words.specs.Word.{is_name, numeral_value, domain_of, value_of, monoid_of, operator_of, semiring_of, wait_mode_of, keyword_in}
 
 -- 'matrix NAME DOMAIN R C', 'vector NAME DOMAIN N', 'dup NAME NAME', 'free NAME', 'nvals NAME', 'size NAME', 'clear NAME',
 -- 'remove NAME INDICES', 'get NAME INDICES', 'resize NAME INDICES', 'set NAME INDICES VALUE', 'build NAME MONOID ..',
 -- 'ewiseadd NAME NAME NAME OP OPTIONS', 'ewisemult NAME NAME NAME OP OPTIONS', 'mxv NAME NAME NAME SEMIRING OPTIONS',
 -- 'vxm NAME NAME NAME SEMIRING OPTIONS' and 'mxm NAME NAME NAME SEMIRING OPTIONS' with output, first input and second input,
--- 'reduce NAME NAME MONOID OPTIONS' with output and input, 'total NAME MONOID' and 'wait NAME MODE'
+-- 'reduce NAME NAME MONOID OPTIONS' with output and input, 'total NAME MONOID' and 'wait NAME MODE'; and those of version 3:
+-- 'transpose NAME NAME OPTIONS', 'apply NAME NAME FUNCTION OPTIONS' and 'select NAME NAME TEST OPTIONS' with output and input,
+-- 'kronecker NAME NAME NAME OP OPTIONS' with output, first input and second input, 'diag NAME NAME D' and 'tuples NAME'
 pub data Form : Type 0 where
   MatrixForm : Word → Domain → ℕ → ℕ → Form
   VectorForm : Word → Domain → ℕ → Form
@@ -45,6 +54,12 @@ pub data Form : Type 0 where
   ReduceForm : Word → Word → Monoid → OptionWords → Form
   TotalForm : Word → Monoid → Form
   WaitForm : Word → WaitMode → Form
+  TransposeForm : Word → Word → OptionWords → Form
+  ApplyForm : Word → Word → Function → OptionWords → Form
+  SelectForm : Word → Word → Test → OptionWords → Form
+  KroneckerForm : Word → Word → Word → BinaryOp → OptionWords → Form
+  DiagForm : Word → Word → Diagonal → Form
+  TuplesForm : Word → Form
 
 -- the form, where the word is a name
 abbrev pub where_name : Word → Option Form → Option Form
@@ -87,6 +102,7 @@ form_of_whole whole.Free name = FreeForm name
 form_of_whole whole.Nvals name = NvalsForm name
 form_of_whole whole.Size name = SizeForm name
 form_of_whole whole.Clear name = ClearForm name
+form_of_whole whole.Tuples name = TuplesForm name
 
 abbrev pub whole_form : Whole → Word → List Word → Option Form
 whole_form w name [] = Some (form_of_whole w name)
@@ -109,17 +125,17 @@ build_form name (monoid ∷ values) = option_and_then (λ dup. option_map (Build
 
 abbrev pub ewise_form : Version → Ewise → Word → List Word → Option Form
 ewise_form version w output (left ∷ right ∷ op ∷ options) =
-    where_name left (where_name right (option_and_then (λ f. option_map (EwiseForm w output left right f) (options_in version options)) (operator_of op)))
+    where_name left (where_name right (option_and_then (λ f. option_map (EwiseForm w output left right f) (options_in version turn.Both options)) (operator_of op)))
 ewise_form version w output _ = None
 
 abbrev pub product_form : Version → Multiply → Word → List Word → Option Form
 product_form version w output (left ∷ right ∷ semiring ∷ options) =
-    where_name left (where_name right (option_and_then (λ s. option_map (ProductForm w output left right s) (product_options version w options)) (semiring_of semiring)))
+    where_name left (where_name right (option_and_then (λ s. option_map (ProductForm w output left right s) (options_in version (product_turns w) options)) (semiring_of semiring)))
 product_form version w output _ = None
 
 abbrev pub reduce_form : Version → Word → List Word → Option Form
 reduce_form version output (input ∷ monoid ∷ options) =
-    where_name input (option_and_then (λ m. option_map (ReduceForm output input m) (options_in version options)) (monoid_of monoid))
+    where_name input (option_and_then (λ m. option_map (ReduceForm output input m) (options_in version turn.First options)) (monoid_of monoid))
 reduce_form version output _ = None
 
 abbrev pub total_form : Word → List Word → Option Form
@@ -129,6 +145,29 @@ total_form name _ = None
 abbrev pub wait_form : Word → List Word → Option Form
 wait_form name (mode ∷ []) = option_map (WaitForm name) (wait_mode_of mode)
 wait_form name _ = None
+
+abbrev pub transpose_form : Version → Word → List Word → Option Form
+transpose_form version output (input ∷ options) = where_name input (option_map (TransposeForm output input) (options_in version turn.First options))
+transpose_form version output _ = None
+
+abbrev pub apply_form : Version → Word → List Word → Option Form
+apply_form version output (input ∷ others) =
+    where_name input (option_and_then (λ f. option_map (ApplyForm output input f.0) (options_in version (function_turns f.0) f.1)) (function_first others))
+apply_form version output _ = None
+
+abbrev pub select_form : Version → Word → List Word → Option Form
+select_form version output (input ∷ others) =
+    where_name input (option_and_then (λ t. option_map (SelectForm output input t.0) (options_in version turn.First t.1)) (test_first others))
+select_form version output _ = None
+
+abbrev pub kronecker_form : Version → Word → List Word → Option Form
+kronecker_form version output (left ∷ right ∷ op ∷ options) =
+    where_name left (where_name right (option_and_then (λ f. option_map (KroneckerForm output left right f) (options_in version turn.Both options)) (operator_of op)))
+kronecker_form version output _ = None
+
+abbrev pub diag_form : Word → List Word → Option Form
+diag_form name (vector ∷ diagonal ∷ []) = where_name vector (option_map (DiagForm name vector) (diagonal_of diagonal))
+diag_form name _ = None
 
 -- the form that a keyword, a name and the words behind them have in a script of this version, if they have one
 abbrev pub form_with : Version → Keyword → Word → List Word → Option Form
@@ -144,6 +183,11 @@ form_with version (keyword.Multiply w) name others = product_form version w name
 form_with version keyword.Reduce name others = reduce_form version name others
 form_with version keyword.Total name others = total_form name others
 form_with version keyword.Wait name others = wait_form name others
+form_with version keyword.Transpose name others = transpose_form version name others
+form_with version keyword.Apply name others = apply_form version name others
+form_with version keyword.Select name others = select_form version name others
+form_with version keyword.Kronecker name others = kronecker_form version name others
+form_with version keyword.Diag name others = diag_form name others
 
 -- the form that these words have in a script of this version, if they have one
 abbrev pub form_of : Version → List Word → Option Form

@@ -1,8 +1,11 @@
+pub mod Diagonal
 pub mod Form
+pub mod Function
 pub mod Laws
 pub mod Line
 pub mod Options
 pub mod Section
+pub mod Test
 pub mod Tuples
 pub mod Version
 pub mod Word

@@ -24,7 +24,7 @@ use Rattle.grb_words.specs.declared.keyword.Multiply.TheVariants as multiply
 use Rattle.grb_words.specs.declared.keyword.Placed.TheVariants as placed
 use Rattle.grb_words.specs.declared.keyword.Whole.TheVariants as whole
 use Rattle.grb_words.specs.declared.version.Version.{Version}
-use Rattle.grb_words.specs.declared.version.Version.TheVariants.{One, Two}
+use Rattle.grb_words.specs.declared.version.Version.TheVariants.{One, Two, Three}
 use Rattle.grb_words.specs.Line.{Word}
 
 abbrev pub is_letter : ℕ → Bool
@@ -128,7 +128,7 @@ wait_mode_of word =
     if bytes_eq word (codes "complete") then Some mode.Complete
     else (if bytes_eq word (codes "materialize") then Some mode.Materialize else None)
 
--- the first words of statements: of operations; those and the ones of entries and sizes; all
+-- the first words of statements: of operations; those and the ones of entries and sizes; all of version 2
 abbrev pub operation_keywords : List (Word × Keyword)
 operation_keywords =
     (codes "ewiseadd", keyword.Ewise ewise.Add) ∷ (codes "ewisemult", keyword.Ewise ewise.Mult)
@@ -149,7 +149,14 @@ keywords =
 abbrev pub keyword_of : Word → Option Keyword
 keyword_of word = lookup (bytes_eq word) keywords
 
--- the same in a script of this version: 'vxm' is of version 2
+-- the first words of statements in version 3
+abbrev pub later_keywords : List (Word × Keyword)
+later_keywords =
+    (codes "transpose", keyword.Transpose) ∷ (codes "apply", keyword.Apply) ∷ (codes "select", keyword.Select) ∷ (codes "kronecker", keyword.Kronecker)
+    ∷ (codes "diag", keyword.Diag) ∷ (codes "tuples", keyword.Whole whole.Tuples) ∷ keywords
+
+-- the keyword that a word is in a script of this version: 'vxm' is one from version 2 on
 abbrev pub keyword_in : Version → Word → Option Keyword
 keyword_in One word = if bytes_eq word (codes "vxm") then None else keyword_of word
 keyword_in Two word = keyword_of word
+keyword_in Three word = lookup (bytes_eq word) later_keywords

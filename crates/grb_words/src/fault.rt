@@ -18,7 +18,7 @@ pub enum FaultKind {
     #[error("section")]
     Section,
     /// The line has the form of no statement in the script's version, whatever its names stand for. What begins with `version` has none,
-    /// and is no fault as line 1 with the words `version 2`.
+    /// and is no fault as line 1 with the words `version 2` or `version 3`.
     #[error("statement")]
     Statement,
     /// The line makes a name that stands already.
@@ -27,9 +27,9 @@ pub enum FaultKind {
     /// The line uses a name that does not stand. A name that the line itself makes does not yet stand.
     #[error("unknown name")]
     UnknownName,
-    /// A name stands for an object of another sort than the form asks for, or than the output of an element-wise statement, or a mask for
-    /// one of another sort than its output; or `tran` stands in an element-wise statement of vectors; or the list of a `build` is no list
-    /// of its object's groups.
+    /// A name stands for an object of another sort than the form asks for, or than the output of an element-wise statement, of `apply` or of
+    /// `select`, or a mask for one of another sort than its output; or `tran` or `tran1` stands in such a statement of vectors; or the list
+    /// of a `build` is no list of its object's groups.
     #[error("wrong kind")]
     WrongKind,
     /// The monoid and the operator of a semiring differ in domain.

@@ -25,6 +25,16 @@ pub enum Keyword {
     Reduce,
     /// `total NAME MONOID`.
     Total,
+    /// `transpose NAME NAME OPTIONS`.
+    Transpose,
+    /// `apply NAME NAME FUNCTION OPTIONS`.
+    Apply,
+    /// `select NAME NAME TEST OPTIONS`.
+    Select,
+    /// `kronecker NAME NAME NAME OP OPTIONS`.
+    Kronecker,
+    /// `diag NAME NAME D`.
+    Diag,
     /// `wait NAME MODE`.
     Wait,
 }
@@ -40,6 +50,8 @@ pub enum Whole {
     Size,
     /// `clear NAME`.
     Clear,
+    /// `tuples NAME`.
+    Tuples,
 }
 
 /// The first word of a statement with indices and no value.

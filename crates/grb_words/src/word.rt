@@ -3,7 +3,7 @@ ghost use Rattle.std.specs.Prelude.{◌≡◌};
 ghost use Rattle.std.specs.Option.{option_map};
 ghost use Rattle.std.specs.List.{list_all};
 ghost use Rattle.grb_market.specs.Numbers.{is_digit};
-ghost use Rattle.grb_words.specs.Word.{is_name_byte, is_name, is_numeral, numeral_value, value_of, domain_of, monoid_of, operator_of, at_dot, semiring_of, wait_mode_of, operation_keywords, entry_keywords, uint64_operators, keyword_of, keyword_in};
+ghost use Rattle.grb_words.specs.Word.{is_name_byte, is_name, is_numeral, numeral_value, value_of, domain_of, monoid_of, operator_of, at_dot, semiring_of, wait_mode_of, operation_keywords, entry_keywords, uint64_operators, keyword_of, later_keywords, keyword_in};
 ghost use Rattle.std.specs.Map.{lookup};
 ghost use Rattle.std.specs.Str.{bytes_eq};
 
@@ -243,7 +243,7 @@ fn entry_keyword(word: &[u8]) -> Option<Keyword>
     }
 }
 
-/// The keyword that the word is in any version, if it is one.
+/// The keyword that the word is in version 2, if it is one.
 fn keyword(word: &[u8]) -> Option<Keyword>
     ensures { result ≡ keyword_of word.now }
 {
@@ -266,12 +266,34 @@ fn keyword(word: &[u8]) -> Option<Keyword>
     }
 }
 
-/// The keyword that the word is in a script of this version, if it is one: `vxm` is one in version 2 alone.
+/// The same, or the keyword that the word is in version 3 alone.
+fn later_keyword(word: &[u8]) -> Option<Keyword>
+    ensures { result ≡ lookup (bytes_eq word.now) later_keywords }
+{
+    if word == b"transpose".as_slice() {
+        Some(Keyword::Transpose)
+    } else if word == b"apply".as_slice() {
+        Some(Keyword::Apply)
+    } else if word == b"select".as_slice() {
+        Some(Keyword::Select)
+    } else if word == b"kronecker".as_slice() {
+        Some(Keyword::Kronecker)
+    } else if word == b"diag".as_slice() {
+        Some(Keyword::Diag)
+    } else if word == b"tuples".as_slice() {
+        Some(Keyword::Whole(Whole::Tuples))
+    } else {
+        keyword(word)
+    }
+}
+
+/// The keyword that the word is in a script of this version, if it is one: `vxm` is one from version 2 on.
 pub fn keyword_in(version: Version, word: &[u8]) -> Option<Keyword>
     ensures { result ≡ keyword_in version word.now }
 {
     match version {
         Version::One if word == b"vxm".as_slice() => None,
         Version::One | Version::Two => keyword(word),
+        Version::Three => later_keyword(word),
     }
 }

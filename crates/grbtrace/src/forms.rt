@@ -2,7 +2,7 @@
 use crate::near::is_near;
 
 /// The word that a line begins with, and the form of the line. A PLACE is `I` at a vector and `I J` at a matrix.
-static FORMS: [(&str, &str); 24] = [
+static FORMS: [(&str, &str); 30] = [
     ("matrix", "matrix NAME DOMAIN R C"),
     ("vector", "vector NAME DOMAIN N"),
     ("dup", "dup NAME NAME"),
@@ -21,13 +21,32 @@ static FORMS: [(&str, &str); 24] = [
     ),
     ("ewiseadd", "ewiseadd NAME NAME NAME OP OPTIONS"),
     ("ewisemult", "ewisemult NAME NAME NAME OP OPTIONS"),
-    ("mxv", "mxv NAME NAME NAME SEMIRING OPTIONS"),
+    ("mxv", "mxv NAME NAME NAME SEMIRING OPTIONS, without tran1"),
     (
         "vxm",
-        "vxm NAME NAME NAME SEMIRING OPTIONS, in version 2 and without tran",
+        "vxm NAME NAME NAME SEMIRING OPTIONS, from version 2 on and without tran",
     ),
     ("mxm", "mxm NAME NAME NAME SEMIRING OPTIONS"),
-    ("reduce", "reduce NAME NAME MONOID OPTIONS"),
+    ("reduce", "reduce NAME NAME MONOID OPTIONS, without tran1"),
+    (
+        "transpose",
+        "transpose NAME NAME OPTIONS, in version 3 and without tran1",
+    ),
+    (
+        "apply",
+        "apply NAME NAME UNARY OPTIONS, or apply NAME NAME OP VALUE OPTIONS, without tran1, or \
+        apply NAME NAME VALUE OP OPTIONS, without tran, all in version 3",
+    ),
+    (
+        "select",
+        "select NAME NAME TEST OPTIONS, in version 3 and without tran1",
+    ),
+    (
+        "kronecker",
+        "kronecker NAME NAME NAME OP OPTIONS, in version 3",
+    ),
+    ("diag", "diag NAME NAME D, in version 3"),
+    ("tuples", "tuples NAME, in version 3"),
     ("total", "total NAME MONOID"),
     ("wait", "wait NAME complete, or wait NAME materialize"),
     (
@@ -35,12 +54,12 @@ static FORMS: [(&str, &str); 24] = [
         "thread K, the sections numbered 1, 2, 3 and so on",
     ),
     ("finally", "finally, once and after all other sections"),
-    ("version", "version 2, on line 1 alone"),
+    ("version", "version 2 or version 3, on line 1 alone"),
 ];
 
 /// The options of a line, which stand at its end in this order.
 pub(crate) const OPTIONS: &str =
-    "OPTIONS: mask NAME, structure, comp, accum OP, replace, and in version 2 tran, in this order";
+    "OPTIONS: mask NAME, structure, comp, accum OP, replace, from version 2 on tran, and in version 3 tran1, in this order";
 
 /// The form of the lines that begin with this word, if there is one.
 pub(crate) fn form_of(word: &[u8]) -> Option<&'static str> {

@@ -1,9 +1,9 @@
 //! What the names of a script stand for, as its lines are gone through.
-use grb_core::Domain;
+use grb_core::{Domain, diagonal_size};
 use grb_words::word::{domain, keyword_in, number};
 use grb_words::{
-    Indices, Keyword, Placed, Version, Whole, indices_of, is_load, is_section, is_skipped,
-    is_version_two,
+    Indices, Keyword, Placed, Version, Whole, diagonal_of, indices_of, is_load, is_section,
+    is_skipped, version_named,
 };
 use std::alloc::{AllocError, Global};
 
@@ -58,7 +58,12 @@ pub(crate) struct Names<'a> {
 
 /// Whether the line of this number asks for nothing: it is skipped, or is line 1 and says the version.
 pub(crate) fn asks_nothing(line: u64, words: &[&[u8]]) -> bool {
-    is_skipped(words) || line == 1 && is_version_two(words)
+    is_skipped(words) || line == 1 && version_named(words).is_some()
+}
+
+/// Whether a line that begins with this word makes a matrix of a vector.
+fn is_diag(word: &[u8]) -> bool {
+    matches!(keyword_in(Version::Three, word), Some(Keyword::Diag))
 }
 
 /// The name that a line with these words makes, if it makes one.
@@ -66,8 +71,8 @@ pub(crate) fn name_made<'a>(words: &[&'a [u8]]) -> Option<&'a [u8]> {
     let [first, name, ..] = words else {
         return None;
     };
-    match keyword_in(Version::Two, first) {
-        Some(Keyword::Matrix | Keyword::Vector | Keyword::Dup) => Some(*name),
+    match keyword_in(Version::Three, first) {
+        Some(Keyword::Matrix | Keyword::Vector | Keyword::Dup | Keyword::Diag) => Some(*name),
         None if is_load(words) => Some(*name),
         _ => None,
     }
@@ -77,9 +82,9 @@ pub(crate) fn name_made<'a>(words: &[&'a [u8]]) -> Option<&'a [u8]> {
 fn places_of_names(keyword: Keyword) -> (usize, usize) {
     match keyword {
         Keyword::Matrix | Keyword::Vector => (0, 1),
-        Keyword::Dup => (1, 2),
-        Keyword::Ewise(_) | Keyword::Multiply(_) => (3, 1),
-        Keyword::Reduce => (2, 1),
+        Keyword::Dup | Keyword::Diag => (1, 2),
+        Keyword::Ewise(_) | Keyword::Multiply(_) | Keyword::Kronecker => (3, 1),
+        Keyword::Reduce | Keyword::Transpose | Keyword::Apply | Keyword::Select => (2, 1),
         _ => (1, 1),
     }
 }
@@ -92,7 +97,7 @@ pub(crate) fn names_used<'a>(
     let mut used = Vec::new(alloc);
     let Some(keyword) = words
         .first()
-        .and_then(|word| keyword_in(Version::Two, word))
+        .and_then(|word| keyword_in(Version::Three, word))
     else {
         return Ok(used);
     };
@@ -146,9 +151,24 @@ impl<'a> Names<'a> {
         self.main = Some(main);
     }
 
+    /// The matrix with the vector of this name on a diagonal, if the name stands for one.
+    fn matrix_of_diagonal(&self, source: &[u8], diagonal: &[u8]) -> Option<Object> {
+        let diagonal = diagonal_of(diagonal)?;
+        match self.find(source)?.object {
+            Object::Known(of, Dims::Vector(size)) => {
+                let rows = diagonal_size(diagonal, size);
+                Some(Object::Known(of, Dims::Matrix(rows, rows)))
+            }
+            _ => None,
+        }
+    }
+
     /// The object that a line with these words makes, if it makes one. The heads are those of the files that were read.
     fn object_made(&self, words: &[&[u8]], heads: &[Object]) -> Option<Object> {
         match words {
+            [first, _, source, diagonal] if is_diag(first) => {
+                self.matrix_of_diagonal(source, diagonal)
+            }
             [_, _, of, nrows, ncols] => {
                 let dims = Dims::Matrix(number(nrows)?, number(ncols)?);
                 Some(Object::Known(domain(of)?, dims))
@@ -170,7 +190,7 @@ impl<'a> Names<'a> {
         let Some(named) = self.all.iter_mut().find(|named| named.name == *name) else {
             return;
         };
-        match keyword_in(Version::Two, first) {
+        match keyword_in(Version::Three, first) {
             Some(Keyword::Whole(Whole::Free)) => named.state = State::Freed(line),
             Some(Keyword::Placed(Placed::Resize)) => {
                 if let Object::Known(of, _) = named.object {

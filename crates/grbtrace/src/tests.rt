@@ -7,7 +7,7 @@ use std::alloc::{AllocError, Global};
 use std::process::Abort;
 
 /// A script, and what is told of its first fault.
-static FAULTS: [(&str, &str); 9] = [
+static FAULTS: [(&str, &str); 12] = [
     (
         "vector v1 uint64 5\nset v2 0 1\n",
         "  line 2: set v2 0 1\n  form: set NAME PLACE VALUE\n  \
@@ -35,8 +35,25 @@ static FAULTS: [(&str, &str); 9] = [
     (
         "matrix A bool 2 2\nmxm A A A lor.plus\n",
         "  line 2: mxm A A A lor.plus\n  form: mxm NAME NAME NAME SEMIRING OPTIONS\n  \
-        OPTIONS: mask NAME, structure, comp, accum OP, replace, and in version 2 tran, in this order\n  \
+        OPTIONS: mask NAME, structure, comp, accum OP, replace, from version 2 on tran, and in version 3 tran1, in this order\n  \
         its MONOID is of bool, and its OP of uint64\n",
+    ),
+    (
+        "vector v bool 2\ntuples v\n",
+        "  line 2: tuples v\n  form: tuples NAME, in version 3\n",
+    ),
+    (
+        "version 3\nmatrix A bool 2 2\nvector u bool 2\nmatrix M bool 2 2\nselect A u valueeq true mask M\n",
+        "  line 5: select A u valueeq true mask M\n  \
+        form: select NAME NAME TEST OPTIONS, in version 3 and without tran1\n  \
+        OPTIONS: mask NAME, structure, comp, accum OP, replace, from version 2 on tran, and in version 3 tran1, in this order\n  \
+        `A` is a matrix of bool of 2 rows and 2 columns, made on line 2\n  \
+        `u` is a vector of bool of size 2, made on line 3\n  \
+        `M` is a matrix of bool of 2 rows and 2 columns, made on line 4\n",
+    ),
+    (
+        "version 3\nvector bool uint64 2\ndiag D bool -1\ndiag D bool 0\n",
+        "  line 4: diag D bool 0\n  `D` is a matrix of uint64 of 3 rows and 3 columns, made on line 3\n",
     ),
     (
         "# first\nvectr v bool 2\n",
@@ -53,7 +70,7 @@ static FAULTS: [(&str, &str); 9] = [
 ];
 
 /// A script, the lines that it printed, and what is told of those that are refusals.
-static REFUSALS: [(&str, &str, &str); 3] = [
+static REFUSALS: [(&str, &str, &str); 4] = [
     ("vector v bool 2\nget v 0\n", "ok\nnone\n", ""),
     (
         "version 2\nvector v uint64 4\nresize v 9\nset v 9 1\nfree v\nsize v\n",
@@ -70,6 +87,16 @@ static REFUSALS: [(&str, &str, &str); 3] = [
         line 4: ewiseadd A A A lor mask A\n  \
         GrB_UNINITIALIZED_OBJECT: Use the number of an object that was made and not freed.\n  \
         `A` is a matrix of bool of 0 rows and 1 columns, whose making on line 1 was refused\n",
+    ),
+    (
+        "version 3\nvector v bool 3\nset v 1 true\ndiag D v 2\ntuples D\nget D 5 0\nfree v\ndiag E v 0\ntuples E\n",
+        "ok\nok\nok\ntuples 1 3 true\nGrB_INVALID_INDEX\nok\nGrB_UNINITIALIZED_OBJECT\nGrB_UNINITIALIZED_OBJECT\n",
+        "  line 6: get D 5 0\n  GrB_INVALID_INDEX: Give an index below the dimension; the first is 0.\n  \
+        `D` is a matrix of bool of 5 rows and 5 columns, made on line 4\n  \
+        line 8: diag E v 0\n  GrB_UNINITIALIZED_OBJECT: Use the number of an object that was made and not freed.\n  \
+        `v` is a vector of bool of size 3, made on line 2 and freed on line 7\n  \
+        line 9: tuples E\n  GrB_UNINITIALIZED_OBJECT: Use the number of an object that was made and not freed.\n  \
+        `E` is a matrix of bool of 3 rows and 3 columns, whose making on line 8 was refused\n",
     ),
 ];
 

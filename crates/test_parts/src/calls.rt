@@ -44,6 +44,15 @@ impl Choice {
         );
         self.descriptor.tran && is_of_matrix
     }
+
+    /// Whether the second input is.
+    pub(crate) fn is_second_turned(self) -> bool {
+        let is_of_matrix = matches!(
+            self.operation,
+            Operation::AddMatrix | Operation::MultMatrix | Operation::Mxm | Operation::Vxm
+        );
+        self.descriptor.tran1 && is_of_matrix
+    }
 }
 
 /// The numbers of the objects of an operation. A reduction of rows has no second input.
@@ -61,6 +70,7 @@ pub(crate) const PLAIN: Descriptor = Descriptor {
     comp: false,
     replace: false,
     tran: false,
+    tran1: false,
 };
 
 fn of_vectors(choice: Choice, operands: Operands) -> Call {

@@ -1,8 +1,9 @@
 //! What the tests of this crate draw by chance, the same in each run.
 ghost use Rattle.std.specs.Prelude.{◌<◌};
 
+use crate::calls::value_of;
 use grb_call::Descriptor;
-use grb_core::{BinaryOp, Domain, Monoid};
+use grb_core::{BinaryOp, Diagonal, Domain, Function, Monoid, Test, UnaryOp};
 
 /// Numbers that look drawn by chance (Knuth's linear congruential generator).
 #[derive(Drop)]
@@ -95,6 +96,54 @@ impl Draw {
             comp: self.truth(),
             replace: self.truth(),
             tran: self.truth(),
+            tran1: self.truth(),
+        }
+    }
+
+    /// A function of a value of the domain.
+    pub(crate) fn function(&mut self, domain: Domain) -> Function {
+        let op = self.op(domain);
+        let x = value_of(domain, self.number(domain));
+        match (self.below(5), domain) {
+            (0, _) => Function::First(x, op),
+            (1, _) => Function::Second(op, x),
+            (2, Domain::Uint64) => Function::Unary(UnaryOp::Identity),
+            (3, Domain::Uint64) => Function::Unary(UnaryOp::Ainv),
+            (_, Domain::Uint64) => Function::Unary(UnaryOp::Bnot),
+            (2, Domain::Bool) => Function::Unary(UnaryOp::IdentityBool),
+            (_, Domain::Bool) => Function::Unary(UnaryOp::Lnot),
+        }
+    }
+
+    /// A diagonal that is at most 3 off the main one.
+    pub(crate) fn diagonal(&mut self) -> Diagonal {
+        let n = self.below(4) as u32;
+        if self.truth() {
+            return Diagonal::Above(n);
+        }
+        Diagonal::Below(n)
+    }
+
+    /// A test of an entry whose value is of the domain.
+    pub(crate) fn test(&mut self, domain: Domain) -> Test {
+        let d = self.diagonal();
+        let n = self.below(4);
+        let x = value_of(domain, self.number(domain));
+        match self.below(14) {
+            0 => Test::Tril(d),
+            1 => Test::Triu(d),
+            2 => Test::Diag(d),
+            3 => Test::Offdiag(d),
+            4 => Test::RowLe(n),
+            5 => Test::RowGt(n),
+            6 => Test::ColLe(n),
+            7 => Test::ColGt(n),
+            8 => Test::ValueEq(x),
+            9 => Test::ValueNe(x),
+            10 => Test::ValueLt(x),
+            11 => Test::ValueLe(x),
+            12 => Test::ValueGt(x),
+            _ => Test::ValueGe(x),
         }
     }
 }

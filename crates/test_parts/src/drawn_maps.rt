@@ -1,70 +1,25 @@
 //! Transpose, apply, select, diag and kronecker: drawn operations against the plain loops of `plain_maps`.
 //!
-//! A contract says what they give by definitions of the proof's own language; that these say what the standard does, no contract can say, nor
-//! that memory is there.
+//! A contract says what they give by definitions of the proof's own language; that these say what the standard does, no contract can say,
+//! nor that memory is there. Rows that were worked by hand stand in `test_cases`.
 use crate::draw::Draw;
-use crate::maps::{Case, Tables, answer, value_in};
+use crate::maps::{Case, Tables, answer};
 use crate::plain::{Table, stored, written};
 use crate::plain_maps::{Input, Term, computed};
 use crate::same::same;
-use grb_core::Domain;
-use grb_terms::{Diagonal, Function, Test, UnaryOp, turns_input};
+use grb_core::{Diagonal, Domain, turns_input};
 use std::alloc::{AllocError, Global};
 
 /// How many operations are drawn.
 const CASES: u64 = 2_000;
 
-fn drawn_function(draw: &mut Draw, domain: Domain) -> Function {
-    let op = draw.op(domain);
-    let x = value_in(domain, draw.number(domain));
-    match (draw.below(5), domain) {
-        (0, _) => Function::First(x, op),
-        (1, _) => Function::Second(op, x),
-        (2, Domain::Uint64) => Function::Unary(UnaryOp::Identity),
-        (3, Domain::Uint64) => Function::Unary(UnaryOp::Ainv),
-        (_, Domain::Uint64) => Function::Unary(UnaryOp::Bnot),
-        (2, Domain::Bool) => Function::Unary(UnaryOp::IdentityBool),
-        (_, Domain::Bool) => Function::Unary(UnaryOp::Lnot),
-    }
-}
-
-fn drawn_diagonal(draw: &mut Draw) -> Diagonal {
-    let n = draw.below(4) as u32;
-    if draw.truth() {
-        return Diagonal::Above(n);
-    }
-    Diagonal::Below(n)
-}
-
-fn drawn_test(draw: &mut Draw, domain: Domain) -> Test {
-    let d = drawn_diagonal(draw);
-    let n = draw.below(4);
-    let x = value_in(domain, draw.number(domain));
-    match draw.below(14) {
-        0 => Test::Tril(d),
-        1 => Test::Triu(d),
-        2 => Test::Diag(d),
-        3 => Test::Offdiag(d),
-        4 => Test::RowLe(n),
-        5 => Test::RowGt(n),
-        6 => Test::ColLe(n),
-        7 => Test::ColGt(n),
-        8 => Test::ValueEq(x),
-        9 => Test::ValueNe(x),
-        10 => Test::ValueLt(x),
-        11 => Test::ValueLe(x),
-        12 => Test::ValueGt(x),
-        _ => Test::ValueGe(x),
-    }
-}
-
 fn drawn_term(draw: &mut Draw, domain: Domain) -> Term {
     match draw.below(5) {
         0 => Term::Transposed,
-        1 => Term::Applied(drawn_function(draw, domain)),
-        2 => Term::Selected(drawn_test(draw, domain)),
+        1 => Term::Applied(draw.function(domain)),
+        2 => Term::Selected(draw.test(domain)),
         3 => Term::Kronecker(draw.op(domain)),
-        _ => Term::Diag(drawn_diagonal(draw)),
+        _ => Term::Diag(draw.diagonal()),
     }
 }
 
@@ -78,7 +33,7 @@ fn exchanged((rows, columns): (u64, u64), are_exchanged: bool) -> (u64, u64) {
 /// Whether the first input is read transposed.
 fn turns_first(case: Case) -> bool {
     match case.term {
-        Term::Applied(f) => turns_input(f, case.descriptor.tran, case.tran1),
+        Term::Applied(f) => turns_input(f, case.descriptor.tran, case.descriptor.tran1),
         _ => case.descriptor.tran,
     }
 }
@@ -89,7 +44,7 @@ fn first_read(case: Case) -> (u64, u64) {
 }
 
 fn second_read(case: Case) -> (u64, u64) {
-    exchanged(case.second, case.tran1)
+    exchanged(case.second, case.descriptor.tran1)
 }
 
 /// The rows and the columns that the output has.
@@ -127,7 +82,6 @@ fn drawn_case(draw: &mut Draw) -> Case {
         mask_domain: draw.domain(),
         accum: draw.accum(domain),
         descriptor: draw.descriptor(),
-        tran1: draw.truth(),
         output: (1, 1),
         first: (draw.below(4).wrapping_add(1), columns),
         second: (draw.below(3).wrapping_add(1), draw.below(3).wrapping_add(1)),
@@ -182,7 +136,7 @@ fn wanted(alloc: Global, case: Case, tables: &Tables) -> Result<Table, AllocErro
         table: &tables.second,
         rows: r,
         columns: c,
-        is_turned: case.tran1,
+        is_turned: case.descriptor.tran1,
     };
     let made = computed(alloc, case.term, first, second, case.output)?;
     if let Term::Diag(_) = case.term {

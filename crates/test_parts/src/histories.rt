@@ -16,7 +16,9 @@ use crate::results::{begun, learnt, result_of, settle, taken};
 use crate::same::same;
 use crate::texts_written::text_of;
 use crate::values::held_after;
-use grb_call::{Call, MatrixId, MatrixTuples, Object, Reply, VectorId, VectorTuples};
+use grb_call::{
+    Call, MatrixId, MatrixTerm, MatrixTuples, Object, Reply, VectorId, VectorTerm, VectorTuples,
+};
 use grb_core::{Domain, Refusal, Value};
 use grb_market::WriteFault;
 use grb_results::Table;
@@ -162,16 +164,92 @@ fn drawn_operation(rt: &impl Abort, draw: &mut Draw, domain: Domain) -> Call {
     operation_call(rt, choice, operands)
 }
 
+/// An operation on the entries of one matrix, or a Kronecker product, which mostly has too many rows and is refused.
+fn matrix_term(draw: &mut Draw, domain: Domain) -> MatrixTerm {
+    let (a, b) = (drawn_number(draw, domain), drawn_number(draw, domain));
+    let (a, b) = (MatrixId(a), MatrixId(b));
+    match draw.below(7) {
+        0 | 1 => MatrixTerm::Transposed { a },
+        2 | 3 => MatrixTerm::Applied {
+            f: draw.function(domain),
+            a,
+        },
+        4 | 5 => MatrixTerm::Selected {
+            test: draw.test(domain),
+            a,
+        },
+        _ => MatrixTerm::Kronecker {
+            op: draw.op(domain),
+            a,
+            b,
+        },
+    }
+}
+
+fn vector_term(draw: &mut Draw, domain: Domain) -> VectorTerm {
+    let u = VectorId(drawn_number(draw, domain));
+    if draw.truth() {
+        return VectorTerm::Applied {
+            f: draw.function(domain),
+            u,
+        };
+    }
+    VectorTerm::Selected {
+        test: draw.test(domain),
+        u,
+    }
+}
+
+/// A map or a filter, whose mask may be of either domain, or a matrix that has a vector on a diagonal.
+fn drawn_term(draw: &mut Draw, domain: Domain) -> Call {
+    let (output, accum, d) = (
+        drawn_number(draw, domain),
+        draw.accum(domain),
+        draw.descriptor(),
+    );
+    let mask = draw.below(11) as u32 / 2;
+    let is_masked = draw.truth();
+    match draw.below(5) {
+        0 | 1 => Call::WriteMatrix {
+            c: MatrixId(output),
+            mask: if is_masked {
+                Some(MatrixId(mask))
+            } else {
+                None
+            },
+            accum,
+            term: matrix_term(draw, domain),
+            d,
+        },
+        2 | 3 => Call::WriteVector {
+            w: VectorId(output),
+            mask: if is_masked {
+                Some(VectorId(mask))
+            } else {
+                None
+            },
+            accum,
+            term: vector_term(draw, domain),
+            d,
+        },
+        _ => Call::Diag {
+            v: VectorId(output),
+            diagonal: draw.diagonal(),
+        },
+    }
+}
+
 fn drawn_call(rt: &impl Abort, alloc: Global, draw: &mut Draw) -> Result<Call, AllocError> {
     let domain = if draw.below(3) == 0 {
         Domain::Bool
     } else {
         Domain::Uint64
     };
-    match draw.below(3) {
+    match draw.below(4) {
         0 => call_on_vector(alloc, draw, domain),
         1 => call_on_matrix(alloc, draw, domain),
-        _ => Ok(drawn_operation(rt, draw, domain)),
+        2 => Ok(drawn_operation(rt, draw, domain)),
+        _ => Ok(drawn_term(draw, domain)),
     }
 }
 
@@ -228,7 +306,8 @@ fn answer_of_count(nvals: Option<u64>) -> Answer {
     }
 }
 
-/// The matrix, which has at most five rows and columns, is as the store answers. What it stores there, row by row.
+/// The matrix, which has at most eight rows and columns, is as the store answers. What it stores there, row by row. A diagonal makes more
+/// than five.
 fn same_matrix(
     rt: &impl Abort,
     alloc: Global,
@@ -237,8 +316,8 @@ fn same_matrix(
     a: MatrixId,
 ) -> Result<Vec<((u64, u64), Value)>, AllocError> {
     let mut entries = Vec::new(alloc);
-    for place in 0..25 {
-        let (i, j) = (place / 5, place % 5);
+    for place in 0..64 {
+        let (i, j) = (place / 8, place % 8);
         let call = Call::GetMatrix { a, i, j };
         let wanted = answer(store, &call)?;
         same(rt, answer_in_matrix(matrix, i, j), wanted, &call);

@@ -47,5 +47,3 @@ mod texts_written;
 mod tuples;
 #[cfg(test)]
 mod values;
-#[cfg(test)]
-mod worked_maps;

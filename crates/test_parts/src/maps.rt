@@ -2,21 +2,22 @@
 ghost use Rattle.std.specs.Prelude.{◌≡◌, ◌<◌, true, IfOk};
 ghost use Rattle.grb_core.specs.Value.{value_domain};
 ghost use Rattle.grb_core.specs.Written.{AccumulatesIn};
-ghost use Rattle.grb_ewise.specs.Premises.{IsMatrixInput, IsMatrixOutput, IsVectorInput, IsVectorOutput};
-ghost use Rattle.grb_terms.specs.Functions.{IsFunctionOf};
-ghost use Rattle.grb_terms.specs.Tests.{IsTestOf};
-ghost use Rattle.grb_kronecker.specs.Factors.{AreFactors, columns_read, rows_read};
+ghost use Rattle.grb_ewise.specs.Premises.{IsMatrixInput, IsMatrixOutput, IsVectorInput, IsVectorOutput, columns_read, rows_read};
+ghost use Rattle.grb_core.specs.Functions.{IsFunctionOf};
+ghost use Rattle.grb_core.specs.Tests.{IsTestOf};
+ghost use Rattle.grb_kronecker.specs.Factors.{AreFactors};
 
 use crate::plain::Table;
 use crate::plain_maps::{Term, number_of};
 use grb_call::Descriptor;
-use grb_core::{BinaryOp, Domain, Value, is_dimension};
+use grb_core::{
+    BinaryOp, Diagonal, Domain, Function, Test, Value, diagonal_size, is_dimension, turns_input,
+};
 use grb_kronecker::kronecker_matrix;
 use grb_maps::{
     apply_matrix, apply_vector, diagonal_matrix, select_matrix, select_vector, transpose_matrix,
 };
 use grb_sparse::{SparseMatrix, SparseVector};
-use grb_terms::{Diagonal, Function, Test, diagonal_size, turns_input};
 use std::alloc::{AllocError, Global};
 use std::process::Abort;
 
@@ -29,7 +30,6 @@ pub(crate) struct Case {
     pub(crate) mask_domain: Domain,
     pub(crate) accum: Option<BinaryOp>,
     pub(crate) descriptor: Descriptor,
-    pub(crate) tran1: bool,
     pub(crate) output: (u64, u64),
     pub(crate) first: (u64, u64),
     pub(crate) second: (u64, u64),
@@ -46,7 +46,7 @@ pub(crate) struct Tables {
 
 // ---- objects of tables, and tables of objects
 
-pub(crate) fn value_in(domain: Domain, n: u64) -> Value
+fn value_in(domain: Domain, n: u64) -> Value
     ensures { value_domain result ≡ domain }
 {
     match domain {
@@ -113,7 +113,7 @@ fn set_index(rt: &impl Abort, v: &mut SparseVector, i: u64, n: u64) -> Result<()
     Ok(())
 }
 
-pub(crate) fn vector_of(
+fn vector_of(
     rt: &impl Abort,
     alloc: Global,
     domain: Domain,
@@ -268,7 +268,6 @@ fn made_matrix(
     let Case {
         accum,
         descriptor: d,
-        tran1,
         ..
     } = case;
     match case.term {
@@ -280,8 +279,8 @@ fn made_matrix(
             if !is_function_of(output.domain(), f) {
                 panic!(rt; "a function of another domain");
             }
-            expect_input(rt, output, a, turns_input(f, d.tran, tran1));
-            apply_matrix(alloc, output, mask, accum, f, a, d, tran1)
+            expect_input(rt, output, a, turns_input(f, d.tran, d.tran1));
+            apply_matrix(alloc, output, mask, accum, f, a, d)
         }
         Term::Selected(test) => {
             if !is_test_of(output.domain(), test) {
@@ -294,8 +293,8 @@ fn made_matrix(
             if op.domain() != output.domain() {
                 panic!(rt; "an operator of another domain");
             }
-            expect_factors(rt, output, a, b, d.tran, tran1);
-            kronecker_matrix(alloc, output, mask, accum, op, a, b, d, tran1)
+            expect_factors(rt, output, a, b, d.tran, d.tran1);
+            kronecker_matrix(alloc, output, mask, accum, op, a, b, d)
         }
         Term::Diag(_) => panic!(rt; "a diagonal has no output"),
     }
@@ -393,7 +392,7 @@ fn answer_of_diagonal(
 ) -> Result<Table, AllocError> {
     let v = vector_of(rt, alloc, case.domain, case.first.0, table)?;
     let size = v.dims();
-    if size >= 0x1_0000_0000 || !is_dimension(diagonal_size(d, size)) {
+    if !is_dimension(diagonal_size(d, size)) {
         panic!(rt; "a diagonal of no matrix");
     }
     let made = diagonal_matrix(alloc, d, &v)?;

@@ -3,7 +3,7 @@
 //! A contract says what an operation makes by definitions of the proof's own language; that these say what the standard does, no contract
 //! can say. Nor does one say that memory is there, which an operation may always lack. The draw reaches each way that the kernels have:
 //! work arrays and ranks of columns, tables and searches of rows, few and many words of marks. It also reaches changes that still wait in
-//! an input, a first input that is read transposed, and one object in several parts.
+//! an input, inputs that are read transposed, and one object in several parts.
 ghost use Rattle.std.specs.Prelude.{◌≡◌, ◌<◌, false};
 ghost use Rattle.grb_call.specs.Kinds.{enters, is_size};
 
@@ -94,11 +94,11 @@ fn shapes(case: &Case) -> (Shape, Shape, Shape) {
         ),
         _ => (output, output),
     };
-    let is_turned = case.choice.is_turned();
+    let read = |shape: Shape, is_turned: bool| if is_turned { turned(shape) } else { shape };
     (
         output,
-        if is_turned { turned(first) } else { first },
-        second,
+        read(first, case.choice.is_turned()),
+        read(second, case.choice.is_second_turned()),
     )
 }
 

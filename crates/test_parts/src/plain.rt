@@ -8,8 +8,8 @@ use std::alloc::{AllocError, Global};
 pub(crate) type Table = Vec<Option<u64>>;
 
 /// How many places the objects have down and across: the output `rows` and `columns`, the first input of a product `rows` and `inner`,
-/// and the second `inner` and `columns`. A vector has one column. A first input that is read transposed has its two numbers exchanged.
-/// Of a product of a vector and a matrix the matrix has `inner` and `rows`.
+/// and the second `inner` and `columns`. A vector has one column. Of a product of a vector and a matrix the matrix has `inner` and `rows`.
+/// An input that is read transposed has its two numbers exchanged.
 #[derive(Clone, Copy, Debug)]
 pub(crate) struct Dims {
     pub(crate) rows: u64,
@@ -143,6 +143,20 @@ fn first_at(
     at_cell(&tables.first, columns, i, j)
 }
 
+/// What the second input stores at a row and a column as the operation reads it, where it has so many rows and columns then.
+fn second_at(
+    choice: Choice,
+    tables: &Tables,
+    (rows, columns): (u64, u64),
+    i: u64,
+    j: u64,
+) -> Option<u64> {
+    if choice.is_second_turned() {
+        return at_cell(&tables.second, rows, j, i);
+    }
+    at_cell(&tables.second, columns, i, j)
+}
+
 /// What a product stores at a row and a column, or the fold of the row.
 fn summed_at(choice: Choice, dims: Dims, tables: &Tables, i: u64, j: u64) -> Option<u64> {
     let mut sum = None;
@@ -153,8 +167,16 @@ fn summed_at(choice: Choice, dims: Dims, tables: &Tables, i: u64, j: u64) -> Opt
         };
         let number = match choice.operation {
             Operation::ReduceRows => x,
-            Operation::Vxm => both(choice.op, x, at_cell(&tables.second, dims.rows, k, i)),
-            _ => both(choice.op, x, at_cell(&tables.second, dims.columns, k, j)),
+            Operation::Vxm => both(
+                choice.op,
+                x,
+                second_at(choice, tables, (dims.inner, dims.rows), k, i),
+            ),
+            _ => both(
+                choice.op,
+                x,
+                second_at(choice, tables, (dims.inner, dims.columns), k, j),
+            ),
         };
         sum = summed(choice.monoid, sum, number);
     }
@@ -167,7 +189,7 @@ fn computed(choice: Choice, dims: Dims, tables: &Tables, at: u64) -> Option<u64>
     let (i, j) = (at / columns, at % columns);
     let (x, y) = (
         first_at(choice, dims, tables, columns, i, j),
-        stored(&tables.second, at),
+        second_at(choice, tables, (dims.rows, columns), i, j),
     );
     match choice.operation {
         Operation::AddVector | Operation::AddMatrix => either(choice.op, x, y),

@@ -1,8 +1,7 @@
 //! Transpose, apply, select, diag and kronecker by plain loops over tables: at each place the definition in words, with functions, operators
 //! and tests of its own.
 use crate::plain::{Table, applied, at_cell, stored};
-use grb_core::{BinaryOp, Value};
-use grb_terms::{Diagonal, Function, Test, UnaryOp};
+use grb_core::{BinaryOp, Diagonal, Function, Test, UnaryOp, Value};
 use std::alloc::{AllocError, Global};
 
 /// An operation on one or two inputs.

@@ -14,3 +14,4 @@ mod passes;
 mod refused;
 mod same;
 mod steps;
+mod terms;

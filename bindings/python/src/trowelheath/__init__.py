@@ -36,7 +36,7 @@ from .errors import (
     UninitializedObject,
 )
 from .objects import Matrix, Object, Transposed, Vector
-from .operators import MONOIDS, OPERATORS
+from .operators import MONOIDS, OPERATORS, TESTS, UNARY_OPERATORS
 from .store import MOST_PASSES, MOST_ROOM, MOST_SEATS, Facts, Pass, Store, Temporary
 
 __version__ = "1.0.0"
@@ -47,6 +47,8 @@ __all__ = [
     "MOST_ROOM",
     "MOST_SEATS",
     "OPERATORS",
+    "TESTS",
+    "UNARY_OPERATORS",
     "DimensionMismatch",
     "DomainMismatch",
     "Facts",

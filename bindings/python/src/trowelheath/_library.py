@@ -44,6 +44,7 @@ _FACTS = ctypes.POINTER(FactsRecord)
 _BOOL = ctypes.c_bool
 _U32 = ctypes.c_uint32
 _U64 = ctypes.c_uint64
+_I64 = ctypes.c_int64
 _BOOL_OUT = ctypes.POINTER(ctypes.c_bool)
 _I32_OUT = ctypes.POINTER(ctypes.c_int32)
 _U32_OUT = ctypes.POINTER(ctypes.c_uint32)
@@ -74,6 +75,7 @@ _PARAMETERS: Dict[str, Tuple[Any, ...]] = {
     "trb_vector_new": (_PASS, _U32_OUT, _U32, _U64),
     "trb_matrix_dup": (_PASS, _U32_OUT, _U32),
     "trb_vector_dup": (_PASS, _U32_OUT, _U32),
+    "trb_matrix_diag": (_PASS, _U32_OUT, _U32, _I64),
     "trb_matrix_free": (_PASS, _U32),
     "trb_vector_free": (_PASS, _U32),
     "trb_matrix_clear": (_PASS, _U32),
@@ -115,6 +117,26 @@ _PARAMETERS: Dict[str, Tuple[Any, ...]] = {
     "trb_matrix_ewise_mult": (_PASS, _U32, _U32, _U32, _U32, _U32, _U32, _U32),
     "trb_vector_ewise_mult": (_PASS, _U32, _U32, _U32, _U32, _U32, _U32, _U32),
     "trb_reduce_rows": (_PASS, _U32, _U32, _U32, _U32, _U32, _U32),
+    "trb_transpose": (_PASS, _U32, _U32, _U32, _U32, _U32),
+    "trb_matrix_kronecker": (_PASS, _U32, _U32, _U32, _U32, _U32, _U32, _U32),
+    # Functions of each value: output, mask, accumulator, operator, a value before the input or after it, descriptor.
+    "trb_matrix_apply": (_PASS, _U32, _U32, _U32, _U32, _U32, _U32),
+    "trb_vector_apply": (_PASS, _U32, _U32, _U32, _U32, _U32, _U32),
+    "trb_matrix_apply_first_uint64": (_PASS, _U32, _U32, _U32, _U32, _U64, _U32, _U32),
+    "trb_vector_apply_first_uint64": (_PASS, _U32, _U32, _U32, _U32, _U64, _U32, _U32),
+    "trb_matrix_apply_first_bool": (_PASS, _U32, _U32, _U32, _U32, _BOOL, _U32, _U32),
+    "trb_vector_apply_first_bool": (_PASS, _U32, _U32, _U32, _U32, _BOOL, _U32, _U32),
+    "trb_matrix_apply_second_uint64": (_PASS, _U32, _U32, _U32, _U32, _U32, _U64, _U32),
+    "trb_vector_apply_second_uint64": (_PASS, _U32, _U32, _U32, _U32, _U32, _U64, _U32),
+    "trb_matrix_apply_second_bool": (_PASS, _U32, _U32, _U32, _U32, _U32, _BOOL, _U32),
+    "trb_vector_apply_second_bool": (_PASS, _U32, _U32, _U32, _U32, _U32, _BOOL, _U32),
+    # Tests of each entry: output, mask, accumulator, test, input, what to compare with, descriptor.
+    "trb_matrix_select_int64": (_PASS, _U32, _U32, _U32, _U32, _U32, _I64, _U32),
+    "trb_vector_select_int64": (_PASS, _U32, _U32, _U32, _U32, _U32, _I64, _U32),
+    "trb_matrix_select_uint64": (_PASS, _U32, _U32, _U32, _U32, _U32, _U64, _U32),
+    "trb_vector_select_uint64": (_PASS, _U32, _U32, _U32, _U32, _U32, _U64, _U32),
+    "trb_matrix_select_bool": (_PASS, _U32, _U32, _U32, _U32, _U32, _BOOL, _U32),
+    "trb_vector_select_bool": (_PASS, _U32, _U32, _U32, _U32, _U32, _BOOL, _U32),
     # Totals: the value, monoid, object.
     "trb_matrix_reduce_uint64": (_PASS, _U64_OUT, _U32, _U32),
     "trb_vector_reduce_uint64": (_PASS, _U64_OUT, _U32, _U32),

@@ -108,14 +108,24 @@ def _outside(item: Object, place: Sequence[int]) -> Optional[str]:
     return f"the {item._sort} has no place {tuple(place) if len(place) > 1 else place[0]}"
 
 
+def of_diagonal(code: int, item: Object, diagonal: int) -> Optional[str]:
+    """Of a call that makes a matrix with the vector on this diagonal."""
+    shape = item._life.shape
+    if code == Info.INVALID_VALUE and shape is not None:
+        size = shape[0] + abs(diagonal)
+        return f"{shape_text((size, size))} was asked for, by {of_object(item)} on the diagonal {diagonal:,}"
+    return of_one(code, item)
+
+
 class Operation(NamedTuple):
     """An operation, as far as a refusal has to say something of it."""
 
     kind: str
-    """"mxm", "mxv", "vxm", "ewise_add", "ewise_mult" or "reduce_rows"."""
+    """"mxm", "mxv", "vxm", "ewise_add", "ewise_mult", "reduce_rows", "transpose", "apply", "select" or "kronecker"."""
     first: Object
     transpose: bool
     second: Optional[Object]
+    transpose_second: bool
     operators: Tuple[Tuple[str, str], ...]
     """What each operator is for, and its name."""
     out: Object
@@ -173,7 +183,8 @@ def _of_shapes(operation: Operation) -> str:
     parts = [(role, item) for role, item in _parts(operation) if role != "the new output"]
     seen: List[str] = []
     for place, (role, item) in enumerate(parts):
-        turned = ", read transposed" if place == 0 and operation.transpose else ""
+        is_turned = operation.transpose if place == 0 else place == 1 and operation.transpose_second
+        turned = ", read transposed" if is_turned else ""
         seen.append(f"{role} is {shape_text(item._life.shape)}{turned}")
     misfits = _misfits(operation)
     return ", ".join(seen) + (f": {misfits[0]}" if misfits else "")
@@ -195,13 +206,17 @@ def _misfits(operation: Operation) -> List[str]:
     if first is not None and len(first) == 2 and operation.transpose:
         first = first[::-1]
         rows, columns = f"{columns}, which are read as rows", f"{rows}, which are read as columns"
+    its_rows, its_columns = f"the rows of {of_second}", f"the columns of {of_second}"
+    if second is not None and len(second) == 2 and operation.transpose_second:
+        second = second[::-1]
+        its_rows, its_columns = f"{its_columns}, which are read as rows", f"{its_rows}, which are read as columns"
     if kind == "mxm":
         if first and second:
-            pairs.append((columns, first[1], f"the rows of {of_second}", second[0]))
+            pairs.append((columns, first[1], its_rows, second[0]))
         if first and out:
             pairs.append(("the rows of the output", out[0], rows, first[0]))
         if second and out:
-            pairs.append(("the columns of the output", out[1], f"the columns of {of_second}", second[1]))
+            pairs.append(("the columns of the output", out[1], its_columns, second[1]))
     elif kind == "mxv":
         if first and second:
             pairs.append((columns, first[1], f"the size of {of_second}", second[0]))
@@ -209,16 +224,24 @@ def _misfits(operation: Operation) -> List[str]:
             pairs.append(("the size of the output", out[0], rows, first[0]))
     elif kind == "vxm":
         if first and second:
-            pairs.append((f"the size of {of_first}", first[0], f"the rows of {of_second}", second[0]))
+            pairs.append((f"the size of {of_first}", first[0], its_rows, second[0]))
         if second and out:
-            pairs.append(("the size of the output", out[0], f"the columns of {of_second}", second[1]))
+            pairs.append(("the size of the output", out[0], its_columns, second[1]))
     elif kind == "reduce_rows":
         if first and out:
             pairs.append(("the size of the output", out[0], rows, first[0]))
+    elif kind == "transpose":
+        if first and out:
+            pairs.append(("the rows of the output", out[0], columns, first[1]))
+            pairs.append(("the columns of the output", out[1], rows, first[0]))
+    elif kind == "kronecker":
+        if first and second and out:
+            pairs.append(("the rows of the output", out[0], f"{rows} times {its_rows}", first[0] * second[0]))
+            pairs.append(("the columns of the output", out[1], f"{columns} times {its_columns}", first[1] * second[1]))
     elif first is not None and len(first) == 2:
         if second:
-            pairs.append((rows, first[0], f"the rows of {of_second}", second[0]))
-            pairs.append((columns, first[1], f"the columns of {of_second}", second[1]))
+            pairs.append((rows, first[0], its_rows, second[0]))
+            pairs.append((columns, first[1], its_columns, second[1]))
         if out:
             pairs.append(("the rows of the output", out[0], rows, first[0]))
             pairs.append(("the columns of the output", out[1], columns, first[1]))

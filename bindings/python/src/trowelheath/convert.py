@@ -92,6 +92,26 @@ def dimension(x: SupportsIndex) -> int:
     return value
 
 
+MOST_DIAGONAL = 2**32 - 1
+"""The farthest diagonal above the main one. As far below it is the farthest there."""
+
+
+def diagonal(x: SupportsIndex) -> int:
+    """A diagonal: 0 the main one, so far above it, or with a minus so far below it.
+
+    Raises:
+        TypeError: it is no whole number.
+        ValueError: it is not from -4,294,967,295 to 4,294,967,295.
+    """
+    try:
+        value = operator.index(x)
+    except TypeError:
+        raise TypeError(f"a diagonal is a whole number, 0 for the main one, not {_seen(x)}") from None
+    if not -MOST_DIAGONAL <= value <= MOST_DIAGONAL:
+        raise ValueError(f"the diagonal {value} is not from -4,294,967,295 to 4,294,967,295")
+    return value
+
+
 class Buffer(NamedTuple):
     """Memory that the library reads or writes. It lives as long as the buffer."""
 

@@ -9,8 +9,8 @@ pass. `using` gives the same object by another pass. The other objects of a call
 **One moment.** Each call takes effect at one moment between its start and its return. What hands out all entries
 (`items`, `to_lists`, iteration and so on) reads them at one moment. Two calls have two moments.
 
-**How an operation writes.** `mxm`, `mxv`, `vxm`, `ewise_add`, `ewise_mult` and `reduce_rows` compute entries from
-their inputs and write them into an output. These arguments say how:
+**How an operation writes.** `mxm`, `mxv`, `vxm`, `ewise_add`, `ewise_mult`, `reduce_rows`, `transpose`, `apply`,
+`select` and `kronecker` compute entries from their inputs and write them into an output. These arguments say how:
 
 - `out` is the output, and is returned. Without it, a new object of the domain of the first input is made and
   returned. One object may be output, input and mask at once.
@@ -22,6 +22,7 @@ their inputs and write them into an output. These arguments say how:
 - `complement` exchanges inside and outside. Without a mask all places are inside, and so none is then.
 - `replace` removes the output's old entries outside. Without it they stay.
 - `transpose` reads the first input, a matrix, with its rows as columns: `A.T.mxm(B)` is `A.mxm(B, transpose=True)`.
+- `transpose_second` reads the second input so: `A.mxm(B.T)` is `A.mxm(B, transpose_second=True)`.
 
 **Room.** Each call that changes the store takes one of the calls that the store has room for. To make a new output
 is a further call, and so is to free it where the operation is refused.
@@ -77,11 +78,17 @@ from .errors import Info, InsufficientSpace, Refusal, StoreClosed, Uninitialized
 from .operators import (
     NO_ACCUM,
     NO_MASK,
+    TESTS,
     TRANSPOSE,
+    TRANSPOSE_SECOND,
     UINT64,
+    UNARY_OPERATORS,
     Domain,
     descriptor,
     domain_of,
+    is_of_diagonals,
+    is_of_values,
+    is_unary,
     monoid_number,
     operator_number,
     semiring_numbers,
@@ -95,6 +102,7 @@ if TYPE_CHECKING:
 __all__ = ["Matrix", "Object", "Transposed", "Vector"]
 
 AnyObject = TypeVar("AnyObject", bound="Object")
+Checked = TypeVar("Checked")
 
 
 class _Writing(NamedTuple):
@@ -103,6 +111,17 @@ class _Writing(NamedTuple):
     mask: Optional[Object]
     accum: Optional[str]
     descriptor: int
+
+
+class _Term(NamedTuple):
+    """A function of each value or a test of each entry, as the library takes it."""
+
+    name: str
+    """The end of its name there."""
+    before: Tuple[Any, ...]
+    """Its arguments before the input."""
+    after: Tuple[Any, ...]
+    """Its arguments after the input."""
 
 
 @contextmanager
@@ -527,7 +546,7 @@ class Object:
         """The number of another object of a call, which is of this sort and of this store."""
         if not isinstance(other, sort):
             if isinstance(other, Transposed):
-                raise TypeError(f"{what} is not read transposed, a first input is: A.T.dup() makes a Matrix of A.T")
+                raise TypeError(f"{what} is not read transposed: A.T.dup() makes a Matrix of A.T")
             raise TypeError(f"{what} must be a {sort.__name__}, not a {type(other).__name__}")
         if other._pass._core is not self._pass._core:
             raise ValueError(f"{what} is of another store")
@@ -544,8 +563,12 @@ class Object:
         sort: Type[AnyObject],
         out: Optional[AnyObject],
         new: Callable[[], AnyObject],
+        after: Tuple[Any, ...] = (),
     ) -> AnyObject:
-        """Makes an operation that writes into `out`, or where there is none into a `new` object of this sort."""
+        """Makes an operation that writes into `out`, or where there is none into a `new` object of this sort.
+
+        The library takes `numbers` before the inputs and `after` after them.
+        """
         mask = NO_MASK if how.mask is None else self._number_of(how.mask, sort, "the mask")
         accum = NO_ACCUM if how.accum is None else operator_number(how.accum)
         inputs = (self._number,) if second is None else (self._number, second._number)
@@ -557,12 +580,15 @@ class Object:
 
         def tell(code: int) -> Optional[str]:
             named = operators if how.accum is None else (*operators, ("accumulator", how.accum))
-            transpose = how.descriptor & TRANSPOSE != 0
-            operation = _tell.Operation(kind, self, transpose, second, named, written, how.mask, is_new)
+            # One input alone may stand second to the library, as that of `apply` does.
+            transpose = how.descriptor & (TRANSPOSE | TRANSPOSE_SECOND if second is None else TRANSPOSE) != 0
+            too = second is not None and how.descriptor & TRANSPOSE_SECOND != 0
+            operation = _tell.Operation(kind, self, transpose, second, too, named, written, how.mask, is_new)
             return _tell.of_operation(code, operation)
 
+        arguments = (*numbers, *inputs, *after, how.descriptor)
         try:
-            self._pass._change(name, written._number, mask, accum, *numbers, *inputs, how.descriptor, tell=tell)
+            self._pass._change(name, written._number, mask, accum, *arguments, tell=tell)
         except BaseException:
             if is_new:
                 with suppress(Refusal, StoreClosed):
@@ -570,6 +596,36 @@ class Object:
             raise
         self._pass._core.made(kind, self, second, how.mask, written)
         return written
+
+    def _function(self, operator: str, right: Any, left: Any) -> _Term:
+        """A unary operator, or a binary one with a value of this domain on one side."""
+        if is_unary(operator):
+            if right is not None or left is not None:
+                raise TypeError(f"{operator} is of one value: it takes neither right nor left")
+            return _Term("apply", (UNARY_OPERATORS[operator],), ())
+        if (right is None) == (left is None):
+            wanted = "right or left" if right is None else "right or left, not both"
+            raise TypeError(f'{operator} is of two values: give {wanted}, as in A.apply("{operator}", right=x)')
+        number = operator_number(operator)
+        if right is None:
+            x = _checked("left", lambda given: convert.value_of(self._domain, given), left)
+            return _Term(f"apply_first_{self._domain.suffix}", (number, x), ())
+        x = _checked("right", lambda given: convert.value_of(self._domain, given), right)
+        return _Term(f"apply_second_{self._domain.suffix}", (number,), (x,))
+
+    def _test(self, test: str, value: Any) -> _Term:
+        """A test, with what it compares with."""
+        what = f"the value of {test}"
+        if is_of_diagonals(test):
+            diagonal = 0 if value is None else _checked(what, convert.diagonal, value)
+            return _Term("select_int64", (TESTS[test],), (diagonal,))
+        if value is None:
+            raise TypeError(f'{test} compares with a value: give it, as in A.select("{test}", x)')
+        if is_of_values(test):
+            x = _checked(what, lambda given: convert.value_of(self._domain, given), value)
+            return _Term(f"select_{self._domain.suffix}", (TESTS[test],), (x,))
+        # No row and no column is so far out that the largest number which the library takes does not do as well.
+        return _Term("select_int64", (TESTS[test],), (min(_checked(what, convert.index, value), 2**63 - 1),))
 
 
 class Matrix(Object):
@@ -703,7 +759,7 @@ class Matrix(Object):
 
     @property
     def T(self) -> Transposed:  # noqa: N802
-        """The matrix as a first input that is read with its rows as columns: `A.T @ u`, `A.T.mxm(B)`."""
+        """The matrix as an input that is read with its rows as columns: `A.T @ u`, `A.T.mxm(B)`, `A @ B.T`."""
         return Transposed(self)
 
     def resize(self, nrows: int, ncols: int) -> None:
@@ -895,7 +951,7 @@ class Matrix(Object):
 
     def mxm(
         self,
-        other: Matrix,
+        other: Union[Matrix, Transposed],
         semiring: Optional[str] = None,
         *,
         mask: Optional[Matrix] = None,
@@ -904,6 +960,7 @@ class Matrix(Object):
         replace: bool = False,
         accum: Optional[str] = None,
         transpose: bool = False,
+        transpose_second: bool = False,
         out: Optional[Matrix] = None,
     ) -> Matrix:
         """The product of two matrices: `out<mask> = accum(out, self * other)`.
@@ -916,6 +973,7 @@ class Matrix(Object):
             semiring: the monoid and the operator, by default "plus.times", or "lor.land" of truth values.
             mask, structure, complement, replace, accum, out: how it writes; see `trowelheath.objects`.
             transpose: whether this matrix is read with its rows as columns.
+            transpose_second: whether the second matrix is, as in `A.mxm(B.T)`.
 
         Raises:
             DomainMismatch: the output, the inputs, the semiring and the accumulator are not of one domain.
@@ -924,18 +982,27 @@ class Matrix(Object):
         """
         named = self._domain.semiring if semiring is None else semiring
         numbers = semiring_numbers(named)
-        self._number_of(other, Matrix, "the second input")
-        bits = descriptor(replace=replace, complement=complement, structure=structure, transpose=transpose)
+        second, turned = _as_stored(other, transpose_second)
+        self._number_of(second, Matrix, "the second input")
+        bits = descriptor(
+            replace=replace,
+            complement=complement,
+            structure=structure,
+            transpose=transpose,
+            transpose_second=turned,
+        )
         return self._write(
             "mxm",
             "trb_mxm",
             numbers,
             _of_semiring(named),
-            other,
+            second,
             _Writing(mask, accum, bits),
             Matrix,
             out,
-            lambda: self._pass.matrix(self._rows_read(transpose), other.using(self._pass).ncols, self.dtype),
+            lambda: self._pass.matrix(
+                self._rows_read(transpose), second.using(self._pass)._rows_read(not turned), self.dtype
+            ),
         )
 
     def mxv(
@@ -986,30 +1053,26 @@ class Matrix(Object):
     def __matmul__(self, other: Any) -> Any:
         """`A @ B` is `A.mxm(B)`, and `A @ u` is `A.mxv(u)`: "plus.times" of numbers, "lor.land" of truth values."""
         if isinstance(other, (Matrix, Transposed)):
-            return self.mxm(other)  # type: ignore[arg-type]
+            return self.mxm(other)
         if isinstance(other, Vector):
             return self.mxv(other)
         return self._no_sign(other)
 
     def __add__(self, other: Any) -> Any:
         """`A + B` is `A.ewise_add(B, "plus")`, of numbers."""
-        if isinstance(other, Transposed):
-            return other + self
-        if not isinstance(other, Matrix):
+        if not isinstance(other, (Matrix, Transposed)):
             return self._no_sign(other)
         return self.ewise_add(other, _operator_of_sign(self, "+"))
 
     def __mul__(self, other: Any) -> Any:
         """`A * B` is `A.ewise_mult(B, "times")`, of numbers: entry by entry. `A @ B` is the product of matrices."""
-        if isinstance(other, Transposed):
-            return other * self
-        if not isinstance(other, Matrix):
+        if not isinstance(other, (Matrix, Transposed)):
             return self._no_sign(other)
         return self.ewise_mult(other, _operator_of_sign(self, "*"))
 
     def ewise_add(
         self,
-        other: Matrix,
+        other: Union[Matrix, Transposed],
         operator: str,
         *,
         mask: Optional[Matrix] = None,
@@ -1018,6 +1081,7 @@ class Matrix(Object):
         replace: bool = False,
         accum: Optional[str] = None,
         transpose: bool = False,
+        transpose_second: bool = False,
         out: Optional[Matrix] = None,
     ) -> Matrix:
         """The union of two matrices: `out<mask> = accum(out, self + other)`.
@@ -1029,21 +1093,25 @@ class Matrix(Object):
             operator: a binary operator, as "plus".
             mask, structure, complement, replace, accum, out: how it writes; see `trowelheath.objects`.
             transpose: whether this matrix is read with its rows as columns.
+            transpose_second: whether the second matrix is, as in `A.ewise_add(B.T, "plus")`.
 
         Raises:
             DomainMismatch: the output, the inputs, the operator and the accumulator are not of one domain.
             DimensionMismatch: the inputs, the output and the mask are not all of the same dimensions.
         """
-        how = _Writing(
-            mask,
-            accum,
-            descriptor(replace=replace, complement=complement, structure=structure, transpose=transpose),
+        second, turned = _as_stored(other, transpose_second)
+        bits = descriptor(
+            replace=replace,
+            complement=complement,
+            structure=structure,
+            transpose=transpose,
+            transpose_second=turned,
         )
-        return self._ewise("trb_matrix_ewise_add", other, operator, how, out)
+        return self._ewise("trb_matrix_ewise_add", second, operator, _Writing(mask, accum, bits), out)
 
     def ewise_mult(
         self,
-        other: Matrix,
+        other: Union[Matrix, Transposed],
         operator: str,
         *,
         mask: Optional[Matrix] = None,
@@ -1052,6 +1120,7 @@ class Matrix(Object):
         replace: bool = False,
         accum: Optional[str] = None,
         transpose: bool = False,
+        transpose_second: bool = False,
         out: Optional[Matrix] = None,
     ) -> Matrix:
         """The intersection of two matrices: `out<mask> = accum(out, self .* other)`.
@@ -1063,17 +1132,21 @@ class Matrix(Object):
             operator: a binary operator, as "times".
             mask, structure, complement, replace, accum, out: how it writes; see `trowelheath.objects`.
             transpose: whether this matrix is read with its rows as columns.
+            transpose_second: whether the second matrix is, as in `A.ewise_mult(B.T, "times")`.
 
         Raises:
             DomainMismatch: the output, the inputs, the operator and the accumulator are not of one domain.
             DimensionMismatch: the inputs, the output and the mask are not all of the same dimensions.
         """
-        how = _Writing(
-            mask,
-            accum,
-            descriptor(replace=replace, complement=complement, structure=structure, transpose=transpose),
+        second, turned = _as_stored(other, transpose_second)
+        bits = descriptor(
+            replace=replace,
+            complement=complement,
+            structure=structure,
+            transpose=transpose,
+            transpose_second=turned,
         )
-        return self._ewise("trb_matrix_ewise_mult", other, operator, how, out)
+        return self._ewise("trb_matrix_ewise_mult", second, operator, _Writing(mask, accum, bits), out)
 
     def reduce_rows(
         self,
@@ -1124,8 +1197,217 @@ class Matrix(Object):
             how,
             Matrix,
             out,
-            lambda: self._pass.matrix(*other.using(self._pass).shape, self.dtype),
+            lambda: self._pass.matrix(
+                *other.using(self._pass)._shape_read(how.descriptor & TRANSPOSE_SECOND != 0), self.dtype
+            ),
         )
+
+    def transpose(
+        self,
+        *,
+        mask: Optional[Matrix] = None,
+        structure: bool = False,
+        complement: bool = False,
+        replace: bool = False,
+        accum: Optional[str] = None,
+        transpose: bool = False,
+        out: Optional[Matrix] = None,
+    ) -> Matrix:
+        """The matrix with its rows as columns: `out<mask> = accum(out, self.T)`.
+
+        At row i and column j it has the value of row j and column i, and nothing where there is none. An operation
+        that reads `A.T` needs none of this.
+
+        Args:
+            mask, structure, complement, replace, accum, out: how it writes; see `trowelheath.objects`.
+            transpose: whether this matrix is read with its rows as columns. Then it is turned twice, and written as
+                it is.
+
+        Raises:
+            DomainMismatch: the output, the matrix and the accumulator are not of one domain.
+            DimensionMismatch: the output has not the rows of the matrix as columns and its columns as rows, or the
+                mask not the dimensions of the output.
+        """
+        bits = descriptor(replace=replace, complement=complement, structure=structure, transpose=transpose)
+        return self._write(
+            "transpose",
+            "trb_transpose",
+            (),
+            (),
+            None,
+            _Writing(mask, accum, bits),
+            Matrix,
+            out,
+            lambda: self._pass.matrix(*self._shape_read(not transpose), self.dtype),
+        )
+
+    def apply(
+        self,
+        operator: str,
+        right: Optional[Value] = None,
+        *,
+        left: Optional[Value] = None,
+        mask: Optional[Matrix] = None,
+        structure: bool = False,
+        complement: bool = False,
+        replace: bool = False,
+        accum: Optional[str] = None,
+        transpose: bool = False,
+        out: Optional[Matrix] = None,
+    ) -> Matrix:
+        """A function of each value: `out<mask> = accum(out, f(self))`.
+
+        Where this matrix stores a value it has the function of that: `A.apply("ainv")` its negative,
+        `A.apply("minus", 1)` what is left of it without 1, and `A.apply("minus", left=9)` what 9 is without it.
+
+        Args:
+            operator: a unary operator, as "ainv", or a binary one, as "minus", with one of the two:
+            right: the value on the right of a binary operator.
+            left: the value on its left.
+            mask, structure, complement, replace, accum, out: how it writes; see `trowelheath.objects`.
+            transpose: whether this matrix is read with its rows as columns.
+
+        Raises:
+            DomainMismatch: the output, the matrix, the operator and the accumulator are not of one domain.
+            DimensionMismatch: the matrix, the output and the mask are not all of the same dimensions.
+            TypeError: a unary operator is given `right` or `left`, or a binary one neither or both; or the value is
+                not of the matrix's domain.
+            OverflowError: a number is not from 0 to 2**64 - 1.
+        """
+        function = self._function(operator, right, left)
+        # To the library the matrix stands second where the value stands on the left.
+        bits = descriptor(
+            replace=replace,
+            complement=complement,
+            structure=structure,
+            transpose=transpose and left is None,
+            transpose_second=transpose and left is not None,
+        )
+        return self._write(
+            "apply",
+            f"trb_matrix_{function.name}",
+            function.before,
+            (("operator", operator),),
+            None,
+            _Writing(mask, accum, bits),
+            Matrix,
+            out,
+            lambda: self._pass.matrix(*self._shape_read(transpose), self.dtype),
+            function.after,
+        )
+
+    def select(
+        self,
+        test: str,
+        value: Optional[Value] = None,
+        *,
+        mask: Optional[Matrix] = None,
+        structure: bool = False,
+        complement: bool = False,
+        replace: bool = False,
+        accum: Optional[str] = None,
+        transpose: bool = False,
+        out: Optional[Matrix] = None,
+    ) -> Matrix:
+        """The entries that pass a test: `out<mask> = accum(out, those of self that pass)`.
+
+        `A.select("tril", -1)` has those below the main diagonal, and `A.select("valuege", 3)` those of 3 or more.
+
+        Args:
+            test: a test of places or of values; `trowelheath.operators` lists them.
+            value: what it compares with: a diagonal, by default 0, the main one; a row or a column; or a value of
+                this domain.
+            mask, structure, complement, replace, accum, out: how it writes; see `trowelheath.objects`.
+            transpose: whether this matrix is read with its rows as columns. The test reads it so too.
+
+        Raises:
+            DomainMismatch: the output, the matrix and the accumulator are not of one domain.
+            DimensionMismatch: the matrix, the output and the mask are not all of the same dimensions.
+            TypeError: there is no value though the test needs one, or it is not of the matrix's domain.
+            ValueError: a diagonal is not from -4,294,967,295 to 4,294,967,295.
+            IndexError: a row or a column is not from 0 to 2**64 - 1.
+            OverflowError: a number is not from 0 to 2**64 - 1.
+        """
+        term = self._test(test, value)
+        bits = descriptor(replace=replace, complement=complement, structure=structure, transpose=transpose)
+        return self._write(
+            "select",
+            f"trb_matrix_{term.name}",
+            term.before,
+            (),
+            None,
+            _Writing(mask, accum, bits),
+            Matrix,
+            out,
+            lambda: self._pass.matrix(*self._shape_read(transpose), self.dtype),
+            term.after,
+        )
+
+    def kronecker(
+        self,
+        other: Union[Matrix, Transposed],
+        operator: Optional[str] = None,
+        *,
+        mask: Optional[Matrix] = None,
+        structure: bool = False,
+        complement: bool = False,
+        replace: bool = False,
+        accum: Optional[str] = None,
+        transpose: bool = False,
+        transpose_second: bool = False,
+        out: Optional[Matrix] = None,
+    ) -> Matrix:
+        """The Kronecker product of two matrices: `out<mask> = accum(out, kron(self, other))`.
+
+        For each value at (i, j) of this matrix and each at (p, q) of the other one, of r rows and c columns, it has
+        the operator of the two at row i * r + p and column j * c + q, and nothing elsewhere.
+
+        Args:
+            other: the second matrix.
+            operator: a binary operator, by default "times", or "land" of truth values.
+            mask, structure, complement, replace, accum, out: how it writes; see `trowelheath.objects`.
+            transpose: whether this matrix is read with its rows as columns.
+            transpose_second: whether the second matrix is, as in `A.kronecker(B.T)`.
+
+        Raises:
+            DomainMismatch: the output, the inputs, the operator and the accumulator are not of one domain.
+            DimensionMismatch: the output has not the products of the rows and of the columns of the inputs, or the
+                mask not the dimensions of the output.
+            InvalidValue: there is no `out`, and a product of the rows or of the columns is above 4,294,967,295.
+        """
+        named = semiring_parts(self._domain.semiring)[1] if operator is None else operator
+        number = operator_number(named)
+        second, turned = _as_stored(other, transpose_second)
+        self._number_of(second, Matrix, "the second input")
+        bits = descriptor(
+            replace=replace,
+            complement=complement,
+            structure=structure,
+            transpose=transpose,
+            transpose_second=turned,
+        )
+
+        def new() -> Matrix:
+            nrows, ncols = self._shape_read(transpose)
+            its_nrows, its_ncols = second.using(self._pass)._shape_read(turned)
+            return self._pass.matrix(nrows * its_nrows, ncols * its_ncols, self.dtype)
+
+        return self._write(
+            "kronecker",
+            "trb_matrix_kronecker",
+            (number,),
+            (("operator", named),),
+            second,
+            _Writing(mask, accum, bits),
+            Matrix,
+            out,
+            new,
+        )
+
+    def _shape_read(self, transpose: bool) -> Tuple[int, int]:
+        """The numbers of rows and of columns that an operation reads."""
+        nrows, ncols = self.shape
+        return (ncols, nrows) if transpose else (nrows, ncols)
 
     def _rows_read(self, transpose: bool) -> int:
         """The number of rows that an operation reads."""
@@ -1356,7 +1638,7 @@ class Vector(Object):
 
     def vxm(
         self,
-        matrix: Matrix,
+        matrix: Union[Matrix, Transposed],
         semiring: Optional[str] = None,
         *,
         mask: Optional[Vector] = None,
@@ -1364,19 +1646,21 @@ class Vector(Object):
         complement: bool = False,
         replace: bool = False,
         accum: Optional[str] = None,
+        transpose_second: bool = False,
         out: Optional[Vector] = None,
     ) -> Vector:
         """The product of this vector and a matrix: `out<mask> = accum(out, self * matrix)`.
 
         At index j it has the operator of the vector's value and each value of column j, where both are stored,
         joined by the monoid, and nothing where there is no such pair. So a search goes from its front along the
-        edges of a graph. A product with the transposed matrix is `Matrix.mxv`, where the operator has the matrix's
-        value first.
+        edges of a graph. `Matrix.mxv` joins the same pairs as a product with the transposed matrix, and there the
+        operator has the matrix's value first.
 
         Args:
             matrix: the matrix.
             semiring: the monoid and the operator, by default "plus.times", or "lor.land" of truth values.
             mask, structure, complement, replace, accum, out: how it writes; see `trowelheath.objects`.
+            transpose_second: whether the matrix is read with its rows as columns, as in `u.vxm(A.T)`.
 
         Raises:
             DomainMismatch: the output, the inputs, the semiring and the accumulator are not of one domain.
@@ -1385,18 +1669,19 @@ class Vector(Object):
         """
         named = self._domain.semiring if semiring is None else semiring
         numbers = semiring_numbers(named)
-        self._number_of(matrix, Matrix, "the second input")
-        bits = descriptor(replace=replace, complement=complement, structure=structure)
+        second, turned = _as_stored(matrix, transpose_second)
+        self._number_of(second, Matrix, "the second input")
+        bits = descriptor(replace=replace, complement=complement, structure=structure, transpose_second=turned)
         return self._write(
             "vxm",
             "trb_vxm",
             numbers,
             _of_semiring(named),
-            matrix,
+            second,
             _Writing(mask, accum, bits),
             Vector,
             out,
-            lambda: self._pass.vector(matrix.using(self._pass).ncols, self.dtype),
+            lambda: self._pass.vector(second.using(self._pass)._rows_read(not turned), self.dtype),
         )
 
     def __matmul__(self, other: Any) -> Any:
@@ -1487,9 +1772,130 @@ class Vector(Object):
             lambda: self._pass.vector(self.size, self.dtype),
         )
 
+    def apply(
+        self,
+        operator: str,
+        right: Optional[Value] = None,
+        *,
+        left: Optional[Value] = None,
+        mask: Optional[Vector] = None,
+        structure: bool = False,
+        complement: bool = False,
+        replace: bool = False,
+        accum: Optional[str] = None,
+        out: Optional[Vector] = None,
+    ) -> Vector:
+        """A function of each value: `out<mask> = accum(out, f(self))`.
+
+        Where this vector stores a value it has the function of that: `u.apply("ainv")` its negative,
+        `u.apply("minus", 1)` what is left of it without 1, and `u.apply("minus", left=9)` what 9 is without it.
+
+        Args:
+            operator: a unary operator, as "ainv", or a binary one, as "minus", with one of the two:
+            right: the value on the right of a binary operator.
+            left: the value on its left.
+            mask, structure, complement, replace, accum, out: how it writes; see `trowelheath.objects`.
+
+        Raises:
+            DomainMismatch: the output, the vector, the operator and the accumulator are not of one domain.
+            DimensionMismatch: the vector, the output and the mask are not all of one size.
+            TypeError: a unary operator is given `right` or `left`, or a binary one neither or both; or the value is
+                not of the vector's domain.
+            OverflowError: a number is not from 0 to 2**64 - 1.
+        """
+        function = self._function(operator, right, left)
+        how = _Writing(mask, accum, descriptor(replace=replace, complement=complement, structure=structure))
+        return self._write(
+            "apply",
+            f"trb_vector_{function.name}",
+            function.before,
+            (("operator", operator),),
+            None,
+            how,
+            Vector,
+            out,
+            lambda: self._pass.vector(self.size, self.dtype),
+            function.after,
+        )
+
+    def select(
+        self,
+        test: str,
+        value: Optional[Value] = None,
+        *,
+        mask: Optional[Vector] = None,
+        structure: bool = False,
+        complement: bool = False,
+        replace: bool = False,
+        accum: Optional[str] = None,
+        out: Optional[Vector] = None,
+    ) -> Vector:
+        """The entries that pass a test: `out<mask> = accum(out, those of self that pass)`.
+
+        The vector is read as a column: `u.select("rowle", 2)` has those at the indices 0 to 2, and
+        `u.select("valuege", 3)` those of 3 or more.
+
+        Args:
+            test: a test of places or of values; `trowelheath.operators` lists them.
+            value: what it compares with: a diagonal, by default 0, the main one; a row or a column; or a value of
+                this domain.
+            mask, structure, complement, replace, accum, out: how it writes; see `trowelheath.objects`.
+
+        Raises:
+            DomainMismatch: the output, the vector and the accumulator are not of one domain.
+            DimensionMismatch: the vector, the output and the mask are not all of one size.
+            TypeError: there is no value though the test needs one, or it is not of the vector's domain.
+            ValueError: a diagonal is not from -4,294,967,295 to 4,294,967,295.
+            IndexError: a row or a column is not from 0 to 2**64 - 1.
+            OverflowError: a number is not from 0 to 2**64 - 1.
+        """
+        term = self._test(test, value)
+        how = _Writing(mask, accum, descriptor(replace=replace, complement=complement, structure=structure))
+        return self._write(
+            "select",
+            f"trb_vector_{term.name}",
+            term.before,
+            (),
+            None,
+            how,
+            Vector,
+            out,
+            lambda: self._pass.vector(self.size, self.dtype),
+            term.after,
+        )
+
+    def diag(self, k: SupportsIndex = 0) -> Matrix:
+        """A new matrix with the entries of this vector on a diagonal, and nothing elsewhere.
+
+        It is square, and has as many rows as the vector is long and the diagonal is from the main one. It takes one
+        call of the room.
+
+        Args:
+            k: the diagonal: 0 the main one, so far above it, or with a minus so far below it.
+
+        Raises:
+            InvalidValue: the matrix would have more than 4,294,967,295 rows.
+            TypeError: the diagonal is no whole number.
+            ValueError: it is not from -4,294,967,295 to 4,294,967,295.
+        """
+        diagonal = convert.diagonal(k)
+        shape = self._life.shape
+        wanted = None if shape is None else (shape[0] + abs(diagonal),) * 2
+        out = ctypes.c_uint32()
+        self._pass._change(
+            "trb_matrix_diag",
+            ctypes.byref(out),
+            self._number,
+            diagonal,
+            tell=lambda code: _tell.of_diagonal(code, self, diagonal),
+        )
+        made = self._pass._made(Matrix, out.value, self._domain, wanted)
+        made._life.entries, made._life.work = self._life.entries, self._life.work
+        return made
+
 
 class Transposed:
-    """A matrix that is read with its rows as columns, as `A.T`: the first input of an operation.
+    """A matrix that is read with its rows as columns, as `A.T`: an input of an operation.
 
     It is no matrix of the store, takes no room, and reads what the matrix stores when it is used.
     """
@@ -1531,14 +1937,9 @@ class Transposed:
 
     def dup(self) -> Matrix:
         """A new matrix of these rows and columns. It takes two calls of the room."""
-        matrix = self._matrix
-        made = matrix.pass_.matrix(*self.shape, matrix.dtype)
-        with _freed_on_failure(made):
-            # The union with nothing.
-            first = "first" if matrix.dtype is int else "first_bool"
-            return matrix.ewise_add(made, first, transpose=True, out=made)
+        return self._matrix.transpose()
 
-    def mxm(self, other: Matrix, semiring: Optional[str] = None, **how: Any) -> Matrix:
+    def mxm(self, other: Union[Matrix, Transposed], semiring: Optional[str] = None, **how: Any) -> Matrix:
         """As `Matrix.mxm` with `transpose`."""
         return self._matrix.mxm(other, semiring, transpose=True, **how)
 
@@ -1546,11 +1947,11 @@ class Transposed:
         """As `Matrix.mxv` with `transpose`."""
         return self._matrix.mxv(vector, semiring, transpose=True, **how)
 
-    def ewise_add(self, other: Matrix, operator: str, **how: Any) -> Matrix:
+    def ewise_add(self, other: Union[Matrix, Transposed], operator: str, **how: Any) -> Matrix:
         """As `Matrix.ewise_add` with `transpose`."""
         return self._matrix.ewise_add(other, operator, transpose=True, **how)
 
-    def ewise_mult(self, other: Matrix, operator: str, **how: Any) -> Matrix:
+    def ewise_mult(self, other: Union[Matrix, Transposed], operator: str, **how: Any) -> Matrix:
         """As `Matrix.ewise_mult` with `transpose`."""
         return self._matrix.ewise_mult(other, operator, transpose=True, **how)
 
@@ -1558,33 +1959,62 @@ class Transposed:
         """As `Matrix.reduce_rows` with `transpose`: the columns of the matrix, joined."""
         return self._matrix.reduce_rows(monoid, transpose=True, **how)
 
+    def transpose(self, **how: Any) -> Matrix:
+        """As `Matrix.transpose` with `transpose`: the matrix is turned twice, and written as it is."""
+        return self._matrix.transpose(transpose=True, **how)
+
+    def apply(self, operator: str, right: Optional[Value] = None, **how: Any) -> Matrix:
+        """As `Matrix.apply` with `transpose`."""
+        return self._matrix.apply(operator, right, transpose=True, **how)
+
+    def select(self, test: str, value: Optional[Value] = None, **how: Any) -> Matrix:
+        """As `Matrix.select` with `transpose`."""
+        return self._matrix.select(test, value, transpose=True, **how)
+
+    def kronecker(self, other: Union[Matrix, Transposed], operator: Optional[str] = None, **how: Any) -> Matrix:
+        """As `Matrix.kronecker` with `transpose`."""
+        return self._matrix.kronecker(other, operator, transpose=True, **how)
+
     def __matmul__(self, other: Any) -> Any:
         """`A.T @ B` is `A.T.mxm(B)`, and `A.T @ u` is `A.T.mxv(u)`."""
         if isinstance(other, (Matrix, Transposed)):
-            return self.mxm(other)  # type: ignore[arg-type]
+            return self.mxm(other)
         if isinstance(other, Vector):
             return self.mxv(other)
         return self._matrix._no_sign(other)
 
     def __rmatmul__(self, other: Any) -> Any:
-        """Nothing: `u @ A.T` is of vectors of the store, and a second input is not read transposed."""
+        """Nothing: `u @ A.T` is of vectors of the store alone."""
         return self._matrix._no_sign(other)
 
     def __add__(self, other: Any) -> Any:
         """`A.T + B` is `A.T.ewise_add(B, "plus")`, of numbers."""
         if not isinstance(other, (Matrix, Transposed)):
             return self._matrix._no_sign(other)
-        return self.ewise_add(other, _operator_of_sign(self._matrix, "+"))  # type: ignore[arg-type]
+        return self.ewise_add(other, _operator_of_sign(self._matrix, "+"))
 
     def __mul__(self, other: Any) -> Any:
         """`A.T * B` is `A.T.ewise_mult(B, "times")`, of numbers."""
         if not isinstance(other, (Matrix, Transposed)):
             return self._matrix._no_sign(other)
-        return self.ewise_mult(other, _operator_of_sign(self._matrix, "*"))  # type: ignore[arg-type]
+        return self.ewise_mult(other, _operator_of_sign(self._matrix, "*"))
 
     def __array__(self, *arguments: Any, **options: Any) -> NoReturn:
         """Raises `TypeError`, as of a matrix."""
         raise TypeError(self._matrix._no_array())
+
+
+def _as_stored(other: Any, transpose: bool) -> Tuple[Any, bool]:
+    """A second input as the matrix that is stored, and whether that is read with its rows as columns."""
+    return (other.T, not transpose) if isinstance(other, Transposed) else (other, bool(transpose))
+
+
+def _checked(what: str, check: Callable[[Any], Checked], x: Any) -> Checked:
+    """What the check makes of an argument. What it raises names the argument."""
+    try:
+        return check(x)
+    except (TypeError, ValueError, IndexError, OverflowError) as fault:
+        raise type(fault)(f"{what}: {fault}") from None
 
 
 def _operator_of_sign(item: Object, sign: str) -> str:

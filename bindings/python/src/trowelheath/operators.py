@@ -1,4 +1,4 @@
-"""Domains, operators, monoids, semirings and descriptors, by their names.
+"""Domains, operators, monoids, semirings, tests and descriptors, by their names.
 
 | Operator | Domain | Of two values | Monoid, with its identity |
 |---|---|---|---|
@@ -19,6 +19,28 @@
 A semiring is a monoid and an operator of one domain with a dot or an underscore between them: `"min.plus"`, or
 `"min_plus"`, adds along a path and takes the least over all paths.
 
+| Unary operator | Domain | Of a value |
+|---|---|---|
+| `identity_bool` | bool | the value |
+| `lnot` | bool | true where it is false |
+| `identity` | int | the value |
+| `ainv` | int | the negative, modulo 2**64 |
+| `bnot` | int | the complement of all 64 bits |
+
+A test says which entries stay. It compares the place or the value of each with a number or a value x:
+
+| Test | What stays, of row i, column j and value a |
+|---|---|
+| `tril`, `triu` | on the diagonal x and below it: j - i <= x; on it and above it: j - i >= x |
+| `diag`, `offdiag` | on the diagonal x alone; all but that |
+| `rowle`, `rowgt` | i <= x; i > x |
+| `colle`, `colgt` | j <= x; j > x |
+| `valueeq`, `valuene` | a == x; a != x |
+| `valuelt`, `valuele`, `valuegt`, `valuege` | a < x; a <= x; a > x; a >= x; `False` is less than `True` |
+
+A diagonal is counted from the main one, 0: those above it are 1, 2 and so on, and those below it -1, -2 and so on. A
+vector is read as a column: its index i is row i of column 0.
+
 A domain is named by a type of Python, `int` or `bool`, or as numpy does it: `"uint64"`, `numpy.uint64`, `"bool"`,
 `numpy.bool_`, or a `numpy.dtype` of these.
 """
@@ -30,7 +52,7 @@ import sys
 from types import MappingProxyType
 from typing import Any, Mapping, NamedTuple, Tuple
 
-__all__ = ["MONOIDS", "OPERATORS", "Domain", "domain_of"]
+__all__ = ["MONOIDS", "OPERATORS", "TESTS", "UNARY_OPERATORS", "Domain", "domain_of"]
 
 
 class Domain(NamedTuple):
@@ -79,6 +101,31 @@ MONOIDS: Mapping[str, int] = MappingProxyType(
 )
 """The operators that are monoids, each with its number in the library."""
 
+UNARY_OPERATORS: Mapping[str, int] = MappingProxyType(
+    {"identity_bool": 1, "lnot": 2, "identity": 3, "ainv": 4, "bnot": 5}
+)
+"""The unary operators, each with its number in the library."""
+
+TESTS: Mapping[str, int] = MappingProxyType(
+    {
+        "tril": 1,
+        "triu": 2,
+        "diag": 3,
+        "offdiag": 4,
+        "rowle": 5,
+        "rowgt": 6,
+        "colle": 7,
+        "colgt": 8,
+        "valueeq": 9,
+        "valuene": 10,
+        "valuelt": 11,
+        "valuele": 12,
+        "valuegt": 13,
+        "valuege": 14,
+    }
+)
+"""The tests, each with its number in the library."""
+
 WAIT_MODES: Mapping[str, int] = MappingProxyType({"complete": 0, "materialize": 1})
 
 NO_MASK = 0xFFFF_FFFF
@@ -88,6 +135,7 @@ _REPLACE = 1
 _COMPLEMENT = 2
 _STRUCTURE = 4
 TRANSPOSE = 8
+TRANSPOSE_SECOND = 16
 
 
 def domain_of(dtype: Any) -> Domain:
@@ -107,6 +155,8 @@ def domain_of(dtype: Any) -> Domain:
 
 def domain_of_operator(name: str) -> str:
     """The domain of an operator, by its name: "bool" or "uint64"."""
+    if name in UNARY_OPERATORS:
+        return BOOL.suffix if UNARY_OPERATORS[name] <= UNARY_OPERATORS["lnot"] else UINT64.suffix
     return BOOL.suffix if OPERATORS[name] <= OPERATORS["second_bool"] else UINT64.suffix
 
 
@@ -125,6 +175,24 @@ def operator_number(name: str) -> int:
 def monoid_number(name: str) -> int:
     """The number of a monoid. `ValueError` where there is none of this name."""
     return _number_of(name, MONOIDS, "monoid")
+
+
+def is_unary(name: str) -> bool:
+    """Whether an operator is unary, and not binary. `ValueError` where there is none of this name."""
+    if isinstance(name, str) and name in UNARY_OPERATORS:
+        return True
+    _number_of(name, {**UNARY_OPERATORS, **OPERATORS}, "operator")
+    return False
+
+
+def is_of_diagonals(test: str) -> bool:
+    """Whether a test compares with a diagonal. `ValueError` where there is none of this name."""
+    return _number_of(test, TESTS, "test") <= TESTS["offdiag"]
+
+
+def is_of_values(test: str) -> bool:
+    """Whether a test compares with a value. `ValueError` where there is none of this name."""
+    return _number_of(test, TESTS, "test") >= TESTS["valueeq"]
 
 
 def wait_mode_number(name: str) -> int:
@@ -153,11 +221,14 @@ def semiring_parts(name: str) -> Tuple[str, str]:
     return monoid, operator
 
 
-def descriptor(*, replace: bool, complement: bool, structure: bool, transpose: bool = False) -> int:
+def descriptor(
+    *, replace: bool, complement: bool, structure: bool, transpose: bool = False, transpose_second: bool = False
+) -> int:
     """The bits of a descriptor."""
     return (
         (_REPLACE if replace else 0)
         | (_COMPLEMENT if complement else 0)
         | (_STRUCTURE if structure else 0)
         | (TRANSPOSE if transpose else 0)
+        | (TRANSPOSE_SECOND if transpose_second else 0)
     )

@@ -114,6 +114,8 @@ class _Core:
             # A row of the second matrix for each entry of the first one, and rows are not alike: long ones come often.
             work = min(16 * entries * others // inner, entries * columns)
             found = work
+        elif kind == "kronecker":
+            found = work = entries * others
         else:
             work = entries + others
             found = min(entries, others) if kind == "ewise_mult" else work

@@ -7,6 +7,7 @@ mod objects;
 mod operations;
 mod passes;
 mod refusals;
+mod terms;
 mod threads;
 
 use trowelheath::{Element, Matrix, Object, Pass, Store, Vector};

@@ -3,7 +3,9 @@
 //! Three are left out. `DomainMismatch` is a program that does not compile. `OutOfMemory` and `Panic` do not come where memory is there.
 
 use crate::{matrix, open, stored, vector};
-use trowelheath::{Descriptor, Error, Monoid, Object, Op, Pass, Semiring, Store, Wait};
+use trowelheath::{
+    Descriptor, Error, Monoid, Object, Op, Pass, Semiring, Store, Test, UnaryOp, Wait,
+};
 
 /// The refusals of all methods that take one object and an index of it, in turn.
 fn calls_on<O: Object>(
@@ -87,6 +89,19 @@ fn a_freed_operand_is_refused() {
         pass.mxm(a, s, gone, a, d).err(),
         pass.mxm(a, s, a, gone, d).err(),
         pass.mxm(a, s, a, a, masked).err(),
+        pass.transpose(gone, a, d).err(),
+        pass.transpose(a, gone, d).err(),
+        pass.transpose(a, a, masked).err(),
+        pass.apply(gone, UnaryOp::AINV, a, d).err(),
+        pass.apply(a, UnaryOp::AINV, gone, d).err(),
+        pass.apply(a, UnaryOp::AINV, a, masked).err(),
+        pass.select(gone, Test::Tril(0), a, d).err(),
+        pass.select(a, Test::Tril(0), gone, d).err(),
+        pass.select(a, Test::Tril(0), a, masked).err(),
+        pass.kronecker(gone, Op::PLUS, a, a, d).err(),
+        pass.kronecker(a, Op::PLUS, gone, a, d).err(),
+        pass.kronecker(a, Op::PLUS, a, gone, d).err(),
+        pass.kronecker(a, Op::PLUS, a, a, masked).err(),
     ];
     assert_all(refusals, Error::UninitializedObject);
     let d = Descriptor::new();
@@ -111,6 +126,13 @@ fn a_freed_operand_is_refused() {
         pass.reduce_rows(lost, Monoid::PLUS, a, d).err(),
         pass.reduce_rows(v, Monoid::PLUS, gone, d).err(),
         pass.reduce_rows(v, Monoid::PLUS, a, masked).err(),
+        pass.apply(lost, UnaryOp::AINV, v, d).err(),
+        pass.apply(v, UnaryOp::AINV, lost, d).err(),
+        pass.apply(v, UnaryOp::AINV, v, masked).err(),
+        pass.select(lost, Test::Tril(0), v, d).err(),
+        pass.select(v, Test::Tril(0), lost, d).err(),
+        pass.select(v, Test::Tril(0), v, masked).err(),
+        pass.diag(lost, 0).err(),
     ];
     assert_all(refusals, Error::UninitializedObject);
     assert_eq!(pass.facts().unwrap().known, known);
@@ -187,6 +209,7 @@ fn matrices_that_do_not_fit_together_are_a_dimension_mismatch() {
     let wide = pass.new_matrix::<u64>(2, 3).unwrap();
     let high = pass.new_matrix::<u64>(3, 2).unwrap();
     let square = pass.new_matrix::<u64>(2, 2).unwrap();
+    let one = pass.new_matrix::<u64>(1, 1).unwrap();
     let masked = Descriptor::new().mask(high);
     let refusals = vec![
         pass.ewise_add(wide, Op::PLUS, high, wide, d).err(),
@@ -203,11 +226,30 @@ fn matrices_that_do_not_fit_together_are_a_dimension_mismatch() {
         pass.mxm(square, s, high, high, d).err(),
         pass.mxm(square, s, wide, high, masked).err(),
         pass.mxm(square, s, wide, high, d.tran()).err(),
+        pass.mxm(square, s, wide, high, d.tran1()).err(),
+        pass.transpose(wide, wide, d).err(),
+        pass.transpose(wide, high, d.tran()).err(),
+        pass.transpose(wide, high, masked).err(),
+        pass.apply(wide, UnaryOp::AINV, high, d).err(),
+        pass.apply(wide, UnaryOp::AINV, wide, d.tran()).err(),
+        pass.apply(wide, UnaryOp::AINV, wide, masked).err(),
+        pass.select(wide, Test::Tril(0), high, d).err(),
+        pass.select(wide, Test::Tril(0), wide, d.tran()).err(),
+        pass.select(wide, Test::Tril(0), wide, masked).err(),
+        pass.kronecker(wide, Op::PLUS, wide, one, d.tran()).err(),
+        pass.kronecker(wide, Op::PLUS, one, wide, d.tran1()).err(),
+        pass.kronecker(wide, Op::PLUS, one, one, d).err(),
+        pass.kronecker(wide, Op::PLUS, one, wide, masked).err(),
     ];
     assert_all(refusals, Error::DimensionMismatch);
     pass.mxm(square, s, wide, high, d).unwrap();
     pass.ewise_add(wide, Op::PLUS, high, wide, d.tran())
         .unwrap();
+    pass.ewise_add(wide, Op::PLUS, wide, high, d.tran1())
+        .unwrap();
+    pass.mxm(square, s, wide, wide, d.tran1()).unwrap();
+    pass.transpose(wide, high, d).unwrap();
+    pass.kronecker(wide, Op::PLUS, one, wide, d).unwrap();
 }
 
 #[test]
@@ -239,10 +281,16 @@ fn vectors_that_do_not_fit_together_are_a_dimension_mismatch() {
         pass.reduce_rows(three, Monoid::PLUS, wide, d).err(),
         pass.reduce_rows(two, Monoid::PLUS, wide, d.tran()).err(),
         pass.reduce_rows(two, Monoid::PLUS, wide, masked).err(),
+        pass.vxm(three, s, two, wide, d.tran1()).err(),
+        pass.apply(two, UnaryOp::AINV, three, d).err(),
+        pass.apply(two, UnaryOp::AINV, two, masked).err(),
+        pass.select(two, Test::Tril(0), three, d).err(),
+        pass.select(two, Test::Tril(0), two, masked).err(),
     ];
     assert_all(refusals, Error::DimensionMismatch);
     pass.mxv(two, s, wide, three, d).unwrap();
     pass.vxm(three, s, two, wide, d).unwrap();
+    pass.vxm(two, s, three, wide, d.tran1()).unwrap();
     pass.reduce_rows(two, Monoid::PLUS, wide, d).unwrap();
 }
 
@@ -288,9 +336,10 @@ fn a_list_with_an_index_out_of_bounds_is_refused_whole() {
 
 #[test]
 fn a_full_store_refuses_changes_and_answers_reads() {
-    let [mut pass] = Store::open_array(4).unwrap();
+    let [mut pass] = Store::open_array(5).unwrap();
     let a = matrix(&mut pass, (2, 2), &[(0, 1, 5u64)]);
     let v = vector(&mut pass, 2, &[(1, 6u64)]);
+    let one = pass.new_matrix::<u64>(1, 1).unwrap();
     assert_eq!(pass.facts().unwrap().room_left, 0);
     let d = Descriptor::new();
     let s = Semiring::PLUS_TIMES;
@@ -312,6 +361,13 @@ fn a_full_store_refuses_changes_and_answers_reads() {
         pass.mxv(v, s, a, v, d).err(),
         pass.vxm(v, s, v, a, d).err(),
         pass.reduce_rows(v, Monoid::PLUS, a, d).err(),
+        pass.transpose(a, a, m).err(),
+        pass.apply(a, UnaryOp::AINV, a, m).err(),
+        pass.apply(v, UnaryOp::AINV, v, d).err(),
+        pass.select(a, Test::Tril(0), a, m).err(),
+        pass.select(v, Test::Tril(0), v, d).err(),
+        pass.kronecker(a, Op::PLUS, one, a, m).err(),
+        pass.diag(v, 0).err(),
     ];
     assert_all(refusals, Error::OrderFull);
     // What else refuses a call is told first.
@@ -370,6 +426,19 @@ fn an_object_of_another_store_is_refused() {
         here.mxm(a, s, b, a, d).err(),
         here.mxm(a, s, a, b, d).err(),
         here.mxm(a, s, a, a, masked).err(),
+        here.transpose(b, a, d).err(),
+        here.transpose(a, b, d).err(),
+        here.transpose(a, a, masked).err(),
+        here.apply(b, UnaryOp::AINV, a, d).err(),
+        here.apply(a, UnaryOp::AINV, b, d).err(),
+        here.apply(a, UnaryOp::AINV, a, masked).err(),
+        here.select(b, Test::Tril(0), a, d).err(),
+        here.select(a, Test::Tril(0), b, d).err(),
+        here.select(a, Test::Tril(0), a, masked).err(),
+        here.kronecker(b, Op::PLUS, a, a, d).err(),
+        here.kronecker(a, Op::PLUS, b, a, d).err(),
+        here.kronecker(a, Op::PLUS, a, b, d).err(),
+        here.kronecker(a, Op::PLUS, a, a, masked).err(),
     ];
     assert_all(refusals, refused);
     let d = Descriptor::new();
@@ -386,6 +455,13 @@ fn an_object_of_another_store_is_refused() {
         here.reduce_rows(w, Monoid::PLUS, a, d).err(),
         here.reduce_rows(v, Monoid::PLUS, b, d).err(),
         here.reduce_rows(v, Monoid::PLUS, a, masked).err(),
+        here.apply(w, UnaryOp::AINV, v, d).err(),
+        here.apply(v, UnaryOp::AINV, w, d).err(),
+        here.apply(v, UnaryOp::AINV, v, masked).err(),
+        here.select(w, Test::Tril(0), v, d).err(),
+        here.select(v, Test::Tril(0), w, d).err(),
+        here.select(v, Test::Tril(0), v, masked).err(),
+        here.diag(w, 0).err(),
     ];
     assert_all(refusals, refused);
     assert_eq!(stored(&mut here, a), [(0, 0, 1)]);

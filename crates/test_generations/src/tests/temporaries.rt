@@ -23,6 +23,7 @@ const PLAIN: Descriptor = Descriptor {
     comp: false,
     replace: false,
     tran: false,
+    tran1: false,
 };
 
 const VECTOR: Call = Call::NewVector {

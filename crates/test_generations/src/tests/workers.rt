@@ -35,6 +35,7 @@ const PLAIN: Descriptor = Descriptor {
     comp: false,
     replace: false,
     tran: false,
+    tran1: false,
 };
 
 /// The call adds what `ones` stores to the sums.

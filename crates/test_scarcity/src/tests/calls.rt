@@ -7,9 +7,10 @@ use grb_script::{Command, NumberedCommand, read_script};
 use std::alloc::{AllocError, Global};
 use std::process::Abort;
 
-/// Makes vectors and matrices of size 4, one of each at a time: two of numbers, one of truth values, and an empty one of numbers. The calls
-/// that are tried stand after `finally`: each variant of a call, by `tran` too where that is read, and a wait in both of its modes.
-pub(super) const ALL: &str = "version 2
+/// Makes vectors and matrices of size 4, one of each at a time: two of numbers, one of truth values, and an empty one of numbers; and one
+/// of numbers of size 2. The calls that are tried stand after `finally`: each variant of a call, by `tran` and `tran1` too where they are
+/// read, with each kind of function and of test, and a wait in both of its modes.
+pub(super) const ALL: &str = "version 3
     vector u uint64 4
     matrix A uint64 4 4
     vector v uint64 4
@@ -18,6 +19,8 @@ pub(super) const ALL: &str = "version 2
     matrix M bool 4 4
     vector e uint64 4
     matrix E uint64 4 4
+    vector f uint64 2
+    matrix F uint64 2 2
     build u plus 3 1 0 2 3 3
     build A plus 3 1 1 0 2 2 3 1 3
     set v 0 4
@@ -30,6 +33,8 @@ pub(super) const ALL: &str = "version 2
     set M 2 3 true
     set e 1 9
     set E 1 1 9
+    set F 0 1 6
+    set F 1 0 2
     clear e
     clear E
     finally
@@ -62,6 +67,33 @@ pub(super) const ALL: &str = "version 2
     mxm E A B plus.times mask M tran
     reduce e A plus
     reduce e A plus tran
+    ewiseadd B A B times tran1
+    ewisemult E B B plus mask M tran tran1
+    vxm e u B plus.minus tran1
+    mxm E A B plus.times tran1
+    mxm E A B plus.times mask M tran tran1
+    transpose E B
+    transpose E B mask M accum plus tran
+    apply E B bnot mask M
+    apply E B ainv tran
+    apply E B 9 minus accum plus
+    apply E B 9 minus tran1
+    apply E B minus 1 mask M
+    apply E B minus 1 tran
+    select E B tril -1 mask M
+    select E B rowle 2 tran
+    select E B valuegt 6
+    select E B valuegt 6 accum plus tran
+    kronecker E F F times mask M
+    kronecker E F F minus accum plus tran
+    kronecker E F F minus tran1
+    apply e v bnot mask m
+    apply e v 9 minus accum plus
+    apply e v minus 1
+    select e v rowle 1 mask m
+    select e v valuegt 4 accum plus
+    diag G v 0
+    diag H v -2
     get v 2
     get B 2 3
     nvals v
@@ -77,13 +109,13 @@ pub(super) const ALL: &str = "version 2
 ";
 
 /// How many vectors, and how many matrices, it makes first.
-pub(super) const OBJECTS: u32 = 4;
+pub(super) const OBJECTS: u32 = 5;
 
-/// The size of each.
+/// The size of the largest.
 const SIZE: u64 = 4;
 
 /// What the names of a script stand for, in the order of their making: of a vector and a matrix in turn.
-const NAMED: [Object; 8] = [
+const NAMED: [Object; 10] = [
     Object::Vector(VectorId(0)),
     Object::Matrix(MatrixId(0)),
     Object::Vector(VectorId(1)),
@@ -92,6 +124,8 @@ const NAMED: [Object; 8] = [
     Object::Matrix(MatrixId(2)),
     Object::Vector(VectorId(3)),
     Object::Matrix(MatrixId(3)),
+    Object::Vector(VectorId(4)),
+    Object::Matrix(MatrixId(4)),
 ];
 
 /// The call of a statement. A load has none of its own.
@@ -146,7 +180,9 @@ pub(super) fn total_after(call: &Call) -> Call {
     match (call.output(), call) {
         (Some(Object::Matrix(a)), _) => Call::ReduceMatrix { a, monoid },
         (Some(Object::Vector(v)), _) => Call::ReduceVector { v, monoid },
-        (None, Call::NewMatrix { .. } | Call::DupMatrix { .. }) => Call::ReduceMatrix { a, monoid },
+        (None, Call::NewMatrix { .. } | Call::DupMatrix { .. } | Call::Diag { .. }) => {
+            Call::ReduceMatrix { a, monoid }
+        }
         _ => Call::ReduceVector { v, monoid },
     }
 }

@@ -34,6 +34,7 @@ const PLAIN: Descriptor = Descriptor {
     comp: false,
     replace: false,
     tran: false,
+    tran1: false,
 };
 
 /// A column and a row of 8 ones, and two matrices to which their product is added in turn.

@@ -246,17 +246,17 @@ fn sweep<R: Abort + Files + AllocGlobal + Print>(
 
 #[test]
 fn each_call_is_refused_in_turn(rt: HostRuntime) -> Result<(), Fail> {
-    sweep(&rt, Way::Call, 41)
+    sweep(&rt, Way::Call, 68)
 }
 
 #[test]
 fn each_list_of_one_call_is_refused_in_turn(rt: HostRuntime) -> Result<(), Fail> {
-    sweep(&rt, Way::List, 41)
+    sweep(&rt, Way::List, 68)
 }
 
 #[test]
 fn each_call_is_refused_in_turn_where_a_read_evaluates_it(rt: HostRuntime) -> Result<(), Fail> {
-    sweep(&rt, Way::Late, 39)
+    sweep(&rt, Way::Late, 66)
 }
 
 #[test]

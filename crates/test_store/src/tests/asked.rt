@@ -3,7 +3,7 @@ ghost use Rattle.grb_context.specs.Known.{IsPassOf};
 
 use grb_call::{Descriptor, MatrixId, MatrixTuples, Reply, VectorId, VectorTuples, WaitMode};
 use grb_context::{Context, Pass};
-use grb_core::{BinaryOp, Domain, Monoid, Refusal, Semiring, Value};
+use grb_core::{BinaryOp, Diagonal, Domain, Function, Monoid, Refusal, Semiring, Test, Value};
 use std::alloc::{AllocError, Global};
 
 pub(super) type Answer = Result<Reply, Refusal>;
@@ -27,6 +27,7 @@ pub(super) const PLAIN: Descriptor = Descriptor {
     comp: false,
     replace: false,
     tran: false,
+    tran1: false,
 };
 
 /// What an operation writes, its mask, its accumulator and its descriptor.
@@ -90,6 +91,13 @@ pub(super) enum Asked {
     Vxm(IntoVector, Monoid, BinaryOp, VectorId, MatrixId),
     Mxm(IntoMatrix, Monoid, BinaryOp, MatrixId, MatrixId),
     ReduceRows(IntoVector, Monoid, MatrixId),
+    Transpose(IntoMatrix, MatrixId),
+    ApplyMatrix(IntoMatrix, Function, MatrixId),
+    ApplyVector(IntoVector, Function, VectorId),
+    SelectMatrix(IntoMatrix, Test, MatrixId),
+    SelectVector(IntoVector, Test, VectorId),
+    Kronecker(IntoMatrix, BinaryOp, MatrixId, MatrixId),
+    Diag(VectorId, Diagonal),
     ReduceMatrix(MatrixId, Monoid),
     ReduceVector(VectorId, Monoid),
     WaitMatrix(MatrixId, WaitMode),
@@ -149,6 +157,32 @@ fn cells_by(alloc: Global, domain: Domain, rule: Rule) -> Result<MatrixTuples, A
     MatrixTuples::from_vec(tuples)
 }
 
+/// Makes an operation on the entries of one input, or a Kronecker product.
+fn operate_on_one(context: &Context, pass: &mut Pass, asked: Asked) -> Answer
+    requires { IsPassOf context.now pass.old }
+    ensures { IsPassOf context.now pass.new }
+{
+    match asked {
+        Asked::Transpose((c, mask, accum, d), a) => context.transpose(pass, c, mask, accum, a, d),
+        Asked::ApplyMatrix((c, mask, accum, d), f, a) => {
+            context.apply_matrix(pass, c, mask, accum, f, a, d)
+        }
+        Asked::ApplyVector((w, mask, accum, d), f, u) => {
+            context.apply_vector(pass, w, mask, accum, f, u, d)
+        }
+        Asked::SelectMatrix((c, mask, accum, d), test, a) => {
+            context.select_matrix(pass, c, mask, accum, test, a, d)
+        }
+        Asked::SelectVector((w, mask, accum, d), test, u) => {
+            context.select_vector(pass, w, mask, accum, test, u, d)
+        }
+        Asked::Kronecker((c, mask, accum, d), op, a, b) => {
+            context.kronecker(pass, c, mask, accum, op, a, b, d)
+        }
+        _ => Err(Refusal::Panic),
+    }
+}
+
 /// Makes an operation on several objects, or a total.
 fn operate(context: &Context, pass: &mut Pass, asked: Asked) -> Answer
     requires { IsPassOf context.now pass.old }
@@ -184,7 +218,7 @@ fn operate(context: &Context, pass: &mut Pass, asked: Asked) -> Answer
         }
         Asked::ReduceMatrix(a, monoid) => context.reduce_matrix(pass, a, monoid),
         Asked::ReduceVector(v, monoid) => context.reduce_vector(pass, v, monoid),
-        _ => Err(Refusal::Panic),
+        _ => operate_on_one(context, pass, asked),
     }
 }
 
@@ -233,6 +267,7 @@ pub(super) fn ask(alloc: Global, context: &Context, pass: &mut Pass, asked: Aske
         Asked::ClearVector(v) => context.clear_vector(pass, v),
         Asked::ResizeVector(v, size) => context.resize_vector(pass, v, size),
         Asked::DupVector(v) => context.dup_vector(pass, v),
+        Asked::Diag(v, diagonal) => context.diag(pass, v, diagonal),
         Asked::BuildVector(v, domain, list) => match values(alloc, domain, list) {
             Ok(tuples) => context.build_vector(pass, v, tuples, sum_of(domain)),
             Err(_) => Err(Refusal::OutOfMemory),

@@ -1,7 +1,7 @@
 //! Calls that are drawn by chance, for histories of small objects and of large ones.
 use crate::tests::asked::{Answer, Asked, FIRST, IntoMatrix, IntoVector, Rule, value_of};
 use grb_call::{Descriptor, MatrixId, Reply, VectorId, WaitMode};
-use grb_core::{BinaryOp, Domain, Monoid, Value};
+use grb_core::{BinaryOp, Diagonal, Domain, Function, Monoid, Test, UnaryOp, Value};
 
 /// Calls are on this many objects of a sort, those that were made last; so many are made first.
 const LAST: u32 = 8;
@@ -208,6 +208,7 @@ impl Draw {
             comp: self.below(2) == 0,
             replace: self.below(2) == 0,
             tran: self.below(2) == 0,
+            tran1: self.below(2) == 0,
         }
     }
 
@@ -289,6 +290,65 @@ impl Draw {
         }
     }
 
+    /// A function, now and then one with a value of the other domain.
+    fn function(&mut self) -> Function {
+        let (value, op) = (self.value(), self.op());
+        match (self.domain, self.below(8)) {
+            (_, 0 | 1) => Function::First(value, op),
+            (_, 2 | 3) => Function::Second(op, value),
+            (Domain::Bool, 4) => Function::Unary(UnaryOp::IdentityBool),
+            (Domain::Bool, _) => Function::Unary(UnaryOp::Lnot),
+            (Domain::Uint64, 4) => Function::Unary(UnaryOp::Identity),
+            (Domain::Uint64, 5) => Function::Unary(UnaryOp::Bnot),
+            (Domain::Uint64, _) => Function::Unary(UnaryOp::Ainv),
+        }
+    }
+
+    fn diagonal(&mut self) -> Diagonal {
+        let n = (self.below(4) & 3) as u32;
+        if self.below(2) == 0 {
+            Diagonal::Above(n)
+        } else {
+            Diagonal::Below(n)
+        }
+    }
+
+    fn test(&mut self) -> Test {
+        let (diagonal, value) = (self.diagonal(), self.value());
+        let n = self.below(6);
+        match self.below(14) {
+            0 => Test::Tril(diagonal),
+            1 => Test::Triu(diagonal),
+            2 => Test::Diag(diagonal),
+            3 => Test::Offdiag(diagonal),
+            4 => Test::RowLe(n),
+            5 => Test::RowGt(n),
+            6 => Test::ColLe(n),
+            7 => Test::ColGt(n),
+            8 => Test::ValueEq(value),
+            9 => Test::ValueNe(value),
+            10 => Test::ValueLt(value),
+            11 => Test::ValueLe(value),
+            12 => Test::ValueGt(value),
+            _ => Test::ValueGe(value),
+        }
+    }
+
+    /// An operation on the entries of one input, a Kronecker product, or a matrix that has a vector on a diagonal.
+    fn term(&mut self) -> Asked {
+        let (u, a, b) = (self.vector(), self.matrix(), self.matrix());
+        match self.below(8) {
+            0 => Asked::Transpose(self.into_matrix(), a),
+            1 => Asked::ApplyMatrix(self.into_matrix(), self.function(), a),
+            2 => Asked::ApplyVector(self.into_vector(), self.function(), u),
+            3 => Asked::SelectMatrix(self.into_matrix(), self.test(), a),
+            4 => Asked::SelectVector(self.into_vector(), self.test(), u),
+            5 => Asked::Kronecker(self.into_matrix(), self.op(), a, b),
+            6 if self.scale.size < 64 => Asked::Diag(u, self.diagonal()),
+            _ => Asked::Diag(u, Diagonal::Below(u32::MAX)),
+        }
+    }
+
     /// Fills one of the objects that were made first, or a vector that may be filled then.
     fn fill(&mut self) -> Asked {
         let number = self.fills.saturating_mul(2) % LAST;
@@ -319,10 +379,11 @@ impl Draw {
         if is_read {
             return self.read();
         }
-        match (self.below(6), self.scale.is_shared) {
+        match (self.below(7), self.scale.is_shared) {
             (0, _) | (1, true) => self.change_of_a_vector(),
             (2, _) | (3, true) => self.change_of_a_matrix(),
             (4, _) | (1, false) => self.ewise(),
+            (6, _) => self.term(),
             _ => self.product(),
         }
     }
@@ -335,7 +396,11 @@ impl Draw {
             (
                 Asked::EwiseAddMatrix((c, ..), ..)
                 | Asked::EwiseMultMatrix((c, ..), ..)
-                | Asked::Mxm((c, ..), ..),
+                | Asked::Mxm((c, ..), ..)
+                | Asked::Transpose((c, ..), ..)
+                | Asked::ApplyMatrix((c, ..), ..)
+                | Asked::SelectMatrix((c, ..), ..)
+                | Asked::Kronecker((c, ..), ..),
                 Ok(Reply::Done),
             ) => self.matrix_written = c,
             (
@@ -343,7 +408,9 @@ impl Draw {
                 | Asked::EwiseMultVector((w, ..), ..)
                 | Asked::Mxv((w, ..), ..)
                 | Asked::Vxm((w, ..), ..)
-                | Asked::ReduceRows((w, ..), ..),
+                | Asked::ReduceRows((w, ..), ..)
+                | Asked::ApplyVector((w, ..), ..)
+                | Asked::SelectVector((w, ..), ..),
                 Ok(Reply::Done),
             ) => self.vector_written = w,
             _ => {}

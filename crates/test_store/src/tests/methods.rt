@@ -5,12 +5,16 @@ use crate::tests::asked::{Answer, DONE, IntoMatrix, IntoVector, MADE, PLAIN};
 use crate::tests::rows::Step::Asks;
 use crate::tests::rows::{P, Row, run};
 use grb_call::{MatrixId, Reply, VectorId, WaitMode};
-use grb_core::{BinaryOp, Domain, Monoid, Value};
+use grb_core::{BinaryOp, Diagonal, Domain, Function, Monoid, Test, Value};
 use std::alloc::AllocError;
 
 const A: MatrixId = MatrixId(0);
 
 const B: MatrixId = MatrixId(1);
+
+const D: MatrixId = MatrixId(2);
+
+const E: MatrixId = MatrixId(3);
 
 const U: VectorId = VectorId(0);
 
@@ -19,6 +23,8 @@ const W: VectorId = VectorId(1);
 const X: VectorId = VectorId(2);
 
 const INTO_A: IntoMatrix = (A, None, None, PLAIN);
+
+const INTO_D: IntoMatrix = (D, None, None, PLAIN);
 
 const INTO_U: IntoVector = (U, None, None, PLAIN);
 
@@ -50,7 +56,7 @@ const IS_24: Answer = Ok(Reply::Value(Value::Uint64(24)));
 
 const TWO: Answer = Ok(Reply::Count(2));
 
-static METHODS: [Row; 45] = [
+static METHODS: [Row; 62] = [
     (P, Asks(NewMatrix(NUMBERS, 2, 3), Ok(Reply::MadeMatrix(A)))),
     (P, Asks(SizeMatrix(A), Ok(Reply::Dims(2, 3)))),
     (
@@ -116,16 +122,71 @@ static METHODS: [Row; 45] = [
         Asks(EwiseMultVector(INTO_U, BinaryOp::Times, U, U), DONE),
     ),
     (P, Asks(GetVector(U, 2), IS_4)),
+    // 400 and 4 are there
+    (
+        P,
+        Asks(
+            SelectVector(INTO_U, Test::ValueLe(Value::Uint64(4)), U),
+            DONE,
+        ),
+    ),
+    (P, Asks(NvalsVector(U), Ok(Reply::Count(1)))),
+    (
+        P,
+        Asks(
+            ApplyVector(
+                INTO_U,
+                Function::First(Value::Uint64(10), BinaryOp::Minus),
+                U,
+            ),
+            DONE,
+        ),
+    ),
+    (P, Asks(GetVector(U, 2), IS_6)),
+    // 6 in row 3, column 2 of four rows
+    (
+        P,
+        Asks(Diag(U, Diagonal::Below(1)), Ok(Reply::MadeMatrix(D))),
+    ),
+    (P, Asks(SizeMatrix(D), Ok(Reply::Dims(4, 4)))),
+    (P, Asks(GetMatrix(D, 3, 2), IS_6)),
+    (P, Asks(Transpose(INTO_D, D), DONE)),
+    (P, Asks(GetMatrix(D, 2, 3), IS_6)),
+    (
+        P,
+        Asks(
+            ApplyMatrix(
+                INTO_D,
+                Function::Second(BinaryOp::Minus, Value::Uint64(2)),
+                D,
+            ),
+            DONE,
+        ),
+    ),
+    (P, Asks(GetMatrix(D, 2, 3), IS_4)),
+    (P, Asks(NewMatrix(NUMBERS, 2, 2), Ok(Reply::MadeMatrix(E)))),
+    (P, Asks(SetMatrix(E, 1, 0, FOUR), DONE)),
+    // 4 in row 1, column 0 twice: in row 3, column 0
+    (P, Asks(Kronecker(INTO_D, BinaryOp::Plus, E, E), DONE)),
+    (P, Asks(GetMatrix(D, 3, 0), IS_8)),
+    (
+        P,
+        Asks(
+            SelectMatrix(INTO_D, Test::Triu(Diagonal::Above(0)), D),
+            DONE,
+        ),
+    ),
+    (P, Asks(NvalsMatrix(D), Ok(Reply::Count(0)))),
     (P, Asks(WaitMatrix(A, WaitMode::Complete), DONE)),
     (P, Asks(WaitVector(U, WaitMode::Materialize), DONE)),
     (P, Asks(ClearMatrix(B), DONE)),
     (P, Asks(ClearVector(W), DONE)),
     (P, Asks(FreeMatrix(B), DONE)),
     (P, Asks(FreeVector(W), DONE)),
-    (P, Asks(GetVector(U, 2), IS_4)),
+    (P, Asks(GetVector(U, 2), IS_6)),
 ];
 
 #[test]
 fn each_method_is_done(rt: HostRuntime) -> Result<(), AllocError> {
-    run(&rt, 32, &METHODS)
+    run(&rt, 48, &METHODS)
 }

@@ -1,6 +1,7 @@
 //! Operations by plain loops over tables: at each place the definition in words, with operators of its own. No code of the product is here.
+use crate::tests::plan::{domain_of, number_of};
 use grb_call::{Descriptor, Object};
-use grb_core::{BinaryOp, Domain, Monoid};
+use grb_core::{BinaryOp, Diagonal, Domain, Function, Monoid, Test, UnaryOp};
 use std::alloc::{AllocError, Global};
 
 /// An object: what it stores at each place, row by row, as a number. A vector has one column. Of truth values 0 is false and 1 is true.
@@ -69,6 +70,14 @@ pub(super) enum Way {
     Reversed(Monoid, BinaryOp),
     /// The sums of the rows of the first.
     Sums(Monoid),
+    /// The first.
+    Copied,
+    /// What a function makes of each number of the first.
+    Changed(Function),
+    /// The numbers of the first that pass.
+    Kept(Test),
+    /// Each number of the first with each of the second.
+    Crossed(BinaryOp),
 }
 
 /// An operation on the objects of a store. One on a vector and a matrix has the matrix as its first input.
@@ -82,7 +91,73 @@ pub(super) struct Operation {
     pub(super) first: Object,
     /// Whether the rows and columns of the first input change places.
     pub(super) is_turned: bool,
+    /// The second input, which is the first where an operation has one alone.
     pub(super) second: Object,
+    pub(super) is_second_turned: bool,
+}
+
+/// How many columns a diagonal is to the right of the main one, and how many rows below it.
+pub(super) fn shift(diagonal: Diagonal) -> (u64, u64) {
+    match diagonal {
+        Diagonal::Above(n) => (u64::from(n), 0),
+        Diagonal::Below(n) => (0, u64::from(n)),
+    }
+}
+
+/// What a function makes of a number; of truth values 0 is false and 1 is true.
+fn changed(f: Function, x: u64) -> u64 {
+    match f {
+        Function::Unary(UnaryOp::Identity | UnaryOp::IdentityBool) => x,
+        Function::Unary(UnaryOp::Ainv) => 0u64.wrapping_sub(x),
+        Function::Unary(UnaryOp::Bnot) => !x,
+        Function::Unary(UnaryOp::Lnot) => u64::from(x == 0),
+        Function::First(value, op) => applied(op, number_of(value), x),
+        Function::Second(op, value) => applied(op, x, number_of(value)),
+    }
+}
+
+/// Whether a number in a row and a column passes.
+fn is_kept(test: Test, i: u64, j: u64, x: u64) -> bool {
+    match test {
+        Test::Tril(d) => j.saturating_add(shift(d).1) <= i.saturating_add(shift(d).0),
+        Test::Triu(d) => i.saturating_add(shift(d).0) <= j.saturating_add(shift(d).1),
+        Test::Diag(d) => i.saturating_add(shift(d).0) == j.saturating_add(shift(d).1),
+        Test::Offdiag(d) => i.saturating_add(shift(d).0) != j.saturating_add(shift(d).1),
+        Test::RowLe(n) => i <= n,
+        Test::RowGt(n) => i > n,
+        Test::ColLe(n) => j <= n,
+        Test::ColGt(n) => j > n,
+        Test::ValueEq(value) => x == number_of(value),
+        Test::ValueNe(value) => x != number_of(value),
+        Test::ValueLt(value) => x < number_of(value),
+        Test::ValueLe(value) => x <= number_of(value),
+        Test::ValueGt(value) => x > number_of(value),
+        Test::ValueGe(value) => x >= number_of(value),
+    }
+}
+
+/// Whether what a function brings is of the domain.
+fn is_function_of(f: Function, domain: Domain) -> bool {
+    match f {
+        Function::Unary(UnaryOp::IdentityBool | UnaryOp::Lnot) => domain == Domain::Bool,
+        Function::Unary(_) => domain == Domain::Uint64,
+        Function::First(value, op) | Function::Second(op, value) => {
+            domain_of(value) == domain && domain_of_op(op) == domain
+        }
+    }
+}
+
+/// Whether the value of a test, if it has one, is of the domain.
+fn is_test_of(test: Test, domain: Domain) -> bool {
+    match test {
+        Test::ValueEq(value)
+        | Test::ValueNe(value)
+        | Test::ValueLt(value)
+        | Test::ValueLe(value)
+        | Test::ValueGt(value)
+        | Test::ValueGe(value) => domain_of(value) == domain,
+        _ => true,
+    }
 }
 
 /// The objects of an operation.
@@ -204,12 +279,39 @@ impl Operation {
         }
     }
 
+    /// The rows and the columns of the second input as it is read.
+    fn dims_of_second(&self, second: &Table) -> (u64, u64) {
+        if self.is_second_turned {
+            (second.ncols, second.nrows)
+        } else {
+            (second.nrows, second.ncols)
+        }
+    }
+
+    /// What the second input has in a row and a column as it is read.
+    fn second_at(&self, second: &Table, i: u64, j: u64) -> Option<u64> {
+        if self.is_second_turned {
+            second.at(j, i)
+        } else {
+            second.at(i, j)
+        }
+    }
+
+    /// What the first input has in the row and the column of a block of the second's size, combined with what that has there.
+    fn crossed_at(&self, of: &Operands, op: BinaryOp, i: u64, j: u64) -> Option<u64> {
+        let (nrows, ncols) = self.dims_of_second(of.second);
+        let (nrows, ncols) = (nrows.max(1), ncols.max(1));
+        let x = self.first_at(of.first, i / nrows, j / ncols);
+        both(op, x, self.second_at(of.second, i % nrows, j % ncols))
+    }
+
     /// The sum over a row of the first input, of its numbers or of their products with a column of the second.
     fn summed_at(&self, of: &Operands, monoid: Monoid, i: u64, j: u64) -> Option<u64> {
         let mut sum = None;
         let (_, inner) = self.dims_of_first(of.first);
         for k in 0..inner {
-            let (x, y) = (self.first_at(of.first, i, k), of.second.at(k, j));
+            let x = self.first_at(of.first, i, k);
+            let y = self.second_at(of.second, k, j);
             let number = match self.way {
                 Way::Product(_, op) => both(op, x, y),
                 Way::Reversed(_, op) => both(op, y, x),
@@ -223,8 +325,24 @@ impl Operation {
     /// What is computed in a row and a column.
     fn computed_at(&self, of: &Operands, i: u64, j: u64) -> Option<u64> {
         match self.way {
-            Way::Either(op) => either(op, self.first_at(of.first, i, j), of.second.at(i, j)),
-            Way::Both(op) => both(op, self.first_at(of.first, i, j), of.second.at(i, j)),
+            Way::Either(op) => {
+                let y = self.second_at(of.second, i, j);
+                either(op, self.first_at(of.first, i, j), y)
+            }
+            Way::Both(op) => {
+                let y = self.second_at(of.second, i, j);
+                both(op, self.first_at(of.first, i, j), y)
+            }
+            Way::Copied => self.first_at(of.first, i, j),
+            Way::Changed(f) => match self.first_at(of.first, i, j) {
+                Some(x) => Some(changed(f, x)),
+                None => None,
+            },
+            Way::Kept(test) => match self.first_at(of.first, i, j) {
+                Some(x) if is_kept(test, i, j, x) => Some(x),
+                _ => None,
+            },
+            Way::Crossed(op) => self.crossed_at(of, op, i, j),
             Way::Product(monoid, _) | Way::Reversed(monoid, _) | Way::Sums(monoid) => {
                 self.summed_at(of, monoid, i, j)
             }
@@ -275,13 +393,21 @@ impl Operation {
     pub(super) fn has_fitting_dims(&self, of: &Operands) -> bool {
         let (nrows, ncols) = (of.output.nrows, of.output.ncols);
         let (rows, inner) = self.dims_of_first(of.first);
-        let second = of.second;
+        let (more_rows, more_columns) = self.dims_of_second(of.second);
         let do_inputs_fit = match self.way {
-            Way::Either(_) | Way::Both(_) => inner == ncols && second.has_dims(nrows, ncols),
-            Way::Product(..) | Way::Reversed(..) => second.has_dims(inner, ncols),
-            Way::Sums(_) => true,
+            Way::Either(_) | Way::Both(_) => {
+                rows == nrows && inner == ncols && more_rows == nrows && more_columns == ncols
+            }
+            Way::Product(..) | Way::Reversed(..) => {
+                rows == nrows && more_rows == inner && more_columns == ncols
+            }
+            Way::Sums(_) => rows == nrows,
+            Way::Copied | Way::Changed(_) | Way::Kept(_) => rows == nrows && inner == ncols,
+            Way::Crossed(_) => {
+                rows.wrapping_mul(more_rows) == nrows && inner.wrapping_mul(more_columns) == ncols
+            }
         };
-        rows == nrows && do_inputs_fit && of.mask.map_or(true, |mask| mask.has_dims(nrows, ncols))
+        do_inputs_fit && of.mask.map_or(true, |mask| mask.has_dims(nrows, ncols))
     }
 
     /// Whether what is computed with is of this domain: operator, monoid and accumulator.
@@ -292,11 +418,14 @@ impl Operation {
         };
         is_accum
             && match self.way {
-                Way::Either(op) | Way::Both(op) => domain_of_op(op) == domain,
+                Way::Either(op) | Way::Both(op) | Way::Crossed(op) => domain_of_op(op) == domain,
                 Way::Product(monoid, op) | Way::Reversed(monoid, op) => {
                     domain_of_op(op) == domain && domain_of_monoid(monoid) == domain
                 }
                 Way::Sums(monoid) => domain_of_monoid(monoid) == domain,
+                Way::Copied => true,
+                Way::Changed(f) => is_function_of(f, domain),
+                Way::Kept(test) => is_test_of(test, domain),
             }
     }
 }

@@ -2,11 +2,11 @@
 //! of calls and answers, so what it answers is what the product is to answer.
 use crate::tests::asked::{Answer, Asked, sum_of, value_of};
 use crate::tests::plain::{
-    Operands, Operation, Table, Way, domain_of_monoid, domain_of_op, summed,
+    Operands, Operation, Table, Way, domain_of_monoid, domain_of_op, shift, summed,
 };
-use crate::tests::plan::{List, Plan, domain_of, number_of, plan_of};
+use crate::tests::plan::{List, Plan, domain_of, is_dimension, number_of, plan_of};
 use grb_call::{MatrixId, Object, Reply, VectorId};
-use grb_core::{Domain, Refusal};
+use grb_core::{Diagonal, Domain, Refusal};
 use std::alloc::{AllocError, Global};
 
 /// Tables of matrices and vectors by their numbers; of a freed object there is none.
@@ -120,6 +120,20 @@ impl PlainStore {
         }
     }
 
+    /// Whether a matrix can have so many rows as a diag is to make.
+    fn has_rows(&self, plan: &Plan) -> bool {
+        match plan {
+            Plan::Diag(object, diagonal) => is_dimension(self.diagonal_rows(*object, *diagonal)),
+            _ => true,
+        }
+    }
+
+    /// How many rows a matrix has that has the object on a diagonal.
+    fn diagonal_rows(&self, object: Object, diagonal: Diagonal) -> u64 {
+        let (up, down) = shift(diagonal);
+        self.dims(object).0.saturating_add(up.max(down))
+    }
+
     fn is_of(&self, object: Object, domain: Domain) -> bool {
         match self.table(object) {
             Some(table) => table.domain == domain,
@@ -172,7 +186,7 @@ impl PlainStore {
         if !self.are_there(plan) {
             return Some(Refusal::UninitializedObject);
         }
-        if !plan.has_dimensions() {
+        if !plan.has_dimensions() || !self.has_rows(plan) {
             return Some(Refusal::InvalidValue);
         }
         if !self.has_place(plan) {
@@ -278,6 +292,20 @@ impl PlainStore {
         self.make(matches!(object, Object::Matrix(_)), table)
     }
 
+    /// Makes a matrix that has the object on a diagonal.
+    fn diag(&mut self, object: Object, diagonal: Diagonal) -> Result<Reply, AllocError> {
+        let (up, down) = shift(diagonal);
+        let rows = self.diagonal_rows(object, diagonal);
+        let Some(old) = self.table(object) else {
+            return Ok(Reply::Done);
+        };
+        let mut table = self.empty(old.domain, rows, rows)?;
+        for k in 0..old.nrows {
+            table.put(k.wrapping_add(down), k.wrapping_add(up), old.at(k, 0));
+        }
+        self.make(true, table)
+    }
+
     fn build(&mut self, object: Object, domain: Domain, list: List) -> Reply {
         let calls = self.calls;
         if let Some(mut table) = self.take(object) {
@@ -351,6 +379,7 @@ impl PlainStore {
             Plan::Clear(object) => self.clear(object),
             Plan::Resize(object, nrows, ncols) => self.resize(object, nrows, ncols),
             Plan::Dup(object) => self.dup(object),
+            Plan::Diag(object, diagonal) => self.diag(object, diagonal),
             Plan::Build(object, domain, list) => Ok(self.build(object, domain, list)),
             Plan::Operate(operation) => self.operate(&operation),
             Plan::Size(object) => Ok(self.reply_of_size(object)),

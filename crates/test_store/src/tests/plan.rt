@@ -2,7 +2,7 @@
 use crate::tests::asked::{Asked, IntoMatrix, IntoVector, Rule};
 use crate::tests::plain::{Operation, Way};
 use grb_call::{MatrixId, Object, VectorId};
-use grb_core::{Domain, Monoid, Value};
+use grb_core::{Diagonal, Domain, Function, Monoid, Value};
 
 /// The list of a build.
 #[derive(Clone, Copy)]
@@ -26,6 +26,7 @@ pub(super) enum Plan {
     Clear(Object),
     Resize(Object, u64, u64),
     Dup(Object),
+    Diag(Object, Diagonal),
     Build(Object, Domain, List),
     Operate(Operation),
     Total(Object, Monoid),
@@ -51,6 +52,23 @@ fn into_vector(into: IntoVector, way: Way, first: Object, turned: bool, second: 
         first,
         is_turned: turned,
         second,
+        is_second_turned: false,
+    })
+}
+
+/// An operation on the entries of one matrix, which is turned or not.
+fn on_matrix(into: IntoMatrix, way: Way, a: MatrixId, turned: bool) -> Plan {
+    let (c, mask, accum, descriptor) = into;
+    Plan::Operate(Operation {
+        output: matrix(c),
+        mask: mask.map(matrix),
+        accum,
+        descriptor,
+        way,
+        first: matrix(a),
+        is_turned: turned,
+        second: matrix(a),
+        is_second_turned: false,
     })
 }
 
@@ -65,7 +83,33 @@ fn into_matrix(into: IntoMatrix, way: Way, a: MatrixId, b: MatrixId) -> Plan {
         first: matrix(a),
         is_turned: descriptor.tran,
         second: matrix(b),
+        is_second_turned: descriptor.tran1,
     })
+}
+
+/// The plan of an operation on the entries of one input, or of a Kronecker product; of any other call a wait.
+fn plan_on_one(asked: Asked) -> Plan {
+    match asked {
+        Asked::Transpose(into, a) => on_matrix(into, Way::Copied, a, !into.3.tran),
+        Asked::ApplyMatrix(into, f, a) => {
+            let turned = match f {
+                Function::First(..) => into.3.tran1,
+                _ => into.3.tran,
+            };
+            on_matrix(into, Way::Changed(f), a, turned)
+        }
+        Asked::SelectMatrix(into, test, a) => on_matrix(into, Way::Kept(test), a, into.3.tran),
+        Asked::ApplyVector(into, f, u) => {
+            into_vector(into, Way::Changed(f), vector(u), false, vector(u))
+        }
+        Asked::SelectVector(into, test, u) => {
+            into_vector(into, Way::Kept(test), vector(u), false, vector(u))
+        }
+        Asked::Kronecker(into, op, a, b) => into_matrix(into, Way::Crossed(op), a, b),
+        Asked::WaitMatrix(a, _) => Plan::Wait(matrix(a)),
+        Asked::WaitVector(v, _) => Plan::Wait(vector(v)),
+        _ => Plan::Wait(vector(VectorId(0))),
+    }
 }
 
 /// The plan of an operation; of any other call a wait.
@@ -86,14 +130,12 @@ fn plan_of_operation(asked: Asked) -> Plan {
         }
         Asked::Vxm(into, monoid, op, u, a) => {
             let way = Way::Reversed(monoid, op);
-            into_vector(into, way, matrix(a), true, vector(u))
+            into_vector(into, way, matrix(a), !into.3.tran1, vector(u))
         }
         Asked::ReduceRows(into, monoid, a) => {
             into_vector(into, Way::Sums(monoid), matrix(a), into.3.tran, matrix(a))
         }
-        Asked::WaitMatrix(a, _) => Plan::Wait(matrix(a)),
-        Asked::WaitVector(v, _) => Plan::Wait(vector(v)),
-        _ => Plan::Wait(vector(VectorId(0))),
+        _ => plan_on_one(asked),
     }
 }
 
@@ -120,6 +162,7 @@ pub(super) fn plan_of(asked: Asked) -> Plan {
         Asked::ResizeVector(v, size) => Plan::Resize(vector(v), size, 1),
         Asked::DupMatrix(a) => Plan::Dup(matrix(a)),
         Asked::DupVector(v) => Plan::Dup(vector(v)),
+        Asked::Diag(v, diagonal) => Plan::Diag(vector(v), diagonal),
         Asked::BuildMatrix(a, domain, list) => Plan::Build(matrix(a), domain, List::Cells(list)),
         Asked::BuildVector(v, domain, list) => Plan::Build(vector(v), domain, List::Values(list)),
         Asked::FillMatrix(a, domain, rule) => Plan::Build(matrix(a), domain, List::ByRule(rule)),
@@ -203,6 +246,7 @@ impl Plan {
             | Plan::Clear(object)
             | Plan::Resize(object, ..)
             | Plan::Dup(object)
+            | Plan::Diag(object, _)
             | Plan::Build(object, ..)
             | Plan::Total(object, _)
             | Plan::Wait(object) => Some(*object),
@@ -210,7 +254,7 @@ impl Plan {
     }
 }
 
-fn is_dimension(n: u64) -> bool {
+pub(super) fn is_dimension(n: u64) -> bool {
     0 < n && n <= 4_294_967_295
 }
 

@@ -1,9 +1,11 @@
 //! Calls as tables hold them.
 ghost use Rattle.grb_context.specs.Known.{IsPassOf};
 
-use grb_call::{Call, Descriptor, MatrixId, MatrixTuples, Reply, VectorId, VectorTuples};
+use grb_call::{
+    Call, Descriptor, MatrixId, MatrixTerm, MatrixTuples, Reply, VectorId, VectorTerm, VectorTuples,
+};
 use grb_context::{Context, Pass};
-use grb_core::{BinaryOp, Domain, Monoid, Refusal, Semiring, Value};
+use grb_core::{BinaryOp, Diagonal, Domain, Monoid, Refusal, Semiring, Value};
 use std::alloc::{AllocError, Global};
 
 pub(super) type Answer = Result<Reply, Refusal>;
@@ -13,9 +15,17 @@ const PLAIN: Descriptor = Descriptor {
     comp: false,
     replace: false,
     tran: false,
+    tran1: false,
 };
 
-/// A call. The operations have no mask, and compute with sums and products.
+/// Both inputs are read transposed.
+const TURNED: Descriptor = Descriptor {
+    tran: true,
+    tran1: true,
+    ..PLAIN
+};
+
+/// A call. The operations have no mask, and compute with sums and products, or by their term.
 #[derive(Clone, Copy, Debug)]
 pub(super) enum Asked {
     NewMatrix(Domain, u64, u64),
@@ -44,8 +54,17 @@ pub(super) enum Asked {
     AddVectors(VectorId, VectorId, VectorId),
     /// The first becomes the product of the others.
     Multiply(MatrixId, MatrixId, MatrixId),
+    /// The first becomes the product of the second and of the matrix read transposed.
+    MultiplyTurned(VectorId, VectorId, MatrixId),
     /// The vector becomes the sums of the rows of the matrix.
     SumRows(VectorId, MatrixId),
+    /// The matrix becomes what the term computes.
+    WriteMatrix(MatrixId, MatrixTerm),
+    /// The same of inputs that are read transposed.
+    WriteTurned(MatrixId, MatrixTerm),
+    /// The vector becomes what the term computes.
+    WriteVector(VectorId, VectorTerm),
+    Diag(VectorId, Diagonal),
     TotalMatrix(MatrixId, Monoid),
     TotalVector(VectorId, Monoid),
 }
@@ -80,6 +99,30 @@ fn product(c: MatrixId, a: MatrixId, b: MatrixId) -> Result<Call, Refusal> {
         b,
         d: PLAIN,
     })
+}
+
+/// The product of a vector and of a matrix read transposed.
+fn product_turned(w: VectorId, u: VectorId, a: MatrixId) -> Result<Call, Refusal> {
+    Ok(Call::Vxm {
+        w,
+        mask: None,
+        accum: None,
+        semiring: Semiring::new(Monoid::Plus, BinaryOp::Times)?,
+        u,
+        a,
+        d: TURNED,
+    })
+}
+
+/// The write of what a term computes.
+fn write(c: MatrixId, term: MatrixTerm, d: Descriptor) -> Call {
+    Call::WriteMatrix {
+        c,
+        mask: None,
+        accum: None,
+        term,
+        d,
+    }
 }
 
 /// A call that makes or changes one object, or reads it.
@@ -125,10 +168,20 @@ fn plain(asked: Asked) -> Call {
             a,
             d: PLAIN,
         },
+        Asked::WriteMatrix(c, term) => write(c, term, PLAIN),
+        Asked::WriteTurned(c, term) => write(c, term, TURNED),
+        Asked::WriteVector(w, term) => Call::WriteVector {
+            w,
+            mask: None,
+            accum: None,
+            term,
+            d: PLAIN,
+        },
+        Asked::Diag(v, diagonal) => Call::Diag { v, diagonal },
         Asked::TotalMatrix(a, monoid) => Call::ReduceMatrix { a, monoid },
         Asked::TotalVector(v, monoid) => Call::ReduceVector { v, monoid },
         Asked::BuildMatrix(a, ..) | Asked::Multiply(a, ..) => Call::NvalsMatrix { a },
-        Asked::BuildVector(v, ..) => Call::NvalsVector { v },
+        Asked::BuildVector(v, ..) | Asked::MultiplyTurned(v, ..) => Call::NvalsVector { v },
     }
 }
 
@@ -144,6 +197,7 @@ fn call_of(alloc: Global, asked: Asked) -> Result<Call, Refusal> {
             Err(_) => Err(Refusal::OutOfMemory),
         },
         Asked::Multiply(c, a, b) => product(c, a, b),
+        Asked::MultiplyTurned(w, u, a) => product_turned(w, u, a),
         _ => Ok(plain(asked)),
     }
 }

@@ -11,7 +11,7 @@ use Rattle.grb_kernels.specs.Typed.{entries_of}
 use Rattle.grb_lists.specs.Cells.{decoded}
 use Rattle.grb_ewise.proofs.MatrixRows.{rows_from-all}
 use Rattle.grb_maps.proofs.Lists.{fit-dropped, parted}
-use Rattle.grb_terms.specs.Maps.{kronecker_of}
+use Rattle.grb_core.specs.Maps.{kronecker_of}
 use Rattle.grb_maps.proofs.Pushing.{making_on, making_begins, making_ends}
 use Rattle.grb_kronecker.specs.Crossing.{crossed}
 use Rattle.grb_kronecker.specs.Rows.{product_rows}
@@ -19,8 +19,8 @@ use Rattle.grb_kronecker.proofs.ProductRows.{length-product, get_or-product, pro
 use Rattle.grb_kronecker.proofs.Products.{rows_are_crossed, row-within}
 use Rattle.grb_kronecker.proofs.AllRows.{product-all}
 use Rattle.grb_kronecker.proofs.Filling.{row-bound, started-some, row-indices, columns-fit}
-use Rattle.grb_terms.proofs.Each.{each-some}
-use Rattle.grb_terms.proofs.Products.{kronecker_sorted}
+use Rattle.grb_core.proofs.Each.{each-some}
+use Rattle.grb_core.proofs.Products.{kronecker_sorted}
 use Rattle.grb_kronecker.proofs.rows.fill_rows.Goals as goal
 
 -- the rows that are listed have entries, and so are rows of the matrix

@@ -2,7 +2,7 @@ use Rattle.std.proofs.Common.{◌≡◌, ◌≤◌, ◌*◌}
 use Rattle.std.specs.Prelude.{Some}
 use Rattle.std.specs.Vec.{vec_len, vec_capacity}
 use Rattle.grb_lists.specs.Cells.{decoded}
-use Rattle.grb_terms.specs.Maps.{kronecker_of}
+use Rattle.grb_core.specs.Maps.{kronecker_of}
 use Rattle.grb_maps.proofs.Pushing.{IsMaking}
 use Rattle.grb_kronecker.specs.Rows.{product_rows}
 use Rattle.grb_kronecker.proofs.rows.fill_rows.Given as goal

@@ -5,8 +5,8 @@ use Rattle.grb_ewise.proofs.Made.{cells_are}
 use Rattle.std.specs.FinMap.{is_sorted}
 use Rattle.grb_core.specs.Entries.{MatrixEntries, cell_cmp}
 use Rattle.grb_lists.specs.Cells.{decoded}
-use Rattle.grb_terms.proofs.Each.{made_true}
-use Rattle.grb_terms.proofs.Products.{kronecker_sorted}
+use Rattle.grb_core.proofs.Each.{made_true}
+use Rattle.grb_core.proofs.Products.{kronecker_sorted}
 use Rattle.grb_kronecker.proofs.rows.product_lists.Goals as goal
 
 pub keep-requires-clause-ordered : goal.keep-requires-clause-ordered

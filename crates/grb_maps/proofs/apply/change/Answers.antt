@@ -4,7 +4,7 @@ use Rattle.std.proofs.lemmas.List.Elements.{recursion_from_All}
 use Rattle.grb_core.specs.declared.domain.Domain.{Domain}
 use Rattle.grb_core.specs.declared.value.Value.{Value}
 use Rattle.grb_core.specs.Value.{IsValueOf}
-use Rattle.grb_terms.specs.Functions.{value_of_function}
+use Rattle.grb_core.specs.Functions.{value_of_function}
 use Rattle.grb_maps.specs.Bound.{bound_value}
 use Rattle.grb_maps.proofs.Changed.{same_on}
 use Rattle.grb_maps.proofs.apply.change.Goals as goal

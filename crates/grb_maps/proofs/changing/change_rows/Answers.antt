@@ -9,7 +9,7 @@ use Rattle.grb_lists.specs.Cells.{decoded, IsFlat}
 use Rattle.grb_lists.proofs.CellCodes.{length-decoded}
 use Rattle.grb_ewise.specs.Rows.{flat_entries}
 use Rattle.grb_ewise.proofs.Made.{cells_are}
-use Rattle.grb_terms.proofs.Each.{holds}
+use Rattle.grb_core.proofs.Each.{holds}
 use Rattle.grb_maps.specs.Changed.{with_values}
 use Rattle.grb_maps.proofs.Changed.{sorted-changed}
 use Rattle.grb_maps.proofs.CopiedLists.{are_flat, changed_cells}

@@ -5,7 +5,7 @@ use Rattle.grb_core.specs.Value.{IsValueOf}
 use Rattle.grb_core.specs.Entries.{MatrixEntries, cell_cmp}
 use Rattle.grb_kernels.specs.Typed.{entries_of}
 use Rattle.grb_ewise.proofs.Made.{cells_are}
-use Rattle.grb_terms.proofs.Each.{holds, made_true}
+use Rattle.grb_core.proofs.Each.{holds, made_true}
 use Rattle.grb_maps.proofs.Placing.{sorted-placed}
 use Rattle.grb_maps.proofs.diagonal.diagonal_lists.Goals as goal
 

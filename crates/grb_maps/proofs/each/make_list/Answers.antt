@@ -5,7 +5,7 @@ use Rattle.std.specs.FinMap.{is_sorted}
 use Rattle.grb_core.specs.Entries.{VectorEntries}
 use Rattle.grb_kernels.specs.Typed.{entries_of}
 use Rattle.grb_maps.proofs.Lists.{of_lent}
-use Rattle.grb_terms.proofs.Each.{holds, made_true, sorted-each}
+use Rattle.grb_core.proofs.Each.{holds, made_true, sorted-each}
 use Rattle.grb_maps.proofs.each.make_list.Goals as goal
 
 pub invariant_of-result-clause-rising : goal.invariant_of-result-clause-rising

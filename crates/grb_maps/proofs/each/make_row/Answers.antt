@@ -2,7 +2,7 @@ use Rattle.std.proofs.Common.{◌∙◌, arith, get_or, ap}
 use Rattle.grb_kernels.specs.Typed.{kept, first_entries}
 use Rattle.grb_kernels.proofs.Lists.{from-all, from-read}
 use Rattle.grb_kernels.proofs.Merges.{nothing_more}
-use Rattle.grb_terms.specs.Each.{each_made}
+use Rattle.grb_core.specs.Each.{each_made}
 use Rattle.grb_maps.proofs.Entry.{each_on}
 use Rattle.grb_maps.proofs.each.make_row.Goals as goal
 

@@ -1,6 +1,6 @@
 use Rattle.std.proofs.Common.{◌≡◌, ◌≤◌, ◌++◌}
 use Rattle.grb_kernels.specs.Typed.{entries_of, first_entries, entries_from}
-use Rattle.grb_terms.specs.Each.{each_made}
+use Rattle.grb_core.specs.Each.{each_made}
 use Rattle.grb_maps.proofs.each.make_row.Given as goal
 
 abbrev pub invariant-entries : goal.invariant-entries

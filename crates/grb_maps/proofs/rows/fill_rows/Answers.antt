@@ -8,8 +8,8 @@ use Rattle.grb_lists.proofs.CellCodes.{length-decoded}
 use Rattle.grb_ewise.proofs.RowEntries.{holds}
 use Rattle.grb_ewise.proofs.MatrixRows.{rows_from-all}
 use Rattle.grb_ewise.proofs.RowMerges.{fit-written, written_at}
-use Rattle.grb_terms.specs.Each.{each_made}
-use Rattle.grb_terms.proofs.Each.{each-same}
+use Rattle.grb_core.specs.Each.{each_made}
+use Rattle.grb_core.proofs.Each.{each-same}
 use Rattle.grb_maps.proofs.Pushing.{making_on, making_begins, making_ends, length-front, length-entries}
 use Rattle.grb_maps.proofs.rows.fill_rows.Goals as goal
 

@@ -8,7 +8,7 @@ use Rattle.grb_lists.specs.Cells.{decoded, IsFlat}
 use Rattle.grb_ewise.specs.Rows.{flat_entries}
 use Rattle.grb_ewise.proofs.Made.{cells_are}
 use Rattle.grb_maps.proofs.Lists.{of_lent}
-use Rattle.grb_terms.proofs.Each.{holds, made_true, sorted-each}
+use Rattle.grb_core.proofs.Each.{holds, made_true, sorted-each}
 use Rattle.grb_maps.proofs.Pushing.{all_made}
 use Rattle.grb_maps.proofs.rows.make_rows.Goals as goal
 

@@ -15,7 +15,7 @@ returns-clause-ok g c = record {
   lines =
       wrote _ _ _ _ _ _ _ _
       (AreScriptSteps-of _ _ _ _ _ c.script.ensures.files_stay (c.in_ok-script.ensures.read.1 ∙ ap sections_of c.deref.ensures.value) c.in_ok-steps.ensures.steps) c.in_ok-answers.ensures.answers
-      (c.as_bytes.ensures.value ∙ c.in_ok-lines.ensures ∙ ap (flat_map reply_line) c.deref-2.ensures.value) c.in_ok-put_all.ensures.ok;
+      (ap (flat_map reply_line) c.deref-2.ensures.value) c.in_ok-put_lines.ensures.ok;
 }
 
 pub returns-in_err-answers-clause-err : goal.returns-in_err-answers-clause-err
@@ -28,15 +28,15 @@ returns-in_err-answers-clause-err g c =
     (AreScriptSteps-of _ _ _ _ _ c.script.ensures.files_stay (c.in_ok-script.ensures.read.1 ∙ ap sections_of c.deref.ensures.value) c.in_ok-steps.ensures.steps) refl _
     c.in_err-answers.ensures.fault)
 
-pub returns-in_err-put_all-clause-err : goal.returns-in_err-put_all-clause-err
-returns-in_err-put_all-clause-err g c =
-    let p = err_from_is_err_and c.from_residual-in_err-put_all.result c.from_residual-in_err-put_all.ensures.1 in
+pub returns-in_err-put_lines-clause-err : goal.returns-in_err-put_lines-clause-err
+returns-in_err-put_lines-clause-err g c =
+    let p = err_from_is_err_and c.from_residual-in_err-put_lines.result c.from_residual-in_err-put_lines.ensures.1 in
     rw (p.1, p.2)
-    (began _ _ _ c.in_ok-text.text.items (steps_listed c.in_ok-steps.steps) c.in_ok-answers.answers.items c.as_bytes.result.now _ _ c.in_ok-text.ensures.given
+    (began _ _ _ c.in_ok-text.text.items (steps_listed c.in_ok-steps.steps) c.in_ok-answers.answers.items _ _ _ c.in_ok-text.ensures.given
     (ap script_fault (sym c.deref.ensures.value) ∙ c.in_ok-script.ensures.read.0)
     (seats_fit c.args.room c.in_ok-text.text.items c.in_ok-script.script c.len.result (search rules) (c.in_ok-script.ensures.read.1 ∙ ap sections_of c.deref.ensures.value) c.in_ok-check_sections.ensures.fits)
     (AreScriptSteps-of _ _ _ _ _ c.script.ensures.files_stay (c.in_ok-script.ensures.read.1 ∙ ap sections_of c.deref.ensures.value) c.in_ok-steps.ensures.steps) c.in_ok-answers.ensures.answers
-    (c.as_bytes.ensures.value ∙ c.in_ok-lines.ensures ∙ ap (flat_map reply_line) c.deref-2.ensures.value) c.in_err-put_all.ensures.err)
+    (ap (flat_map reply_line) c.deref-2.ensures.value) c.in_err-put_lines.ensures.err)
 
 pub returns-in_err-check_sections-clause-err : goal.returns-in_err-check_sections-clause-err
 returns-in_err-check_sections-clause-err g c =

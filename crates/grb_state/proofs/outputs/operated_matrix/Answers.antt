@@ -4,7 +4,7 @@ use Rattle.grb_objects.specs.Stored.{stored}
 use Rattle.grb_state.proofs.Dispatched.{held_output_matrix, matrix_call, matrix_left_as}
 use Rattle.grb_state.proofs.Lent.{if_ok, add_matrix-tests, mult_matrix-tests, matrix_first-there, matrix_second-there, matrix_mask-there, matrix_are, lent_matrix_entries, add_matrix-left, mult_matrix-left}
 use Rattle.grb_state.proofs.LentProducts.{mxm_first-there, mxm_second-there, mxm_mask-there, mxm_are, mxm-left}
-use Rattle.grb_state.proofs.Premises.{ewise_matrix_output, ewise_matrix_first, ewise_matrix_second, matrix_input, matrix_output, turned_input}
+use Rattle.grb_state.proofs.Premises.{ewise_matrix_output, ewise_matrix_first, ewise_matrix_second, matrix_output, turned_input}
 use Rattle.grb_state.proofs.outputs.operated_matrix.Goals as goal
 
 pub lent-output-requires : goal.lent-output-requires
@@ -160,7 +160,7 @@ mxm-requires-clause-a c =
     let f = c.in-Mxm in let ms = c.args.objects.now.matrices.items in let vs = c.args.objects.now.vectors.items in
     let of = matrix_call ms vs c.args.call.now c.requires.accepted c.requires.assembled (λ x. call.Mxm x f.mask f.accum f.semiring f.a f.b f.d) f.c c.args.c f.is refl c.requires.output in
     let are = mxm_are ms vs c.args.c f.mask f.accum f.semiring f.a f.b f.d of.accepted c.lent-output.result.now c.lent-output.ensures in
-    let second = matrix_input ms vs f.b c.lent-b-in-Mxm.result.now c.lent-b-in-Mxm.ensures _ _ _ are.second of.assembled.1.1.0 in
+    let second = turned_input ms vs f.b c.lent-b-in-Mxm.result.now c.lent-b-in-Mxm.ensures f.d.tran1 _ _ _ are.second of.assembled.1.1.0 in
     let first = turned_input ms vs f.a c.lent-a-in-Mxm.result.now c.lent-a-in-Mxm.ensures f.d.tran _ _ _ are.first of.assembled.1.0 in
     record { assembled = first.assembled; domain = first.domain; rows = first.rows; columns = first.columns ∙ sym second.rows }
 
@@ -169,7 +169,7 @@ mxm-requires-clause-b c =
     let f = c.in-Mxm in let ms = c.args.objects.now.matrices.items in let vs = c.args.objects.now.vectors.items in
     let of = matrix_call ms vs c.args.call.now c.requires.accepted c.requires.assembled (λ x. call.Mxm x f.mask f.accum f.semiring f.a f.b f.d) f.c c.args.c f.is refl c.requires.output in
     let are = mxm_are ms vs c.args.c f.mask f.accum f.semiring f.a f.b f.d of.accepted c.lent-output.result.now c.lent-output.ensures in
-    let second = matrix_input ms vs f.b c.lent-b-in-Mxm.result.now c.lent-b-in-Mxm.ensures _ _ _ are.second of.assembled.1.1.0 in
+    let second = turned_input ms vs f.b c.lent-b-in-Mxm.result.now c.lent-b-in-Mxm.ensures f.d.tran1 _ _ _ are.second of.assembled.1.1.0 in
     record { assembled = second.assembled; domain = second.domain; rows = refl; columns = second.columns }
 
 pub returns-in-Mxm : goal.returns-in-Mxm
@@ -179,3 +179,19 @@ returns-in-Mxm c =
     let same_mask = lent_matrix_entries ms vs (λ m. m.now) f.mask c.lent_mask-inside-in-Mxm.result c.lent_mask-inside-in-Mxm.ensures in
     if_ok _ _ c.mxm.result (λ made is. matrix_left_as (stored ms vs) c.args.call.now _ of.is c.args.c (Some made.matrix) (mxm-left ms vs c.args.c f.mask f.accum f.semiring f.a f.b f.d of.accepted
     c.lent-output.result.now c.lent-a-in-Mxm.result.now c.lent-b-in-Mxm.result.now c.lent-output.ensures c.lent-a-in-Mxm.ensures c.lent-b-in-Mxm.ensures _ same_mask made.matrix is)) c.mxm.ensures.matrix
+
+pub written_matrix-requires-clause-accepted : goal.written_matrix-requires-clause-accepted
+written_matrix-requires-clause-accepted c =
+    let f = c.in-WriteMatrix in let ms = c.args.objects.now.matrices.items in let vs = c.args.objects.now.vectors.items in
+    let of = matrix_call ms vs c.args.call.now c.requires.accepted c.requires.assembled (λ x. call.WriteMatrix x f.mask f.accum f.term f.d) f.c c.args.c f.is refl c.requires.output in of.accepted
+
+pub written_matrix-requires-clause-assembled : goal.written_matrix-requires-clause-assembled
+written_matrix-requires-clause-assembled c =
+    let f = c.in-WriteMatrix in let ms = c.args.objects.now.matrices.items in let vs = c.args.objects.now.vectors.items in
+    let of = matrix_call ms vs c.args.call.now c.requires.accepted c.requires.assembled (λ x. call.WriteMatrix x f.mask f.accum f.term f.d) f.c c.args.c f.is refl c.requires.output in of.assembled
+
+pub returns-in-WriteMatrix : goal.returns-in-WriteMatrix
+returns-in-WriteMatrix c =
+    let f = c.in-WriteMatrix in let ms = c.args.objects.now.matrices.items in let vs = c.args.objects.now.vectors.items in
+    let of = matrix_call ms vs c.args.call.now c.requires.accepted c.requires.assembled (λ x. call.WriteMatrix x f.mask f.accum f.term f.d) f.c c.args.c f.is refl c.requires.output in
+    if_ok _ _ c.written_matrix.result (λ made is. matrix_left_as (stored ms vs) c.args.call.now _ of.is c.args.c (Some made.matrix) is) c.written_matrix.ensures

@@ -4,7 +4,7 @@ use Rattle.grb_objects.specs.Stored.{stored}
 use Rattle.grb_state.proofs.Dispatched.{held_output_vector, vector_call, vector_left_as}
 use Rattle.grb_state.proofs.Lent.{if_ok, add_vector-tests, mult_vector-tests, vector_first-there, vector_second-there, vector_mask-there, vector_are, lent_vector_entries, add_vector-left, mult_vector-left}
 use Rattle.grb_state.proofs.LentProducts.{mxv_matrix-there, mxv_vector-there, mxv_mask-there, mxv_are, mxv-left, vxm_matrix-there, vxm_vector-there, vxm_mask-there, vxm_are, vxm-left, rows_matrix-there, rows_mask-there, rows_are, rows-left}
-use Rattle.grb_state.proofs.Premises.{ewise_vector_output, ewise_vector_first, ewise_vector_second, matrix_input, turned_input, vector_input, vector_output}
+use Rattle.grb_state.proofs.Premises.{ewise_vector_output, ewise_vector_first, ewise_vector_second, turned_input, vector_input, vector_output}
 use Rattle.grb_state.proofs.outputs.operated_vector.Goals as goal
 
 pub lent-output-requires : goal.lent-output-requires
@@ -225,7 +225,7 @@ vxm-requires-clause-a c =
     let of = vector_call ms vs c.args.call.now c.requires.accepted c.requires.assembled (λ x. call.Vxm x f.mask f.accum f.semiring f.u f.a f.d) f.w c.args.w f.is refl c.requires.output in
     let are = vxm_are ms vs c.args.w f.mask f.accum f.semiring f.u f.a f.d of.accepted c.lent-output.result.now c.lent-output.ensures in
     let first = vector_input ms vs f.u c.lent-u-in-Vxm.result.now c.lent-u-in-Vxm.ensures _ _ are.vector of.assembled.1.0 in
-    let second = matrix_input ms vs f.a c.lent-a-in-Vxm.result.now c.lent-a-in-Vxm.ensures _ _ _ are.matrix of.assembled.1.1.0 in
+    let second = turned_input ms vs f.a c.lent-a-in-Vxm.result.now c.lent-a-in-Vxm.ensures f.d.tran1 _ _ _ are.matrix of.assembled.1.1.0 in
     record { assembled = second.assembled; domain = second.domain; rows = second.rows ∙ sym first.same_size; columns = second.columns }
 
 pub returns-in-Vxm : goal.returns-in-Vxm
@@ -276,3 +276,19 @@ returns-in-ReduceRows c =
     let same_mask = lent_vector_entries ms vs (λ m. m.now) f.mask c.lent_mask-inside-in-ReduceRows.result c.lent_mask-inside-in-ReduceRows.ensures in
     if_ok _ _ c.reduce_rows.result (λ made is. vector_left_as (stored ms vs) c.args.call.now _ of.is c.args.w (Some made.vector) (rows-left ms vs c.args.w f.mask f.accum f.d c.lent-output.result.now c.lent-output.ensures _ same_mask made.vector f.monoid f.a
     c.lent-a-in-ReduceRows.result.now c.lent-a-in-ReduceRows.ensures is)) c.reduce_rows.ensures.vector
+
+pub written_vector-requires-clause-accepted : goal.written_vector-requires-clause-accepted
+written_vector-requires-clause-accepted c =
+    let f = c.in-WriteVector in let ms = c.args.objects.now.matrices.items in let vs = c.args.objects.now.vectors.items in
+    let of = vector_call ms vs c.args.call.now c.requires.accepted c.requires.assembled (λ x. call.WriteVector x f.mask f.accum f.term f.d) f.w c.args.w f.is refl c.requires.output in of.accepted
+
+pub written_vector-requires-clause-assembled : goal.written_vector-requires-clause-assembled
+written_vector-requires-clause-assembled c =
+    let f = c.in-WriteVector in let ms = c.args.objects.now.matrices.items in let vs = c.args.objects.now.vectors.items in
+    let of = vector_call ms vs c.args.call.now c.requires.accepted c.requires.assembled (λ x. call.WriteVector x f.mask f.accum f.term f.d) f.w c.args.w f.is refl c.requires.output in of.assembled
+
+pub returns-in-WriteVector : goal.returns-in-WriteVector
+returns-in-WriteVector c =
+    let f = c.in-WriteVector in let ms = c.args.objects.now.matrices.items in let vs = c.args.objects.now.vectors.items in
+    let of = vector_call ms vs c.args.call.now c.requires.accepted c.requires.assembled (λ x. call.WriteVector x f.mask f.accum f.term f.d) f.w c.args.w f.is refl c.requires.output in
+    if_ok _ _ c.written_vector.result (λ made is. vector_left_as (stored ms vs) c.args.call.now _ of.is c.args.w (Some made.vector) is) c.written_vector.ensures

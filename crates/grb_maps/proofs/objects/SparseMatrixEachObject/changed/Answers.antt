@@ -4,7 +4,7 @@ use Rattle.std.specs.FinMap.{is_sorted}
 use Rattle.grb_core.specs.Entries.{MatrixEntries, cell_cmp}
 use Rattle.grb_lists.specs.Cells.{decoded}
 use Rattle.grb_sparse.specs.Matrix.{SparseMatrixView}
-use Rattle.grb_terms.proofs.Each.{map-each}
+use Rattle.grb_core.proofs.Each.{map-each}
 use Rattle.grb_maps.specs.Changed.{with_values}
 use Rattle.grb_maps.proofs.Wholes.{matrix_whole}
 use Rattle.grb_maps.proofs.objects.SparseMatrixEachObject.changed.Goals as goal

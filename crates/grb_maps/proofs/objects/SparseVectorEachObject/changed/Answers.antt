@@ -3,7 +3,7 @@ use Rattle.std.specs.Prelude.{Some}
 use Rattle.grb_kernels.specs.Typed.{entries_of}
 use Rattle.grb_ewise.proofs.Made.{entries_are}
 use Rattle.grb_sparse.specs.Vector.{SparseVectorView}
-use Rattle.grb_terms.proofs.Each.{map-each}
+use Rattle.grb_core.proofs.Each.{map-each}
 use Rattle.grb_maps.specs.Changed.{with_values}
 use Rattle.grb_maps.proofs.Changed.{entries-changed}
 use Rattle.grb_maps.proofs.Wholes.{vector_whole}

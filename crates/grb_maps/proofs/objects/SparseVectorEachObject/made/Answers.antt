@@ -2,8 +2,8 @@ use Rattle.std.proofs.Common.{◌≡◌, ◌∙◌, ap, refl, sym}
 use Rattle.grb_sparse.specs.Vector.{SparseVectorView}
 use Rattle.grb_kernels.specs.Typed.{entries_of}
 use Rattle.grb_ewise.proofs.Made.{entries_are}
-use Rattle.grb_terms.specs.Each.{each_made}
-use Rattle.grb_terms.proofs.Each.{each-same}
+use Rattle.grb_core.specs.Each.{each_made}
+use Rattle.grb_core.proofs.Each.{each-same}
 use Rattle.grb_maps.proofs.Wholes.{vector_whole}
 use Rattle.grb_maps.proofs.objects.SparseVectorEachObject.made.Goals as goal
 

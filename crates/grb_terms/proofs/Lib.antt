@@ -1,4 +1,0 @@
-pub mod Diagonals
-pub mod Each
-pub mod Products
-pub mod Pulls
