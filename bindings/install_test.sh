@@ -9,38 +9,11 @@ here=$(cd "$(dirname "${BASH_SOURCE[0]}")" && pwd)
 CC=${CC:-cc} CXX=${CXX:-c++} CARGO=${CARGO:-cargo} PYTHON=${PYTHON:-python3}
 work=$(mktemp -d)
 trap 'rm -rf "$work"' EXIT
-passed=0 failed=0 skipped=0
+skipped=0
+. "$here/steps.sh"
 prefix=$work/prefix
 unset TROWELHEATH_LIB TROWELHEATH_HEAP TROWELHEATH_LIBRARY TROWELHEATH_PREFIX PYTHONPATH
 export PKG_CONFIG_PATH=$prefix/lib/pkgconfig PYTHONDONTWRITEBYTECODE=1
-
-# Says how a step went, and where it failed what it wrote.
-tell() {
-    if [ "$2" -eq 0 ]; then
-        passed=$((passed + 1))
-        echo "$1: passed"
-    else
-        failed=$((failed + 1))
-        echo "$1: failed"
-        tail -n 20 "$work/said"
-    fi
-}
-
-# Runs a command as a step.
-step() {
-    local name=$1
-    shift
-    "$@" >"$work/said" 2>&1
-    tell "$name" $?
-}
-
-# Runs a program, whose standard output is to be that of its file.
-compare() {
-    local name=$1 wanted=$2
-    shift 2
-    "$@" >"$work/out" 2>"$work/said" && diff "$wanted" "$work/out" >>"$work/said"
-    tell "$name" $?
-}
 
 # Whether there is this command. The step is skipped where there is none.
 has() {

@@ -42,28 +42,8 @@ crate=../crates/grb_c
 heap=$KIT/c/liblibc_c.a
 work=$(mktemp -d)
 trap 'rm -rf "$work"' EXIT
-passed=0 failed=0 skipped=0
-
-# Says how a step went, and where it failed what it wrote.
-tell() {
-    local name=$1 status=$2
-    if [ "$status" -eq 0 ]; then
-        passed=$((passed + 1))
-        echo "$name: passed"
-    else
-        failed=$((failed + 1))
-        echo "$name: failed"
-        tail -n 20 "$work/said"
-    fi
-}
-
-# Runs a command as a step.
-step() {
-    local name=$1
-    shift
-    "$@" >"$work/said" 2>&1
-    tell "$name" $?
-}
+skipped=0
+. ./steps.sh
 
 # Runs a command that another step rests on. It counts as a step only where it fails.
 build() {
@@ -72,18 +52,6 @@ build() {
     "$@" >"$work/said" 2>&1 && return
     tell "$name" 1
     return 1
-}
-
-# Runs a program as a step. Its standard output is to be that of its file.
-compare() {
-    local name=$1 wanted=$2
-    shift 2
-    if ! "$@" >"$work/out" 2>"$work/said"; then
-        tell "$name" 1
-    else
-        diff "$wanted" "$work/out" >"$work/said"
-        tell "$name" $?
-    fi
 }
 
 # Says that a step cannot run, and what there is none of.
@@ -165,7 +133,7 @@ run_bench() {
         if [ -e "$folder/GraphBLAS.h" ]; then theirs=(-DTRB_SUITESPARSE -I"$folder" -lgraphblas); fi
     done
     if [ ${#theirs[@]} -eq 0 ]; then skip 'c/bench, next to SuiteSparse' GraphBLAS.h; fi
-    build "$name" "$CC" -std=c11 -O2 -Wall -Wextra -Werror -Ic c/bench.c c/bench_by_hand.c c/bench_suitesparse.c "${link[@]}" "${theirs[@]}" -o "$work/bench" || return
+    build "$name" "$CC" -std=c11 -O2 -Wall -Wextra -Werror -Ic c/bench.c c/bench_by_hand.c c/bench_blocks.c c/bench_suitesparse.c "${link[@]}" "${theirs[@]}" -o "$work/bench" || return
     compare "$name" c/expected/bench.txt "$work/bench" 8
 }
 
@@ -266,18 +234,18 @@ link=("$library" "$heap" -lpthread)
 
 check_header
 step 'the version, wherever it stands' ./versions.sh
-for name in first triangles club bfs paths threads chain succeed branch refusals terms builds sharing beside; do run_c "$name"; done
+for name in first triangles club bfs paths threads chain succeed help branch refusals terms builds sharing beside; do run_c "$name"; done
 run_fail
 run_ports
 run_bench
 run_bench_chain
-for name in triangles club bfs paths threads chain succeed branch terms messages algorithms; do run_cpp "$name"; done
+for name in triangles club bfs paths threads chain succeed help branch terms messages algorithms; do run_cpp "$name"; done
 refuse_cpp
 build_rust
-for name in first triangles bfs paths threads chain succeed club; do run_rust "$name"; done
+for name in first triangles bfs paths threads chain succeed club help; do run_rust "$name"; done
 test_rust
 build_shared
-for name in first triangles bfs paths threads chain succeed club; do run_python "$name"; done
+for name in first triangles bfs paths threads chain succeed club help; do run_python "$name"; done
 run_python networkx_scipy networkx numpy scipy
 for file in python/tests/test_*.py; do test_python "$(basename "$file" .py)"; done
 run_installed

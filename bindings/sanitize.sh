@@ -14,20 +14,7 @@ heap=$KIT/c/liblibc_c.a
 link=("$library" "$heap" -lpthread)
 work=$(mktemp -d)
 trap 'rm -rf "$work"' EXIT
-passed=0 failed=0
-
-# Says how a step went, and where it failed what it wrote.
-tell() {
-    local name=$1 status=$2
-    if [ "$status" -eq 0 ]; then
-        passed=$((passed + 1))
-        echo "$name: passed"
-    else
-        failed=$((failed + 1))
-        echo "$name: failed"
-        tail -n 20 "$work/said"
-    fi
-}
+. ./steps.sh
 
 # Builds a program that the next step runs. It counts only where it fails.
 build() {
@@ -37,14 +24,6 @@ build() {
     "$@" -o "$work/program" >"$work/said" 2>&1 && return
     tell "$name" 1
     return 1
-}
-
-# Runs a program as a step. Its standard output is to be that of its file.
-compare() {
-    local name=$1 wanted=$2
-    shift 2
-    "$@" >"$work/out" 2>"$work/said" && diff "$wanted" "$work/out" >>"$work/said"
-    tell "$name" $?
 }
 
 # A program of c/ under sanitizers.
@@ -85,12 +64,28 @@ export ASAN_OPTIONS=quarantine_size_mb=4
 sanitize_c chain address,undefined
 sanitize_cpp chain address,undefined
 
-for name in first triangles club bfs paths threads chain succeed branch terms sharing; do
+# Passes that make a product together hand each other memory all the time. What the library does with memory is left out there, so the
+# thread sanitizer sees what the programs and the headers do.
+sanitize_without_library() {
+    local sanitize=$1 name=$2 link=("-L$work" -ltrowelheath "-Wl,-rpath,$work" -lpthread)
+    local -x TSAN_OPTIONS=suppressions=$work/suppressions
+    "$sanitize" "$name" thread
+}
+sanitize_c help address,undefined
+sanitize_cpp help address,undefined
+echo 'called_from_lib:libtrowelheath.so' >"$work/suppressions"
+if build 'the shared library' "$CC" -shared -Wl,--whole-archive "$library" -Wl,--no-whole-archive "$heap" -lpthread; then
+    mv "$work/program" "$work/libtrowelheath.so"
+    sanitize_without_library sanitize_c help
+    sanitize_without_library sanitize_cpp help
+fi
+
+for name in first triangles club bfs paths threads chain succeed help branch terms sharing; do
     build "c/$name, valgrind" "$CC" -std=c11 -g -O1 -Ic "c/$name.c" "${link[@]}" || continue
     under_valgrind "c/$name" "c/expected/$name.txt" definite,indirect,possible
 done
 "$RUSTC" --edition 2021 -O -g --crate-type rlib --crate-name trowelheath rust/src/lib.rs --out-dir "$work" >"$work/said" 2>&1 || tell rust 1
-for name in first triangles bfs paths threads chain succeed club; do
+for name in first triangles bfs paths threads chain succeed club help; do
     build "rust/$name, valgrind" "$RUSTC" --edition 2021 -O -g "rust/examples/$name.rs" --extern "trowelheath=$work/libtrowelheath.rlib" -L native="$(dirname "$library")" -L native="$KIT/c" || continue
     under_valgrind "rust/$name" "rust/expected/$name.txt" definite,indirect
 done

@@ -1,7 +1,7 @@
 /* Times the store on graphs of three kinds, next to loops by hand, and next to SuiteSparse:GraphBLAS in the
  * same process where that is there.
  *
- *     bench [SCALE [THREADS]]
+ *     bench [SCALE [THREADS [blocks]]]
  *
  * A graph has 2^SCALE vertices (12 where it is not given) and some 8 edges for each: drawn as R-MAT draws them,
  * drawn at random with 8 to each row, or those of a grid in which each vertex is joined with the 8 round it.
@@ -11,8 +11,12 @@
  * that was timed and was right in each round: what the store answers is, entry by entry, what the loop by hand makes,
  * and what SuiteSparse answers.
  *
- *     cc -std=c11 -O2 -o bench bench.c bench_by_hand.c libgrb_c.a liblibc_c.a -lpthread
- *     cc -std=c11 -O2 -DTRB_SUITESPARSE -o bench bench*.c libgrb_c.a liblibc_c.a -lpthread -lgraphblas
+ * At the end products are timed that passes make together, as bench_blocks.c tells: on a graph of four times as many
+ * vertices, and of 16,384 at most, with some 25 edges for each. With the word `blocks` nothing else is timed.
+ *
+ *     cc -std=c11 -O2 -o bench bench.c bench_by_hand.c bench_blocks.c libgrb_c.a liblibc_c.a -lpthread
+ *     cc -std=c11 -O2 -DTRB_SUITESPARSE -o bench bench.c bench_by_hand.c bench_blocks.c bench_suitesparse.c \
+ *         libgrb_c.a liblibc_c.a -lpthread -lgraphblas
  */
 #define _POSIX_C_SOURCE 200809L
 
@@ -22,6 +26,7 @@
 #include <pthread.h>
 #include <stdio.h>
 #include <stdlib.h>
+#include <string.h>
 #include <time.h>
 #ifdef __linux__
 #include <malloc.h>
@@ -29,14 +34,11 @@
 #include <unistd.h>
 #endif
 
-#ifdef TRB_SUITESPARSE
-#define BESIDE(round) (round)
-#else
-#define BESIDE(round) NULL
-#endif
-
 /* The largest grid has a thousand fronts, for each of which a search takes two changes. */
 enum { ROOM = 32768, MOST_THREADS = 32 };
+
+/* The products by blocks are of 2^14 vertices at most. */
+enum { BLOCKS_SCALE = 14 };
 
 bool reads_all = true;
 
@@ -103,8 +105,8 @@ uint64_t weight_of(TrB_Index i, TrB_Index j)
     return 1 + mix(i << 32 | j) % 255;
 }
 
-/* An edge is a number, of which the upper half is its row and the lower half its column. There are 8 for each
- * vertex; these functions give the k-th. At each bit of the ends one of the four quarters is drawn, with chances
+/* An edge is a number, of which the upper half is its row and the lower half its column. These functions give the
+ * k-th, where there are 8 for each vertex; R-MAT has as many as are drawn. At each bit of the ends one of the four quarters is drawn, with chances
  * .57, .19, .19 and .05. */
 static uint64_t rmat_edge(uint64_t k)
 {
@@ -190,10 +192,11 @@ static TrB_Index typical(void)
     return found;
 }
 
-static void draw(uint64_t (*edge)(uint64_t k))
+/* Draws so many edges. */
+static void draw(uint64_t (*edge)(uint64_t k), uint64_t drawn)
 {
     vertices = (uint64_t)1 << scale;
-    uint64_t drawn = 8 * vertices, *edges = (uint64_t *)space(drawn, sizeof *edges);
+    uint64_t *edges = (uint64_t *)space(drawn, sizeof *edges);
     for (uint64_t k = 0; k < drawn; k++) {
         edges[k] = edge(k);
     }
@@ -842,14 +845,29 @@ static void time_line(const char *kind, const Line *line)
     fflush(stdout);
 }
 
-static void time_kind(const Kind *kind)
+/* Lays the graph out for all but the store, and forgets it. */
+static void load_others(void)
 {
-    draw(kind->edge);
-    load();
     load_by_hand();
 #ifdef TRB_SUITESPARSE
     load_theirs();
 #endif
+}
+
+static void unload_others(void)
+{
+    unload_by_hand();
+#ifdef TRB_SUITESPARSE
+    unload_theirs();
+#endif
+    forget();
+}
+
+static void time_kind(const Kind *kind)
+{
+    draw(kind->edge, (uint64_t)8 << scale);
+    load();
+    load_others();
     fprintf(stderr, "%s: %" PRIu64 " vertices, %" PRIu64 " edges; %zu threads in the service\n", kind->name, vertices,
             graph.nvals, threads);
     weigh();
@@ -858,11 +876,17 @@ static void time_kind(const Kind *kind)
         time_line(kind->name, &lines[k]);
     }
     TrB_free(&pass);
-    unload_by_hand();
-#ifdef TRB_SUITESPARSE
-    unload_theirs();
-#endif
-    forget();
+    unload_others();
+}
+
+/* Times products by blocks, on a graph of its own. */
+static void time_together(void)
+{
+    scale = scale + 2 < BLOCKS_SCALE ? scale + 2 : BLOCKS_SCALE;
+    draw(rmat_edge, ((uint64_t)61 << scale) / 2);
+    load_others();
+    time_blocks();
+    unload_others();
 }
 
 /* A number of the command line, or this one where it is not given. */
@@ -870,7 +894,8 @@ static int argument(int argc, char **argv, int place, int missing, int smallest,
 {
     int number = argc > place ? atoi(argv[place]) : missing;
     if (number < smallest || number > largest) {
-        fprintf(stderr, "usage: bench [SCALE [THREADS]], a scale from 4 to 20 and 1 to %d threads\n", MOST_THREADS);
+        fprintf(stderr, "usage: bench [SCALE [THREADS [blocks]]], a scale from 4 to 20 and 1 to %d threads\n",
+                MOST_THREADS);
         exit(EXIT_FAILURE);
     }
     return number;
@@ -880,12 +905,14 @@ int main(int argc, char **argv)
 {
     scale = (uint64_t)argument(argc, argv, 1, 12, 4, 20);
     threads = (size_t)argument(argc, argv, 2, 4, 1, MOST_THREADS);
+    bool are_blocks_alone = argc > 3 && strcmp(argv[3], "blocks") == 0;
 #ifdef TRB_SUITESPARSE
     begin_theirs();
 #endif
-    for (size_t k = 0; k < sizeof kinds / sizeof kinds[0]; k++) {
+    for (size_t k = 0; k < sizeof kinds / sizeof kinds[0] && !are_blocks_alone; k++) {
         time_kind(&kinds[k]);
     }
+    time_together();
 #ifdef TRB_SUITESPARSE
     end_theirs();
 #endif

@@ -30,6 +30,13 @@ typedef double Round(Outcome *outcome);
 /* Whether a round reads all that it made, for the sum. Where its memory is taken it does not. */
 extern bool reads_all;
 
+/* A round of SuiteSparse, where that is there. */
+#ifdef TRB_SUITESPARSE
+#define BESIDE(round) (round)
+#else
+#define BESIDE(round) NULL
+#endif
+
 /* ---- The graph --------------------------------------------------------------------------------- */
 
 /* Entries as a build takes them, in rising order of row, then column. Those of a vector have no columns. */
@@ -110,5 +117,14 @@ Round their_build, their_mxm, their_mxm_bool, their_triangles, their_mxv, their_
 Round their_vxm_one, their_add, their_mult, their_masked_add, their_reduce, their_total, their_search, their_paths;
 Round their_mxm_unsorted, their_mxm_bool_unsorted, their_pull, their_entries, their_turns, their_service;
 Round their_transpose, their_apply, their_select_below, their_select_heavy, their_kronecker;
+
+/* The same with four threads for a call. */
+Round their_mxm_four, their_triangles_four;
+
+/* ---- Products by blocks ------------------------------------------------------------------------ */
+
+/* Times two products of the graph that are dear, as passes make them alone, with help and together. The graph is laid
+ * out by hand and by SuiteSparse before. */
+void time_blocks(void);
 
 #endif

@@ -1,4 +1,4 @@
-/* The same by SuiteSparse:GraphBLAS, which is held to one thread for each call. Without TRB_SUITESPARSE nothing
+/* The same by SuiteSparse:GraphBLAS, which is held to one thread for each call but where four are told. Without TRB_SUITESPARSE nothing
  * stands here. */
 #ifdef TRB_SUITESPARSE
 
@@ -279,6 +279,18 @@ double their_vxm_few(Outcome *outcome) { return time_vector(make_vxm_few, outcom
 double their_vxm_one(Outcome *outcome) { return time_vector(make_vxm_one, outcome); }
 double their_reduce(Outcome *outcome) { return time_vector(make_reduce, outcome); }
 double their_paths(Outcome *outcome) { return time_vector(make_paths, outcome); }
+
+/* Makes a round with four threads for each call. */
+static double by_four(Round *round, Outcome *outcome)
+{
+    DONE(GxB_Global_Option_set(GxB_GLOBAL_NTHREADS, 4));
+    double seconds = round(outcome);
+    DONE(GxB_Global_Option_set(GxB_GLOBAL_NTHREADS, 1));
+    return seconds;
+}
+
+double their_mxm_four(Outcome *outcome) { return by_four(their_mxm, outcome); }
+double their_triangles_four(Outcome *outcome) { return by_four(their_triangles, outcome); }
 
 double their_masked_add(Outcome *outcome)
 {

@@ -26,6 +26,9 @@
 enum { PASSED = 0, FAILED = 1, REFUSED = 2 };
 enum { ROOM = 400, PASSES = 2, SIZE = 64 };
 
+/* Rows of a full matrix, of which the square is dear: more than 2^20 multiplications. */
+enum { SIDE = 102, FULL = SIDE * SIDE };
+
 /* ---- Memory ------------------------------------------------------------------------------------ */
 
 void *__real_malloc(size_t size);
@@ -132,6 +135,19 @@ static void draw_chain(void)
         columns[k] = k + 1;
         numbers[k] = k + 1;
         truths[k] = k % 2 == 0;
+    }
+}
+
+/* A full matrix of ones, as arrays. */
+static TrB_Index full_rows[FULL], full_columns[FULL];
+static uint64_t ones[FULL];
+
+static void draw_full(void)
+{
+    for (size_t k = 0; k < FULL; k++) {
+        full_rows[k] = k / SIDE;
+        full_columns[k] = k % SIDE;
+        ones[k] = 1;
     }
 }
 
@@ -337,6 +353,28 @@ static bool serve(TrB_Pass *passes, TrB_Matrix a)
     return true;
 }
 
+/* A dear product, which one pass makes by blocks, and another helps with what is left of it. */
+static bool multiply(TrB_Pass *passes)
+{
+    TrB_Matrix full, c;
+    uint64_t least, count;
+    uint32_t made;
+    TrB_Index nvals;
+    OK(TrB_Matrix_new(&passes[0], &full, TrB_UINT64, SIDE, SIDE));
+    OK(TrB_Matrix_build_UINT64(&passes[0], full, full_rows, full_columns, ones, FULL, TrB_PLUS));
+    OK(TrB_Matrix_new(&passes[0], &c, TrB_UINT64, SIDE, SIDE));
+    OK(TrB_mxm(&passes[0], c, TrB_NO_MATRIX, TrB_NO_ACCUM, TrB_PLUS_TIMES, full, full, TrB_DEFAULT));
+    OK(TrB_Matrix_reduce_UINT64(&passes[0], &least, TrB_MIN, c));
+    HOLDS(least == SIDE);
+    OK(TrB_help(&passes[1], &made));
+    OK(TrB_blocks(&passes[1], &count));
+    OK(TrB_Matrix_nvals(&passes[1], &nvals, c));
+    HOLDS(nvals == FULL);
+    OK(TrB_Matrix_free(&passes[0], full));
+    OK(TrB_Matrix_free(&passes[0], c));
+    return true;
+}
+
 /* A successor, whose second pass goes on with the matrix. What one of the two stores changes is not in the other. */
 static bool go_on(TrB_Pass *passes, TrB_Pass *next, TrB_Matrix a)
 {
@@ -388,8 +426,8 @@ static bool make_all(TrB_Pass *passes, TrB_Pass *next, TrB_Pass *links)
     TrB_Matrix a;
     OK(TrB_open(ROOM, passes, PASSES));
     return make_matrices(&passes[0], &a) && make_vectors(&passes[1], a) && make_terms(&passes[0], a) &&
-           make_truths(&passes[1]) && make_lists(&passes[0], a) && serve(passes, a) && go_on(passes, next, a) &&
-           go_round(links);
+           make_truths(&passes[1]) && make_lists(&passes[0], a) && serve(passes, a) && multiply(passes) &&
+           go_on(passes, next, a) && go_round(links);
 }
 
 int main(int argc, char **argv)
@@ -399,6 +437,7 @@ int main(int argc, char **argv)
         return FAILED;
     }
     draw_chain();
+    draw_full();
     TrB_Pass passes[PASSES] = {TRB_PASS_INIT}, next[PASSES] = {TRB_PASS_INIT}, links[PASSES] = {TRB_PASS_INIT};
     long before = blocks;
     allocations = 0;

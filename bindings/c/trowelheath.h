@@ -72,6 +72,13 @@
  *              an operation does not read transposed is refused.
  *   not here   All else, as GrB_init, other types, operators of a program's own, other operations.
  *
+ * Who makes a product
+ *
+ *   The pass that reads it. Where a product of two matrices takes millions of multiplications and the store
+ *   has two passes or more, it is cut into blocks of rows. Passes that read the same product at the same time
+ *   make different blocks of it, and so does each thread that calls TrB_help: then none makes all of them.
+ *   Nobody waits for a block that another has begun.
+ *
  * What a service does
  *
  *   It opens a chain, which goes on for as long as what it holds fits. Each pass evaluates for itself:
@@ -319,6 +326,8 @@ void trb_free(TrB_Pass *pass);
 int32_t trb_meet(TrB_Pass *pass, TrB_Pass *other);
 int32_t trb_adopt(TrB_Pass *pass, TrB_Pass *other);
 int32_t trb_prepare(TrB_Pass *pass, uint32_t *out);
+int32_t trb_help(TrB_Pass *pass, uint32_t *out);
+int32_t trb_blocks(TrB_Pass *pass, uint64_t *out);
 int32_t trb_release(TrB_Pass *pass);
 int32_t trb_facts(TrB_Pass *pass, TrB_Facts *out);
 int32_t trb_matrix_last_info(TrB_Pass *pass, int32_t *out, uint32_t a);
@@ -634,6 +643,33 @@ static inline TrB_Info TrB_adopt(TrB_Pass *pass, TrB_Pass *other)
 static inline TrB_Info TrB_prepare(TrB_Pass *pass, uint32_t *evaluated)
 {
     return (TrB_Info)trb_prepare(pass, evaluated);
+}
+
+/* Makes blocks of the dear products that other passes of the store make at the moment. *made is how many,
+ * and 0 where there is none to make; it is written wherever there is a pass. It returns when no block is
+ * left to begin, learns nothing new, changes no answer and waits for nobody. It takes memory for the blocks;
+ * where that is refused, fewer are made, and that is no refusal. Takes no room.
+ *
+ * A thread that has nothing else to do calls it by a pass of its own, and sleeps a little after each 0:
+ *
+ *     const struct timespec nap = {.tv_nsec = 1000000};      // a millisecond
+ *     while (!is_over && TrB_help(&pass, &made) == TrB_SUCCESS) {
+ *         if (made == 0) nanosleep(&nap, NULL);
+ *     }
+ *
+ * A store of one pass has nobody to help. A pass of a chain helps in the generation in which it sits, and
+ * holds that: let it make a read now and then, as TrB_Matrix_size, by which it follows the others. */
+static inline TrB_Info TrB_help(TrB_Pass *pass, uint32_t *made)
+{
+    return (TrB_Info)trb_help(pass, made);
+}
+
+/* Tells in *count how many blocks of dear products were made so far in the store, by whatever pass; of a
+ * chain, in the generation in which the pass sits. One that two passes made counts twice. Learns nothing
+ * new. Takes no room and no memory. */
+static inline TrB_Info TrB_blocks(TrB_Pass *pass, uint64_t *count)
+{
+    return (TrB_Info)trb_blocks(pass, count);
 }
 
 /* Drops what the pass has evaluated, so that its memory is given back. What the pass knows stays, and

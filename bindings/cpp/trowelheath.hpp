@@ -794,6 +794,24 @@ public:
         return evaluated;
     }
 
+    /// Makes blocks of the dear products that other passes of the store make at the moment, and answers how many: 0
+    /// where there is none to make. It waits for nobody. A thread that has nothing else to do calls it again and
+    /// again, and sleeps a little after each 0. As TrB_help.
+    std::uint32_t help()
+    {
+        std::uint32_t made = 0;
+        detail::check(TrB_help(&raw_, &made));
+        return made;
+    }
+
+    /// How many blocks of dear products were made so far in the store, by whatever pass, as TrB_blocks.
+    [[nodiscard]] std::uint64_t blocks()
+    {
+        std::uint64_t count = 0;
+        detail::check(TrB_blocks(&raw_, &count));
+        return count;
+    }
+
     /// Drops what the pass has evaluated, so that its memory is given back. It knows what it knew. As TrB_release.
     void release() { detail::check(TrB_release(&raw_)); }
 

@@ -17,7 +17,7 @@ SOURCE = Path(trowelheath.__file__).resolve().parent.parent
 class Examples(unittest.TestCase):
     def test_each_prints_what_is_expected(self) -> None:
         expected = sorted((HERE / "expected").glob("*.txt"))
-        self.assertEqual(len(expected), 9)
+        self.assertEqual(len(expected), 10)
         for path in expected:
             with self.subTest(example=path.stem):
                 places = [str(SOURCE), os.environ.get("PYTHONPATH", "")]

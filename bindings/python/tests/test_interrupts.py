@@ -45,7 +45,7 @@ class Held:
     def __init__(
         self,
         library: Any,
-        reads: Tuple[str, ...] = ("get_uint64", "nvals", "tuples_uint64", "reduce_uint64", "wait", "prepare"),
+        reads: Tuple[str, ...] = ("get_uint64", "nvals", "tuples_uint64", "reduce_uint64", "wait", "prepare", "help"),
     ) -> None:
         self._library = library
         self._reads = reads
@@ -109,6 +109,7 @@ class Interrupted(StoreCase):
             lambda c: c.reduce("plus"),
             lambda c: c.wait(),
             lambda c: self.p.prepare(),
+            lambda c: self.p.help(),
         ]
         for place, read in enumerate(reads):
             with self.subTest(place=place):

@@ -100,6 +100,8 @@ class Closing(unittest.TestCase):
             lambda: other.main.meet(p),
             lambda: p.meet(other.main),
             p.prepare,
+            p.help,
+            p.blocks,
             p.release,
             p.facts,
             p.is_full,

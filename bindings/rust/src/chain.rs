@@ -105,11 +105,8 @@ impl Pass {
         let (mut needed, mut moved) = (0, false);
         // SAFETY: the pass is borrowed mutably, so this call alone has it, and the places of the answers are local variables.
         let status = unsafe { sys::trb_chain_go_on(&mut self.raw, &mut needed, &mut moved) };
-        match found(status, moved) {
-            Ok(went) => Ok(went.unwrap_or(false)),
-            Err(Error::InsufficientSpace) => Err(Error::RoomTooSmall { needed }),
-            Err(refusal) => Err(refusal),
-        }
+        let went = found(status, moved).map_err(|refusal| refusal.of_room(needed))?;
+        Ok(went.unwrap_or(false))
     }
 
     /// The pass of the chain with this number anew, which was dropped: that of a thread that has ended. None where it is not to be had: there

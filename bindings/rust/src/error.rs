@@ -76,6 +76,14 @@ impl Error {
         }
     }
 
+    /// The refusal of an opening or of a move: a room that is too small beside so many calls is told as such.
+    pub(crate) fn of_room(self, needed: u64) -> Error {
+        match self {
+            Error::InsufficientSpace => Error::RoomTooSmall { needed },
+            other => other,
+        }
+    }
+
     /// Its status in the C interface, a number of `GrB_Info` but for `OrderFull`; `None` where this crate refused the call itself.
     pub fn status(self) -> Option<i32> {
         match self {

@@ -9,7 +9,7 @@ use crate::object::{Calls, Object};
 use crate::operator::{Monoid, Op, Semiring};
 use crate::pass::Pass;
 use crate::refusal::{Call, Operand, Rule, EWISE, KRONECKER, MXM, MXV, REDUCE, TERM, VXM};
-use crate::sys;
+use crate::sys::{self, TrbPass};
 use crate::test::Test;
 use crate::vector::Vector;
 
@@ -44,18 +44,8 @@ impl Pass {
         b: O,
         descriptor: Descriptor<O>,
     ) -> Result<(), Error> {
-        self.check(c)?;
-        self.check(a)?;
-        self.check(b)?;
-        self.check_mask(&descriptor)?;
-        let how = descriptor.numbers();
-        let answer = done(c.ewise_add(&mut self.raw, how, op.number(), a, b));
-        self.note(answer, || {
-            let inputs = [
-                Operand::first("a", a, how.bits),
-                Operand::second("b", b, how.bits),
-            ];
-            operation("c", c, how, &inputs, EWISE)
+        self.ewise(c, a, b, descriptor, |pass, how| {
+            c.ewise_add(pass, how, op.number(), a, b)
         })
     }
 
@@ -76,12 +66,26 @@ impl Pass {
         b: O,
         descriptor: Descriptor<O>,
     ) -> Result<(), Error> {
+        self.ewise(c, a, b, descriptor, |pass, how| {
+            c.ewise_mult(pass, how, op.number(), a, b)
+        })
+    }
+
+    /// Makes an operation of the values of `a` and `b` at the same places, which `call` has the library make.
+    fn ewise<O: Object>(
+        &mut self,
+        c: O,
+        a: O,
+        b: O,
+        descriptor: Descriptor<O>,
+        call: impl FnOnce(&mut TrbPass, Numbers) -> i32,
+    ) -> Result<(), Error> {
         self.check(c)?;
         self.check(a)?;
         self.check(b)?;
         self.check_mask(&descriptor)?;
         let how = descriptor.numbers();
-        let answer = done(c.ewise_mult(&mut self.raw, how, op.number(), a, b));
+        let answer = done(call(&mut self.raw, how));
         self.note(answer, || {
             let inputs = [
                 Operand::first("a", a, how.bits),

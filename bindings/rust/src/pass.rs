@@ -183,6 +183,49 @@ impl Pass {
         Ok(evaluated)
     }
 
+    /// Makes blocks of the dear products that other passes of the store make at the moment, and tells how many: 0 where there is none to make.
+    /// It ends when no block is left to begin, changes no answer, and waits for nobody. It takes memory for the blocks; where that is refused,
+    /// fewer are made. A product is dear that takes millions of multiplications. A store of one pass has nobody to help.
+    ///
+    /// A thread that has nothing else to do calls it by a pass of its own, and sleeps a little after each 0. A pass of a chain helps in the
+    /// generation in which it sits, and holds that: let it make a read now and then, as [`size`](Pass::size), by which it follows the others.
+    ///
+    /// # Errors
+    ///
+    /// The library refuses only a pass that has ended, and this one has not.
+    ///
+    /// ```no_run
+    /// # use std::{sync::atomic::{AtomicBool, Ordering}, thread, time::Duration};
+    /// # use trowelheath::{Error, Pass};
+    /// fn help(pass: &mut Pass, is_over: &AtomicBool) -> Result<(), Error> {
+    ///     while !is_over.load(Ordering::Relaxed) {
+    ///         if pass.help()? == 0 {
+    ///             thread::sleep(Duration::from_millis(1));
+    ///         }
+    ///     }
+    ///     Ok(())
+    /// }
+    /// ```
+    pub fn help(&mut self) -> Result<u32, Error> {
+        let mut made = 0;
+        // SAFETY: the pass is borrowed mutably, so this call alone has it, and the place of the answer is a local variable.
+        done(unsafe { sys::trb_help(&mut self.raw, &mut made) })?;
+        Ok(made)
+    }
+
+    /// How many blocks of dear products were made so far in the store, by whatever pass; of a chain, in the generation in which this one sits.
+    /// One that two passes made counts twice.
+    ///
+    /// # Errors
+    ///
+    /// The library refuses only a pass that has ended, and this one has not.
+    pub fn blocks(&mut self) -> Result<u64, Error> {
+        let mut count = 0;
+        // SAFETY: the pass is borrowed mutably, so this call alone has it, and the place of the answer is a local variable.
+        done(unsafe { sys::trb_blocks(&mut self.raw, &mut count) })?;
+        Ok(count)
+    }
+
     /// Drops what the pass has evaluated, so that its memory is given back. What the pass knows stays, and other passes keep what they have.
     /// What a later answer needs is made anew, or found with other passes; no change is settled any more.
     ///
@@ -266,10 +309,7 @@ impl Pass {
                     opened.len(),
                 )
             };
-            done(status).map_err(|refusal| match refusal {
-                Error::InsufficientSpace => Error::RoomTooSmall { needed },
-                other => other,
-            })
+            done(status).map_err(|refusal| refusal.of_room(needed))
         })
     }
 
@@ -316,10 +356,7 @@ impl Pass {
                     opened.len(),
                 )
             };
-            done(status).map_err(|refusal| match refusal {
-                Error::InsufficientSpace => Error::RoomTooSmall { needed },
-                other => other,
-            })
+            done(status).map_err(|refusal| refusal.of_room(needed))
         })
     }
 

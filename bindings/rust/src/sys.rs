@@ -94,6 +94,8 @@ extern "C" {
     pub fn trb_meet(pass: *mut TrbPass, other: *mut TrbPass) -> i32;
     pub fn trb_adopt(pass: *mut TrbPass, other: *mut TrbPass) -> i32;
     pub fn trb_prepare(pass: *mut TrbPass, out: *mut u32) -> i32;
+    pub fn trb_help(pass: *mut TrbPass, out: *mut u32) -> i32;
+    pub fn trb_blocks(pass: *mut TrbPass, out: *mut u64) -> i32;
     pub fn trb_release(pass: *mut TrbPass) -> i32;
     pub fn trb_facts(pass: *mut TrbPass, out: *mut Facts) -> i32;
     pub fn trb_matrix_last_info(pass: *mut TrbPass, out: *mut i32, a: u32) -> i32;

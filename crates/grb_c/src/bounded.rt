@@ -80,6 +80,18 @@ impl Bounded {
         self.context.prepare(&mut self.pass)
     }
 
+    /// Makes blocks of the dear products that other passes make at the moment; how many it made. Takes memory.
+    pub(crate) fn help(&mut self) -> u32
+        ensures { self.new ≡ self.old }
+    {
+        self.context.help(&mut self.pass)
+    }
+
+    /// How many blocks were made so far in the context. Takes no memory.
+    pub(crate) fn blocks(&self) -> u64 {
+        self.context.blocks()
+    }
+
     /// Drops what the pass has evaluated: no known calls are settled any more. Takes no memory.
     pub(crate) fn release(&mut self)
         ensures context { self.new.context ≡ self.old.context }

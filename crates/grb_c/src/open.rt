@@ -6,7 +6,7 @@ ghost use Rattle.grb_c.specs.Codes.{invalid_value, out_of_memory, success};
 ghost use Rattle.grb_c.specs.Handles.{are_none};
 ghost use Rattle.grb_c.specs.Opening.{AreOpened, HoldFrom, IsWithin};
 ghost use Rattle.grb_c.specs.declared.session.Kind.TheVariants as Kind;
-ghost use Rattle.grb_c.specs.Sessions.{AreApart, Meets, Prepares, Releases};
+ghost use Rattle.grb_c.specs.Sessions.{AreApart, Meets, Prepares, Releases, facts_code};
 
 use crate::bounded::Bounded;
 use crate::codes::{INVALID_VALUE, OUT_OF_MEMORY, SUCCESS, UNINITIALIZED_OBJECT};
@@ -195,6 +195,39 @@ pub extern "C" fn trb_prepare(alloc: Global, pass: &mut TrbPass, out: &mut u32) 
         return UNINITIALIZED_OBJECT;
     };
     *out = session.prepare();
+    pass.put(session);
+    SUCCESS
+}
+
+/// Makes blocks of the dear products that other passes of the store make at the moment, and tells how many it made: 0 where there is none.
+/// It learns nothing and waits for nobody. Takes memory for the blocks; where it is refused, fewer are made. Where there is no pass, `out`
+/// stays.
+#[unsafe(no_mangle)]
+pub extern "C" fn trb_help(alloc: Global, pass: &mut TrbPass, out: &mut u32) -> i32
+    ensures same { pass.new.raw.session ≡ pass.old.raw.session }
+    ensures code { result ≡ facts_code pass.old.raw.session }
+    ensures untold { pass.old.raw.session ≡ None → out.new ≡ out.old }
+{
+    let Some(mut session) = pass.take(alloc) else {
+        return UNINITIALIZED_OBJECT;
+    };
+    *out = session.help();
+    pass.put(session);
+    SUCCESS
+}
+
+/// Tells how many blocks were made so far in the store, and of a chain in the generation in which the member sits. Takes no memory. Where
+/// there is no pass, `out` stays.
+#[unsafe(no_mangle)]
+pub extern "C" fn trb_blocks(alloc: Global, pass: &mut TrbPass, out: &mut u64) -> i32
+    ensures same { pass.new.raw.session ≡ pass.old.raw.session }
+    ensures code { result ≡ facts_code pass.old.raw.session }
+    ensures untold { pass.old.raw.session ≡ None → out.new ≡ out.old }
+{
+    let Some(session) = pass.take(alloc) else {
+        return UNINITIALIZED_OBJECT;
+    };
+    *out = session.blocks();
     pass.put(session);
     SUCCESS
 }

@@ -99,6 +99,25 @@ impl Session {
         }
     }
 
+    /// Makes blocks of the dear products that other passes make at the moment, of a member in the generation in which it sits; how many it
+    /// made. It learns nothing and waits for nobody. Takes memory.
+    pub fn help(&mut self) -> u32
+        ensures { self.new ≡ self.old }
+    {
+        match &mut self.kind {
+            Kind::Bounded(own) => own.help(),
+            Kind::Member(own) => own.help(),
+        }
+    }
+
+    /// How many blocks were made so far, of a member in the generation in which it sits. Takes no memory.
+    pub fn blocks(&self) -> u64 {
+        match &self.kind {
+            Kind::Bounded(own) => own.blocks(),
+            Kind::Member(own) => own.blocks(),
+        }
+    }
+
     /// Drops what the pass has evaluated: no known calls are settled any more. Takes no memory.
     pub fn release(&mut self)
         ensures { Goes (λ o n. n ≡ record o { pass = released o.pass }) (λ o n. n ≡ record o { pass = released o.pass }) self.old self.new }

@@ -13,7 +13,7 @@ use grb_pass::{Pass, Shared};
 use std::alloc::{AllocError, Global};
 use std::marker::Model;
 
-/// A store that passes share: the order of all calls, and their records.
+/// A store that passes share: the order of all calls, their records, and where they make dear products of two matrices together.
 #[derive(Drop)]
 pub struct Context {
     pub(crate) shared: Shared,
@@ -33,7 +33,9 @@ impl Context {
     /// A context whose history takes `room` calls, from 1 to `MOST_ROOM`, and its passes, from 1 to `MOST_PASSES`, which know no call and
     /// have no status: the one at index k has the number k. `room` times `passes` is at most `MOST_SEATS`. After this memory is taken for
     /// the records of entered calls, for the evaluation of reads and builds, by reads and waits for what they leave to other passes, by
-    /// `adopt` and `prepare`, and by `run` for its answers. `AllocError` where memory is refused; then nothing is made.
+    /// `adopt` and `prepare`, by `help` for blocks of products, and by `run` for its answers. `AllocError` where memory is refused; then
+    /// nothing is made. Two passes and more have a place where they make dear products together, as `help` says; where memory for that alone
+    /// is refused, they make them alone.
     pub fn open(alloc: Global, room: u32, passes: u32) -> Result<(Context, Vec<Pass>), AllocError>
         requires room { (0 < room) × (room ≤ MOST_ROOM) }
         requires passes { (0 < passes) × (passes ≤ MOST_PASSES) }
@@ -46,6 +48,34 @@ impl Context {
     {
         let (shared, opened) = Shared::open(alloc, room, passes)?;
         Ok((Context { shared, alloc }, opened))
+    }
+
+    /// A context as [`Context::open`] makes it. Where it is to be helped, its dear products are made by blocks also where it has one pass, so
+    /// that threads without a pass can help, as [`Context::lend_hand`] says (own).
+    pub fn open_with(
+        alloc: Global,
+        room: u32,
+        passes: u32,
+        helped: bool,
+    ) -> Result<(Context, Vec<Pass>), AllocError>
+        requires room { (0 < room) × (room ≤ MOST_ROOM) }
+        requires passes { (0 < passes) × (passes ≤ MOST_PASSES) }
+        requires seats { room * passes ≤ MOST_SEATS }
+        ensures room { IfOk result (λ opened. room_of opened.0.order ≡ room) }
+        ensures records { IfOk result (λ opened. HasRows passes room opened.0.records) }
+        ensures passes { IfOk result (λ opened. AreNew opened.0.order passes opened.1.items passes) }
+        ensures ours { IfOk result (λ opened. All (IsPassOf opened.0) opened.1.items) }
+        ensures statuses { IfOk result (λ opened. All HasNoStatus opened.1.items) }
+    {
+        let (shared, opened) = Shared::open_with(alloc, room, passes, helped)?;
+        Ok((Context { shared, alloc }, opened))
+    }
+
+    /// Makes blocks of the dear products that the passes of the context make at the moment, as [`Context::help`] does, by a thread that has
+    /// no pass, and answers how many. It learns nothing and changes nothing that a pass knows. Takes memory for the blocks; where it is
+    /// refused, it ends, and nothing is lost (own).
+    pub fn lend_hand(&self) -> u32 {
+        self.shared.lend_hand()
     }
 
     /// Makes one call, by whichever thread has the pass, and does not wait. A refusal says why the call was not made: by shapes (the lowest
@@ -104,5 +134,23 @@ impl Context {
         ensures count { result ≤ length (known pass.new) }
     {
         self.shared.prepare(pass)
+    }
+
+    /// Makes blocks of the dear products that other passes of the context make at the moment, and answers how many: 0 where there is none.
+    /// A dear product of two matrices is made by blocks of its rows, by all passes that come to it at one time and by those that help. It
+    /// learns nothing, changes no answer and no status, makes no step on the order and waits for no one. Takes memory for the blocks; where
+    /// it is refused, it ends, and nothing is lost (own).
+    pub fn help(&self, pass: &mut Pass) -> u32
+        requires { IsPassOf self.now pass.old }
+        ensures same { pass.new ≡ pass.old }
+        ensures pass { IsPassOf self.now pass.new }
+    {
+        self.shared.help(pass)
+    }
+
+    /// How many blocks of dear products were made in this context so far, by passes that read and by passes that help; a block that two
+    /// made counts twice. 0 in a context of one pass that is not helped, which makes its products alone. Takes no memory (own).
+    pub fn blocks(&self) -> u64 {
+        self.shared.blocks()
     }
 }

@@ -35,6 +35,20 @@ impl Member {
         self.context.prepare(&mut self.pass)
     }
 
+    /// Makes blocks of the dear products that other members make at the moment in the generation in which this one sits, and answers how
+    /// many, as [`Context::help`](grb_context::Context::help) does. It does not move (own).
+    pub fn help(&mut self) -> u32
+        ensures { self.new ≡ self.old }
+    {
+        self.context.help(&mut self.pass)
+    }
+
+    /// How many blocks of dear products were made so far in the generation in which the member sits, as
+    /// [`Context::blocks`](grb_context::Context::blocks) counts them. Takes no memory (own).
+    pub fn blocks(&self) -> u64 {
+        self.context.blocks()
+    }
+
     /// Lets the member learn all that the other knows, where both sit in one generation, as
     /// [`Context::meet`](grb_context::Context::meet) does. Where the other sits in a later one, the member looks and moves as far as it
     /// can, and answers `Ok`: a further meeting then learns the rest. Where the other sits in an earlier one there is nothing to learn, since

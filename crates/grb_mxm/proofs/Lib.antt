@@ -9,3 +9,5 @@ pub mod MaskedProduct
 pub mod Names
 pub mod TrueRows
 pub mod ReadFactors
+pub mod Blocked
+pub mod Joining

@@ -27,7 +27,8 @@ use Rattle.grb_ewise.proofs.MatrixRows.{find-row, row-sorted}
 use Rattle.grb_semirings.specs.Open.{marked_at}
 use Rattle.grb_semirings.specs.Products.{products}
 use Rattle.grb_semirings.proofs.Sums.{product_of-products, products-same}
-use Rattle.grb_mxm.specs.Rows.{picked, product_row, selected_product, bounding}
+use Rattle.grb_mxm.specs.RowProducts.{picked, product_row}
+use Rattle.grb_mxm.specs.Rows.{selected_product, bounding}
 use Rattle.grb_mxm.specs.AllowedSums.{AreAmong}
 use Rattle.grb_mxm.proofs.OpenRow.{transposed, find-product_row}
 use Rattle.grb_mxm.proofs.ProductRows.{sorted-mxm, row_of-mxm, product_row-sorted}

@@ -11,7 +11,7 @@ use Rattle.grb_core.specs.Entries.{VectorEntries, before_entries}
 use Rattle.grb_core.specs.Mask.{selects, is_true_value}
 use Rattle.grb_kernels.specs.Typed.{entries_of}
 use Rattle.grb_kernels.proofs.Lists.{append_nil, before-append}
-use Rattle.grb_mxm.specs.Rows.{picked}
+use Rattle.grb_mxm.specs.RowProducts.{picked}
 use Rattle.grb_mxm.specs.AllowedSums.{AreAmong, StandsIn}
 use Rattle.grb_sums.specs.Marks.{HoldUnmarked}
 use Rattle.grb_sums.proofs.Cleared.{set_cleared, stays_cleared}

@@ -22,7 +22,7 @@ use Rattle.grb_semirings.specs.Products.{products}
 use Rattle.grb_sums.proofs.RowByRow.{same_test, in_its_row, by_its_row, is_in}
 use Rattle.grb_semirings.proofs.Sums.{product_of-products, products-same}
 use Rattle.grb_sums.specs.Open.{marked_from}
-use Rattle.grb_mxm.specs.Rows.{product_row}
+use Rattle.grb_mxm.specs.RowProducts.{product_row}
 use Rattle.grb_sums.proofs.Renamed.{RiseBelow}
 
 and : (a b : Bool) → T a → T b → T (a && b)

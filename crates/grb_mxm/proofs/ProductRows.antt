@@ -16,7 +16,7 @@ use Rattle.grb_core.proofs.Gridded.{is_sorted-cells}
 use Rattle.grb_ewise.proofs.MatrixRows.{with_row, by_row, find-with_row, find-row, row-sorted}
 use Rattle.grb_sums.proofs.RowByRow.{same_test, in_its_row, is_in}
 use Rattle.grb_semirings.proofs.Sums.{product_of-products}
-use Rattle.grb_mxm.specs.Rows.{product_row}
+use Rattle.grb_mxm.specs.RowProducts.{product_row}
 
 and : (a b : Bool) → T a → T b → T (a && b)
 and true b p q = q

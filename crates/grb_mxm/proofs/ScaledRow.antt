@@ -25,7 +25,7 @@ use Rattle.grb_semirings.specs.Products.{list_of}
 use Rattle.grb_semirings.proofs.Folds.{fold_of-one}
 use Rattle.grb_semirings.proofs.Sums.{product_of-products}
 use Rattle.grb_sums.specs.Naming.{renamed}
-use Rattle.grb_mxm.specs.Rows.{product_row}
+use Rattle.grb_mxm.specs.RowProducts.{product_row}
 use Rattle.grb_mxm.proofs.OpenRow.{transposed, find-product_row}
 use Rattle.grb_mxm.proofs.ProductRows.{product_row-sorted}
 use Rattle.grb_sums.proofs.SummedRow.{found_product}

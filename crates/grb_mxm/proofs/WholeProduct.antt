@@ -1,5 +1,5 @@
 -- The product of whole matrices is a whole matrix.
-use Rattle.std.proofs.Common.{◌≡◌, ℕ, Bool, sym, ap, subst, ◌∙◌, refl}
+use Rattle.std.proofs.Common.{◌≡◌, ◌++◌, ℕ, Bool, [], sym, ap, subst, ◌∙◌, refl}
 use Rattle.grb_core.specs.declared.domain.Domain.{Domain}
 use Rattle.std.specs.Prelude.{Option, Some, None}
 use Rattle.std.proofs.lemmas.List.Elements.{All-filter}
@@ -13,7 +13,8 @@ use Rattle.grb_core.specs.Semiring.{SemiringParts}
 use Rattle.grb_core.specs.Results.{mxm_of}
 use Rattle.grb_core.specs.ResultLaws.{IsCellBelow, AreEntries}
 use Rattle.grb_core.proofs.ResultLaws.{mxm_makes_entries}
-use Rattle.grb_mxm.specs.Rows.{selected_product}
+use Rattle.grb_mxm.specs.Rows.{rows_between, selected_product}
+use Rattle.grb_mxm.proofs.Blocked.{rows_whole}
 use Rattle.grb_sums.proofs.Renamed.{holds, passes}
 use Rattle.grb_mxm.proofs.MaskedProduct.{is_sorted-restricted}
 use Rattle.grb_ewise.proofs.WholeMatrix.{matrix_of, same_matrix, whole-same}
@@ -45,3 +46,12 @@ module _ (s : SemiringParts) (structure : Bool) (mask : Option MatrixEntries) (d
       whole-same _ _ product_is
       (subst (λ x. IsMatrix (matrix_of x a.nrows b.ncols (selected_product s structure mask a.entries b.entries))) (sym ad)
       (record { nrows = g.nrows; ncols = h.ncols; ordered = entries.ordered; within = entries.within; of_domain = entries.of_domain }))
+
+-- all rows of the product of whole matrices, after none, are the product
+module _ (s : SemiringParts) (structure : Bool) (mask : Option MatrixEntries) (d : Domain) (nrows ncols : ℕ) (a b : Matrix) (k l made before : MatrixEntries) (e : d ≡ op_domain s.op) (ad : a.domain ≡ op_domain s.op) (r : nrows ≡ a.nrows) (c : ncols ≡ b.ncols)
+    (p : k ≡ a.entries) (q : l ≡ b.entries) (none : before ≡ []) (is : made ≡ before ++ rows_between 0 nrows (selected_product s structure mask k l)) where
+  pub all_rows : IsMatrix a → IsMatrix b → monoid_domain s.monoid ≡ op_domain s.op → b.domain ≡ op_domain s.op → a.ncols ≡ b.nrows → made ≡ selected_product s structure mask k l
+  all_rows g h md bd inner =
+      let product = selected_product s structure mask k l in
+      let whole : IsMatrix (matrix_of d nrows ncols product) = product_whole s structure mask d nrows ncols a b k l product e ad r c p q refl g h md bd inner in
+      is ∙ ap (λ (m : MatrixEntries). m ++ rows_between 0 nrows product) none ∙ rows_whole nrows product (λ n x lt. (whole.within n x lt).0)

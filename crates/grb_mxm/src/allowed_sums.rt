@@ -11,7 +11,7 @@ ghost use Rattle.grb_kernels.specs.Typed.{entries_of, first_entries};
 ghost use Rattle.grb_semirings.specs.Open.{marked_at};
 ghost use Rattle.grb_ewise.specs.Ranks.{Rise};
 ghost use Rattle.grb_sums.specs.Naming.{name_in};
-ghost use Rattle.grb_mxm.specs.Rows.{picked};
+ghost use Rattle.grb_mxm.specs.RowProducts.{picked};
 ghost use Rattle.grb_sums.specs.Marks.{HoldUnmarked};
 ghost use Rattle.grb_mxm.specs.AllowedSums.{StandsIn, IsUnmarked, AreAllowedSums, allowed_of, summed_of};
 

@@ -4,13 +4,14 @@ ghost use Rattle.grb_core.specs.Monoid.{identity_of};
 ghost use Rattle.grb_core.specs.Results.{row_of};
 ghost use Rattle.grb_kernels.specs.Typed.{entries_of};
 ghost use Rattle.grb_lists.specs.Cells.{decoded};
-ghost use Rattle.grb_mxm.specs.Rows.{AreRows, selected_product};
+ghost use Rattle.grb_ewise.specs.Rows.{flat_entries};
+ghost use Rattle.grb_mxm.specs.Rows.{AreAppended, selected_product};
 ghost use Rattle.grb_sums.specs.Spans.{AreSpans};
 ghost use Rattle.grb_mxm.specs.AllowedSums.{IsUnmarked};
 
 use crate::allowed_sums::{AllowedSums, OUTSIDE, take_picked};
 use crate::mask_rows::MaskRows;
-use crate::rows::{MadeRows, RowMaker, make_rows};
+use crate::rows::{MadeRows, Part, RowMaker, make_rows};
 use grb_ewise::Stored;
 use grb_kernels::{EntrySlice, Operator};
 use grb_semirings::{MatrixRows, MonoidOver};
@@ -96,17 +97,18 @@ impl<'a, T: Stored + Drop, M: MonoidOver<T>, O: Operator<T>> RowMaker<T>
     }
 }
 
-/// The product of two matrices at the cells that a mask selects, by a monoid and an operator as types. Takes memory to work in, some places
-/// for each name, for where the rows of the first begin, and for the result, which is no longer than the mask. `AllocError` where that is
-/// refused; then nothing is made.
+/// Rows of the product of two matrices at the cells that a mask selects, by a monoid and an operator as types. Takes memory to work in,
+/// some places for each name, for where the rows of the first begin, and for the result, which is no longer than the mask. `AllocError`
+/// where that is refused; then nothing is made.
 pub(crate) fn multiply_masked<T: Stored + Drop, M: MonoidOver<T>, O: Operator<T>>(
     alloc: Global,
     a: &MatrixRows<T>,
     b: &RankedRows<T>,
     mask: &MaskRows,
+    part: Part<T>,
 ) -> Result<MadeRows<T>, AllocError>
     requires names { mask.now.names.now ≡ b.now.names.now }
-    ensures { IfOk result (λ made. AreRows T.value made.rows.items made.starts.items made.columns.items made.values.items (selected_product (record { monoid = M.monoid; op = O.op }) mask.now.structure (Some (decoded mask.now.lists.now.entries)) (decoded a.now.lists.now.entries) (decoded b.now.lists.now.entries))) }
+    ensures { IfOk result (λ made. AreAppended T.value (flat_entries T.value part.made.rows.items part.made.starts.items part.made.columns.items part.made.values.items) part.from part.upto (selected_product (record { monoid = M.monoid; op = O.op }) mask.now.structure (Some (decoded mask.now.lists.now.entries)) (decoded a.now.lists.now.entries) (decoded b.now.lists.now.entries)) made.rows.items made.starts.items made.columns.items made.values.items) }
 {
     let spans = spans_of(alloc, a.lists, a.lists.len() + mask.lists.len())?;
     let rows: MaskedRows<T, M, O> = MaskedRows {
@@ -116,5 +118,6 @@ pub(crate) fn multiply_masked<T: Stored + Drop, M: MonoidOver<T>, O: Operator<T>
         mask,
         of: PhantomData,
     };
-    make_rows(alloc, &rows, mask.lists.len())
+    let room = if part.reserves { mask.lists.len() } else { 0 };
+    make_rows(alloc, &rows, part, room)
 }

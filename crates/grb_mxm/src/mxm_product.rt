@@ -1,5 +1,5 @@
-//! The product of two matrices.
-ghost use Rattle.std.specs.Prelude.{◌≡◌, ◌<◌, ℕ, length, true, All, IsTrue, IfOk, IfSome, false};
+//! The product of two matrices: rows of it, all of it, and all of it written into an output.
+ghost use Rattle.std.specs.Prelude.{◌≡◌, ◌<◌, ◌≤◌, ◌++◌, ℕ, length, true, All, IsTrue, IfOk, IfSome, false};
 ghost use Rattle.std.specs.Option.{option_map};
 ghost use Rattle.std.specs.FinMap.{is_sorted};
 ghost use Rattle.grb_core.specs.Operator.{op_domain};
@@ -10,12 +10,12 @@ ghost use Rattle.grb_core.specs.Written.{written};
 ghost use Rattle.grb_core.specs.Results.{mxm_of, turned};
 ghost use Rattle.grb_lists.specs.Cells.{decoded, IsFlat};
 ghost use Rattle.grb_ewise.specs.Rows.{flat_entries};
-ghost use Rattle.grb_ewise.specs.Premises.{IsMatrixInput, IsMatrixOutput, columns_read, rows_read};
+ghost use Rattle.grb_ewise.specs.Premises.{IsMatrixInput, IsMatrixOutput, LieInside, columns_read, rows_read};
 ghost use Rattle.grb_ewise.specs.Written.{written_into_matrix};
-ghost use Rattle.grb_mxm.specs.Rows.{AreRows, selected_product, bounding};
+ghost use Rattle.grb_mxm.specs.Rows.{AreBelow, bounding, rows_between, selected_product};
 
-use crate::factors::Factors;
-use crate::rows::MadeRows;
+use crate::factors::{Factors, RowsOfProduct};
+use crate::rows::{MadeRows, Part, no_rows};
 use crate::true_rows::InBits;
 use grb_call::Descriptor;
 use grb_core::{BinaryOp, Domain, Semiring};
@@ -25,21 +25,42 @@ use grb_semirings::{Folded, MatrixRows, by_semiring, lend_matrix};
 use grb_sparse::SparseMatrix;
 use std::alloc::{AllocError, Global};
 
-/// The product of two matrices whose values are of one Rust type, at the cells that a mask selects; at all cells, where there is no mask.
-/// `AllocError` where memory is refused; then nothing is made.
-fn multiply_by<T: InBits + Folded + Drop>(
+/// Puts the rows from one up to another of a product after rows that come before them: of the product of two matrices whose values are of
+/// one Rust type, at the cells that a mask selects; at all cells, where there is no mask. `AllocError` where memory is refused; then
+/// nothing is made, and the rows that were there are dropped.
+///
+/// - `structure`: whether the mask is read by structure; else by value.
+/// - `a`, `b`: the first and the second matrix; the value of `a` comes first in a product.
+/// - `made`: the rows that are there, all below `from`.
+/// - `from`, `upto`: the first row that is made, and the one that comes after the last.
+/// - `reserves`: whether memory is reserved ahead for the entries of all rows of the product, where no entry is there yet: for who makes
+///   all of it. Else the lists grow as they are written.
+///
+/// Time and memory are those of `mxm` for these rows alone, and for what `mxm` makes once: work arrays, and lists by which rows and columns
+/// are found. Without `reserves` products are not counted, and none is left out because all values are true.
+///
+/// Source: own.
+pub fn append_product<T: InBits + Folded + Drop>(
     alloc: Global,
     semiring: Semiring,
     structure: bool,
     mask: Option<&FlatRows>,
     a: MatrixRows<T>,
     b: MatrixRows<T>,
+    made: MadeRows<T>,
+    from: u64,
+    upto: u64,
+    reserves: bool,
 ) -> Result<MadeRows<T>, AllocError>
     requires monoid_domain { monoid_domain semiring.monoid ≡ T.domain }
     requires op_domain { op_domain semiring.op ≡ T.domain }
     requires mask_ordered { IfSome mask (λ m. IsTrue (is_sorted cell_cmp (decoded m.now.entries))) }
     requires mask_in_range { IfSome mask (λ m. All (λ e. e.0.1 < b.ncols) (decoded m.now.entries)) }
-    ensures { IfOk result (λ made. AreRows T.value made.rows.items made.starts.items made.columns.items made.values.items (selected_product semiring structure (option_map (λ m. decoded m.now.entries) mask.entry) (decoded a.entry.lists.now.entries) (decoded b.entry.lists.now.entries))) }
+    requires rises { from ≤ upto }
+    requires lists { AreBelow from made.rows.items made.starts.items made.columns.items made.values.items }
+    requires below { All (λ e. e.0.0 < from) (flat_entries T.value made.rows.items made.starts.items made.columns.items made.values.items) }
+    ensures lists { IfOk result (λ all. AreBelow upto all.rows.items all.starts.items all.columns.items all.values.items) }
+    ensures entries { IfOk result (λ all. flat_entries T.value all.rows.items all.starts.items all.columns.items all.values.items ≡ flat_entries T.value made.rows.items made.starts.items made.columns.items made.values.items ++ rows_between from upto (selected_product semiring structure (option_map (λ m. decoded m.now.entries) mask.entry) (decoded a.entry.lists.now.entries) (decoded b.entry.lists.now.entries))) }
 {
     let factors: Factors<T> = Factors {
         alloc,
@@ -48,11 +69,26 @@ fn multiply_by<T: InBits + Folded + Drop>(
         a,
         b,
     };
-    by_semiring(semiring, factors)
+    let part: Part<T> = Part {
+        made,
+        from,
+        upto,
+        reserves,
+    };
+    let rows: RowsOfProduct<T> = RowsOfProduct { factors, part };
+    let all = by_semiring(semiring, rows)?;
+    Ok(all)
 }
 
 /// The matrix of these rows. They are not copied.
-fn keep_rows<T: Stored>(alloc: Global, nrows: u64, ncols: u64, made: MadeRows<T>) -> SparseMatrix
+///
+/// Source: own.
+pub fn keep_rows<T: Stored>(
+    alloc: Global,
+    nrows: u64,
+    ncols: u64,
+    made: MadeRows<T>,
+) -> SparseMatrix
     requires flat { IsFlat made.rows.items made.starts.items made.columns.items }
     requires same { length made.values.items ≡ length made.columns.items }
     requires whole { IsMatrix (record { domain = T.domain; nrows = nrows; ncols = ncols; entries = flat_entries T.value made.rows.items made.starts.items made.columns.items made.values.items }) }
@@ -63,9 +99,12 @@ fn keep_rows<T: Stored>(alloc: Global, nrows: u64, ncols: u64, made: MadeRows<T>
     SparseMatrix::from_lists(alloc, nrows, ncols, lists)
 }
 
-/// The product of two matrices at the cells that a mask selects, as a matrix; at all cells, where there is no mask. `AllocError` where
-/// memory is refused; then nothing is made.
-fn product(
+/// The product of two matrices at the cells that a mask selects, as a matrix; at all cells, where there is no mask. The mask is read by
+/// structure where `structure` says so, else by value. `AllocError` where memory is refused; then nothing is made. Time and memory are
+/// those of `mxm`, where it reads both as they are.
+///
+/// Source: own.
+pub fn product(
     alloc: Global,
     semiring: Semiring,
     structure: bool,
@@ -85,19 +124,27 @@ fn product(
     match semiring.domain() {
         Domain::Bool => {
             let (first, second) = (lend_matrix(a), lend_matrix(b));
-            let made = multiply_by::<bool>(alloc, semiring, structure, mask, first, second)?;
+            let none = no_rows::<bool>(alloc);
+            let made = append_product::<bool>(
+                alloc, semiring, structure, mask, first, second, none, 0, nrows, true,
+            )?;
             Ok(keep_rows::<bool>(alloc, nrows, ncols, made))
         }
         Domain::Uint64 => {
             let (first, second) = (lend_matrix(a), lend_matrix(b));
-            let made = multiply_by::<u64>(alloc, semiring, structure, mask, first, second)?;
+            let none = no_rows::<u64>(alloc);
+            let made = append_product::<u64>(
+                alloc, semiring, structure, mask, first, second, none, 0, nrows, true,
+            )?;
             Ok(keep_rows::<u64>(alloc, nrows, ncols, made))
         }
     }
 }
 
-/// The flat lists of a mask that bounds the product; none, where there is no mask or its complement is meant.
-fn bounding_lists(mask: Option<&SparseMatrix>, comp: bool) -> Option<&FlatRows>
+/// The flat lists of a mask that bounds the product; none, where there is no mask or its complement is meant. Takes no memory.
+///
+/// Source: own.
+pub fn bounding_lists(mask: Option<&SparseMatrix>, comp: bool) -> Option<&FlatRows>
     requires assembled { IfSome mask (λ m. m.now.assembled ≡ true) }
     ensures ordered { IfSome result (λ m. IsTrue (is_sorted cell_cmp (decoded m.now.entries))) }
     ensures in_range { (n : ℕ) → IfSome mask.entry (λ m. m.now.matrix.ncols ≡ n) → IfSome result (λ m. All (λ e. e.0.1 < n) (decoded m.now.entries)) }
@@ -140,6 +187,39 @@ fn product_read(
         first.matrix(),
         second.matrix(),
     )?;
+    Ok(made)
+}
+
+/// Writes a product into `output` by the accumulator, the mask and the descriptor. `AllocError` where memory is refused; then nothing is
+/// made, and `output` is as before.
+///
+/// - `output`, `mask`, `accum`, `descriptor`: as `mxm` takes them.
+/// - `computed`: the product, which is dropped where memory is refused. Where the mask is not complemented, nothing of it lies outside, as
+///   of one that was bounded by it.
+///
+/// Where the mask is not complemented and there is no accumulator, the answer is `computed` itself, if there is no mask, the descriptor
+/// says `replace`, or `output` stores nothing. Else time and memory are in proportion to the stored entries of the three.
+///
+/// Source: GraphBLAS C API 2.0, as `grb_ewise::write_masked_matrix`.
+pub fn write_product(
+    alloc: Global,
+    output: &SparseMatrix,
+    mask: Option<&SparseMatrix>,
+    accum: Option<BinaryOp>,
+    descriptor: Descriptor,
+    computed: SparseMatrix,
+) -> Result<SparseMatrix, AllocError>
+    requires output { IsMatrixOutput output.now mask accum }
+    requires computed { IsMatrixInput false output.now.matrix.domain output.now.matrix.nrows output.now.matrix.ncols computed }
+    requires inside { descriptor.comp ≡ false → LieInside cell_cmp (option_map (λ m. m.now.matrix.entries) mask) descriptor computed.matrix.entries }
+    ensures matrix { IfOk result (λ made. made.matrix ≡ written_into_matrix output.now mask.entry accum descriptor computed.matrix.entries) }
+    ensures assembled { IfOk result (λ made. made.assembled ≡ true) }
+{
+    if descriptor.comp {
+        let masked = write_masked_matrix(alloc, output, mask, accum, descriptor, computed)?;
+        return Ok(masked);
+    }
+    let made = write_inside_matrix(alloc, output, mask, accum, descriptor, computed)?;
     Ok(made)
 }
 
@@ -193,11 +273,7 @@ pub fn mxm(
     let bound = bounding_lists(mask, descriptor.comp);
     let (structure, tran, tran1) = (descriptor.structure, descriptor.tran, descriptor.tran1);
     let computed = product_read(alloc, semiring, structure, bound, a, b, tran, tran1)?;
-    if descriptor.comp {
-        let masked = write_masked_matrix(alloc, output, mask, accum, descriptor, computed)?;
-        return Ok(masked);
-    }
     // A product that the mask bounds has nothing outside of it.
-    let made = write_inside_matrix(alloc, output, mask, accum, descriptor, computed)?;
+    let made = write_product(alloc, output, mask, accum, descriptor, computed)?;
     Ok(made)
 }

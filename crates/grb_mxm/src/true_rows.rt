@@ -1,6 +1,6 @@
 //! The rows of a product of truth values all of which are true, where what the semiring makes of true and true is true: a row has true at
 //! each column that has a product. So no product is made and no sum is added to: columns are marked, and nothing else.
-ghost use Rattle.std.specs.Prelude.{◌≡◌, ◌<◌, ◌≤◌, ◌*◌, ◌||◌, ℕ, Bool, List, true, false, All, length, slice_index, slice_index_or, slice_set, is_some, IfOk, IfSome};
+ghost use Rattle.std.specs.Prelude.{◌≡◌, ◌<◌, ◌≤◌, ◌*◌, ◌||◌, ℕ, Bool, List, [], true, false, All, length, slice_index, slice_index_or, slice_set, is_some, IfOk, IfSome};
 ghost use Rattle.std.specs.List.{AllByRecursion};
 ghost use Rattle.std.specs.Ordering.{nat_cmp};
 ghost use Rattle.std.specs.FinMap.{find};
@@ -14,9 +14,9 @@ ghost use Rattle.grb_semirings.specs.Products.{is_any};
 ghost use Rattle.grb_sums.specs.Bits.{is_marked};
 ghost use Rattle.grb_sums.specs.Marks.{touched, AreMarks, AreTops, IsCleared, AreNoTops};
 ghost use Rattle.grb_sums.specs.Naming.{name_in};
-ghost use Rattle.grb_mxm.specs.Rows.{AreRows};
+ghost use Rattle.grb_mxm.specs.Rows.{AreAppended};
 
-use crate::rows::{MadeRows, RowMaker, make_rows};
+use crate::rows::{MadeRows, Part, RowMaker, make_rows, no_rows};
 use crate::whole_rows::{reached, scale_row};
 use grb_ewise::Stored;
 use grb_kernels::operators::Land;
@@ -163,16 +163,19 @@ impl<'a, M: MonoidOver<bool>, O: Operator<bool>> RowMaker<bool> for TrueRows<'a,
     }
 }
 
-/// The product of two matrices of truth values, where all are true and so is what the semiring makes of true and true; else `None`. Memory
-/// is reserved for `room` entries at most, and more is taken where they are more. `AllocError` where memory is refused; then nothing is
-/// made.
+/// The rows from one up to another of the product of two matrices of truth values, where all are true and so is what the semiring makes
+/// of true and true; else `None`. Memory is reserved for `room` entries at most, and more is taken where they are more. `AllocError` where
+/// memory is refused; then nothing is made.
 pub(crate) fn multiply_true<M: MonoidOver<bool>, O: Operator<bool>>(
     alloc: Global,
     a: &MatrixRows<bool>,
     b: &RankedRows<bool>,
+    from: u64,
+    upto: u64,
     room: usize,
 ) -> Result<Option<MadeRows<bool>>, AllocError>
-    ensures { IfOk result (λ answer. IfSome answer (λ made. AreRows (λ (b : Bool). value.Bool b) made.rows.items made.starts.items made.columns.items made.values.items (mxm_of (record { monoid = M.monoid; op = O.op }) (decoded a.now.lists.now.entries) (decoded b.now.lists.now.entries)))) }
+    requires { from ≤ upto }
+    ensures { IfOk result (λ answer. IfSome answer (λ made. AreAppended (λ (b : Bool). value.Bool b) [] from upto (mxm_of (record { monoid = M.monoid; op = O.op }) (decoded a.now.lists.now.entries) (decoded b.now.lists.now.entries)) made.rows.items made.starts.items made.columns.items made.values.items)) }
 {
     if !is_true_of_true::<M, O>() {
         return Ok(None);
@@ -188,21 +191,32 @@ pub(crate) fn multiply_true<M: MonoidOver<bool>, O: Operator<bool>>(
         b,
         of: PhantomData,
     };
-    let made = make_rows(alloc, &rows, room)?;
+    let part: Part<bool> = Part {
+        made: no_rows(alloc),
+        from,
+        upto,
+        reserves: true,
+    };
+    let made = make_rows(alloc, &rows, part, room)?;
     Ok(Some(made))
 }
 
 /// A Rust type of which some products are made by bits alone.
-pub(crate) trait InBits: Stored {
-    /// The product of two matrices, where bits tell it; else `None`. Memory is reserved for `room` entries at most, and more is taken where
-    /// they are more. `AllocError` where memory is refused; then nothing is made.
+///
+/// Source: own.
+pub trait InBits: Stored {
+    /// The rows from one up to another of the product of two matrices, where bits tell it; else `None`. Memory is reserved for `room`
+    /// entries at most, and more is taken where they are more. `AllocError` where memory is refused; then nothing is made.
     fn multiply_in_bits<M: MonoidOver<Self>, O: Operator<Self>>(
         alloc: Global,
         a: &MatrixRows<Self>,
         b: &RankedRows<Self>,
+        from: u64,
+        upto: u64,
         room: usize,
     ) -> Result<Option<MadeRows<Self>>, AllocError>
-        ensures { IfOk result (λ answer. IfSome answer (λ made. AreRows Self.value made.rows.items made.starts.items made.columns.items made.values.items (mxm_of (record { monoid = M.monoid; op = O.op }) (decoded a.now.lists.now.entries) (decoded b.now.lists.now.entries)))) };
+        requires { from ≤ upto }
+        ensures { IfOk result (λ answer. IfSome answer (λ made. AreAppended Self.value [] from upto (mxm_of (record { monoid = M.monoid; op = O.op }) (decoded a.now.lists.now.entries) (decoded b.now.lists.now.entries)) made.rows.items made.starts.items made.columns.items made.values.items)) };
 }
 
 impl InBits for bool {
@@ -210,9 +224,11 @@ impl InBits for bool {
         alloc: Global,
         a: &MatrixRows<bool>,
         b: &RankedRows<bool>,
+        from: u64,
+        upto: u64,
         room: usize,
     ) -> Result<Option<MadeRows<bool>>, AllocError> {
-        multiply_true::<M, O>(alloc, a, b, room)
+        multiply_true::<M, O>(alloc, a, b, from, upto, room)
     }
 }
 
@@ -221,6 +237,8 @@ impl InBits for u64 {
         alloc: Global,
         a: &MatrixRows<u64>,
         b: &RankedRows<u64>,
+        from: u64,
+        upto: u64,
         room: usize,
     ) -> Result<Option<MadeRows<u64>>, AllocError> {
         Ok(None)

@@ -11,12 +11,14 @@ ghost use Rattle.grb_kernels.specs.Typed.{first_entries};
 ghost use Rattle.grb_lists.specs.Cells.{decoded};
 ghost use Rattle.grb_ewise.specs.Ranks.{Rise};
 ghost use Rattle.grb_sums.specs.ColumnSums.{with_values};
-ghost use Rattle.grb_mxm.specs.Rows.{AreRows, products_count};
+ghost use Rattle.grb_ewise.specs.Rows.{flat_entries};
+ghost use Rattle.grb_mxm.specs.RowProducts.{products_count};
+ghost use Rattle.grb_mxm.specs.Rows.{AreAppended};
 ghost use Rattle.grb_sums.specs.Naming.{name_in};
 ghost use Rattle.grb_sums.specs.Marks.{IsCleared, AreNoTops};
 ghost use Rattle.grb_sums.specs.Reach.{IsOutside};
 
-use crate::rows::{MadeRows, RowMaker, make_rows};
+use crate::rows::{MadeRows, Part, RowMaker, make_rows};
 use crate::true_rows::InBits;
 use grb_ewise::Stored;
 use grb_kernels::Operator;
@@ -207,21 +209,27 @@ impl<'a, T: Stored + Drop, M: MonoidOver<T>, O: Operator<T>> RowMaker<T>
     }
 }
 
-/// The product of two matrices by a monoid and an operator as types: by bits alone, where that is possible and there are not many products.
-/// Takes memory to work in, some places for each name, and for the result. `AllocError` where that is refused; then nothing is made.
+/// Rows of the product of two matrices by a monoid and an operator as types. Where memory is reserved ahead and there are no rows yet, they
+/// are made by bits alone, if that is possible and there are not many products; else products are not counted and values are not looked at,
+/// so that a block of rows costs no more than its own. Takes memory to work in, some places for each name, and for the result. `AllocError`
+/// where that is refused; then nothing is made.
 pub(crate) fn multiply_whole<T: InBits + Drop, M: MonoidOver<T>, O: Operator<T>>(
     alloc: Global,
     a: &MatrixRows<T>,
     b: &RankedRows<T>,
+    part: Part<T>,
 ) -> Result<MadeRows<T>, AllocError>
-    ensures { IfOk result (λ made. AreRows T.value made.rows.items made.starts.items made.columns.items made.values.items (mxm_of (record { monoid = M.monoid; op = O.op }) (decoded a.now.lists.now.entries) (decoded b.now.lists.now.entries))) }
+    ensures { IfOk result (λ made. AreAppended T.value (flat_entries T.value part.made.rows.items part.made.starts.items part.made.columns.items part.made.values.items) part.from part.upto (mxm_of (record { monoid = M.monoid; op = O.op }) (decoded a.now.lists.now.entries) (decoded b.now.lists.now.entries)) made.rows.items made.starts.items made.columns.items made.values.items) }
 {
-    let most = (a.lists.len() + b.lists.len()).saturating_mul(RESERVED_FOR_ONE_ENTRY);
-    let room = products_up_to(a.lists.columns(), b, most);
-    if room < most {
-        let in_bits = T::multiply_in_bits::<M, O>(alloc, a, b, room)?;
-        if let Some(made) = in_bits {
-            return Ok(made);
+    let mut room = 0;
+    if part.reserves {
+        let most = (a.lists.len() + b.lists.len()).saturating_mul(RESERVED_FOR_ONE_ENTRY);
+        room = products_up_to(a.lists.columns(), b, most);
+        if room < most && part.made.rows.len() == 0 {
+            let in_bits = T::multiply_in_bits::<M, O>(alloc, a, b, part.from, part.upto, room)?;
+            if let Some(made) = in_bits {
+                return Ok(made);
+            }
         }
     }
     let rows: WholeRows<T, M, O> = WholeRows {
@@ -229,5 +237,5 @@ pub(crate) fn multiply_whole<T: InBits + Drop, M: MonoidOver<T>, O: Operator<T>>
         b,
         of: PhantomData,
     };
-    make_rows(alloc, &rows, room)
+    make_rows(alloc, &rows, part, room)
 }

@@ -17,6 +17,7 @@ mod exchange;
 mod held;
 mod succeeding;
 
+use grb_jobs::Board;
 use grb_reader::Reader;
 use grb_records::Records;
 use grb_replay::Versions;
@@ -54,11 +55,13 @@ impl Model for Evaluated {
 }
 
 impl Evaluated {
-    /// No call is evaluated, with room for so many. `AllocError` where memory is refused.
+    /// No call is evaluated, with room for so many; dear products are made on the board, if there is one. `AllocError` where memory is
+    /// refused.
     pub(crate) fn open(
         alloc: Global,
         room: u32,
         versions: Arc<Versions>,
+        board: Option<Arc<Board>>,
         alone: bool,
     ) -> Result<Evaluated, AllocError>
         ensures table { IfOk result (λ t. (cs : List Call) → IsTable cs t) }
@@ -68,7 +71,7 @@ impl Evaluated {
     {
         Ok(Evaluated {
             table: Table::open(alloc, room)?,
-            bench: Bench::new(alloc),
+            bench: Bench::new(alloc).with_board(board),
             stack: Vec::new(alloc),
             versions,
             alone,
@@ -129,6 +132,11 @@ impl Evaluated {
         if self.learn(records, reader).is_ok() {
             let _ = self.table.take_from(&other.table);
         }
+    }
+
+    /// Makes blocks of the dear products that other passes make at the moment, and answers how many.
+    pub(crate) fn help(&self) -> u32 {
+        self.bench.help()
     }
 
     /// Drops all results.

@@ -1,4 +1,4 @@
-//! What one pass tells another: its calls, and what it has evaluated.
+//! What one pass tells another: its calls, and what it has evaluated; and how it helps others.
 ghost use Rattle.std.specs.Prelude.{◌≡◌, ◌≤◌, length};
 ghost use Rattle.grb_reader.specs.Known.{known, IsPassOf};
 ghost use Rattle.grb_reader.specs.Meeting.{Met};
@@ -48,5 +48,15 @@ impl Shared {
         ensures count { result ≤ length (known pass.new) }
     {
         pass.prepare(&self.records)
+    }
+
+    /// Makes blocks of the dear products that other passes make at the moment, and answers how many: 0 where there is none. It learns
+    /// nothing, changes no answer and waits for no one. Takes memory for the blocks; where it is refused, it ends, and nothing is lost.
+    pub fn help(&self, pass: &mut Pass) -> u32
+        requires { IsPassOf self.now pass.old }
+        ensures same { pass.new ≡ pass.old }
+        ensures pass { IsPassOf self.now pass.new }
+    {
+        pass.help()
     }
 }

@@ -30,6 +30,7 @@ ghost use Rattle.grb_reader.specs.Settled.{is_materialize, waited_for, LeavesRea
 use crate::evaluated::Evaluated;
 use grb_call::{Call, Class, Kind, MatrixId, Object, Reply, VectorId, WaitMode};
 use grb_core::{Info, Refusal};
+use grb_jobs::Board;
 use grb_order::{Order, Seat};
 use grb_reader::{BackOff, LiveObjects, Reader, RecordRow};
 use grb_rebuild::{NoSuccessor, Rebuild, Renumbered};
@@ -101,6 +102,7 @@ impl Pass {
         seat: Seat,
         room: u32,
         versions: Arc<Versions>,
+        board: Option<Arc<Board>>,
         alone: bool,
     ) -> Result<Pass, AllocError>
         requires number { (number ≡ seat.view.number) × (number < seat.view.passes) }
@@ -109,7 +111,7 @@ impl Pass {
         ensures { IfOk result (λ pass. pass ≡ new_pass seat.table_id seat.view) }
     {
         let reader = Reader::open(alloc, number, seat, room)?;
-        let evaluated = Evaluated::open(alloc, room, versions, alone)?;
+        let evaluated = Evaluated::open(alloc, room, versions, board, alone)?;
         Ok(Pass {
             reader,
             evaluated,
@@ -382,6 +384,11 @@ impl Pass {
         let count = self.evaluated.prepare(records, &mut self.reader);
         self.reader.note_made(self.evaluated.made());
         count
+    }
+
+    /// Makes blocks of the dear products that other passes make at the moment, and answers how many.
+    pub(crate) fn help(&self) -> u32 {
+        self.evaluated.help()
     }
 
     /// Drops all that the pass has evaluated. What an answer needs is made anew, or found with other passes; no known calls are settled any

@@ -1,7 +1,8 @@
 //! What a step of a script is answered, and the lines of such answers.
 //!
-//! One unit is a list of answers. Its lines are put into a sink word by word, and no line is held: where an answer has the entries of an
-//! object, each is put as it is met. No memory is taken. Nothing here makes a call, reads a script or opens a file.
+//! One unit is a list of answers. Its lines are put into a sink in pieces: words wait in a piece of at most 16,384 bytes, which is put when
+//! the next ones find no room in it, and at the end. So the words of each entry of an object go into the piece as it is met, and no line is
+//! held whole that is longer. No memory is taken. Nothing here makes a call, reads a script or opens a file.
 #![tactic(auto)]
 
 mod reply_line;

@@ -11,7 +11,7 @@ use crate::words::{line_of_call, words_of_cell, words_of_index};
 use arrayvec::ArrayString;
 use grb_market::{Sink, SinkFault, put_all};
 
-/// Words that wait until there are so many bytes of them, and are put into the sink together then. They take no memory.
+/// Words that wait until the next ones find no room with them, and are put into the sink together then. They take no memory.
 type Piece = ArrayString<16_384>;
 
 /// Appends words to the piece. Where they find no room there, the piece is put into the sink first, and emptied.
@@ -31,7 +31,7 @@ fn put_words<W: Sink>(piece: &mut Piece, sink: &mut W, words: &str) -> Result<()
     Ok(())
 }
 
-/// Puts the line of the entries of a matrix.
+/// Puts the line of the entries of a matrix, through the piece, where its last words may still wait.
 fn put_matrix<W: Sink>(
     piece: &mut Piece,
     sink: &mut W,
@@ -49,7 +49,7 @@ fn put_matrix<W: Sink>(
     put_words(piece, sink, "\n")
 }
 
-/// Puts the line of the entries of a vector.
+/// Puts the line of the entries of a vector, in the same way.
 fn put_vector<W: Sink>(
     piece: &mut Piece,
     sink: &mut W,
@@ -67,7 +67,7 @@ fn put_vector<W: Sink>(
     put_words(piece, sink, "\n")
 }
 
-/// Puts the line of an answer.
+/// Puts the line of an answer, in the same way.
 fn put_answer<W: Sink>(
     piece: &mut Piece,
     sink: &mut W,
@@ -85,8 +85,8 @@ fn put_answer<W: Sink>(
     }
 }
 
-/// Puts the lines of these answers into the sink, one after another, as they are made: no line is held, and no memory is taken. A
-/// `SinkFault` ends it, with a beginning of the lines taken.
+/// Puts the lines of these answers into the sink, one after another. Their words wait in a piece of at most 16,384 bytes, which is put when
+/// the next ones find no room in it, and at the end. Takes no memory. A `SinkFault` ends it, with a beginning of the lines taken.
 pub fn put_lines<W: Sink>(sink: &mut W, answers: &[StepAnswer]) -> Result<(), SinkFault>
     requires failures { W.failures sink.old < 2 ^ 64 - 1 }
     ensures ok { OnOk result (Appends (W.taken sink.old) (W.taken sink.new) (flat_map reply_line answers.now)) }

@@ -1,5 +1,5 @@
 -- What transpose, apply, select and kronecker are lent that are not refused, what each asks of it, and what is left of the output.
-use Rattle.std.proofs.Common.{◌≡◌, ℕ, ◌*◌, Bool, true, not, List, [], ◌∷◌, ◌++◌, sym, ap, ◌∙◌, Option, Some, None, IfSome, is_some, Bor}
+use Rattle.std.proofs.Common.{◌≡◌, ◌*◌, Bool, true, not, List, [], ◌∷◌, ◌++◌, sym, ap, ◌∙◌, Option, Some, None, IfSome, is_some, Bor}
 use Rattle.std.specs.List.{list_all}
 use Rattle.std.specs.Option.{option_map}
 use Rattle.std.specs.Ordering.{nat_cmp}
@@ -30,7 +30,7 @@ use Rattle.grb_call.specs.declared.term.MatrixTerm.TheVariants as matrix_term
 use Rattle.grb_call.specs.declared.term.VectorTerm.{VectorTerm}
 use Rattle.grb_call.specs.declared.term.VectorTerm.TheVariants as vector_term
 use Rattle.grb_call.specs.Fits.{each_matrix_fits, each_vector_fits, kronecker_matrices_fit}
-use Rattle.grb_call.specs.Operands.{masks, matrix_mask, operands, vector_mask}
+use Rattle.grb_call.specs.Operands.{matrix_mask, operands, vector_mask}
 use Rattle.grb_call.specs.Operation.{accum_domains, function_domains, test_domains}
 use Rattle.grb_call.specs.Output.{matrix_left, matrix_made, objects_in, vector_left, vector_made}
 use Rattle.grb_call.specs.Refused.{is_one_domain}

@@ -1,6 +1,6 @@
 -- What an operation asks of what it is lent holds of objects that are there, where no change waits in them.
 use Rattle.std.proofs.Common.{◌≡◌, ℕ, true, List, ◌∷◌, subst, Option, Some, None, IfSome, Bor}
-use Rattle.std.specs.Prelude.{Bool, false}
+use Rattle.std.specs.Prelude.{Bool}
 use Rattle.std.specs.Option.{option_map}
 use Rattle.grb_core.specs.declared.domain.Domain.{Domain}
 use Rattle.grb_core.specs.declared.operator.BinaryOp.{BinaryOp}
@@ -14,10 +14,10 @@ use Rattle.grb_call.specs.declared.ids.Object.TheVariants as object
 use Rattle.grb_call.specs.Operands.{matrix_mask, vector_mask}
 use Rattle.grb_call.specs.Shapes.{object_at}
 use Rattle.grb_call.specs.Store.{shapes_of}
-use Rattle.grb_call.proofs.Operations.{IsMatrixAt, IsTurnedAt, IsVectorAt, IsMatrixMask, IsVectorMask}
+use Rattle.grb_call.proofs.Operations.{IsTurnedAt, IsVectorAt, IsMatrixMask, IsVectorMask}
 use Rattle.grb_state.specs.Operation.{AreAllOf, IsAssembledMatrix, IsAssembledVector}
 use Rattle.grb_objects.specs.Stored.{stored}
-use Rattle.grb_state.proofs.Lent.{MatrixTests, VectorTests, if_both-0, if_both-1, lent_matrix_is, lent_turned_is, matrix_are, vector_are}
+use Rattle.grb_state.proofs.Lent.{MatrixTests, VectorTests, if_both-0, if_both-1, lent_turned_is, matrix_are, vector_are}
 use Rattle.grb_state.proofs.LentProducts.{lent_mask_is, lent_matrix_mask_is, lent_vector_is}
 
 module _ (ms : List (Option SparseMatrixView)) (vs : List (Option SparseVectorView)) where

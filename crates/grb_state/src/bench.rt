@@ -8,9 +8,11 @@ ghost use Rattle.grb_objects.specs.SharedContent.{AreElse, IsAt, IsThere};
 use crate::objects::Objects;
 use crate::operations::operate;
 use grb_call::{Call, Class, Object};
+use grb_jobs::Board;
 use grb_objects::{SharedContent, hold, take};
 use std::alloc::{AllocError, Global};
 use std::marker::Model;
+use std::sync::Arc;
 
 /// Places for the objects of one operation, by their numbers: a store without shapes, which holds what an operation reads as long as it is
 /// made, and nothing between two of them. Places are kept.
@@ -37,7 +39,26 @@ impl Bench {
             objects: Objects {
                 matrices: Vec::new(alloc),
                 vectors: Vec::new(alloc),
+                board: None,
             },
+        }
+    }
+
+    /// The same bench, on which a dear product of two matrices is made together with whoever comes to it on a bench of the same board at
+    /// that time. What it leaves is the same. Takes no memory (own).
+    pub fn with_board(mut self, board: Option<Arc<Board>>) -> Bench
+        ensures { result ≡ self }
+    {
+        self.objects.board = board;
+        self
+    }
+
+    /// Makes blocks of the dear products that are made at the moment on other benches of the same board, and answers how many. It waits for
+    /// no one, and changes nothing on the bench. Takes memory for the blocks; where it is refused, it ends (own).
+    pub fn help(&self) -> u32 {
+        match &self.objects.board {
+            Some(board) => board.help(),
+            None => 0,
         }
     }
 

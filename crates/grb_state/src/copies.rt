@@ -90,6 +90,7 @@ impl State {
             objects: Objects {
                 matrices: share_all(&self.objects.matrices, room)?,
                 vectors: share_all(&self.objects.vectors, room)?,
+                board: None,
             },
         })
     }

@@ -8,12 +8,12 @@ ghost use Rattle.grb_state.specs.Objects.{store_of, places_of, HasPlaces, IsAsse
 
 use crate::operations::operate;
 use grb_call::{Call, Class, Diagonal, Object, VectorId};
-use grb_objects::{
-    Places, SharedObject, StoredObject, assemble, dup, edit, has_many_changes, lent,
-};
+use grb_jobs::Board;
+use grb_objects::{Places, SharedObject, assemble, dup, edit, has_many_changes, lent};
 use grb_ops::diagonal_matrix;
 use grb_sparse::{SparseMatrix, SparseVector};
 use std::alloc::AllocError;
+use std::sync::Arc;
 
 /// The matrices and vectors that calls made, by their numbers.
 #[derive(Drop)]
@@ -22,6 +22,8 @@ pub(crate) struct Objects {
     pub(crate) matrices: Places<SparseMatrix>,
     /// The place of each vector.
     pub(crate) vectors: Places<SparseVector>,
+    /// Where dear products are made together with others, if they are. What the objects store does not depend on it.
+    pub(crate) board: Option<Arc<Board>>,
 }
 
 impl Objects {

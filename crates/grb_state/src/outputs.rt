@@ -10,10 +10,11 @@ ghost use Rattle.grb_state.specs.Objects.{store_of, AreOperandsIn};
 use crate::objects::Objects;
 use grb_call::{Call, Class, Descriptor, MatrixId, MatrixTerm, Object, VectorId, VectorTerm};
 use grb_core::BinaryOp;
+use grb_jobs::{Board, multiply};
 use grb_objects::{lent, lent_mask};
 use grb_ops::{
     apply_matrix, apply_vector, ewise_add_matrix, ewise_add_vector, ewise_mult_matrix,
-    ewise_mult_vector, kronecker_matrix, mxm, mxv, reduce_rows, select_matrix, select_vector,
+    ewise_mult_vector, kronecker_matrix, mxv, reduce_rows, select_matrix, select_vector,
     transpose_matrix, vxm,
 };
 use grb_sparse::{SparseMatrix, SparseVector};
@@ -84,17 +85,25 @@ fn written_vector(
     }
 }
 
+/// Where dear products are made together with others, if they are.
+fn lent_board(objects: &Objects) -> Option<&Board> {
+    match &objects.board {
+        Some(board) => Some(board),
+        None => None,
+    }
+}
+
 /// What the operation writes into its output, of which the mask is of the sort `$sort`. For each operation stands what it computes with and
-/// the sort of each input, in their order, and what computes and writes it; and before these what writes a term.
+/// the sort of each input, in their order, and what computes and writes it, with what else it is lent; and before these what writes a term.
 macro_rules! operated {
     ($call:ident, $objects:ident, $sort:ident, $alloc:ident, $output:ident, $id:ident;
      $term_name:ident => $write:ident,
-     $($name:ident { $with:ident, $($input:ident in $places:ident),* } => $operate:ident,)*) => {
+     $($name:ident { $with:ident, $($input:ident in $places:ident),* } => $operate:ident $(($lent:ident))?,)*) => {
         match $call {
             $(Call::$name { mask, accum, $with, $($input,)* d, .. } => {
                 let inside = lent_mask(&$objects.$sort, *mask);
                 $(let $input = lent(&$objects.$places, *$input);)*
-                $operate($alloc, $output, inside, *accum, *$with, $($input,)* *d)
+                $operate($alloc, $($lent,)? $output, inside, *accum, *$with, $($input,)* *d)
             })*
             Call::$term_name { mask, accum, term, d, .. } => {
                 $write($objects, $id, *mask, *accum, *term, *d)
@@ -118,11 +127,12 @@ pub(crate) fn operated_matrix(
 {
     let alloc = *objects.matrices.allocator();
     let output = lent(&objects.matrices, c);
+    let board = lent_board(objects);
     operated!(call, objects, matrices, alloc, output, c;
         WriteMatrix => written_matrix,
         EwiseAddMatrix { op, a in matrices, b in matrices } => ewise_add_matrix,
         EwiseMultMatrix { op, a in matrices, b in matrices } => ewise_mult_matrix,
-        Mxm { semiring, a in matrices, b in matrices } => mxm,
+        Mxm { semiring, a in matrices, b in matrices } => multiply(board),
     )
 }
 

@@ -112,7 +112,11 @@ impl State {
     {
         Ok(State {
             shapes: shapes_of_objects(alloc, &matrices, &vectors)?,
-            objects: Objects { matrices, vectors },
+            objects: Objects {
+                matrices,
+                vectors,
+                board: None,
+            },
         })
     }
 }

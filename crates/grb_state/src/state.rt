@@ -17,7 +17,6 @@ use grb_call::{Call, Class, Extent, Kind, MatrixId, Object, Reply, Shapes, Vecto
 use grb_core::{Monoid, Refusal, Value};
 use grb_objects::{assemble_all, lent, object_of};
 use grb_ops::{reduce_matrix, reduce_vector};
-use grb_sparse::{SparseMatrix, SparseVector};
 use std::alloc::{AllocError, Global};
 use std::marker::Model;
 
@@ -49,6 +48,7 @@ impl State {
             objects: Objects {
                 matrices: Vec::new(alloc),
                 vectors: Vec::new(alloc),
+                board: None,
             },
         }
     }

@@ -1,2 +1,1 @@
 mod Below
-mod Grown

@@ -2,12 +2,12 @@
 //!
 //! A contract says what they give by definitions of the proof's own language; that these say what the standard does, no contract can say,
 //! nor that memory is there. Rows that were worked by hand stand in `test_cases`.
-use crate::draw::Draw;
 use crate::maps::{Case, Tables, answer};
 use crate::plain::{Table, stored, written};
 use crate::plain_maps::{Input, Term, computed};
 use crate::same::same;
 use grb_core::{Diagonal, Domain, turns_input};
+use grb_drawn::Draw;
 use std::alloc::{AllocError, Global};
 
 /// How many operations are drawn.

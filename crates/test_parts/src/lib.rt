@@ -6,23 +6,11 @@
 #![tactic(auto)]
 
 #[cfg(test)]
-mod assembled;
-#[cfg(test)]
-mod calls;
-#[cfg(test)]
-mod draw;
-#[cfg(test)]
 mod drawn_maps;
-#[cfg(test)]
-mod editions;
-#[cfg(test)]
-mod histories;
 #[cfg(test)]
 mod listed;
 #[cfg(test)]
 mod maps;
-#[cfg(test)]
-mod memory;
 #[cfg(test)]
 mod objects;
 #[cfg(test)]
@@ -31,8 +19,6 @@ mod operations;
 mod plain;
 #[cfg(test)]
 mod plain_maps;
-#[cfg(test)]
-mod results;
 #[cfg(test)]
 mod same;
 #[cfg(test)]
@@ -45,5 +31,3 @@ mod texts_read;
 mod texts_written;
 #[cfg(test)]
 mod tuples;
-#[cfg(test)]
-mod values;

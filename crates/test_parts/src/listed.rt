@@ -6,9 +6,9 @@
 ghost use Rattle.std.specs.Prelude.{◌≡◌, true};
 ghost use Rattle.grb_core.specs.Contents.{IsDimension};
 
-use crate::draw::Draw;
 use crate::same::same;
 use grb_core::{Domain, Monoid, Value};
+use grb_drawn::Draw;
 use grb_sparse::{SparseMatrix, SparseVector};
 use std::alloc::{AllocError, Global};
 use std::process::Abort;

@@ -7,12 +7,14 @@
 ghost use Rattle.std.specs.Prelude.{◌≡◌, ◌<◌, false};
 ghost use Rattle.grb_call.specs.Kinds.{enters, is_size};
 
-use crate::calls::{Choice, Operands, Operation, answer, lent, operation_call, replayed, value_of};
-use crate::draw::{Draw, monoid_of, op_of};
 use crate::plain::{Dims, Table, Tables, count, stored, total, wanted};
 use crate::same::same;
 use grb_call::{Call, MatrixId, MatrixTuples, Object, Reply, VectorId, VectorTuples};
 use grb_core::{Domain, Monoid, Value};
+use grb_drawn::{
+    Choice, Draw, Operands, Operation, answer, lent, monoid_of, op_of, operation_call, replayed,
+    value_of,
+};
 use grb_state::State;
 use std::alloc::{AllocError, Global};
 use std::process::Abort;
@@ -433,7 +435,7 @@ fn expect_after(
     calls: &[&Call],
 ) -> Result<(), AllocError> {
     let (output, first, second) = shapes(case);
-    let mut state = replayed(rt, alloc, calls)?;
+    let mut state = replayed(alloc, calls)?;
     let dims = Dims {
         rows: case.rows.places,
         inner: case.inner.places,
@@ -489,7 +491,10 @@ fn expect_case(
         matrices: 0,
     };
     let operands = make_operands(alloc, draw, case, &tables, &mut made)?;
-    made.calls.push(operation_call(rt, case.choice, operands))?;
+    let Ok(call) = operation_call(case.choice, operands) else {
+        panic!(rt; "a monoid and an operator of two domains");
+    };
+    made.calls.push(call)?;
     let lent = lent(alloc, &made.calls)?;
     expect_after(rt, alloc, case, &tables, operands, &lent)
 }

@@ -1,7 +1,7 @@
 //! The operations of the standard by plain loops over tables: at each place the definition in words, with operators of its own.
-use crate::calls::{Choice, Operation};
 use grb_call::Descriptor;
 use grb_core::{BinaryOp, Monoid};
+use grb_drawn::{Choice, Operation};
 use std::alloc::{AllocError, Global};
 
 /// What an object stores at each place, as a number; a matrix row by row. Of truth values 0 is false and 1 is true.

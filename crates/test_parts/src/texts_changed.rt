@@ -1,7 +1,7 @@
 //! Texts that nobody would write: drawn bytes, lines of drawn pieces, and texts with a few changes.
 ghost use Rattle.std.specs.Prelude.{◌≤◌, length};
 
-use crate::draw::Draw;
+use grb_drawn::Draw;
 use std::alloc::{AllocError, Global};
 
 /// Words of scripts and of Market texts, numbers at their limits, and what stands in neither.

@@ -4,10 +4,10 @@
 //! Contracts say what is read of each text. None says that the reader comes to an end soon, and that memory suffices whatever a text
 //! states; and by which rules a text has its fault, a reader of the contract has to believe. Here each answer is seen again in another
 //! way: a script says the same with wider spaces, and a matrix is read back from its canonical text.
-use crate::draw::Draw;
 use crate::same::same;
 use crate::texts_changed::{changed, push_bytes, push_pieces};
 use grb_core::{Domain, Value};
+use grb_drawn::Draw;
 use grb_market::{Loaded, ReadError, read};
 use grb_script::{Command, NumberedCommand, ReadFault, Script, read_script};
 use std::alloc::{AllocError, Global};

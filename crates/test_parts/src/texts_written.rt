@@ -40,15 +40,6 @@ impl Sink for SmallSink {
     }
 }
 
-/// The text that is written of a matrix, or why it is not.
-pub(crate) fn text_of(alloc: Global, a: &SparseMatrix) -> Result<Vec<u8>, WriteFault>
-    requires { a.now.assembled ≡ true }
-{
-    let mut small = sink(alloc, 65_536, 65_536);
-    write(alloc, a, &mut small)?;
-    Ok(small.taken)
-}
-
 fn sink(alloc: Global, step: usize, room: usize) -> SmallSink
     ensures { result.failures ≡ 0 }
 {

@@ -4,10 +4,10 @@
 //! and what each monoid makes of the values of one place.
 ghost use Rattle.std.specs.Prelude.{◌≡◌, length};
 
-use crate::calls::{lent, replayed, value_of};
 use crate::same::same;
 use grb_call::{Call, MatrixId, MatrixTuples, VectorId, VectorTuples};
 use grb_core::{Domain, Monoid, Value};
+use grb_drawn::{lent, replayed, value_of};
 use grb_sparse::{ApartTuples, SparseMatrix, SparseVector};
 use std::alloc::{AllocError, Global};
 use std::process::Abort;
@@ -384,7 +384,7 @@ fn expect_matrix(
     };
     let calls = vec![in alloc; new, Call::BuildMatrix { a, tuples, dup }]?;
     let lent = lent(alloc, &calls)?;
-    let state = replayed(rt, alloc, &lent)?;
+    let state = replayed(alloc, &lent)?;
     let Some(matrix) = state.matrix(a) else {
         panic!(rt; "no matrix");
     };
@@ -406,7 +406,7 @@ fn expect_vector(
     let new = Call::NewVector { domain, size };
     let calls = vec![in alloc; new, Call::BuildVector { v, tuples, dup }]?;
     let lent = lent(alloc, &calls)?;
-    let state = replayed(rt, alloc, &lent)?;
+    let state = replayed(alloc, &lent)?;
     let Some(vector) = state.vector(v) else {
         panic!(rt; "no vector");
     };

@@ -66,6 +66,8 @@ _PARAMETERS: Dict[str, Tuple[Any, ...]] = {
     "trb_meet": (_PASS, _PASS),
     "trb_adopt": (_PASS, _PASS),
     "trb_prepare": (_PASS, _U32_OUT),
+    "trb_help": (_PASS, _U32_OUT),
+    "trb_blocks": (_PASS, _U64_OUT),
     "trb_release": (_PASS,),
     "trb_facts": (_PASS, _FACTS),
     "trb_matrix_last_info": (_PASS, _I32_OUT, _U32),

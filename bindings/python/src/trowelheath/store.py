@@ -10,10 +10,11 @@ import os
 import threading
 import weakref
 from contextlib import suppress
-from typing import Any, Callable, Dict, List, NamedTuple, NoReturn, Optional, SupportsIndex, Tuple, Type
+from typing import Any, Callable, Dict, Iterable, List, NamedTuple, NoReturn, Optional, SupportsIndex, Tuple, Type
 
 from . import _tell, convert
 from ._helper import Task, can_wait, forget_helpers, wait_for
+from ._helping import Helping
 from ._library import FactsRecord, PassHandle, load
 from ._life import LetGo, Life
 from .errors import Info, InsufficientSpace, InvalidValue, Refusal, RoomTooSmall, StoreClosed, refusal_of
@@ -72,9 +73,12 @@ class _Core:
         number: int,
         before: Optional[_Core],
         chosen: Optional[_Chosen],
+        helpers: int,
     ) -> None:
         self.library = library
         self.handles = handles
+        # Of so many handles the passes are handed out. The others are the helpers'.
+        self.count = len(handles) - helpers
         # None where the store has no end.
         self.room = room
         self.number = number
@@ -91,10 +95,12 @@ class _Core:
         # How many entries all calls may visit.
         self.work = 0
         self._store: Optional[weakref.ref[Store]] = None
-        self._passes: List[Optional[weakref.ref[Pass]]] = [None] * len(handles)
+        self._passes: List[Optional[weakref.ref[Pass]]] = [None] * self.count
         self._lock = threading.RLock()
+        # The threads that help; none in the child of a fork.
+        self.helping: Optional[Helping] = Helping(library, handles, self.count, room is None)
         # It runs when nothing can make a call by a pass any more. At the end of the process it need not.
-        self.finalizer = weakref.finalize(self, _end_all, library, handles)
+        self.finalizer = weakref.finalize(self, _end_unused, library, handles, self.count, self.helping)
         self.finalizer.atexit = False
         _cores.add(self)
 
@@ -168,8 +174,14 @@ class _Core:
         """Ends all passes, once the calls that other threads make by them have returned."""
         if self.closed is None:
             self.closed = "the store is closed"
-        for number in range(len(self.handles)):
-            self.pass_at(number)._end()
+        if self.helping is not None:
+            self.helping.stop()
+        passes = [self.pass_at(number) for number in range(self.count)]
+        for pass_ in passes:
+            pass_._end()
+        # Those that help with a read which a Ctrl-C has left end with it.
+        if self.helping is not None and all(pass_._ended for pass_ in passes):
+            self.helping.join()
         self.finalizer.detach()
 
     def leave_to_parent(self) -> None:
@@ -177,9 +189,11 @@ class _Core:
         self._lock = threading.RLock()
         self.closed = "the store belongs to the process that this one was forked from"
         self.finalizer.detach()
-        for number in range(len(self.handles)):
+        self.helping = None
+        for handle in self.handles:
             # The child has memory of its own. Without a pass in it the library refuses a call.
-            self.handles[number].is_open = False
+            handle.is_open = False
+        for number in range(self.count):
             self.pass_at(number)._leave_to_parent()
 
 
@@ -236,9 +250,9 @@ class Pass:
     it: a second one waits until the first one's call returns. So give each thread a pass of its own. A pass may
     go from one thread to another between calls.
 
-    **Interrupts.** In the main thread a read that may have much to evaluate is made by a helper thread. A Ctrl-C, or
-    another handler of a signal that raises, then ends the wait for it at once. The read itself cannot be ended: the
-    helper goes on with it, and who uses the pass meanwhile waits, and can be interrupted too. `Store.close` does not
+    **Interrupts.** In the main thread a read that may have much to evaluate is made by another thread. A Ctrl-C, or
+    another handler of a signal that raises, then ends the wait for it at once. The read itself cannot be ended: that
+    thread goes on with it, and who uses the pass meanwhile waits, and can be interrupted too. `Store.close` does not
     wait for it. How much it is, is reckoned from the entries and dimensions of the objects.
     """
 
@@ -402,6 +416,38 @@ class Pass:
         """
         out = ctypes.c_uint32()
         self._evaluate_all("trb_prepare", out)
+        return out.value
+
+    def help(self) -> int:
+        """Makes blocks of the dear products that other passes of the store make at the moment.
+
+        A product is dear that takes millions of multiplications. The call returns when no block is left to begin,
+        changes no answer, and waits for nobody. Where memory is refused, fewer blocks are made. The threads of
+        `Store(helpers=...)` call it all the time; this is for a thread of your own that has nothing else to do. In a
+        store without an end a pass helps in the generation in which it sits: let it make a read now and then.
+
+        Returns:
+            How many blocks it made: 0 where there was none to make.
+
+        Raises:
+            StoreClosed: the store is closed.
+        """
+        out = ctypes.c_uint32()
+        status = self._read(self._library.trb_help, (out,), self._core.work)
+        if status < 0:
+            self._refuse(status)
+        return out.value
+
+    def blocks(self) -> int:
+        """How many blocks of dear products were made so far in the store, by its passes and helpers.
+
+        One that two of them made counts twice. Of a store without an end, in the generation in which the pass sits.
+
+        Raises:
+            StoreClosed: the store is closed.
+        """
+        out = ctypes.c_uint64()
+        self._call("trb_blocks", ctypes.byref(out))
         return out.value
 
     def release(self) -> None:
@@ -609,15 +655,7 @@ class Pass:
         """As `_call`, of a call that changes the store: before it the objects that were let go are freed."""
         if self._core.let_go.gone:
             self._free_gone()
-        self._require_open()
-        function = getattr(self._library, name)
-        with self._lock:
-            if self._closed is not None:
-                raise StoreClosed(self._closed)
-            status: int = function(self._handle, *arguments)
-        if status < 0:
-            self._refuse(status, invalid, tell)
-        return status
+        return self._call(name, *arguments, invalid=invalid, tell=tell)
 
     def _evaluate_all(
         self, name: str, *arguments: Any, tell: Optional[Callable[[int], Optional[str]]] = None
@@ -800,7 +838,9 @@ class Store:
     to the process that opened it: in a process that was forked from that one, each call raises `StoreClosed`.
     """
 
-    def __init__(self, room: Optional[SupportsIndex] = None, passes: SupportsIndex = 1) -> None:
+    def __init__(
+        self, room: Optional[SupportsIndex] = None, passes: SupportsIndex = 1, helpers: SupportsIndex = 0
+    ) -> None:
         """Opens a store.
 
         Args:
@@ -809,18 +849,28 @@ class Store:
                 with room for 4,096 calls beside those that make its objects, and for less with more than 64 passes.
                 Where one is full, the next goes on by itself with all objects.
             passes: how many passes it has, from 1 to 256. Room times passes is at most 1,048,576.
+            helpers: how many threads help with dear products while the store is open. Each has a pass of its own, which
+                counts as one of the 256 and is not among `passes`. One fewer than there are processors is a good number
+                where one thread reads at a time.
 
         Raises:
-            InvalidValue: the room or the number of passes is out of its range, or their product is too large.
+            InvalidValue: the room, the number of passes or that of helpers is out of its range, or the product of room
+                and all passes is too large.
             OutOfMemory: memory was refused.
+            RuntimeError: a thread was not to be had.
             LibraryNotFound: the shared library was not found.
         """
+        more = operator.index(helpers)
         if room is None:
-            each, count = _within_ranges(_default_room(operator.index(passes)), passes)
-            self._open(None, count, lambda number, handles: load().trb_chain_open(number, each, handles, count), None)
+            each, count = _within_ranges(_default_room(operator.index(passes) + more), passes, more)
+            self._open(
+                None, count, lambda number, handles: load().trb_chain_open(number, each, handles, count), helpers=more
+            )
         else:
-            calls, count = _within_ranges(room, passes)
-            self._open(calls, count, lambda number, handles: load().trb_open(number, calls, handles, count), None)
+            calls, count = _within_ranges(room, passes, more)
+            self._open(
+                calls, count, lambda number, handles: load().trb_open(number, calls, handles, count), helpers=more
+            )
 
     @classmethod
     def _opened(
@@ -836,10 +886,14 @@ class Store:
         room: Optional[int],
         count: int,
         opening: _Opening,
-        before: Optional[_Core],
+        before: Optional[_Core] = None,
         chosen: Optional[_Chosen] = None,
+        helpers: int = 0,
     ) -> None:
-        """Has the store opened, under a number that no other store has. `before` is the one that it goes on from."""
+        """Has the store opened, under a number that no other store has. `before` is the one that it goes on from.
+
+        Of its `count` passes the last ones are the helpers'.
+        """
         library = load()
         number = ctypes.c_uint64()
         _numbers.append(number)
@@ -853,7 +907,12 @@ class Store:
         if status != 0:
             _end_all(library, handles)
             raise refusal_of(status, _RANGES)
-        core = _Core(library, handles, room, address, before, chosen)
+        try:
+            core = _Core(library, handles, room, address, before, chosen, helpers)
+        except BaseException:
+            # A thread was not to be had. None of those that help is left.
+            _end_all(library, handles)
+            raise
         if before is not None:
             core.inherit(before)
         core.store(self)
@@ -862,7 +921,7 @@ class Store:
     def _have(self, core: _Core) -> None:
         """This is the store of this core."""
         self._core = core
-        self._passes = tuple(core.pass_at(number) for number in range(len(core.handles)))
+        self._passes = tuple(core.pass_at(number) for number in range(core.count))
 
     @property
     def passes(self) -> Tuple[Pass, ...]:
@@ -873,6 +932,11 @@ class Store:
     def main(self) -> Pass:
         """Its first pass."""
         return self._passes[0]
+
+    @property
+    def helpers(self) -> int:
+        """How many threads help with dear products while it is open."""
+        return len(self._core.handles) - self._core.count
 
     @property
     def room(self) -> Optional[int]:
@@ -890,8 +954,9 @@ class Store:
     def close(self) -> None:
         """Ends all passes, once the calls that other threads make by them have returned, and gives memory back.
 
-        Calls by its passes and objects then raise `StoreClosed`. To close a store again does nothing. It does not wait
-        for a read that a Ctrl-C has left: that pass ends when the read has returned.
+        Calls by its passes and objects then raise `StoreClosed`. To close a store again does nothing. The threads that
+        help end too. It does not wait for a read that a Ctrl-C has left, nor for who helps with it: that pass ends when
+        the read has returned.
         """
         self._core.close()
 
@@ -904,7 +969,8 @@ class Store:
     def __repr__(self) -> str:
         passes = "1 pass" if len(self._passes) == 1 else f"{len(self._passes)} passes"
         size = "without an end" if self.room is None else f"of room {self.room}"
-        return f"<Store {size}, {passes}{', closed' if self.closed else ''}>"
+        helpers = "" if self.helpers == 0 else f", {self.helpers} {'helper' if self.helpers == 1 else 'helpers'}"
+        return f"<Store {size}, {passes}{helpers}{', closed' if self.closed else ''}>"
 
     def __reduce__(self) -> NoReturn:
         raise TypeError(
@@ -917,18 +983,28 @@ def _default_room(passes: int) -> int:
     return min(4096, MOST_SEATS // 4 // min(max(passes, 1), MOST_PASSES))
 
 
-def _within_ranges(room: SupportsIndex, passes: SupportsIndex) -> Tuple[int, int]:
-    """The room and the number of passes of a store. `InvalidValue` where it may not have so much."""
+def _within_ranges(room: SupportsIndex, passes: SupportsIndex, helpers: int = 0) -> Tuple[int, int]:
+    """The room and the number of all passes of a store. `InvalidValue` where it may not have so much."""
     calls, count = operator.index(room), operator.index(passes)
-    if not (1 <= calls <= MOST_ROOM and 1 <= count <= MOST_PASSES and calls * count <= MOST_SEATS):
-        raise InvalidValue(_RANGES, f"a room of {calls:,} and {count:,} passes were asked for")
-    return calls, count
+    most = min(MOST_PASSES, MOST_SEATS // max(calls, 1))
+    if not (1 <= calls <= MOST_ROOM and 1 <= count and 0 <= helpers and count + helpers <= most):
+        asked = f"a room of {calls:,} and {count:,} passes"
+        raise InvalidValue(
+            _RANGES, f"{asked} were asked for" if helpers == 0 else f"{asked}, and {helpers:,} helpers, were asked for"
+        )
+    return calls, count + helpers
 
 
-def _end_all(library: ctypes.CDLL, handles: ctypes.Array[PassHandle]) -> None:
+def _end_all(library: ctypes.CDLL, handles: Iterable[PassHandle]) -> None:
     """Ends the passes of these handles. A handle that has none stays as it is."""
     for handle in handles:
         library.trb_free(ctypes.byref(handle))
+
+
+def _end_unused(library: ctypes.CDLL, handles: ctypes.Array[PassHandle], count: int, helping: Helping) -> None:
+    """Ends a store that nothing refers to any more. Each thread that helps ends its own pass."""
+    helping.stop()
+    _end_all(library, handles[:count])
 
 
 def _leave_stores_to_parent() -> None:

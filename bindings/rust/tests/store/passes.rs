@@ -2,7 +2,7 @@
 
 use crate::open;
 use std::thread;
-use trowelheath::{Chosen, Error, Monoid, Object, Store, Wait};
+use trowelheath::{Chosen, Descriptor, Error, Monoid, Object, Semiring, Store, Wait};
 
 #[test]
 fn a_store_is_opened_within_its_limits() {
@@ -95,6 +95,40 @@ fn a_pass_that_adopts_another_knows_what_it_knows() {
     assert_eq!(second.get(v, 1), Ok(Some(7)));
     second.set(v, 1, 8).unwrap();
     assert_eq!(first.get(v, 1), Ok(Some(8)));
+}
+
+#[test]
+fn there_is_nothing_to_help_with_where_no_product_is_dear() {
+    let [mut first, mut second] = Store::open_array(10).unwrap();
+    assert_eq!(second.help(), Ok(0));
+    let a = first.new_matrix::<u64>(2, 2).unwrap();
+    first.set(a, (0, 1), 2).unwrap();
+    first.set(a, (1, 0), 3).unwrap();
+    first
+        .mxm(a, Semiring::PLUS_TIMES, a, a, Descriptor::new())
+        .unwrap();
+    assert_eq!(first.get(a, (1, 1)), Ok(Some(6)));
+    assert_eq!(second.help(), Ok(0));
+    assert_eq!(second.blocks(), Ok(0));
+    assert_eq!(second.facts().unwrap().known, 0);
+}
+
+#[test]
+fn a_dear_product_is_made_by_blocks_where_there_are_two_passes() {
+    const SIDE: u64 = 128;
+    let [mut first, mut second] = Store::open_array(10).unwrap();
+    let a = first.new_matrix::<u64>(SIDE, SIDE).unwrap();
+    let ones = (0..SIDE * SIDE).map(|k| (k / SIDE, k % SIDE, 1));
+    first.build(a, ones, Monoid::PLUS).unwrap();
+    first
+        .mxm(a, Semiring::PLUS_TIMES, a, a, Descriptor::new())
+        .unwrap();
+    // Ones times ones are as many everywhere as there are rows.
+    assert_eq!(first.reduce(a, Monoid::MIN), Ok(SIDE));
+    assert_eq!(first.reduce(a, Monoid::PLUS), Ok(SIDE * SIDE * SIDE));
+    let blocks = first.blocks().unwrap();
+    assert!(blocks > 0);
+    assert_eq!(second.blocks(), Ok(blocks));
 }
 
 #[test]

@@ -7,7 +7,7 @@ use Rattle.grb_kernels.specs.Typed.{kept, first_entries}
 use Rattle.grb_semirings.specs.Open.{marked_at}
 use Rattle.grb_semirings.proofs.Marks.{marked-read, marked-set_other}
 use Rattle.grb_sums.specs.Naming.{name_in}
-use Rattle.grb_mxm.specs.Rows.{picked}
+use Rattle.grb_mxm.specs.RowProducts.{picked}
 use Rattle.grb_mxm.specs.AllowedSums.{allowed_of, summed_of}
 use Rattle.grb_sums.specs.Marks.{HoldUnmarked}
 use Rattle.grb_mxm.proofs.MaskedSums.{picked_step, picked_all, left_gone, hold_gone, none_left}

@@ -3,7 +3,7 @@ use Rattle.grb_core.specs.Monoid.{identity_of}
 use Rattle.grb_kernels.specs.Typed.{first_entries}
 use Rattle.grb_semirings.specs.Open.{marked_at}
 use Rattle.grb_sums.specs.Naming.{name_in}
-use Rattle.grb_mxm.specs.Rows.{picked}
+use Rattle.grb_mxm.specs.RowProducts.{picked}
 use Rattle.grb_sums.specs.Marks.{HoldUnmarked}
 use Rattle.grb_mxm.specs.AllowedSums.{allowed_of, summed_of}
 use Rattle.grb_mxm.proofs.allowed_sums.take_picked.Given as goal

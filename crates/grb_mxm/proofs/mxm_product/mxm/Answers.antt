@@ -12,18 +12,10 @@ pub product_read-requires-clause-mask_in_range : goal.product_read-requires-clau
 product_read-requires-clause-mask_in_range c =
     subst (λ n. IfSome c.bounding_lists-bound.result (λ m. All (λ e. e.0.1 < n) (decoded m.now.entries))) (sym c.requires.b.columns) (c.bounding_lists-bound.ensures.in_range c.args.output.now.matrix.ncols c.requires.output.mask_columns)
 
-pub write_inside_matrix-requires-clause-inside : goal.write_inside_matrix-requires-clause-inside
-write_inside_matrix-requires-clause-inside c =
+pub write_product-requires-clause-inside : goal.write_product-requires-clause-inside
+write_product-requires-clause-inside c =
     made-inside c.args.semiring c.args.descriptor (option_map (λ m. m.now.matrix.entries) c.args.mask) _ (turned c.args.descriptor.tran c.args.a.now.matrix.entries) (turned c.args.descriptor.tran1 c.args.b.now.matrix.entries)
-    c.in_ok-computed.computed.matrix.entries (ap (λ x. x.entries) c.in_ok-computed.ensures.matrix) c.bounding_lists-bound.ensures.entries c.if-descriptor.false
-
-pub returns-then-descriptor-clause-matrix : goal.returns-then-descriptor-clause-matrix
-returns-then-descriptor-clause-matrix c =
-    let w = c.args.output.now.matrix in
-    c.in_ok-masked.ensures.matrix
-    ∙ ap (λ (m : MatrixEntries). edited_matrix (λ c. m) w)
-    (written-made c.args.semiring c.args.descriptor (option_map (λ m. m.now.matrix.entries) c.args.mask) _ (turned c.args.descriptor.tran c.args.a.now.matrix.entries) (turned c.args.descriptor.tran1 c.args.b.now.matrix.entries)
-    c.in_ok-computed.computed.matrix.entries (ap (λ x. x.entries) c.in_ok-computed.ensures.matrix) c.bounding_lists-bound.ensures.entries c.args.accum w.entries)
+    c.in_ok-computed.computed.matrix.entries (ap (λ x. x.entries) c.in_ok-computed.ensures.matrix) c.bounding_lists-bound.ensures.entries
 
 pub returns-clause-matrix : goal.returns-clause-matrix
 returns-clause-matrix c =

@@ -1,8 +1,9 @@
-use Rattle.std.proofs.Common.{◌≡◌, List, refl, subst, sym, ◌∙◌}
+use Rattle.std.proofs.Common.{◌≡◌, ◌<◌, List, refl, subst, sym, ◌∙◌, arith}
+use Rattle.std.specs.Prelude.{All}
 use Rattle.std.specs.List.{AllByRecursion}
 use Rattle.std.proofs.lemmas.List.Elements.{All-from_recursion}
 use Rattle.grb_core.specs.declared.value.Value.{Value}
-use Rattle.grb_core.specs.Entries.{Cell}
+use Rattle.grb_core.specs.Entries.{Cell, MatrixEntries}
 use Rattle.grb_lists.specs.Cells.{decoded}
 use Rattle.grb_semirings.proofs.Lent.{values-decoded}
 use Rattle.grb_mxm.proofs.TrueRows.{true_entries, true_values, truth}
@@ -20,3 +21,10 @@ invariant_of-rows g c =
       times = c.if-not-is_true_of_true.ensures.times refl;
       plus = c.if-not-is_true_of_true.ensures.plus refl;
     }
+
+pub invariant_of-part : goal.invariant_of-part
+invariant_of-part g c = record {
+  rises = c.requires;
+  lists = c.no_rows.ensures.lists c.args.from;
+  below = subst (λ (m : MatrixEntries). All (λ e. e.0.0 < c.args.from) m) (sym c.no_rows.ensures.entries) (λ k d l. absurd (omega (arith, l)));
+}

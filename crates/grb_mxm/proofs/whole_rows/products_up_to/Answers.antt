@@ -8,7 +8,7 @@ use Rattle.grb_core.specs.Results.{row_of}
 use Rattle.grb_kernels.specs.Typed.{entries_of}
 use Rattle.grb_lists.specs.Cells.{decoded}
 use Rattle.grb_sums.specs.Naming.{name_in, renamed}
-use Rattle.grb_mxm.specs.Rows.{products_count}
+use Rattle.grb_mxm.specs.RowProducts.{products_count}
 use Rattle.grb_mxm.proofs.whole_rows.products_up_to.Goals as goal
 
 length-entries : {V : Type 0} (value : V → Value) (ks : List ℕ) (vs : List V) → length ks ≡ length vs → length ks ≡ length (entries_of value ks vs)

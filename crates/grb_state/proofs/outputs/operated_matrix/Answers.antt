@@ -142,21 +142,21 @@ lent-b-requires-in-Mxm c =
     let of = matrix_call ms vs c.args.call.now c.requires.accepted c.requires.assembled (λ x. call.Mxm x f.mask f.accum f.semiring f.a f.b f.d) f.c c.args.c f.is refl c.requires.output in
     mxm_second-there ms vs c.args.c f.mask f.accum f.semiring f.a f.b f.d of.accepted
 
-pub mxm-requires-clause-semiring_domain : goal.mxm-requires-clause-semiring_domain
-mxm-requires-clause-semiring_domain c =
+pub multiply-requires-clause-semiring_domain : goal.multiply-requires-clause-semiring_domain
+multiply-requires-clause-semiring_domain c =
     let f = c.in-Mxm in let ms = c.args.objects.now.matrices.items in let vs = c.args.objects.now.vectors.items in
     let of = matrix_call ms vs c.args.call.now c.requires.accepted c.requires.assembled (λ x. call.Mxm x f.mask f.accum f.semiring f.a f.b f.d) f.c c.args.c f.is refl c.requires.output in
     (mxm_are ms vs c.args.c f.mask f.accum f.semiring f.a f.b f.d of.accepted c.lent-output.result.now c.lent-output.ensures).multiplies
 
-pub mxm-requires-clause-output : goal.mxm-requires-clause-output
-mxm-requires-clause-output c =
+pub multiply-requires-clause-output : goal.multiply-requires-clause-output
+multiply-requires-clause-output c =
     let f = c.in-Mxm in let ms = c.args.objects.now.matrices.items in let vs = c.args.objects.now.vectors.items in
     let of = matrix_call ms vs c.args.call.now c.requires.accepted c.requires.assembled (λ x. call.Mxm x f.mask f.accum f.semiring f.a f.b f.d) f.c c.args.c f.is refl c.requires.output in
     let are = mxm_are ms vs c.args.c f.mask f.accum f.semiring f.a f.b f.d of.accepted c.lent-output.result.now c.lent-output.ensures in
     matrix_output ms vs c.args.c c.lent-output.result.now c.lent-output.ensures of.assembled.0 f.mask c.lent_mask-inside-in-Mxm.result c.lent_mask-inside-in-Mxm.ensures of.assembled.1.1.1 are.masked f.accum are.accumulates
 
-pub mxm-requires-clause-a : goal.mxm-requires-clause-a
-mxm-requires-clause-a c =
+pub multiply-requires-clause-a : goal.multiply-requires-clause-a
+multiply-requires-clause-a c =
     let f = c.in-Mxm in let ms = c.args.objects.now.matrices.items in let vs = c.args.objects.now.vectors.items in
     let of = matrix_call ms vs c.args.call.now c.requires.accepted c.requires.assembled (λ x. call.Mxm x f.mask f.accum f.semiring f.a f.b f.d) f.c c.args.c f.is refl c.requires.output in
     let are = mxm_are ms vs c.args.c f.mask f.accum f.semiring f.a f.b f.d of.accepted c.lent-output.result.now c.lent-output.ensures in
@@ -164,8 +164,8 @@ mxm-requires-clause-a c =
     let first = turned_input ms vs f.a c.lent-a-in-Mxm.result.now c.lent-a-in-Mxm.ensures f.d.tran _ _ _ are.first of.assembled.1.0 in
     record { assembled = first.assembled; domain = first.domain; rows = first.rows; columns = first.columns ∙ sym second.rows }
 
-pub mxm-requires-clause-b : goal.mxm-requires-clause-b
-mxm-requires-clause-b c =
+pub multiply-requires-clause-b : goal.multiply-requires-clause-b
+multiply-requires-clause-b c =
     let f = c.in-Mxm in let ms = c.args.objects.now.matrices.items in let vs = c.args.objects.now.vectors.items in
     let of = matrix_call ms vs c.args.call.now c.requires.accepted c.requires.assembled (λ x. call.Mxm x f.mask f.accum f.semiring f.a f.b f.d) f.c c.args.c f.is refl c.requires.output in
     let are = mxm_are ms vs c.args.c f.mask f.accum f.semiring f.a f.b f.d of.accepted c.lent-output.result.now c.lent-output.ensures in
@@ -177,8 +177,8 @@ returns-in-Mxm c =
     let f = c.in-Mxm in let ms = c.args.objects.now.matrices.items in let vs = c.args.objects.now.vectors.items in
     let of = matrix_call ms vs c.args.call.now c.requires.accepted c.requires.assembled (λ x. call.Mxm x f.mask f.accum f.semiring f.a f.b f.d) f.c c.args.c f.is refl c.requires.output in
     let same_mask = lent_matrix_entries ms vs (λ m. m.now) f.mask c.lent_mask-inside-in-Mxm.result c.lent_mask-inside-in-Mxm.ensures in
-    if_ok _ _ c.mxm.result (λ made is. matrix_left_as (stored ms vs) c.args.call.now _ of.is c.args.c (Some made.matrix) (mxm-left ms vs c.args.c f.mask f.accum f.semiring f.a f.b f.d of.accepted
-    c.lent-output.result.now c.lent-a-in-Mxm.result.now c.lent-b-in-Mxm.result.now c.lent-output.ensures c.lent-a-in-Mxm.ensures c.lent-b-in-Mxm.ensures _ same_mask made.matrix is)) c.mxm.ensures.matrix
+    if_ok _ _ c.multiply.result (λ made is. matrix_left_as (stored ms vs) c.args.call.now _ of.is c.args.c (Some made.matrix) (mxm-left ms vs c.args.c f.mask f.accum f.semiring f.a f.b f.d of.accepted
+    c.lent-output.result.now c.lent-a-in-Mxm.result.now c.lent-b-in-Mxm.result.now c.lent-output.ensures c.lent-a-in-Mxm.ensures c.lent-b-in-Mxm.ensures _ same_mask made.matrix is)) c.multiply.ensures.matrix
 
 pub written_matrix-requires-clause-accepted : goal.written_matrix-requires-clause-accepted
 written_matrix-requires-clause-accepted c =

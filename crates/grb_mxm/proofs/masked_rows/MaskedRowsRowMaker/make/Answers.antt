@@ -11,7 +11,7 @@ use Rattle.grb_lists.specs.Cells.{decoded}
 use Rattle.grb_ewise.proofs.RowEntries.{row_in_order}
 use Rattle.grb_semirings.specs.Open.{marked_at}
 use Rattle.grb_sums.specs.Naming.{name_in}
-use Rattle.grb_mxm.specs.Rows.{picked, product_row}
+use Rattle.grb_mxm.specs.RowProducts.{picked, product_row}
 use Rattle.grb_sums.proofs.Cleared.{none_marked}
 use Rattle.grb_mxm.proofs.MaskedProduct.{picked_row, row_of-selected}
 use Rattle.grb_mxm.proofs.States.{among_allowed}

@@ -23,7 +23,7 @@ use Rattle.grb_sums.specs.Naming.{name_in}
 use Rattle.grb_sums.proofs.MarksOf.{length-marks_of}
 use Rattle.grb_sums.proofs.Renamed.{holds}
 use Rattle.grb_sums.proofs.Tops.{no_tops}
-use Rattle.grb_mxm.specs.Rows.{product_row}
+use Rattle.grb_mxm.specs.RowProducts.{product_row}
 use Rattle.grb_mxm.proofs.OpenRow.{open_row}
 use Rattle.grb_mxm.proofs.ProductRows.{row_of-mxm}
 use Rattle.grb_mxm.proofs.ScaledRow.{one_entry, scaled_row}

@@ -15,7 +15,7 @@ use Rattle.grb_lists.specs.Cells.{decoded}
 use Rattle.grb_semirings.specs.Open.{marked_at}
 use Rattle.grb_sums.specs.Open.{marked_from}
 use Rattle.grb_sums.specs.Naming.{name_in}
-use Rattle.grb_mxm.specs.Rows.{product_row}
+use Rattle.grb_mxm.specs.RowProducts.{product_row}
 use Rattle.grb_sums.specs.Marks.{marks_of, IsCleared, AreOpenSums}
 use Rattle.grb_sums.proofs.Cleared.{none_marked}
 use Rattle.grb_sums.proofs.MarksOf.{length-marks_of, none_of_zeros, zeros_are_marks}

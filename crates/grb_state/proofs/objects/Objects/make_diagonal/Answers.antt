@@ -1,5 +1,4 @@
-use Rattle.std.proofs.Common.{sym, ap, ◌∙◌}
-use Rattle.grb_core.specs.Contents.{Matrix}
+use Rattle.std.proofs.Common.{ap, ◌∙◌}
 use Rattle.grb_sparse.specs.Matrix.{SparseMatrixView}
 use Rattle.grb_state.proofs.LentDiagonal.{diagonal_vector-there, diagonal_fits, diagonal-made}
 use Rattle.grb_state.proofs.objects.Objects.make_diagonal.Goals as goal
