@@ -16,21 +16,38 @@ const ROOM: u32 = 256;
 /// How often all products are made at most until one block is made by who helps.
 const MOST_TURNS: u32 = 50;
 
-/// How many blocks a context of so many passes had made after each product, where nobody helps.
-fn counts_alone<R: Abort>(rt: &R, alloc: Global, passes: u32) -> Result<Vec<u64>, AllocError>
+/// How many blocks a context of so many passes had made after each product, where nobody helps. It is opened to be helped, or not; at the
+/// end a thread without a pass finds nothing to make.
+fn counts_alone<R: Abort>(
+    rt: &R,
+    alloc: Global,
+    passes: u32,
+    helped: bool,
+) -> Result<Vec<u64>, AllocError>
     requires { (0 < passes) × (passes ≤ 2) }
 {
-    let (context, mut opened) = Context::open(alloc, ROOM, passes)?;
+    let (context, mut opened) = Context::open_with(alloc, ROOM, passes, helped)?;
     let mut pass = next_pass(rt, &context, &mut opened);
     make_objects(rt, alloc, &context, &mut pass);
-    Ok(expect_cases(rt, alloc, &context, &mut pass))
+    let counts = expect_cases(rt, alloc, &context, &mut pass);
+    same(rt, context.lend_hand(), 0, "blocks without a pass");
+    Ok(counts)
 }
 
 #[test]
 fn a_pass_alone_in_its_context_makes_no_blocks(rt: HostRuntime) -> Result<(), AllocError> {
-    let counts = counts_alone(&rt, rt.alloc(), 1)?;
+    let counts = counts_alone(&rt, rt.alloc(), 1, false)?;
     for count in &counts {
         same(&rt, *count, 0, "the blocks");
+    }
+    Ok(())
+}
+
+#[test]
+fn a_pass_alone_that_may_be_helped_makes_blocks(rt: HostRuntime) -> Result<(), AllocError> {
+    let counts = counts_alone(&rt, rt.alloc(), 1, true)?;
+    for count in &counts {
+        same(&rt, *count > 0, true, "the blocks");
     }
     Ok(())
 }
@@ -79,7 +96,7 @@ fn helped_once<R: Abort + Threads + Sync>(
 #[test]
 fn dear_products_are_the_same_while_another_pass_helps(rt: HostRuntime) -> Result<(), AllocError> {
     let mut alone: u64 = 0;
-    let counts = counts_alone(&rt, rt.alloc(), 2)?;
+    let counts = counts_alone(&rt, rt.alloc(), 2, false)?;
     for count in &counts {
         same(&rt, *count > alone, true, ("the blocks", alone));
         alone = *count;
