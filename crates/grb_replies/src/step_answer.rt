@@ -10,7 +10,7 @@ use std::sync::Arc;
 /// What a call is answered: its reply, or why it is refused.
 pub type Answer = Result<Reply, Refusal>;
 
-/// The entries of a matrix, as they stood behind a wait for it. They are shared with the store, and none is copied. It is seen as the list
+/// The entries of a matrix, as they stand after a wait for it. They are shared with the store, and none is copied. It is seen as the list
 /// of the entries in rising order of place.
 #[derive(Drop)]
 pub struct MatrixSnapshot {
@@ -46,7 +46,7 @@ impl MatrixSnapshot {
     }
 }
 
-/// The entries of a vector, as they stood behind a wait for it. They are shared with the store, and none is copied. It is seen as the list
+/// The entries of a vector, as they stand after a wait for it. They are shared with the store, and none is copied. It is seen as the list
 /// of the entries in rising order of index.
 #[derive(Drop)]
 pub struct VectorSnapshot {

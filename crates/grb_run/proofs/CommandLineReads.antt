@@ -1,6 +1,6 @@
 -- What a parse of the program's command line finds.
-use Rattle.std.proofs.Common.{◌≡◌, ◌∙◌, ◌<◌, ◌≤◌, ap, ℕ, true, false, zero, suc, List, [], ◌∷◌, map, length, is_some, Option, Some, None, refl, sym, subst, inl, inr, arith, codes, slice_index}
-use Rattle.grb_run.proofs.Prelude.{list_all, slice_index_or, Err, IsErrAnd, IsSome, Ok, Result, pos, Bor, get_or-map, length-map, MOST_ROOM, faults_of, number_spelled, room_option, script_argument}
+use Rattle.std.proofs.Common.{◌≡◌, ◌∙◌, ◌<◌, ◌≤◌, ◌^◌, ap, ℕ, true, false, zero, suc, List, [], ◌∷◌, map, length, is_some, Option, Some, None, refl, sym, subst, inl, inr, arith, codes, slice_index}
+use Rattle.grb_run.proofs.Prelude.{list_all, slice_index_or, Err, IsErrAnd, IsSome, Ok, Result, pos, Bor, get_or-map, length-map, MOST_ROOM, MOST_THREADS, faults_of, number_spelled, room_option, threads_option, script_argument}
 use Rattle.std.specs.List.{All}
 use Rattle.std.specs.Prelude.{option_map}
 use Rattle.std.specs.Str.Parse.{ExplainsUnsignedError, HasUnsignedDigitsIfOk, ParsesUnsigned}
@@ -19,6 +19,7 @@ use Rattle.clap.specs.declared.builder.arg.Arg.{Arg}
 use Rattle.clap.specs.declared.builder.command.Command.{Command}
 use Rattle.clap.specs.declared.builder.command.Command.TheViews.{out-Command}
 use Rattle.clap.specs.declared.builder.range.ValueRange.{ValueRange}
+use Rattle.clap.specs.declared.builder.action.ArgAction.TheVariants.{Set}
 use Rattle.clap.specs.declared.builder.value_parser.ValueParser.TheVariants as parser
 use Rattle.clap.specs.declared.error.Error.{Error}
 use Rattle.clap.specs.declared.parser.matches.ArgMatches.{ArgMatches}
@@ -30,7 +31,7 @@ use Rattle.grb_run.specs.CommandLine.{command_line}
 use Rattle.grb_run.proofs.DefaultReads.{default_reads}
 
 abbrev arguments : List Rule
-arguments = room_option ∷ script_argument ∷ []
+arguments = room_option ∷ threads_option ∷ script_argument ∷ []
 
 -- an argument that the command line has, at its place
 rule_at : (xs : List Arg) (rs : List Rule) → map rule_of xs ≡ rs → (k : ℕ) (d : Arg) → k < length xs → rule_of (slice_index_or xs k d) ≡ slice_index_or rs k (rule_of d)
@@ -49,8 +50,8 @@ each_free (x ∷ xs) e (suc k) d lt = each_free xs (both _ _ e).1 k d (omega ari
 
 -- the facts of a command that has the shape of the command line
 record IsCommandLine (c : Command) : Type 0 where
-  rules : map rule_of (args_of c) ≡ room_option ∷ script_argument ∷ []
-  count : length (args_of c) ≡ 2
+  rules : map rule_of (args_of c) ≡ room_option ∷ threads_option ∷ script_argument ∷ []
+  count : length (args_of c) ≡ 3
   simple : IsSimple c
   plain : IsPlain c
   negates : (out-Command c).subcommand_negates_reqs ≡ false
@@ -58,7 +59,7 @@ record IsCommandLine (c : Command) : Type 0 where
 is_command_line : (program : Text) (c : Command) → app_of c ≡ command_line program → IsCommandLine c
 unfolding command_line
 is_command_line program c e =
-    let rules : map rule_of (args_of c) ≡ room_option ∷ script_argument ∷ [] = ap (λ a. a.top.rules) e in
+    let rules : map rule_of (args_of c) ≡ room_option ∷ threads_option ∷ script_argument ∷ [] = ap (λ a. a.top.rules) e in
     let simple : IsSimple c = ready_simple c (ap (λ a. is_ready a.top) e) (ap (λ a. list_all is_ready_leaf a.subs) e) in
     let free = each_free (args_of c) (ap (list_all (λ r. r.is_free)) rules) in
     let groups = simple_groups c (ap (list_all (λ r. r.is_simple)) rules) in
@@ -70,14 +71,20 @@ is_command_line program c e =
       negates = ap (λ a. a.top.subcommand_negates_reqs) e;
     }
 
-distinct : (j k : ℕ) (e d : Rule) → j < 2 → k < 2 → bytes_eq (slice_index_or arguments j e).id (slice_index_or arguments k d).id ≡ true → j ≡ k
+distinct : (j k : ℕ) (e d : Rule) → j < 3 → k < 3 → bytes_eq (slice_index_or arguments j e).id (slice_index_or arguments k d).id ≡ true → j ≡ k
 distinct zero zero e d low high same = refl
 distinct zero (suc zero) e d low high same = cc
+distinct zero (suc (suc zero)) e d low high same = cc
 distinct (suc zero) zero e d low high same = cc
 distinct (suc zero) (suc zero) e d low high same = refl
-distinct zero (suc (suc k)) e d low high same = absurd (omega arith)
-distinct (suc zero) (suc (suc k)) e d low high same = absurd (omega arith)
-distinct (suc (suc j)) k e d low high same = absurd (omega arith)
+distinct (suc zero) (suc (suc zero)) e d low high same = cc
+distinct (suc (suc zero)) zero e d low high same = cc
+distinct (suc (suc zero)) (suc zero) e d low high same = cc
+distinct (suc (suc zero)) (suc (suc zero)) e d low high same = refl
+distinct zero (suc (suc (suc k))) e d low high same = absurd (omega arith)
+distinct (suc zero) (suc (suc (suc k))) e d low high same = absurd (omega arith)
+distinct (suc (suc zero)) (suc (suc (suc k))) e d low high same = absurd (omega arith)
+distinct (suc (suc (suc j))) k e d low high same = absurd (omega arith)
 
 -- no two arguments have one id
 one_place : (c : Command) → IsCommandLine c → (j k : ℕ) (e d : Arg) → j < length (args_of c) → k < length (args_of c)
@@ -90,41 +97,82 @@ one_place c is j k e d low high same =
 one_value : (range : Option ValueRange) → range ≡ None → 1 ≤ (unwrap_or_range range).start_inclusive
 one_value range e = rw e (omega arith)
 
-room_reads : (program : Text) (c : Command) (m : ArgMatches) → app_of c ≡ command_line program → IsParsedFrom c m
-    → (t : List ℕ) × (one_text (found_of m) (codes "room") ≡ Some (without_minus t)) × IsSignedIn (pos 1) (pos MOST_ROOM) t
-room_reads program c m e p =
+-- an option whose one value is a number up to this one, where it stands among the arguments, and how its name begins
+record IsNumberOption (k : ℕ) (rule : Rule) (most head : ℕ) : Type 0 where
+  within : k < 3
+  stands : (d : Rule) → slice_index_or arguments k d ≡ rule
+  action : rule.action ≡ Some Set
+  defaults : length rule.defaults ≡ 1
+  range : rule.range ≡ None
+  is_parser : rule.parser ≡ Some (parser.Signed (pos 1) (pos most))
+  begins : slice_index rule.id 0 ≡ head
+  is_named : 0 ≡ head → ⊥
+  not_h : 104 ≡ head → ⊥
+  not_v : 118 ≡ head → ⊥
+
+room_number : IsNumberOption 0 room_option MOST_ROOM 114
+room_number = record {
+  within = omega arith;
+  stands = λ d. refl;
+  action = refl;
+  defaults = refl;
+  range = refl;
+  is_parser = refl;
+  begins = refl;
+  is_named = λ bad. absurd (omega (arith, bad));
+  not_h = λ bad. absurd (omega (arith, bad));
+  not_v = λ bad. absurd (omega (arith, bad));
+}
+
+threads_number : IsNumberOption 1 threads_option MOST_THREADS 116
+threads_number = record {
+  within = omega arith;
+  stands = λ d. refl;
+  action = refl;
+  defaults = refl;
+  range = refl;
+  is_parser = refl;
+  begins = refl;
+  is_named = λ bad. absurd (omega (arith, bad));
+  not_h = λ bad. absurd (omega (arith, bad));
+  not_v = λ bad. absurd (omega (arith, bad));
+}
+
+number_reads : (k : ℕ) (rule : Rule) (most head : ℕ) → IsNumberOption k rule most head → (program : Text) (c : Command) (m : ArgMatches) → app_of c ≡ command_line program → IsParsedFrom c m
+    → (t : List ℕ) × (one_text (found_of m) rule.id ≡ Some (without_minus t)) × IsSignedIn (pos 1) (pos most) t
+number_reads k rule most head of program c m e p =
     let is = is_command_line program c e in
-    let lt : 0 < length (args_of c) = rw is.count (omega arith) in
-    let d = first_arg (args_of c) lt in
-    let room : rule_of (slice_index_or (args_of c) 0 d) ≡ room_option = rule_at (args_of c) arguments is.rules 0 d lt in
-    let is_id : (slice_index_or (args_of c) 0 d).id.now ≡ codes "room" = ap (λ (r : Rule). r.id) room in
-    let first : (t : List ℕ) → (slice_index_or (args_of c) 0 d).id.now ≡ t → slice_index t 0 ≡ 114 = λ t at. rw (← at, is_id) refl in
-    let one : length (items_of (slice_index_or (args_of c) 0 d).default_vals) ≡ 1 =
-    sym (length-map (items_of (slice_index_or (args_of c) 0 d).default_vals) (λ s. s.now)) ∙ ap (λ (r : Rule). length r.defaults) room in
-    let got = default_reads c m p is.plain is.simple.globals 0 d lt
-    ((is.simple.args 0 d lt).default_ifs, omega arith)
-    (ap (λ (r : Rule). r.action) room) (is.simple.args 0 d lt).delimiter (one_value _ (ap (λ (r : Rule). r.range) room))
-    (λ j a low same. one_place c is j 0 a d low lt same)
-    (λ at. let bad : 0 ≡ 114 = first [] at in absurd (omega arith))
+    let lt : k < length (args_of c) = rw is.count of.within in
+    let d = first_arg (args_of c) (omega arith) in
+    let here : rule_of (slice_index_or (args_of c) k d) ≡ rule = rule_at (args_of c) arguments is.rules k d lt ∙ of.stands (rule_of d) in
+    let is_id : (slice_index_or (args_of c) k d).id.now ≡ rule.id = ap (λ (r : Rule). r.id) here in
+    let first : (t : List ℕ) → (slice_index_or (args_of c) k d).id.now ≡ t → slice_index t 0 ≡ head = λ t at. rw (← at, is_id) of.begins in
+    let one : length (items_of (slice_index_or (args_of c) k d).default_vals) ≡ 1 =
+    sym (length-map (items_of (slice_index_or (args_of c) k d).default_vals) (λ s. s.now)) ∙ ap (λ (r : Rule). length r.defaults) here ∙ of.defaults in
+    let got = default_reads c m p is.plain is.simple.globals k d lt
+    ((is.simple.args k d lt).default_ifs, omega arith)
+    (ap (λ (r : Rule). r.action) here ∙ of.action) (is.simple.args k d lt).delimiter (one_value _ (ap (λ (r : Rule). r.range) here ∙ of.range))
+    (λ j a low same. one_place c is j k a d low lt same)
+    (λ at. of.is_named (first [] at))
     (λ auto. elim auto [
-      | inl h ↦ let bad : 104 ≡ 114 = first _ h in absurd (omega arith)
-      | inr h ↦ let bad : 118 ≡ 114 = first _ h in absurd (omega arith)
+      | inl h ↦ of.not_h (first _ h)
+      | inr h ↦ of.not_v (first _ h)
     ])
-    (parser.Signed (pos 1) (pos MOST_ROOM)) (ap (λ (r : Rule). r.parser) room) in
+    (parser.Signed (pos 1) (pos most)) (ap (λ (r : Rule). r.parser) here ∙ of.is_parser) in
     (got.0, subst (λ (w : List ℕ). one_text (found_of m) w ≡ Some (without_minus got.0)) is_id got.1, got.2)
 
 script_has_value : (program : Text) (c : Command) (m : ArgMatches) → app_of c ≡ command_line program → IsParsedFrom c m
     → is_some (first_value (found_of m) (codes "script")) ≡ true
 script_has_value program c m e p =
     let is = is_command_line program c e in
-    let lt : 1 < length (args_of c) = rw is.count (omega arith) in
+    let lt : 2 < length (args_of c) = rw is.count (omega arith) in
     let d = first_arg (args_of c) (omega arith) in
-    let script : rule_of (slice_index_or (args_of c) 1 d) ≡ script_argument = rule_at (args_of c) arguments is.rules 1 d lt in
-    let is_id : (slice_index_or (args_of c) 1 d).id.now ≡ codes "script" = ap (λ (r : Rule). r.id) script in
-    let first : (t : List ℕ) → (slice_index_or (args_of c) 1 d).id.now ≡ t → slice_index t 0 ≡ 115 = λ t at. rw (← at, is_id) refl in
-    let has = required_has_value c m p is.plain is.simple.globals is.negates 1 d lt
-    (ap (λ (r : Rule). r.required) script) (ap (λ (r : Rule). r.action) script) (is.simple.args 1 d lt).delimiter (one_value _ (ap (λ (r : Rule). r.range) script))
-    (λ j a low same. one_place c is j 1 a d low lt same)
+    let script : rule_of (slice_index_or (args_of c) 2 d) ≡ script_argument = rule_at (args_of c) arguments is.rules 2 d lt in
+    let is_id : (slice_index_or (args_of c) 2 d).id.now ≡ codes "script" = ap (λ (r : Rule). r.id) script in
+    let first : (t : List ℕ) → (slice_index_or (args_of c) 2 d).id.now ≡ t → slice_index t 0 ≡ 115 = λ t at. rw (← at, is_id) refl in
+    let has = required_has_value c m p is.plain is.simple.globals is.negates 2 d lt
+    (ap (λ (r : Rule). r.required) script) (ap (λ (r : Rule). r.action) script) (is.simple.args 2 d lt).delimiter (one_value _ (ap (λ (r : Rule). r.range) script))
+    (λ j a low same. one_place c is j 2 a d low lt same)
     (λ at. let bad : 0 ≡ 115 = first [] at in absurd (omega arith))
     (λ auto. elim auto [
       | inl h ↦ let bad : 104 ≡ 115 = first _ h in absurd (omega arith)
@@ -139,21 +187,37 @@ rows_are : (program : Text) (c : Command) (m : ArgMatches) (words : List Text) �
 unfolding command_line
 rows_are program c m words e has = (has (ap is_simple e)).0 ∙ ap (λ a. matches_of a words) e
 
--- the room is there, in its range, and what the words say
+-- a number is there, in its range, and what the words say
+number_given : (k : ℕ) (rule : Rule) (most head : ℕ) → IsNumberOption k rule most head → most < 2 ^ 32 → (program : Text) (c : Command) (m : ArgMatches) (words : List Text) (r : Option ℕ)
+    → app_of c ≡ command_line program → IsParsedFrom c m → HasMatchesOf (app_of c) words m
+    → ((t : List ℕ) → one_text (found_of m) rule.id ≡ Some t
+    → ReadsOne (λ bs x. ParsesUnsigned 32 10 bs x × ExplainsUnsignedError 10 bs x × HasUnsignedDigitsIfOk bs x) t r)
+    → (n : ℕ) × (r ≡ Some n) × (1 ≤ n) × (n ≤ most) × (option_map number_spelled (one_of rule.id (matches_of (command_line program) words)) ≡ Some n)
+number_given k rule most head of small program c m words r e p has reads =
+    let text = number_reads k rule most head of program c m e p in
+    let read = reads (without_minus text.0) text.1 in
+    let got = signed_reads _ (λ bs x. ParsesUnsigned 32 10 bs x × ExplainsUnsignedError 10 bs x × HasUnsignedDigitsIfOk bs x)
+    32 1 most text.0 r read (λ u x g. g.0) small text.2 in
+    let numeral = (rw got.1 at read).0 in
+    let given : one_of rule.id (matches_of (command_line program) words) ≡ Some (without_minus text.0) =
+    ap (one_of rule.id) (sym (rows_are program c m words e has)) ∙ (sym (one_text-rows (found_of m) rule.id) ∙ text.1) in
+    (got.0, got.1, got.2, got.3, ap (option_map number_spelled) given ∙ ap (λ (n : ℕ). Some n) (sym numeral.1))
+
+-- the room
 pub room_given : (program : Text) (c : Command) (m : ArgMatches) (words : List Text) (r : Option ℕ) → app_of c ≡ command_line program → IsParsedFrom c m
     → HasMatchesOf (app_of c) words m
     → ((t : List ℕ) → one_text (found_of m) (codes "room") ≡ Some t
     → ReadsOne (λ bs x. ParsesUnsigned 32 10 bs x × ExplainsUnsignedError 10 bs x × HasUnsignedDigitsIfOk bs x) t r)
     → (n : ℕ) × (r ≡ Some n) × (1 ≤ n) × (n ≤ MOST_ROOM) × (option_map number_spelled (one_of (codes "room") (matches_of (command_line program) words)) ≡ Some n)
-room_given program c m words r e p has reads =
-    let text = room_reads program c m e p in
-    let read = reads (without_minus text.0) text.1 in
-    let got = signed_reads _ (λ bs x. ParsesUnsigned 32 10 bs x × ExplainsUnsignedError 10 bs x × HasUnsignedDigitsIfOk bs x)
-    32 1 MOST_ROOM text.0 r read (λ u x g. g.0) (omega arith) text.2 in
-    let numeral = (rw got.1 at read).0 in
-    let given : one_of (codes "room") (matches_of (command_line program) words) ≡ Some (without_minus text.0) =
-    ap (one_of (codes "room")) (sym (rows_are program c m words e has)) ∙ (sym (one_text-rows (found_of m) (codes "room")) ∙ text.1) in
-    (got.0, got.1, got.2, got.3, ap (option_map number_spelled) given ∙ ap (λ (n : ℕ). Some n) (sym numeral.1))
+room_given program c m words r e p has reads = number_given 0 room_option MOST_ROOM 114 room_number (omega arith) program c m words r e p has reads
+
+-- the threads
+pub threads_given : (program : Text) (c : Command) (m : ArgMatches) (words : List Text) (r : Option ℕ) → app_of c ≡ command_line program → IsParsedFrom c m
+    → HasMatchesOf (app_of c) words m
+    → ((t : List ℕ) → one_text (found_of m) (codes "threads") ≡ Some t
+    → ReadsOne (λ bs x. ParsesUnsigned 32 10 bs x × ExplainsUnsignedError 10 bs x × HasUnsignedDigitsIfOk bs x) t r)
+    → (n : ℕ) × (r ≡ Some n) × (1 ≤ n) × (n ≤ MOST_THREADS) × (option_map number_spelled (one_of (codes "threads") (matches_of (command_line program) words)) ≡ Some n)
+threads_given program c m words r e p has reads = number_given 1 threads_option MOST_THREADS 116 threads_number (omega arith) program c m words r e p has reads
 
 -- the path is there, and what the words say
 pub path_given : (program : Text) (c : Command) (m : ArgMatches) (words : List Text) (r : Option (Bor (List ℕ))) → app_of c ≡ command_line program → IsParsedFrom c m

@@ -6,24 +6,41 @@ use Rattle.clap.proofs.OnLiterals.{clap_on_literals}
 use Rattle.grb_run.proofs.Prelude.{faults_of, number_spelled}
 use Rattle.grb_run.specs.CommandLine.{command_line}
 
--- the room and the path that the words give
-Gives : List Text → ℕ → Text → Type 0
-Gives words room path =
+-- the room, the threads and the path that the words give
+Gives : List Text → ℕ → ℕ → Text → Type 0
+Gives words room threads path =
     (option_map number_spelled (one_of (codes "room") (matches_of (command_line (codes "grbrun")) words)) ≡ Some room)
+    × (option_map number_spelled (one_of (codes "threads") (matches_of (command_line (codes "grbrun")) words)) ≡ Some threads)
     × (first_of (codes "script") (matches_of (command_line (codes "grbrun")) words) ≡ Some path)
     × (faults_of (codes "grbrun") words ≡ [])
 
-path_alone : Gives (codes "first.grb" ∷ []) 4096 (codes "first.grb")
+path_alone : Gives (codes "first.grb" ∷ []) 4096 1 (codes "first.grb")
 unfolding Gives command_line clap_on_literals
-path_alone = (refl, refl, refl)
+path_alone = (refl, refl, refl, refl)
 
-room_before : Gives (codes "--room" ∷ codes "1" ∷ codes "x" ∷ []) 1 (codes "x")
+room_before : Gives (codes "--room" ∷ codes "1" ∷ codes "x" ∷ []) 1 1 (codes "x")
 unfolding Gives command_line clap_on_literals
-room_before = (refl, refl, refl)
+room_before = (refl, refl, refl, refl)
 
-room_behind : Gives (codes "x" ∷ codes "--room=65536" ∷ []) 65536 (codes "x")
+room_behind : Gives (codes "x" ∷ codes "--room=65536" ∷ []) 65536 1 (codes "x")
 unfolding Gives command_line clap_on_literals
-room_behind = (refl, refl, refl)
+room_behind = (refl, refl, refl, refl)
+
+threads_before : Gives (codes "--threads" ∷ codes "4" ∷ codes "x" ∷ []) 4096 4 (codes "x")
+unfolding Gives command_line clap_on_literals
+threads_before = (refl, refl, refl, refl)
+
+threads_behind : Gives (codes "--room" ∷ codes "8" ∷ codes "x" ∷ codes "--threads=64" ∷ []) 8 64 (codes "x")
+unfolding Gives command_line clap_on_literals
+threads_behind = (refl, refl, refl, refl)
+
+no_threads : faults_of (codes "grbrun") (codes "--threads" ∷ codes "0" ∷ codes "x" ∷ []) ≡ ValueValidation ∷ []
+unfolding command_line clap_on_literals
+no_threads = refl
+
+too_many_threads : faults_of (codes "grbrun") (codes "--threads" ∷ codes "65" ∷ codes "x" ∷ []) ≡ ValueValidation ∷ []
+unfolding command_line clap_on_literals
+too_many_threads = refl
 
 no_room : faults_of (codes "grbrun") (codes "--room" ∷ codes "0" ∷ codes "x" ∷ []) ≡ ValueValidation ∷ []
 unfolding command_line clap_on_literals

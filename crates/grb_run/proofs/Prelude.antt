@@ -7,7 +7,8 @@ pub use Rattle.grb_market.specs.declared.loaded.Loaded.{Loaded}
 pub use Rattle.grb_order.specs.Order.{room_of}
 pub use Rattle.grb_order.specs.declared.limits.TheConstants.{MOST_ROOM, MOST_SEATS}
 pub use Rattle.grb_run.specs.Calls.{call_of}
-pub use Rattle.grb_run.specs.CommandLine.{faults_of, number_spelled, room_option, script_argument}
+pub use Rattle.grb_run.specs.CommandLine.{faults_of, number_spelled, room_option, script_argument, threads_option}
+pub use Rattle.grb_run.specs.declared.progress.TheConstants.{MOST_THREADS}
 pub use Rattle.grb_run.specs.Loads.{AreScriptSteps, AreSteps, AreThreadSteps, Files, IsReadInto, IsStep, IsStepFault, IsWhyNotLoaded, Steps, StopsWith, all_of, steps_listed}
 pub use Rattle.grb_run.specs.Printed.{IsAnswer, IsDone, IsFilled, IsLoadDone, IsRun, IsSaid, Standing, WasServed, answer_in, answers_in, done, filled, filling, load_done, making, printed, standing_after, start, statement_done, with_asked}
 pub use Rattle.grb_replies.specs.ReplyLine.{reply_line}
@@ -31,5 +32,5 @@ pub use Rattle.std.proofs.lemmas.List.Elements.{All-cons, All-get_or, All-head, 
 pub use Rattle.std.proofs.lemmas.Result.{IfOk-weaker, err_from_is_err_and, on_ok_weaker}
 pub use Rattle.std.specs.Borrow.{Bor}
 pub use Rattle.std.specs.List.{flat_map, list_all, remove, slice_index_or}
-pub use Rattle.std.specs.Prelude.{Err, IfOk, IfSome, IsErrAnd, IsSome, Ok, OnOk, Result, find, is_none, is_ok, pos, slice_get, string_bytes, unwrap_or}
+pub use Rattle.std.specs.Prelude.{Err, IfOk, IfSome, IsErrAnd, IsSome, Ok, OnOk, Result, find, is_none, is_ok, pos, slice_get, unwrap_or}
 pub use Rattle.std.specs.declared.alloc.AllocError.{AllocError}

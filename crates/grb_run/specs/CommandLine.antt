@@ -1,10 +1,11 @@
--- believed: The command line '[--room N] SCRIPT' of a program of some name (own), as the words of the crate clap say it.
+-- believed: The command line '[--room N] [--threads N] SCRIPT' of a program of some name (own), as the words of the crate clap say it.
 use Rattle.std.specs.Prelude.{◌≡◌, ◌⊎◌, ℕ, List, [], ◌∷◌, Some, true, pos, codes, Result, is_ok, if◌then◌else◌}
 use Rattle.std.specs.Option.{option_map}
 use Rattle.std.specs.declared.io.ErrorKind.{ErrorKind as IoErrorKind}
 use Rattle.std.specs.declared.io.ErrorKind.TheVariants as io_kind
 use Rattle.std.specs.Str.Parse.{digits_value, without_leading_plus}
 use Rattle.grb_order.specs.declared.limits.TheConstants.{MOST_ROOM}
+use Rattle.grb_run.specs.declared.progress.TheConstants.{MOST_THREADS}
 use Rattle.clap.specs.Words.{App, HasKind, Kinds, Rule, Text, fault_of, first_of, kind_of, matches_of, new_app, new_rule, one_of, with_rule}
 use Rattle.clap.specs.Simple.{on_top}
 use Rattle.clap.specs.declared.builder.action.ArgAction.TheVariants.{Set}
@@ -25,6 +26,16 @@ room_option = record (new_rule (codes "room")) {
   parser = Some (parser.Signed (pos 1) (pos MOST_ROOM));
 }
 
+-- '--threads N', with N from 1 to the most that a command line asks for, and 1 where it is not given
+abbrev pub threads_option : Rule
+threads_option = record (new_rule (codes "threads")) {
+  long = Some (codes "threads");
+  action = Some Set;
+  value_names = 1;
+  defaults = codes "1" ∷ [];
+  parser = Some (parser.Signed (pos 1) (pos MOST_THREADS));
+}
+
 -- SCRIPT, which has to be given
 abbrev pub script_argument : Rule
 script_argument = record (new_rule (codes "script")) { action = Some Set; value_names = 1; required = true }
@@ -35,15 +46,16 @@ named_command program = on_top (λ s. record s { no_binary_name = true; has_vers
 
 -- the whole command line
 unfoldable pub command_line : Text → App
-command_line program = with_rule (with_rule (named_command program) room_option) script_argument
+command_line program = with_rule (with_rule (with_rule (named_command program) room_option) threads_option) script_argument
 
 -- the number that a text of digits spells, where a plus may stand before them
 abbrev pub number_spelled : Text → ℕ
 number_spelled text = digits_value 10 (without_leading_plus text)
 
--- the words give this room and this path
+-- the words give this room, these threads and this path
 abbrev pub GivesOptions : Text → List Text → Options → Type 0
 GivesOptions program words o = (option_map number_spelled (one_of (codes "room") (matches_of (command_line program) words)) ≡ Some o.room)
+    × (option_map number_spelled (one_of (codes "threads") (matches_of (command_line program) words)) ≡ Some o.threads)
     × (first_of (codes "script") (matches_of (command_line program) words) ≡ Some o.path.now)
 
 -- what is wrong with the words, or that they ask for help or the version: one kind of error, or none

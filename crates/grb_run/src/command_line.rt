@@ -1,11 +1,13 @@
 //! The words of a command line, read by `clap`, and the statuses that they end with.
-ghost use Rattle.std.specs.Prelude.{◌≡◌, ◌<◌, ◌≤◌, IfOk, is_ok, map, if◌then◌else◌};
+ghost use Rattle.std.specs.Prelude.{◌≡◌, ◌<◌, ◌≤◌, IfOk, false, is_ok, map, if◌then◌else◌};
 ghost use Rattle.grb_order.specs.declared.limits.TheConstants.{MOST_ROOM};
-ghost use Rattle.clap.specs.Words.{FailsBy, app_of, kind_of};
-ghost use Rattle.grb_run.specs.CommandLine.{GivesOptions, command_line, faults_of, named_command, status_of_kind};
+ghost use Rattle.clap.specs.Words.{FailsBy, app_of, kind_of, rule_of};
+ghost use Rattle.grb_run.specs.CommandLine.{GivesOptions, command_line, faults_of, named_command, room_option, script_argument, status_of_kind, threads_option};
+ghost use Rattle.grb_run.specs.declared.progress.TheConstants.{MOST_THREADS};
 
 use crate::arguments::Options;
 use crate::fault::RunFault;
+use crate::progress::MOST_THREADS;
 use clap::error::ErrorKind;
 use clap::{Arg, ArgAction, Command, Error, value_parser};
 use grb_order::MOST_ROOM;
@@ -36,18 +38,40 @@ fn named<'a>(alloc: Global, program: &'a str) -> Command<'a>
         .no_binary_name(true)
 }
 
-/// The command `[--room N] SCRIPT` of the program of this name. `AllocError` where memory is refused; then nothing is made.
-fn command<'a>(alloc: Global, program: &'a str) -> Result<Command<'a>, AllocError>
-    ensures { IfOk result (λ c. app_of c ≡ command_line program.now) }
+/// The option `--room N`.
+fn room_option<'a>(alloc: Global) -> Arg<'a>
+    ensures rule { rule_of result ≡ room_option }
+    ensures local { result.global ≡ false }
 {
-    let room = Arg::new(alloc, "room")
+    Arg::new(alloc, "room")
         .long("room")
         .value_name("N")
         .action(ArgAction::Set)
         .value_parser(value_parser!(u32).range(1..=i64::from(MOST_ROOM)))
         .default_value("4096")
-        .help("How many calls may change the store, two of each load, from 1 to 65536");
-    let script = Arg::new(alloc, "script")
+        .help("How many calls may change the store, two of each load, from 1 to 65536")
+}
+
+/// The option `--threads N`.
+fn threads_option<'a>(alloc: Global) -> Arg<'a>
+    ensures rule { rule_of result ≡ threads_option }
+    ensures local { result.global ≡ false }
+{
+    Arg::new(alloc, "threads")
+        .long("threads")
+        .value_name("N")
+        .action(ArgAction::Set)
+        .value_parser(value_parser!(u32).range(1..=i64::from(MOST_THREADS)))
+        .default_value("1")
+        .help("How many threads make large products of matrices, from 1 to 64")
+}
+
+/// The argument `SCRIPT`.
+fn script_argument<'a>(alloc: Global) -> Arg<'a>
+    ensures rule { rule_of result ≡ script_argument }
+    ensures local { result.global ≡ false }
+{
+    Arg::new(alloc, "script")
         .value_name("SCRIPT")
         .action(ArgAction::Set)
         .required(true)
@@ -57,12 +81,20 @@ fn command<'a>(alloc: Global, program: &'a str) -> Result<Command<'a>, AllocErro
             file of at most 67,108,864 bytes, integer or pattern, general or\n\
             symmetric. All files are read and checked after the script, and before\n\
             anything runs.",
-        );
-    named(alloc, program).arg(room)?.arg(script)
+        )
 }
 
-/// The options that these words give, which are the words after the program's name: `[--room N] SCRIPT`, with N from 1 to `MOST_ROOM`, and
-/// 4096 where it is not given (own).
+/// The command `[--room N] [--threads N] SCRIPT` of the program of this name. `AllocError` where memory is refused; then nothing is made.
+fn command<'a>(alloc: Global, program: &'a str) -> Result<Command<'a>, AllocError>
+    ensures { IfOk result (λ c. app_of c ≡ command_line program.now) }
+{
+    let roomy = named(alloc, program).arg(room_option(alloc))?;
+    let threaded = roomy.arg(threads_option(alloc))?;
+    threaded.arg(script_argument(alloc))
+}
+
+/// The options that these words give, which are the words after the program's name: `[--room N] [--threads N] SCRIPT`, with a room from 1 to
+/// `MOST_ROOM`, and 4096 where it is not given, and threads from 1 to `MOST_THREADS`, and 1 where they are not given (own).
 ///
 /// An error of the kind `DisplayHelp` is a request for help, and one of the kind `DisplayVersion` for the version; each holds its text.
 /// Any other error says what is wrong with the words, or that memory was refused.
@@ -72,13 +104,19 @@ pub fn options<'a>(
     words: &'a [&'a str],
 ) -> Result<Options<'a>, Error>
     ensures room { IfOk result (λ o. (0 < o.room) × (o.room ≤ MOST_ROOM)) }
+    ensures threads { IfOk result (λ o. (0 < o.threads) × (o.threads ≤ MOST_THREADS)) }
     ensures given { IfOk result (GivesOptions program.now (map (λ w. w.now) words.entry.now)) }
     ensures faults { FailsBy (faults_of program.now (map (λ w. w.now) words.entry.now)) result }
 {
     let matches = command(alloc, program)?.try_get_matches_from(words)?;
     let room = matches.get_one::<u32>("room").unwrap();
+    let threads = matches.get_one::<u32>("threads").unwrap();
     let path = matches.get_str("script").unwrap();
-    Ok(Options { room, path })
+    Ok(Options {
+        room,
+        threads,
+        path,
+    })
 }
 
 /// The exit status of a run: 0 where all was written, and else 1.

@@ -78,6 +78,16 @@ impl SectionSteps {
         }
         false
     }
+
+    /// Whether a statement of the section makes a product of two matrices.
+    pub(crate) fn multiplies(&self) -> bool {
+        for numbered in &self.commands {
+            if let Command::Statement(Statement::Mxm(_)) = &numbered.command {
+                return true;
+            }
+        }
+        false
+    }
 }
 
 /// The step of what a line asks for: a load takes the first of these matrices.
@@ -211,6 +221,18 @@ pub(crate) struct ScriptSteps {
     pub(crate) main: SectionSteps,
     pub(crate) threads: Vec<SectionSteps>,
     pub(crate) finally: SectionSteps,
+}
+
+impl ScriptSteps {
+    /// Whether a statement of the script makes a product of two matrices.
+    pub(crate) fn multiplies(&self) -> bool {
+        for steps in &self.threads {
+            if steps.multiplies() {
+                return true;
+            }
+        }
+        self.main.multiplies() || self.finally.multiplies()
+    }
 }
 
 /// The steps of thread sections, one after another. `OutOfMemory` where memory for them or for a file is refused; then no statement is run.

@@ -9,6 +9,7 @@ ghost use Rattle.grb_run.specs.Threads.{IsJob, AreJobs, IsEnded, AreEnded, AreAs
 use crate::fault::RunFault;
 use crate::gate::Gate;
 use crate::loads::SectionSteps;
+use crate::progress::{Progress, Until};
 use crate::section::answers_by;
 use grb_call::Object;
 use grb_context::{Context, MOST_SEATS, Pass};
@@ -63,13 +64,15 @@ impl Promise<Result<FinishedSection, AllocError>> for ThreadPromise {
 /// A thread that runs a job.
 type Running = PromisedHandle<Result<FinishedSection, AllocError>, ThreadPromise>;
 
-/// Runs a thread section. `AllocError` where memory is refused to its answers; its pass is dropped then, and the calls that it made stay in
-/// the store.
-fn run_job<G: Gate>(
+/// Runs a thread section, and helps then until all have ended, if it is one of the first that end. `AllocError` where memory is refused to
+/// its answers; its pass is dropped then, and the calls that it made stay in the store.
+fn run_job<R: Wait, G: Gate>(
+    rt: &R,
     alloc: Global,
     context: &Context,
     job: Job,
     gate: &G,
+    progress: &Progress,
 ) -> Result<FinishedSection, AllocError>
     requires { IsPassOf context.now job.pass }
     ensures { IfOk result (IsEnded context.now job) }
@@ -79,8 +82,14 @@ fn run_job<G: Gate>(
         mut objects,
         steps,
     } = job;
-    let answers = answers_by(alloc, context, &mut pass, &mut objects, steps, 0, gate)?;
-    Ok(FinishedSection { pass, answers })
+    let answers = answers_by(alloc, context, &mut pass, &mut objects, steps, 0, gate);
+    if progress.end_section() {
+        progress.help(rt, context, Until::SectionsEnd);
+    }
+    Ok(FinishedSection {
+        pass,
+        answers: answers?,
+    })
 }
 
 /// Lets a thread section's pass adopt main's, and gives the names that the section begins with. `Panic` where a record is not shown, and
@@ -158,12 +167,14 @@ fn jobs_of(
 }
 
 /// Starts the thread of a job. `NoThread` where it is not started, for whatever reason, memory too; the job is dropped then.
-fn start<'s, E, G: Gate + Sync>(
+fn start<'s, E, R: Wait + Sync, G: Gate + Sync>(
+    rt: &'s R,
     alloc: Global,
     scope: &Scope<'s, E>,
     context: &'s Context,
     job: Job,
     gate: &'s G,
+    progress: &'s Progress,
 ) -> Result<Running, RunFault>
     requires { IsPassOf context.now job.pass }
     ensures context { IfOk result (λ running. running.promise.context.value ≡ context.now) }
@@ -177,7 +188,7 @@ fn start<'s, E, G: Gate + Sync>(
     let run = move || -> Result<FinishedSection, AllocError>
         requires { IsPassOf context.now job.pass }
         ensures { IfOk result (IsEnded context.entry.now job) }
-    { run_job(alloc, context, job, gate) };
+    { run_job(rt, alloc, context, job, gate, progress) };
     match scope.spawn_with(promise, run) {
         Ok(running) => Ok(running),
         Err(_) => Err(RunFault::NoThread),
@@ -186,12 +197,14 @@ fn start<'s, E, G: Gate + Sync>(
 
 /// Starts the threads of all jobs. Where one is not started, those before it run on. `OutOfMemory` where memory for their list is refused;
 /// those that were started run on then too.
-fn start_all<'s, E, G: Gate + Sync>(
+fn start_all<'s, E, R: Wait + Sync, G: Gate + Sync>(
+    rt: &'s R,
     alloc: Global,
     scope: &Scope<'s, E>,
     context: &'s Context,
     jobs: Vec<Job>,
     gate: &'s G,
+    progress: &'s Progress,
 ) -> Result<Vec<Running>, RunFault>
     requires { All (λ job. IsPassOf context.now job.pass) jobs.items }
     ensures running { IfOk result (λ running. AreAsked context.now jobs.items running.items) }
@@ -200,10 +213,32 @@ fn start_all<'s, E, G: Gate + Sync>(
     let mut running = Vec::with_capacity(alloc, jobs.len())?;
     for job in jobs {
         running
-            .push(start(alloc, scope, context, job, gate)?)
+            .push(start(rt, alloc, scope, context, job, gate, progress)?)
             .map_err(AllocError::from)?;
     }
     Ok(running)
+}
+
+/// Starts the threads of all jobs, as `start_all` does. Where one is not started, nobody helps any more: those that help go on until all
+/// sections have ended.
+fn start_or_end<'s, E, R: Wait + Sync, G: Gate + Sync>(
+    rt: &'s R,
+    alloc: Global,
+    scope: &Scope<'s, E>,
+    context: &'s Context,
+    jobs: Vec<Job>,
+    gate: &'s G,
+    progress: &'s Progress,
+) -> Result<Vec<Running>, RunFault>
+    requires { All (λ job. IsPassOf context.now job.pass) jobs.items }
+    ensures running { IfOk result (λ running. AreAsked context.now jobs.items running.items) }
+    ensures fault { IfErr result IsStop }
+{
+    let running = start_all(rt, alloc, scope, context, jobs, gate, progress);
+    if running.is_err() {
+        progress.end();
+    }
+    running
 }
 
 /// Runs these jobs, each on a thread, and returns when all threads have ended that were started. A section ends with `AllocError` where
@@ -215,6 +250,7 @@ fn run_jobs<R: Threads + Wait + Sync, G: Gate + Sync>(
     context: &Context,
     jobs: Vec<Job>,
     gate: &G,
+    progress: &Progress,
 ) -> Result<Vec<Result<FinishedSection, AllocError>>, RunFault>
     requires { All (λ job. IsPassOf context.now job.pass) jobs.items }
     ensures ended { IfOk result (λ ended. AreEnded context.now jobs.items ended.items) }
@@ -228,7 +264,7 @@ fn run_jobs<R: Threads + Wait + Sync, G: Gate + Sync>(
             ensures ended { IfOk result (λ ended. AreEnded context.entry.now jobs.items ended.items) }
             ensures fault { IfErr result IsStop }
         {
-            let running = start_all(alloc, scope, context, jobs, gate)?;
+            let running = start_or_end(rt, alloc, scope, context, jobs, gate, progress)?;
             match thread::join_promised(rt, running) {
                 Ok(ended) => Ok(ended),
                 Err(_) => Err(RunFault::OutOfMemory),
@@ -334,6 +370,7 @@ pub(crate) fn run_threads<R: Threads + Wait + Sync, G: Gate + Sync>(
     threads: Vec<SectionSteps>,
     answers: &mut Vec<StepAnswer>,
     gate: &G,
+    progress: &Progress,
 ) -> Result<(), RunFault>
     requires main { IsPassOf context.now main.old }
     requires passes { All (IsPassOf context.now) passes.items }
@@ -347,7 +384,8 @@ pub(crate) fn run_threads<R: Threads + Wait + Sync, G: Gate + Sync>(
         return Ok(());
     }
     prepare_main(context, main, &threads);
+    progress.begin_sections();
     let jobs = jobs_of(alloc, context, main, objects, passes, threads)?;
-    let ended = run_jobs(rt, alloc, context, jobs, gate)?;
+    let ended = run_jobs(rt, alloc, context, jobs, gate, progress)?;
     gather_all(context, main, answers, ended)
 }

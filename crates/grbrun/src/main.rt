@@ -1,4 +1,4 @@
-//! The program `grbrun [--room N] SCRIPT`: it runs the script in a file on a store, and prints a line for each statement.
+//! The program `grbrun [--room N] [--threads N] SCRIPT`: it runs the script in a file on a store, and prints a line for each statement.
 //!
 //! A script is a text of statements. It is read whole, and then each file that it loads, or the first fault is answered and nothing
 //! runs; then each statement is one call, a load two, and the lines of the answers are written when all are known. Where the bytes come
@@ -10,7 +10,8 @@ ghost use Rattle.std.specs.Prelude.{◌<◌, ◌≤◌};
 ghost use Rattle.grb_order.specs.declared.limits.TheConstants.{MOST_ROOM};
 
 use grb_run::{
-    FileSource, OpenGate, Options, OutputSink, RunFault, run_arguments, run_script, run_words,
+    FileSource, OpenGate, Options, OutputSink, RunFault, run_arguments, run_helped_script,
+    run_words,
 };
 use std::io;
 use std::process::ExitCode;
@@ -31,10 +32,11 @@ fn run<R: Files + Print + AllocGlobal + Threads + Wait + Sync>(
 {
     let mut source = FileSource::new(rt, options.path);
     let mut sink = OutputSink::new(io::writer(rt));
-    run_script(
+    run_helped_script(
         rt,
         rt.alloc(),
         options.room,
+        options.threads,
         &mut source,
         &mut sink,
         &OpenGate,

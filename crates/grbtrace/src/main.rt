@@ -1,8 +1,8 @@
-//! The program `grbtrace [--room N] SCRIPT`: it runs a script as `grbrun` does, and writes to standard error how long each statement
-//! took, as `section 0 statement 2: 14 us`.
+//! The program `grbtrace [--room N] [--threads N] SCRIPT`: it runs a script as `grbrun` does, and writes to standard error how long each
+//! statement took, as `section 0 statement 2: 14 us`.
 //!
-//! It shows what a `Gate` is for: `run_script` calls it before and after each statement, and leaves the rest of the run to itself. It also
-//! tells on standard error what `grbrun` does not: of a fault the line as it stands, its form and its names, of a refused statement the
+//! It shows what a `Gate` is for: `run_helped_script` calls it before and after each statement, and leaves the rest of the run to itself. It
+//! also tells on standard error what `grbrun` does not: of a fault the line as it stands, its form and its names, of a refused statement the
 //! hint and the objects, and of a file its path and the cause.
 #![tactic(auto)]
 
@@ -26,7 +26,7 @@ use crate::gate::TraceGate;
 use grb_market::put_all;
 use grb_run::{
     FileSource, Options, OutputSink, RunFault, options, report_run, report_words, run_arguments,
-    run_script,
+    run_helped_script,
 };
 use std::io;
 use std::process::ExitCode;
@@ -46,7 +46,16 @@ where
     let mut source = FileSource::new(rt, options.path);
     let mut sink = OutputSink::new(Vec::new(rt.alloc()));
     let gate = TraceGate::open(rt)?;
-    match run_script(rt, rt.alloc(), options.room, &mut source, &mut sink, &gate) {
+    let ended = run_helped_script(
+        rt,
+        rt.alloc(),
+        options.room,
+        options.threads,
+        &mut source,
+        &mut sink,
+        &gate,
+    );
+    match ended {
         Ok(()) => Ok(sink.writer),
         // A list takes no byte only where memory is refused.
         Err(RunFault::CannotWrite) => Err(RunFault::OutOfMemory),

@@ -5,7 +5,7 @@ ghost use Rattle.grb_order.specs.declared.limits.TheConstants.{MOST_ROOM};
 use crate::difference::first_difference;
 use crate::source::TextSource;
 use grb_order::MOST_ROOM;
-use grb_run::{OpenGate, OutputSink, run_script};
+use grb_run::{OpenGate, OutputSink, run_helped_script};
 use std::alloc::{AllocError, Global};
 use std::io::ErrorKind;
 use std::rt::Files;
@@ -16,12 +16,13 @@ use std::{fs, io, str};
 /// How many lawful outputs a case has at most.
 const MAX_OUTPUTS: u32 = 99;
 
-/// Scripts, their room, how often they are run, and their lawful outputs.
+/// Scripts, their room, by how many threads and how often they are run, and their lawful outputs.
 #[derive(Drop)]
 pub(crate) struct Case<'a> {
     path: &'a str,
     scripts: Vec<Vec<u8>>,
     room: u32,
+    threads: u32,
     runs: u32,
     outputs: Vec<String>,
     ghost in_range: { (0 < room) × (room ≤ MOST_ROOM) },
@@ -90,14 +91,28 @@ fn outputs_of<R: Files + AllocGlobal>(rt: &R, path: &str) -> io::Result<Vec<Stri
 }
 
 /// Adds what a run of this script prints: its lines, and why the run ended early, if it did.
-fn print_run<R>(rt: &R, script: &[u8], room: u32, text: &mut String) -> Result<(), AllocError>
+fn print_run<R>(
+    rt: &R,
+    script: &[u8],
+    room: u32,
+    threads: u32,
+    text: &mut String,
+) -> Result<(), AllocError>
 where
     R: Files + AllocGlobal + Threads + Wait + Sync,
     requires { (0 < room) × (room ≤ MOST_ROOM) }
 {
     let mut source = TextSource::new(rt, script);
     let mut sink = OutputSink::new(Vec::new(rt.alloc()));
-    let ended = run_script(rt, rt.alloc(), room, &mut source, &mut sink, &OpenGate);
+    let ended = run_helped_script(
+        rt,
+        rt.alloc(),
+        room,
+        threads,
+        &mut source,
+        &mut sink,
+        &OpenGate,
+    );
     text.push_str(str::from_utf8(&sink.writer).unwrap_or("no text\n"))?;
     if let Err(fault) = ended {
         let line = format!(in rt.alloc(); "{fault}\n")?;
@@ -118,6 +133,7 @@ impl<'a> Case<'a> {
             path,
             scripts: scripts_of(rt.alloc(), &bytes)?,
             room,
+            threads: number_after(text, "# threads")?.unwrap_or(1),
             runs: number_after(text, "# runs")?.unwrap_or(often),
             outputs,
         })
@@ -135,7 +151,7 @@ impl<'a> Case<'a> {
     {
         let mut text = String::new(rt.alloc());
         for script in &self.scripts {
-            print_run(rt, script, self.room, &mut text)?;
+            print_run(rt, script, self.room, self.threads, &mut text)?;
         }
         Ok(text)
     }

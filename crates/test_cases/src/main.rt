@@ -4,11 +4,12 @@
 //! run ends early, it has why in one line, as `line 2: semiring`. The paths of loads begin in `data/`. Comment lines say the rest:
 //!
 //! - `# room 2`: the room is 2, of 1 to 65,536. Else it is 4,096.
+//! - `# threads 4`: threads help, up to 4 with those of the script. Else it is run by its own alone.
 //! - `# runs 100`: the script is run 100 times. Else it is run once, and 1,000 times where it has several lawful outputs.
 //! - `# each`: each line below it is the last line of a script of its own, which begins with the lines above. The output has what these
 //!   scripts print, one after another.
 //!
-//! A `# room` or `# runs` without such a number is an error, as is an output that is no text. Where sections race, `NAME.2.out`,
+//! A `# room`, `# threads` or `# runs` without such a number is an error, as is an output that is no text. Where sections race, `NAME.2.out`,
 //! `NAME.3.out` and so on are lawful outputs too. An output that no case reads, as one behind a number that is missing, is an error. Who
 //! adds a case counts it in the file `stdout`.
 #![tactic(auto)]
@@ -57,7 +58,7 @@ where
                 counts.add(case.is_as_expected(rt)?);
             }
             Err(error) if error.kind() == ErrorKind::InvalidData => {
-                println!(rt; "{script}: `# room`, `# runs` or an output is faulty")?;
+                println!(rt; "{script}: `# room`, `# threads`, `# runs` or an output is faulty")?;
                 counts.add(false);
             }
             Err(error) => return Err(error),

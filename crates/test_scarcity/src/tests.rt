@@ -1,4 +1,5 @@
 //! The tests of this crate, a module for each reason to have them.
+mod blocks;
 mod calls;
 mod dear;
 mod large;

@@ -14,8 +14,9 @@ const ARGUMENTS: &str =
     file of at most 67,108,864 bytes, integer or pattern, general or\n            \
     symmetric. All files are read and checked after the script, and before\n            \
     anything runs.\n\n\
-    Options:\n      --room <N>  How many calls may change the store, two of each load, from 1 to 65536 [default: 4096]\n  \
-    -h, --help      Print help\n  -V, --version   Print version\n\n";
+    Options:\n      --room <N>     How many calls may change the store, two of each load, from 1 to 65536 [default: 4096]\n      \
+    --threads <N>  How many threads make large products of matrices, from 1 to 64 [default: 1]\n  \
+    -h, --help         Print help\n  -V, --version      Print version\n\n";
 
 const ENDING: &str =
     "A line `thread 1` begins a section that runs after the lines before it, next to\n\
@@ -38,29 +39,41 @@ const ROOM_OF_X: &str =
     "error: invalid value 'x' for '--room <N>': invalid digit found in string\n\n\
     For more information, try '--help'.\n";
 
+const THREADS_OF_65: &str = "error: invalid value '65' for '--threads <N>': 65 is not in 1..=64\n\n\
+    For more information, try '--help'.\n";
+
 const UNEXPECTED_Y: &str = "error: unexpected argument 'y' found\n\n\
     Usage: grbrun [OPTIONS] <SCRIPT>\n\nFor more information, try '--help'.\n";
 
 #[test]
-fn words_give_a_room_and_a_path(rt: HostRuntime) -> Result<(), Fail> {
-    let rows: [(&[&str], u32, &str); 8] = [
-        (&["first.grb"], 4096, "first.grb"),
-        (&["--room", "1", "x"], 1, "x"),
-        (&["--room", "65536", "x"], 65536, "x"),
-        (&["--room=7", "x"], 7, "x"),
-        (&["x", "--room", "7"], 7, "x"),
+fn words_give_a_room_threads_and_a_path(rt: HostRuntime) -> Result<(), Fail> {
+    let rows: [(&[&str], u32, u32, &str); 12] = [
+        (&["first.grb"], 4096, 1, "first.grb"),
+        (&["--room", "1", "x"], 1, 1, "x"),
+        (&["--room", "65536", "x"], 65536, 1, "x"),
+        (&["--room=7", "x"], 7, 1, "x"),
+        (&["x", "--room", "7"], 7, 1, "x"),
         (
             &["--room", "2", "folder/with a space.grb"],
             2,
+            1,
             "folder/with a space.grb",
         ),
-        (&["--", "--room"], 4096, "--room"),
-        (&["-"], 4096, "-"),
+        (&["--", "--room"], 4096, 1, "--room"),
+        (&["-"], 4096, 1, "-"),
+        (&["--threads", "1", "x"], 4096, 1, "x"),
+        (&["--threads=64", "x"], 4096, 64, "x"),
+        (&["x", "--threads", "+04"], 4096, 4, "x"),
+        (&["--room", "7", "--threads", "2", "x"], 7, 2, "x"),
     ];
-    for (words, room, path) in &rows {
+    for (words, room, threads, path) in &rows {
         let given = options(rt.alloc(), "grbrun", *words)?;
-        let (room, path) = (*room, *path);
-        same(&rt, given, Options { room, path }, *words);
+        let wanted = Options {
+            room: *room,
+            threads: *threads,
+            path: *path,
+        };
+        same(&rt, given, wanted, *words);
     }
     Ok(())
 }
@@ -87,6 +100,12 @@ fn other_words_are_faulty_or_ask_for_help(rt: HostRuntime) -> Result<(), Fail> {
         ("--room= x", 2),
         ("--room x", 2),
         ("--room 1 --room 2 x", 2),
+        ("--threads 0 x", 2),
+        ("--threads 65 x", 2),
+        ("--threads many x", 2),
+        ("--threads x", 2),
+        ("--threads 2 --threads 2 x", 2),
+        ("--thread 2 x", 2),
         ("", 2),
         ("x y", 2),
         ("--rooms 3 x", 2),
@@ -128,6 +147,7 @@ fn what_is_wrong_is_told_in_words(rt: HostRuntime) -> Result<(), Fail> {
         ("", MISSING_SCRIPT),
         ("--room 0 x", ROOM_OF_0),
         ("--room x x", ROOM_OF_X),
+        ("--threads 65 x", THREADS_OF_65),
         ("x y", UNEXPECTED_Y),
     ];
     for (line, text) in &rows {

@@ -1,4 +1,3 @@
-use Rattle.std.proofs.Common.{◌≡◌, rules}
 use Rattle.grb_run.proofs.Prelude.{Stage}
 use Rattle.grb_run.proofs.Entries.{call_told}
 use Rattle.grb_run.proofs.section.answer_to_statement.Goals as goal

@@ -4,7 +4,7 @@ use Rattle.grb_run.proofs.Prelude.{flat_map, err_from_is_err_and, reply_line, se
 use Rattle.grb_run.proofs.LoadLemmas.{AreScriptSteps-of, IsWhyNotLoaded-of, ends}
 use Rattle.grb_run.proofs.ScriptEnds.{stopped, began, crowded, seats_fit}
 use Rattle.grb_run.proofs.Wrote.{wrote}
-use Rattle.grb_run.proofs.driver.run_script.Goals as goal
+use Rattle.grb_run.proofs.driver.run_helped_script.Goals as goal
 
 pub returns-clause-ok : goal.returns-clause-ok
 returns-clause-ok g c = record {
