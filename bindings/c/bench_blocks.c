@@ -3,9 +3,9 @@
  * it; a store of one pass has none.
  *
  * Times go to standard error: the median of five rounds, in seconds, and that divided by the time of one reader without
- * a board; then how many blocks a round made, and how many of them those who help. Standard output has one line for each
- * way that was right in each round: all readers have as many entries, of one total, and those of the first are entry by
- * entry what the loop by hand makes.
+ * a board; the processor time of all readers, the median too; then how many blocks a round made, and how many of them
+ * those who help. Standard output has one line for each way that was right in each round: all readers have as many
+ * entries, of one total, and those of the first are entry by entry what the loop by hand makes.
  */
 #define _POSIX_C_SOURCE 200809L
 
@@ -95,16 +95,24 @@ static TrB_Info enter_mxm(TrB_Pass *pass, TrB_Matrix c)
     return TrB_mxm(pass, c, TrB_NO_MATRIX, TrB_NO_ACCUM, TrB_PLUS_TIMES, a, a, TrB_DEFAULT);
 }
 
-/* What one thread has: a pass, and for a reader the product that it writes and when it began and ended, or for who helps
- * how many blocks it made. */
+/* What one thread has: a pass, and for a reader the product that it writes, when it began and ended, and for how long
+ * it had a processor, or for who helps how many blocks it made. */
 typedef struct {
     TrB_Pass *pass;
     Enter *enter;
     TrB_Matrix output;
     TrB_Index nvals;
-    double start, end;
+    double start, end, processor;
     uint64_t made;
 } Worker;
+
+/* The seconds for which this thread has had a processor. */
+static double had_processor(void)
+{
+    struct timespec time;
+    HOLDS(clock_gettime(CLOCK_THREAD_CPUTIME_ID, &time) == 0);
+    return (double)time.tv_sec + 1e-9 * (double)time.tv_nsec;
+}
 
 static pthread_barrier_t begin;
 static atomic_bool is_over;
@@ -120,8 +128,10 @@ static void *read_product(void *argument)
     Worker *worker = (Worker *)argument;
     wait_for_all();
     worker->start = now();
+    double before = had_processor();
     OK(worker->enter(worker->pass, worker->output));
     OK(TrB_Matrix_nvals(worker->pass, &worker->nvals, worker->output));
+    worker->processor = had_processor() - before;
     worker->end = now();
     return NULL;
 }
@@ -188,8 +198,9 @@ typedef struct {
     uint64_t made, helped;
 } Blocks;
 
-/* Nothing else is left to do when the time begins. The outputs are freed after. */
-static double make_round(const Way *way, Enter *enter, Outcome *outcome, Blocks *blocks)
+/* Nothing else is left to do when the time begins. The outputs are freed after. Answers the seconds that the round
+ * took, and leaves the processor time of its readers. */
+static double make_round(const Way *way, Enter *enter, Outcome *outcome, Blocks *blocks, double *processor)
 {
     Worker workers[MOST_PASSES];
     uint64_t before, after;
@@ -207,8 +218,10 @@ static double make_round(const Way *way, Enter *enter, Outcome *outcome, Blocks 
     OK(TrB_blocks(&passes[0], &after));
     blocks->made += after - before;
     see(way, workers, outcome);
+    *processor = 0;
     for (size_t k = 0; k < way->readers + way->helpers; k++) {
         blocks->helped += workers[k].made;
+        *processor += workers[k].processor;
         if (k < way->readers) {
             OK(TrB_Matrix_free(&passes[k], workers[k].output));
         }
@@ -247,17 +260,18 @@ static bool are_same(const Outcome *found, const Outcome *wanted)
     return found->nvals == wanted->nvals && found->digest == wanted->digest;
 }
 
-/* The median of a way, of which each round leaves this. */
-static double time_way(const Way *way, const Product *product, const Outcome *wanted, Blocks *blocks)
+/* The median of a way, of which each round leaves this, and that of the processor time of its readers. */
+static double time_way(const Way *way, const Product *product, const Outcome *wanted, Blocks *blocks, double *processor)
 {
-    double times[ROUNDS];
+    double times[ROUNDS], processors[ROUNDS];
     open_stores(way);
     for (int k = 0; k < ROUNDS; k++) {
         Outcome found;
-        times[k] = make_round(way, product->enter, &found, blocks);
+        times[k] = make_round(way, product->enter, &found, blocks, &processors[k]);
         HOLDS(are_same(&found, wanted));
     }
     close_stores();
+    *processor = median(processors);
     return median(times);
 }
 
@@ -276,20 +290,21 @@ static double time_other(Round *round, Outcome *wanted)
 
 static void tell_other(const char *name, double seconds, double alone)
 {
-    fprintf(stderr, "%-32s %13.9f %7.2f %9s %9s\n", name, seconds, seconds / alone, "-", "-");
+    fprintf(stderr, "%-32s %13.9f %7.2f %13s %9s %9s\n", name, seconds, seconds / alone, "-", "-", "-");
 }
 
 static void time_product(const Product *product)
 {
     Outcome wanted = {0, 0};
     double by_hand = time_other(product->by_hand, &wanted), alone = 0;
-    fprintf(stderr, "%-32s %13s %7s %9s %9s\n", product->name, "seconds", "ratio", "blocks", "helped");
+    fprintf(stderr, "%-32s %13s %7s %13s %9s %9s\n", product->name, "seconds", "ratio", "processor", "blocks",
+            "helped");
     for (size_t k = 0; k < sizeof ways / sizeof ways[0]; k++) {
         Blocks blocks = {0, 0};
-        double seconds = time_way(&ways[k], product, &wanted, &blocks);
+        double processor, seconds = time_way(&ways[k], product, &wanted, &blocks, &processor);
         alone = k == 0 ? seconds : alone;
-        fprintf(stderr, "%-32s %13.9f %7.2f %9" PRIu64 " %9" PRIu64 "\n", ways[k].name, seconds, seconds / alone,
-                blocks.made / ROUNDS, blocks.helped / ROUNDS);
+        fprintf(stderr, "%-32s %13.9f %7.2f %13.9f %9" PRIu64 " %9" PRIu64 "\n", ways[k].name, seconds, seconds / alone,
+                processor, blocks.made / ROUNDS, blocks.helped / ROUNDS);
         printf("blocks, %s, %s: right\n", product->name, ways[k].name);
         fflush(stdout);
     }

@@ -45,8 +45,33 @@ static unsigned long refused_at;  /* which of them is refused, from 1 */
 static bool refuses_on;           /* and so are all after it */
 static long blocks;               /* how many are not given back */
 
+#define HOLDS(statement)                                                                         \
+    do {                                                                                         \
+        if (!(statement)) {                                                                      \
+            fprintf(stderr, "allocation %lu refused: line %d: %s does not hold\n", refused_at,   \
+                    __LINE__, #statement);                                                       \
+            exit(FAILED);                                                                        \
+        }                                                                                        \
+    } while (0)
+
+static TrB_Pass *idle;  /* helps whenever a call asks for memory, in the middle of it, as another thread may; or none */
+static uint32_t helped; /* how many blocks it made */
+
+static void lend_hand(void)
+{
+    TrB_Pass *pass = idle;
+    uint32_t made;
+    if (pass != NULL) {
+        idle = NULL;
+        HOLDS(TrB_help(pass, &made) == TrB_SUCCESS);
+        helped += made;
+        idle = pass;
+    }
+}
+
 static bool is_refused(void)
 {
+    lend_hand();
     allocations++;
     return allocations == refused_at || (refuses_on && allocations > refused_at);
 }
@@ -113,15 +138,6 @@ static unsigned long refusals; /* how many calls were refused memory */
 /* Makes a change of a chain. Where memory is refused to its next generation, the change is refused since there is
  * no room, and made again. */
 #define GOES_ON(call) TRIED(call, info == TrB_ORDER_FULL || info == TrB_OUT_OF_MEMORY, TrB_SUCCESS)
-
-#define HOLDS(statement)                                                                         \
-    do {                                                                                         \
-        if (!(statement)) {                                                                      \
-            fprintf(stderr, "allocation %lu refused: line %d: %s does not hold\n", refused_at,   \
-                    __LINE__, #statement);                                                       \
-            exit(FAILED);                                                                        \
-        }                                                                                        \
-    } while (0)
 
 /* A chain of SIZE vertices, as arrays. */
 static TrB_Index rows[SIZE - 1], columns[SIZE - 1];
@@ -353,21 +369,33 @@ static bool serve(TrB_Pass *passes, TrB_Matrix a)
     return true;
 }
 
-/* A dear product, which one pass makes by blocks, and another helps with what is left of it. */
+static bool read_least(TrB_Pass *pass, TrB_Matrix c)
+{
+    uint64_t least;
+    OK(TrB_Matrix_reduce_UINT64(pass, &least, TrB_MIN, c));
+    HOLDS(least == SIDE);
+    return true;
+}
+
+/* A dear product, which one pass makes by blocks, and another helps whenever that asks for memory. Where memory is
+ * refused to who helps alone, the product is made all the same. */
 static bool multiply(TrB_Pass *passes)
 {
     TrB_Matrix full, c;
-    uint64_t least, count;
-    uint32_t made;
+    uint64_t count;
     TrB_Index nvals;
     OK(TrB_Matrix_new(&passes[0], &full, TrB_UINT64, SIDE, SIDE));
     OK(TrB_Matrix_build_UINT64(&passes[0], full, full_rows, full_columns, ones, FULL, TrB_PLUS));
     OK(TrB_Matrix_new(&passes[0], &c, TrB_UINT64, SIDE, SIDE));
     OK(TrB_mxm(&passes[0], c, TrB_NO_MATRIX, TrB_NO_ACCUM, TrB_PLUS_TIMES, full, full, TrB_DEFAULT));
-    OK(TrB_Matrix_reduce_UINT64(&passes[0], &least, TrB_MIN, c));
-    HOLDS(least == SIDE);
-    OK(TrB_help(&passes[1], &made));
+    idle = &passes[1];
+    bool is_read = read_least(&passes[0], c);
+    idle = NULL;
+    if (!is_read) {
+        return false;
+    }
     OK(TrB_blocks(&passes[1], &count));
+    HOLDS(count >= helped && (helped > 0 || allocations >= refused_at));
     OK(TrB_Matrix_nvals(&passes[1], &nvals, c));
     HOLDS(nvals == FULL);
     OK(TrB_Matrix_free(&passes[0], full));

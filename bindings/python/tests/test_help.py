@@ -83,6 +83,22 @@ class Threads(Helped):
             self.assertEqual((store.helpers, threads_that_help()), (0, 0))
             self.assertEqual(repr(store), "<Store of room 10, 1 pass>")
 
+    def test_a_branch_and_a_successor_may_have_them(self) -> None:
+        with Store(room=100) as store:
+            a = full(store.main)
+            with store.main.branch(a, helpers=2) as branch, store.main.succeed(helpers=1, passes=2) as successor:
+                self.assertEqual((store.helpers, branch.helpers, successor.helpers), (0, 2, 1))
+                self.assertEqual((len(branch.passes), len(successor.passes)), (1, 2))
+                self.assertEqual(threads_that_help(), 3)
+                for other in branch, successor:
+                    b = a.using(other.main)
+                    self.assertEqual((b @ b).reduce("min"), SIDE)
+                    self.assertGreater(other.main.blocks(), 0)
+            self.assertEqual(threads_that_help(), 0)
+            for opens in store.main.branch, store.main.succeed:
+                with self.assertRaisesRegex(InvalidValue, "a room of 4,096 and 1 passes, and 256 helpers"):
+                    opens(helpers=256)
+
     def test_they_end_with_the_store(self) -> None:
         store = Store(helpers=2)
         store.close()

@@ -519,7 +519,7 @@ class Pass:
             raise RoomTooSmall(needed.value) from None
         return moved.value
 
-    def succeed(self, room: SupportsIndex = 4096, passes: SupportsIndex = 1) -> Store:
+    def succeed(self, room: SupportsIndex = 4096, passes: SupportsIndex = 1, helpers: SupportsIndex = 0) -> Store:
         """Opens the successor of the store: a store of its own that begins with what this pass knows.
 
         Every object goes over, with its number: `A.using(pass_)` gives it by a pass of the successor. A freed number
@@ -534,16 +534,19 @@ class Pass:
         Args:
             room: how many calls that change it the successor takes, as of `Store`, next to those that make its objects.
             passes: how many passes it has, as of `Store`.
+            helpers: how many threads help with its dear products, as of `Store`.
 
         Raises:
-            InvalidValue: the room or the number of passes is out of its range, or their product is too large; or the
-                store has no end, and so no successor.
+            InvalidValue: the room, the number of passes or that of helpers is out of its range, or the product of room
+                and all passes is too large; or the store has no end, and so no successor.
             RoomTooSmall: no store has room for the calls that make the objects, and for `room` more.
             OutOfMemory: memory was refused.
             Panic: the record of a call was not shown; call again.
+            RuntimeError: a thread was not to be had.
             StoreClosed: the store is closed.
         """
-        calls, count = _within_ranges(room, passes)
+        more = operator.index(helpers)
+        calls, count = _within_ranges(room, passes, more)
         if self._core.room is None:
             self._require_open()
             raise InvalidValue("A store without an end goes on by itself; of a part of it open a branch.")
@@ -559,11 +562,13 @@ class Pass:
             return status
 
         try:
-            return Store._opened(calls, count, opening, self._core)
+            return Store._opened(calls, count, opening, self._core, helpers=more)
         except InsufficientSpace:
             raise RoomTooSmall(needed.value, calls) from None
 
-    def branch(self, *objects: Object, room: SupportsIndex = 4096, passes: SupportsIndex = 1) -> Store:
+    def branch(
+        self, *objects: Object, room: SupportsIndex = 4096, passes: SupportsIndex = 1, helpers: SupportsIndex = 0
+    ) -> Store:
         """Opens a branch: a store of its own that begins with these objects, as this pass knows them, at one moment.
 
         `A.using(pass_)` gives an object by a pass of the branch. What is made or changed in either store is not seen in
@@ -575,16 +580,20 @@ class Pass:
             objects: matrices and vectors of this store. One that was freed is not there in the branch.
             room: how many calls that change it the branch takes, as of `Store`, next to those that make its objects.
             passes: how many passes it has, as of `Store`.
+            helpers: how many threads help with its dear products, as of `Store`.
 
         Raises:
-            InvalidValue: the room or the number of passes is out of its range, or their product is too large.
+            InvalidValue: the room, the number of passes or that of helpers is out of its range, or the product of room
+                and all passes is too large.
             RoomTooSmall: no store has room for the calls that make the objects, and for `room` more.
             OutOfMemory: memory was refused.
             Panic: the record of a call was not shown; call again.
+            RuntimeError: a thread was not to be had.
             StoreClosed: the store is closed.
             ValueError: an object is of another store.
         """
-        calls, count = _within_ranges(room, passes)
+        more = operator.index(helpers)
+        calls, count = _within_ranges(room, passes, more)
         self._free_gone()
         needed = ctypes.c_uint64()
         chosen: _Chosen = {}
@@ -618,7 +627,7 @@ class Pass:
             return status
 
         try:
-            return Store._opened(calls, count, opening, self._core, chosen)
+            return Store._opened(calls, count, opening, self._core, chosen, more)
         except InsufficientSpace:
             raise RoomTooSmall(needed.value, calls) from None
 
@@ -874,11 +883,11 @@ class Store:
 
     @classmethod
     def _opened(
-        cls, room: int, count: int, opening: _Opening, before: _Core, chosen: Optional[_Chosen] = None
+        cls, room: int, count: int, opening: _Opening, before: _Core, chosen: Optional[_Chosen] = None, helpers: int = 0
     ) -> Store:
         """A store that `opening` opens, as the successor of another one, or as a branch with the chosen objects."""
         store = cls.__new__(cls)
-        store._open(room, count, opening, before, chosen)
+        store._open(room, count, opening, before, chosen, helpers)
         return store
 
     def _open(
