@@ -143,7 +143,7 @@ static METHODS: [Row; 62] = [
         ),
     ),
     (P, Asks(GetVector(U, 2), IS_6)),
-    // 6 in row 3, column 2 of four rows
+    // 6 at (3, 2), of four rows
     (
         P,
         Asks(Diag(U, Diagonal::Below(1)), Ok(Reply::MadeMatrix(D))),
@@ -166,7 +166,7 @@ static METHODS: [Row; 62] = [
     (P, Asks(GetMatrix(D, 2, 3), IS_4)),
     (P, Asks(NewMatrix(NUMBERS, 2, 2), Ok(Reply::MadeMatrix(E)))),
     (P, Asks(SetMatrix(E, 1, 0, FOUR), DONE)),
-    // 4 in row 1, column 0 twice: in row 3, column 0
+    // 4 at (1, 0) twice: at (3, 0)
     (P, Asks(Kronecker(INTO_D, BinaryOp::Plus, E, E), DONE)),
     (P, Asks(GetMatrix(D, 3, 0), IS_8)),
     (
