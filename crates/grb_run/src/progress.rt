@@ -28,8 +28,8 @@ pub(crate) enum Until {
 #[derive(Drop)]
 pub(crate) struct Progress {
     sections: u32,
-    // How many threads of sections that have ended help: as many as there are other processors, and none where no statement makes a
-    // product of two matrices.
+    // How many threads of sections that have ended help: all, but no more than there are other processors, and none where no statement
+    // makes a product of two matrices.
     idle: u32,
     // How many threads help main from the beginning, and until when.
     first: u32,
