@@ -24,9 +24,9 @@ use Rattle.grb_core.specs.declared.tests.Diagonal.{Diagonal}
 use Rattle.grb_core.specs.declared.tests.Diagonal.TheVariants as diagonal
 use Rattle.grb_core.specs.declared.tests.Test.{Test}
 use Rattle.grb_core.specs.declared.tests.Test.TheVariants as test
-use Rattle.grb_call.specs.declared.descriptor.Descriptor.{Descriptor}
-use Rattle.grb_call.specs.declared.descriptor.WaitMode.{WaitMode}
-use Rattle.grb_call.specs.declared.descriptor.WaitMode.TheVariants as mode
+use Rattle.grb_core.specs.declared.descriptor.Descriptor.{Descriptor}
+use Rattle.grb_call.specs.declared.wait_mode.WaitMode.{WaitMode}
+use Rattle.grb_call.specs.declared.wait_mode.WaitMode.TheVariants as mode
 use Rattle.grb_call.specs.declared.ids.MatrixId.{MatrixId}
 use Rattle.grb_call.specs.declared.ids.VectorId.{VectorId}
 use Rattle.grb_call.specs.declared.reply.Reply.TheVariants as reply

@@ -9,7 +9,7 @@ use Rattle.grb_call.specs.declared.call.Call.{Call}
 use Rattle.grb_call.specs.declared.ids.MatrixId.{MatrixId}
 use Rattle.grb_call.specs.declared.ids.VectorId.{VectorId}
 use Rattle.grb_call.specs.declared.call.Call.TheVariants as call
-use Rattle.grb_call.specs.declared.descriptor.WaitMode.TheVariants.{Complete}
+use Rattle.grb_call.specs.declared.wait_mode.WaitMode.TheVariants.{Complete}
 use Rattle.grb_call.specs.History.{store_of}
 use Rattle.grb_context.specs.Explains.{Answer}
 use Rattle.grb_context.specs.Known.{Knowing, known}

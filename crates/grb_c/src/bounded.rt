@@ -2,7 +2,7 @@
 ghost use Rattle.std.specs.Prelude.{◌≡◌, ◌≤◌, ◌<◌, ◌^◌, All, IfErr, IfOk, length};
 ghost use Rattle.grb_order.specs.Order.{room_of};
 ghost use Rattle.grb_call.specs.declared.call.Call.TheVariants as Call;
-ghost use Rattle.grb_call.specs.declared.descriptor.WaitMode.TheVariants as WaitMode;
+ghost use Rattle.grb_call.specs.declared.wait_mode.WaitMode.TheVariants as WaitMode;
 ghost use Rattle.grb_call.specs.History.{store_of};
 ghost use Rattle.grb_context.specs.Chosen.{IsNoSuccessor, chosen_store, room_beside};
 ghost use Rattle.grb_context.specs.Known.{IsPassOf, known, none_made};

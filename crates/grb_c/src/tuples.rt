@@ -2,7 +2,7 @@
 ghost use Rattle.std.specs.Prelude.{◌≡◌, ◌≤◌, IfOk, length, true};
 ghost use Rattle.std.specs.Result.{result_map_both};
 ghost use Rattle.grb_call.specs.declared.call.Call.TheVariants as Call;
-ghost use Rattle.grb_call.specs.declared.descriptor.WaitMode.TheVariants as WaitMode;
+ghost use Rattle.grb_call.specs.declared.wait_mode.WaitMode.TheVariants as WaitMode;
 ghost use Rattle.grb_c.specs.Kinds.{HandsOutBy, IsMemberMatrix, IsMemberVector};
 ghost use Rattle.grb_c.specs.Handles.{ReadsBools, ReadsBoolsOfVector, ReadsNumbers, ReadsNumbersOfVector};
 ghost use Rattle.grb_c.specs.Tuples.{PutsHanded, PutsHandedVector, PutsMatrix, PutsVector, ReadsAll, ReadsAllOfVector, ReadsMatrixBy, ReadsMatrixByMember, ReadsMatrixOf, ReadsVectorBy, ReadsVectorByMember, ReadsVectorOf};

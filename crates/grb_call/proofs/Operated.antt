@@ -9,7 +9,7 @@ use Rattle.grb_core.specs.Contents.{Matrix, Vector}
 use Rattle.grb_core.specs.Maps.{applied, kronecker_of, selected_cells, selected_indices}
 use Rattle.grb_call.specs.declared.call.Call.{Call}
 use Rattle.grb_call.specs.declared.call.Call.TheVariants as call
-use Rattle.grb_call.specs.declared.descriptor.Descriptor.{Descriptor}
+use Rattle.grb_core.specs.declared.descriptor.Descriptor.{Descriptor}
 use Rattle.grb_call.specs.declared.ids.MatrixId.{MatrixId}
 use Rattle.grb_call.specs.declared.ids.VectorId.{VectorId}
 use Rattle.grb_call.specs.declared.ids.Object.{Object}
@@ -22,7 +22,7 @@ use Rattle.grb_call.specs.declared.term.VectorTerm.TheVariants as vector_term
 use Rattle.grb_call.specs.declared.operation.Input.TheVariants.{First, Second}
 use Rattle.grb_call.specs.Operation.{operation_of, turns}
 use Rattle.grb_call.specs.Output.{StoredObjects, entries_of_matrix, entries_of_vector, output_of, matrix_read, vector_read, matrix_input, matrix_computed, vector_computed, matrix_operated, vector_operated, matrix_made, vector_made}
-use Rattle.grb_call.specs.Written.{written_matrix, written_vector}
+use Rattle.grb_core.specs.Written.{written_matrix, written_vector}
 use Rattle.grb_call.specs.OperationLaws.{WritesMatrix, WritesVector}
 
 -- two stores hold the same object

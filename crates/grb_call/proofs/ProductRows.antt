@@ -9,7 +9,7 @@ use Rattle.grb_core.specs.declared.operator.BinaryOp.{BinaryOp}
 use Rattle.grb_core.specs.declared.operator.BinaryOp.TheVariants as op
 use Rattle.grb_core.specs.Semiring.{SemiringParts}
 use Rattle.grb_call.specs.declared.call.Call.TheVariants as call
-use Rattle.grb_call.specs.declared.descriptor.WaitMode.TheVariants as mode
+use Rattle.grb_call.specs.declared.wait_mode.WaitMode.TheVariants as mode
 use Rattle.grb_call.specs.Store.{empty_store}
 use Rattle.grb_call.specs.History.{answers}
 use Rattle.grb_call.proofs.Rows.{m, v, u64, done, made_vector, made_matrix, number, truth, count, none, plain, descriptor, tran}

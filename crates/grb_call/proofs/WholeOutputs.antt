@@ -14,10 +14,10 @@ use Rattle.grb_core.specs.Results.{ewise_add, ewise_mult, turned}
 use Rattle.grb_core.specs.ResultLaws.{IsBelow, IsCellBelow, AreVectorEntries, AreMatrixEntries}
 use Rattle.grb_core.proofs.Maps.{cell_cmp_total, cell_cmp-IsAntisymmetric}
 use Rattle.grb_core.proofs.ResultLaws.{ewise_makes_entries, transposed_makes_entries, written_makes_entries}
-use Rattle.grb_call.specs.declared.descriptor.Descriptor.{Descriptor}
+use Rattle.grb_core.specs.declared.descriptor.Descriptor.{Descriptor}
 use Rattle.grb_call.specs.declared.ids.MatrixId.{MatrixId}
 use Rattle.grb_call.specs.declared.ids.VectorId.{VectorId}
-use Rattle.grb_call.specs.Written.{written_matrix, written_vector}
+use Rattle.grb_core.specs.Written.{written_matrix, written_vector}
 use Rattle.grb_call.specs.Store.{Store, matrix_at, vector_at, matrix_entries, vector_entries}
 use Rattle.grb_call.proofs.Operations.{IsMatrixAt, IsTurnedAt, IsVectorAt, EwiseMatrices, EwiseVectors}
 

@@ -14,7 +14,7 @@ use Rattle.grb_core.specs.declared.tests.Test.TheVariants as test
 use Rattle.grb_core.specs.Functions.{turns_input, unary_domain}
 use Rattle.grb_call.specs.declared.call.Call.{Call}
 use Rattle.grb_call.specs.declared.call.Call.TheVariants as call
-use Rattle.grb_call.specs.declared.descriptor.Descriptor.{Descriptor}
+use Rattle.grb_core.specs.declared.descriptor.Descriptor.{Descriptor}
 use Rattle.grb_call.specs.declared.ids.Object.{Object}
 use Rattle.grb_call.specs.declared.ids.Object.TheVariants.{Matrix, Vector}
 use Rattle.grb_call.specs.declared.operation.Input.{Input}

@@ -15,14 +15,14 @@ use Rattle.grb_core.specs.Functions.{turns_input}
 use Rattle.grb_core.specs.Maps.{applied, selected_cells, selected_indices}
 use Rattle.grb_call.specs.declared.call.Call.{Call}
 use Rattle.grb_call.specs.declared.call.Call.TheVariants as call
-use Rattle.grb_call.specs.declared.descriptor.Descriptor.{Descriptor}
+use Rattle.grb_core.specs.declared.descriptor.Descriptor.{Descriptor}
 use Rattle.grb_call.specs.declared.ids.MatrixId.{MatrixId}
 use Rattle.grb_call.specs.declared.ids.VectorId.{VectorId}
 use Rattle.grb_call.specs.declared.ids.Object.TheVariants as object
 use Rattle.grb_call.specs.declared.term.MatrixTerm.TheVariants as matrix_term
 use Rattle.grb_call.specs.declared.term.VectorTerm.TheVariants as vector_term
 use Rattle.grb_call.specs.Output.{StoredObjects, entries_of_matrix, entries_of_vector, kronecker_computed, output_of, matrix_made, vector_made}
-use Rattle.grb_call.specs.Written.{written_matrix, written_vector}
+use Rattle.grb_core.specs.Written.{written_matrix, written_vector}
 
 -- what each operation leaves of a matrix into which it writes with this mask, accumulator and descriptor
 pub record WritesMatrix (r : StoredObjects) (m : Matrix) (c : MatrixId) (mask : Option MatrixId) (accum : Option BinaryOp) (d : Descriptor) : Type 0 where

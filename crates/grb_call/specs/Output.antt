@@ -24,7 +24,7 @@ use Rattle.grb_call.specs.Kinds.{enters}
 use Rattle.grb_call.specs.Operation.{operation_of, turns}
 use Rattle.grb_call.specs.Status.{object_of}
 use Rattle.grb_call.specs.Store.{Store, matrix_at, vector_at}
-use Rattle.grb_call.specs.Written.{written_matrix, written_vector}
+use Rattle.grb_core.specs.Written.{written_matrix, written_vector}
 
 -- the object that the call changes, of those that were made before it
 abbrev pub output_of : Call → Option Object

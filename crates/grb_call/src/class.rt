@@ -3,7 +3,7 @@ ghost use Rattle.std.specs.Prelude.{◌≡◌};
 ghost use Rattle.grb_call.specs.Kinds.{class_of, enters, extent_of};
 
 use crate::call::Call;
-use crate::descriptor::WaitMode;
+use crate::wait_mode::WaitMode;
 
 /// The operations, as a pattern.
 macro_rules! an_operation {

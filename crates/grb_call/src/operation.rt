@@ -5,9 +5,8 @@ ghost use Rattle.grb_call.specs.Operation.{operation_of, turns};
 
 use crate::call::Call;
 use crate::class::Class;
-use crate::descriptor::Descriptor;
 use crate::ids::Object;
-use grb_core::{BinaryOp, Function, Monoid, Semiring, Test, turns_input};
+use grb_core::{BinaryOp, Descriptor, Function, Monoid, Semiring, Test, turns_input};
 
 /// What an operation computes of its inputs, before mask, accumulator and descriptor say how that is written.
 ///

@@ -1,7 +1,7 @@
 //! Whole objects, as they stand at the point of a call.
 ghost use Rattle.std.specs.Prelude.{IfOk};
 ghost use Rattle.grb_call.specs.declared.call.Call.TheVariants as Call;
-ghost use Rattle.grb_call.specs.declared.descriptor.WaitMode.TheVariants as WaitMode;
+ghost use Rattle.grb_call.specs.declared.wait_mode.WaitMode.TheVariants as WaitMode;
 ghost use Rattle.grb_call.specs.History.{store_of};
 ghost use Rattle.grb_context.specs.Known.{IsPassOf, known};
 ghost use Rattle.grb_context.specs.Snapshot.{IsSnapshot};

@@ -1,7 +1,7 @@
 //! A method for each operation on the entries of one input, for kronecker, and for all entries of an object.
 ghost use Rattle.std.specs.Prelude.{◌≡◌, IfOk};
 ghost use Rattle.grb_call.specs.declared.call.Call.TheVariants as Call;
-ghost use Rattle.grb_call.specs.declared.descriptor.WaitMode.TheVariants as WaitMode;
+ghost use Rattle.grb_call.specs.declared.wait_mode.WaitMode.TheVariants as WaitMode;
 ghost use Rattle.grb_call.specs.declared.term.MatrixTerm.TheVariants as MatrixTerm;
 ghost use Rattle.grb_call.specs.declared.term.VectorTerm.TheVariants as VectorTerm;
 ghost use Rattle.grb_call.specs.History.{store_of};

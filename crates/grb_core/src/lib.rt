@@ -1,11 +1,12 @@
 //! The values that matrices and vectors store, their domains, operators, monoids and semirings, functions of one value and tests of one
-//! entry, the range of dimensions, and the names of what a call is refused for.
+//! entry, the descriptor of an operation, the range of dimensions, and the names of what a call is refused for.
 //!
 //! The mathematics that every layer speaks in stands in `specs/`: a matrix or a vector is a domain, dimensions and a finite map from places
 //! to values, and each method and operation is an operation on such maps. Nothing here takes memory, and nothing here knows of stores,
 //! calls or threads.
 #![tactic(auto)]
 
+mod descriptor;
 mod dimension;
 mod domain;
 mod functions;
@@ -18,6 +19,7 @@ mod semiring;
 mod tests;
 mod value;
 
+pub use descriptor::Descriptor;
 pub use dimension::is_dimension;
 pub use domain::Domain;
 pub use functions::{Function, UnaryOp, apply_function, turns_input};

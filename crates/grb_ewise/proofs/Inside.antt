@@ -15,7 +15,7 @@ use Rattle.grb_core.specs.Written.{pointwise}
 use Rattle.grb_core.proofs.Maps.{same_entries_at}
 use Rattle.grb_core.proofs.Edits.{find-restricted}
 use Rattle.grb_core.proofs.Written.{find-pointwise, is_sorted-pointwise}
-use Rattle.grb_call.specs.declared.descriptor.Descriptor.{Descriptor}
+use Rattle.grb_core.specs.declared.descriptor.Descriptor.{Descriptor}
 use Rattle.grb_kernels.specs.Masked.{by_mask, by_mask-none}
 use Rattle.grb_ewise.specs.Premises.{LieInside}
 

@@ -1,12 +1,12 @@
--- believed: What an operation leaves in a sparse output: what `grb_call/Written` says, where the mask is lent.
+-- believed: What an operation leaves in a sparse output: what `grb_core/Written` says, where the mask is lent.
 use Rattle.std.specs.Prelude.{Option}
 use Rattle.std.specs.Option.{option_map}
 use Rattle.std.specs.Borrow.{Bor}
 use Rattle.grb_core.specs.declared.operator.BinaryOp.{BinaryOp}
 use Rattle.grb_core.specs.Entries.{VectorEntries, MatrixEntries}
 use Rattle.grb_core.specs.Contents.{Vector, Matrix}
-use Rattle.grb_call.specs.declared.descriptor.Descriptor.{Descriptor}
-use Rattle.grb_call.specs.Written.{written_matrix, written_vector}
+use Rattle.grb_core.specs.declared.descriptor.Descriptor.{Descriptor}
+use Rattle.grb_core.specs.Written.{written_matrix, written_vector}
 use Rattle.grb_sparse.specs.Vector.{SparseVectorView}
 use Rattle.grb_sparse.specs.Matrix.{SparseMatrixView}
 

@@ -5,7 +5,7 @@ ghost use Rattle.std.specs.Option.{option_map, option_or};
 ghost use Rattle.grb_core.specs.Operator.{op_domain, value_of_op};
 ghost use Rattle.grb_core.specs.Entries.{cell_cmp};
 ghost use Rattle.grb_core.specs.Written.{AccumulatesIn, accumulated, either_value, pointwise};
-ghost use Rattle.grb_call.specs.Written.{written_by};
+ghost use Rattle.grb_core.specs.Written.{written_by};
 ghost use Rattle.grb_kernels.specs.Masked.{by_mask};
 ghost use Rattle.grb_ewise.specs.Objects.{AreAlike, IsLike};
 ghost use Rattle.grb_ewise.specs.Premises.{IsMatrixInput, IsMatrixOutput, IsVectorInput, IsVectorOutput, LieInside};
@@ -13,8 +13,7 @@ ghost use Rattle.grb_ewise.specs.Written.{written_into_matrix, written_into_vect
 
 use crate::objects::SparseObject;
 use crate::pairing::pair;
-use grb_call::Descriptor;
-use grb_core::{BinaryOp, Domain};
+use grb_core::{BinaryOp, Descriptor, Domain};
 use grb_kernels::{ByMask, Over, Pairing};
 use grb_sparse::{SparseMatrix, SparseVector};
 use std::alloc::{AllocError, Global};

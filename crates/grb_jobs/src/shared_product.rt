@@ -9,8 +9,7 @@ ghost use Rattle.grb_mxm.specs.Rows.{bounding, selected_product};
 ghost use Rattle.grb_jobs.specs.Blocks.{IsReady};
 
 use crate::board::Board;
-use grb_call::Descriptor;
-use grb_core::{BinaryOp, Semiring};
+use grb_core::{BinaryOp, Descriptor, Semiring};
 use grb_ewise::read_matrix;
 use grb_mxm::{bounding_lists, mxm, product, write_product};
 use grb_sparse::SparseMatrix;

@@ -9,8 +9,7 @@ ghost use Rattle.grb_kronecker.specs.Factors.{AreFactors};
 ghost use Rattle.grb_kronecker.specs.Product.{product_matrix};
 
 use crate::rows::product_lists;
-use grb_call::Descriptor;
-use grb_core::{BinaryOp, Domain};
+use grb_core::{BinaryOp, Descriptor, Domain};
 use grb_ewise::{Stored, read_matrix, write_masked_matrix};
 use grb_kernels::{ByOperator, Operator};
 use grb_sparse::SparseMatrix;

@@ -19,7 +19,7 @@ use Rattle.grb_core.specs.Functions.{turns_input}
 use Rattle.grb_core.specs.Maps.{applied, selected_cells, selected_indices}
 use Rattle.grb_call.specs.declared.call.Call.{Call}
 use Rattle.grb_call.specs.declared.call.Call.TheVariants as call
-use Rattle.grb_call.specs.declared.descriptor.Descriptor.{Descriptor}
+use Rattle.grb_core.specs.declared.descriptor.Descriptor.{Descriptor}
 use Rattle.grb_call.specs.declared.ids.MatrixId.{MatrixId}
 use Rattle.grb_call.specs.declared.ids.VectorId.{VectorId}
 use Rattle.grb_call.specs.declared.ids.Object.{Object}
@@ -28,7 +28,7 @@ use Rattle.grb_call.specs.declared.term.MatrixTerm.TheVariants as matrix_term
 use Rattle.grb_call.specs.declared.term.VectorTerm.TheVariants as vector_term
 use Rattle.grb_call.proofs.Operated.{kronecker_by}
 use Rattle.grb_call.specs.Output.{entries_of_matrix, entries_of_vector, output_of, matrix_read, vector_read}
-use Rattle.grb_call.specs.Written.{written_matrix, written_vector}
+use Rattle.grb_core.specs.Written.{written_matrix, written_vector}
 use Rattle.grb_slices.specs.Content.{Content, MatrixContent, VectorContent, Contents, content_made, filled_matrix, filled_vector, matrix_held, objects_held, outcome, vector_held}
 use Rattle.grb_slices.specs.Slice.{is_among}
 use Rattle.grb_slices.specs.Steps.{AgreeOn}

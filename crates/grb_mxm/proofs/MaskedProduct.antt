@@ -20,7 +20,7 @@ use Rattle.grb_core.specs.Results.{row_of, column_of, product_of, mxm_of}
 use Rattle.grb_core.proofs.Maps.{cell_cmp_total, cell_cmp-IsAntisymmetric, same_entries_at, find-map_on, is_sorted-map_on}
 use Rattle.grb_core.proofs.Edits.{find-restricted}
 use Rattle.grb_core.proofs.Written.{find-masked, is_sorted-masked, find-accumulated, accumulated_value}
-use Rattle.grb_call.specs.declared.descriptor.Descriptor.{Descriptor}
+use Rattle.grb_core.specs.declared.descriptor.Descriptor.{Descriptor}
 use Rattle.grb_kernels.specs.Typed.{kept}
 use Rattle.grb_ewise.specs.Premises.{LieInside}
 use Rattle.grb_ewise.proofs.MatrixRows.{find-row, row-sorted}

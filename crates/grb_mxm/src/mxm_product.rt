@@ -17,8 +17,7 @@ ghost use Rattle.grb_mxm.specs.Rows.{AreBelow, bounding, rows_between, selected_
 use crate::factors::{Factors, RowsOfProduct};
 use crate::rows::{MadeRows, Part, no_rows};
 use crate::true_rows::InBits;
-use grb_call::Descriptor;
-use grb_core::{BinaryOp, Domain, Semiring};
+use grb_core::{BinaryOp, Descriptor, Domain, Semiring};
 use grb_ewise::{Stored, read_matrix, write_inside_matrix, write_masked_matrix};
 use grb_lists::FlatRows;
 use grb_semirings::{Folded, MatrixRows, by_semiring, lend_matrix};

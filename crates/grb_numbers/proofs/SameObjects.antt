@@ -28,7 +28,7 @@ use Rattle.grb_call.specs.Numbers.{next_matrix, next_vector}
 use Rattle.grb_call.specs.Operation.{operation_of, turns}
 use Rattle.grb_call.specs.Output.{StoredObjects, objects_in, entries_of_matrix, entries_of_vector, kronecker_computed, matrix_read, vector_read, matrix_input, matrix_computed, vector_computed, matrix_operated, vector_operated, matrix_made, vector_made, matrix_left, vector_left}
 use Rattle.grb_call.specs.Store.{Store}
-use Rattle.grb_call.specs.Written.{written_matrix, written_vector}
+use Rattle.grb_core.specs.Written.{written_matrix, written_vector}
 use Rattle.grb_numbers.specs.Inside.{Renaming, renamed, renamed_answer, renamed_object, renamed_reply}
 use Rattle.grb_numbers.proofs.Renamed.{renamed_operation, operation_of-renamed}
 use Rattle.grb_numbers.proofs.Same.{HoldsSame, m_entries, v_entries, refused-same}

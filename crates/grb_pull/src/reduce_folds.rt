@@ -14,8 +14,7 @@ ghost use Rattle.grb_push.specs.Wanted.{is_wanted, IsMade};
 use crate::rows::{
     RowRule, SumRule, WholeRule, seem_unlike, summed_rows, tells_differences, whole_rows,
 };
-use grb_call::Descriptor;
-use grb_core::{BinaryOp, Domain, Monoid};
+use grb_core::{BinaryOp, Descriptor, Domain, Monoid};
 use grb_ewise::{Stored, keep_bools, keep_numbers};
 use grb_folds::{fold_part, fold_row};
 use grb_kernels::{EntryList, Scalar};

@@ -8,9 +8,9 @@ ghost use Rattle.grb_push.specs.Wanted.{is_wanted, IsMade};
 ghost use Rattle.grb_pull.specs.Exchanged.{IsExchanged, exchanged_op};
 
 use crate::mxv_product::product;
-use grb_call::Descriptor;
 use grb_core::{
-    BinaryOp, Semiring, transposed_exchanges_rows_and_columns, vxm_is_a_product_of_the_transposed,
+    BinaryOp, Descriptor, Semiring, transposed_exchanges_rows_and_columns,
+    vxm_is_a_product_of_the_transposed,
 };
 use grb_ewise::transposed;
 use grb_push::{VectorFirst, Wanted, pushed_product, wanted_of, write_wanted};

@@ -9,7 +9,7 @@ use Rattle.grb_core.specs.declared.operator.BinaryOp.{BinaryOp}
 use Rattle.grb_core.specs.Entries.{VectorEntries, restricted}
 use Rattle.grb_core.specs.Mask.{selects, is_inside}
 use Rattle.grb_core.specs.Written.{written}
-use Rattle.grb_call.specs.declared.descriptor.Descriptor.{Descriptor}
+use Rattle.grb_core.specs.declared.descriptor.Descriptor.{Descriptor}
 use Rattle.grb_ewise.specs.Premises.{LieInside}
 use Rattle.grb_ewise.specs.Ranks.{Rise}
 use Rattle.grb_push.specs.Wanted.{is_among, is_wanted, IsMade}

@@ -8,8 +8,7 @@ ghost use Rattle.grb_ewise.specs.Ranks.{Rise};
 ghost use Rattle.grb_ewise.specs.Written.{written_into_vector};
 ghost use Rattle.grb_push.specs.Wanted.{is_among, is_wanted};
 
-use grb_call::Descriptor;
-use grb_core::BinaryOp;
+use grb_core::{BinaryOp, Descriptor};
 use grb_ewise::{write_inside_vector, write_masked_vector};
 use grb_lists::next_place;
 use grb_sparse::SparseVector;

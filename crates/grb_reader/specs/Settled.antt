@@ -7,7 +7,7 @@ use Rattle.grb_call.specs.declared.call.Call.TheVariants as call
 use Rattle.grb_call.specs.declared.class.Class.{Class}
 use Rattle.grb_call.specs.declared.class.Class.TheVariants.{Reads}
 use Rattle.grb_call.specs.declared.class.Extent.TheVariants as extent
-use Rattle.grb_call.specs.declared.descriptor.WaitMode.TheVariants.{Complete}
+use Rattle.grb_call.specs.declared.wait_mode.WaitMode.TheVariants.{Complete}
 use Rattle.grb_call.specs.declared.ids.MatrixId.{MatrixId}
 use Rattle.grb_call.specs.declared.ids.Object.{Object}
 use Rattle.grb_call.specs.declared.ids.Object.TheVariants as object

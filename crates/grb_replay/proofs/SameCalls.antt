@@ -32,9 +32,9 @@ use Rattle.grb_core.specs.contracts.tests.DiagonalPartialEq.TheImpl.{ghosts as d
 use Rattle.grb_core.specs.contracts.tests.TestPartialEq.TheImpl.{ghosts as test_ghosts}
 use Rattle.grb_call.specs.declared.ids.MatrixId.{MatrixId}
 use Rattle.grb_call.specs.declared.ids.VectorId.{VectorId}
-use Rattle.grb_call.specs.declared.descriptor.Descriptor.{Descriptor}
-use Rattle.grb_call.specs.declared.descriptor.WaitMode.{WaitMode}
-use Rattle.grb_call.specs.declared.descriptor.WaitMode.TheVariants.{Complete, Materialize}
+use Rattle.grb_core.specs.declared.descriptor.Descriptor.{Descriptor}
+use Rattle.grb_call.specs.declared.wait_mode.WaitMode.{WaitMode}
+use Rattle.grb_call.specs.declared.wait_mode.WaitMode.TheVariants.{Complete, Materialize}
 use Rattle.grb_call.specs.declared.call.Call.{Call}
 use Rattle.grb_call.specs.declared.call.Call.TheVariants as call
 use Rattle.grb_call.specs.declared.term.MatrixTerm.{MatrixTerm}
@@ -44,8 +44,8 @@ use Rattle.grb_call.specs.declared.term.VectorTerm.TheVariants as vector_term
 use Rattle.grb_call.specs.contracts.term.MatrixTermPartialEq.TheImpl.{ghosts as matrix_term_ghosts}
 use Rattle.grb_call.specs.contracts.term.VectorTermPartialEq.TheImpl.{ghosts as vector_term_ghosts}
 use Rattle.grb_call.specs.contracts.call.CallPartialEq.TheImpl.{ghosts}
-use Rattle.grb_call.specs.contracts.descriptor.DescriptorPartialEq.TheImpl.{ghosts as descriptor_ghosts}
-use Rattle.grb_call.specs.contracts.descriptor.WaitModePartialEq.TheImpl.{ghosts as mode_ghosts}
+use Rattle.grb_core.specs.contracts.descriptor.DescriptorPartialEq.TheImpl.{ghosts as descriptor_ghosts}
+use Rattle.grb_call.specs.contracts.wait_mode.WaitModePartialEq.TheImpl.{ghosts as mode_ghosts}
 
 abbrev eq : Call → Call → Bool
 eq = ghosts.eq

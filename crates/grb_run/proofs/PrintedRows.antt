@@ -7,7 +7,7 @@ use Rattle.grb_core.specs.declared.value.Value.TheVariants as value
 use Rattle.grb_core.specs.declared.monoid.Monoid.TheVariants as monoid
 use Rattle.grb_core.specs.declared.operator.BinaryOp.{BinaryOp}
 use Rattle.grb_core.specs.declared.operator.BinaryOp.TheVariants as op
-use Rattle.grb_call.specs.declared.descriptor.Descriptor.{Descriptor}
+use Rattle.grb_core.specs.declared.descriptor.Descriptor.{Descriptor}
 use Rattle.grb_core.specs.declared.functions.Function.{Function}
 use Rattle.grb_core.specs.declared.functions.Function.TheVariants as function
 use Rattle.grb_core.specs.declared.functions.UnaryOp.TheVariants as unary

@@ -4,8 +4,8 @@ use Rattle.std.specs.Option.{option_map}
 use Rattle.grb_core.specs.declared.monoid.Monoid.{Monoid}
 use Rattle.grb_call.specs.declared.call.Call.{Call}
 use Rattle.grb_call.specs.declared.call.Call.TheVariants as call
-use Rattle.grb_call.specs.declared.descriptor.WaitMode.{WaitMode}
-use Rattle.grb_call.specs.declared.descriptor.WaitMode.TheVariants as mode
+use Rattle.grb_call.specs.declared.wait_mode.WaitMode.{WaitMode}
+use Rattle.grb_call.specs.declared.wait_mode.WaitMode.TheVariants as mode
 use Rattle.grb_call.specs.declared.term.MatrixTerm.TheVariants as of_matrix
 use Rattle.grb_call.specs.declared.term.VectorTerm.TheVariants as of_vector
 use Rattle.grb_call.specs.declared.ids.MatrixId.{MatrixId}

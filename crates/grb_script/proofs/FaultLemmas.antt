@@ -10,7 +10,7 @@ use Rattle.grb_core.specs.Monoid.{monoid_domain}
 use Rattle.grb_core.specs.Operator.{op_domain}
 use Rattle.grb_core.specs.Semiring.{SemiringParts}
 use Rattle.grb_call.specs.Refused.{same_domain}
-use Rattle.grb_call.specs.declared.descriptor.Descriptor.{Descriptor}
+use Rattle.grb_core.specs.declared.descriptor.Descriptor.{Descriptor}
 use Rattle.grb_core.specs.declared.tests.Diagonal.{Diagonal}
 use Rattle.grb_words.specs.declared.fault.FaultKind.TheVariants as kind
 use Rattle.grb_words.specs.declared.indices.Indices.{Indices}

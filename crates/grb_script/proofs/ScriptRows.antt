@@ -3,7 +3,7 @@ use Rattle.std.specs.Str.{is_utf8, chars}
 use Rattle.grb_script.proofs.Prelude.{codes, FaultKind, UnendedLine, BadByte, NameTaken, UnknownName, WrongKind, Semiring, NumberedCommand, sections_of, script_fault}
 use Rattle.std.specs.Prelude.{◌≡◌, ℕ, List, [], ◌∷◌, ◌++◌, Some, None, refl, true, false}
 use Rattle.grb_core.specs.declared.domain.Domain.TheVariants as domain
-use Rattle.grb_call.specs.declared.descriptor.Descriptor.{Descriptor}
+use Rattle.grb_core.specs.declared.descriptor.Descriptor.{Descriptor}
 use Rattle.grb_core.specs.declared.monoid.Monoid.TheVariants as monoid
 use Rattle.grb_core.specs.declared.operator.BinaryOp.TheVariants as op
 use Rattle.grb_core.specs.declared.value.Value.TheVariants as value

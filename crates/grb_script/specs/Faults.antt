@@ -7,7 +7,7 @@ use Rattle.grb_core.specs.declared.value.Value.{Value}
 use Rattle.grb_core.specs.Monoid.{monoid_domain}
 use Rattle.grb_core.specs.Operator.{op_domain}
 use Rattle.grb_call.specs.Refused.{same_domain}
-use Rattle.grb_call.specs.declared.descriptor.Descriptor.{Descriptor}
+use Rattle.grb_core.specs.declared.descriptor.Descriptor.{Descriptor}
 use Rattle.grb_market.specs.Line.{Line}
 use Rattle.grb_words.specs.declared.fault.FaultKind.{FaultKind}
 use Rattle.grb_words.specs.declared.fault.FaultKind.TheVariants as kind

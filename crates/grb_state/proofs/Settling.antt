@@ -4,8 +4,8 @@ use Rattle.grb_call.specs.declared.call.Call.{Call}
 use Rattle.grb_call.specs.declared.call.Call.TheVariants as call
 use Rattle.grb_call.specs.declared.class.Class.TheVariants.{Reads}
 use Rattle.grb_call.specs.declared.class.Extent.TheVariants as extent
-use Rattle.grb_call.specs.declared.descriptor.WaitMode.{WaitMode}
-use Rattle.grb_call.specs.declared.descriptor.WaitMode.TheVariants.{Complete, Materialize}
+use Rattle.grb_call.specs.declared.wait_mode.WaitMode.{WaitMode}
+use Rattle.grb_call.specs.declared.wait_mode.WaitMode.TheVariants.{Complete, Materialize}
 use Rattle.grb_call.specs.declared.ids.Object.{Object}
 use Rattle.grb_call.specs.Kinds.{class_of, extent_of, reads_entries}
 use Rattle.grb_state.specs.Settled.{AreAllAssembled, HasWaited, IsSettled, settles}

@@ -3,8 +3,8 @@
 use Rattle.std.specs.Prelude.{◌≡◌, Bool, true, false}
 use Rattle.grb_call.specs.declared.call.Call.{Call}
 use Rattle.grb_call.specs.declared.call.Call.TheVariants as call
-use Rattle.grb_call.specs.declared.descriptor.WaitMode.{WaitMode}
-use Rattle.grb_call.specs.declared.descriptor.WaitMode.TheVariants.{Complete, Materialize}
+use Rattle.grb_call.specs.declared.wait_mode.WaitMode.{WaitMode}
+use Rattle.grb_call.specs.declared.wait_mode.WaitMode.TheVariants.{Complete, Materialize}
 use Rattle.grb_call.specs.declared.ids.Object.{Object}
 use Rattle.grb_call.specs.declared.ids.Object.TheVariants.{Matrix, Vector}
 

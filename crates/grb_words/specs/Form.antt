@@ -9,7 +9,7 @@ use Rattle.grb_core.specs.declared.value.Value.{Value}
 use Rattle.grb_words.specs.declared.keyword.Ewise.{Ewise}
 use Rattle.grb_words.specs.declared.keyword.Keyword.{Keyword}
 use Rattle.grb_words.specs.declared.keyword.Keyword.TheVariants as keyword
-use Rattle.grb_call.specs.declared.descriptor.WaitMode.{WaitMode}
+use Rattle.grb_call.specs.declared.wait_mode.WaitMode.{WaitMode}
 use Rattle.grb_words.specs.declared.keyword.Multiply.{Multiply}
 use Rattle.grb_words.specs.declared.keyword.Placed.{Placed}
 use Rattle.grb_words.specs.declared.keyword.Placed.TheVariants as placed

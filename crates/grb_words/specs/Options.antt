@@ -5,7 +5,7 @@ use Rattle.std.specs.Prelude.{◌≡◌, Bool, true, false, not, ◌&&◌, ◌||
 use Rattle.std.specs.Option.{option_and_then, option_map}
 use Rattle.std.specs.Str.{bytes_eq}
 use Rattle.grb_core.specs.declared.operator.BinaryOp.{BinaryOp}
-use Rattle.grb_call.specs.declared.descriptor.Descriptor.{Descriptor}
+use Rattle.grb_core.specs.declared.descriptor.Descriptor.{Descriptor}
 use Rattle.grb_core.specs.declared.functions.Function.{Function}
 use Rattle.grb_core.specs.declared.functions.Function.TheVariants as function
 use Rattle.grb_words.specs.declared.keyword.Multiply.{Multiply}

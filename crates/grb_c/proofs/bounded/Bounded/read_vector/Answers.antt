@@ -2,7 +2,7 @@ use lib.Signed.{mag}
 use Rattle.std.proofs.Common.{◌≡◌, ◌∙◌, ◌<◌, ℕ, ℤ, List, ap, sym, subst, arith, to_z, of_z, w32, to_z-of_z}
 use Rattle.grb_sparse.specs.Vector.{SparseVectorView}
 use Rattle.grb_call.specs.declared.call.Call.TheVariants as call
-use Rattle.grb_call.specs.declared.descriptor.WaitMode.TheVariants.{Complete}
+use Rattle.grb_call.specs.declared.wait_mode.WaitMode.TheVariants.{Complete}
 use Rattle.grb_context.specs.Answered.{Answered}
 use Rattle.grb_context.specs.Explains.{Answer}
 use Rattle.grb_context.specs.Known.{Knowing, Shared}

@@ -1,4 +1,4 @@
-//! The descriptor of an operation, and the modes of a wait.
+//! The descriptor of an operation.
 
 /// How an operation reads its mask and its inputs, and writes its output.
 ///
@@ -15,15 +15,4 @@ pub struct Descriptor {
     pub tran: bool,
     /// The second input, where it is a matrix, is read transposed (`GrB_TRAN` of `GrB_INP1`).
     pub tran1: bool,
-}
-
-/// How far a wait has the work of an object done.
-///
-/// Source: GraphBLAS C API 2.0, `GrB_wait` and `GrB_WaitMode`; what each mode does here is our own.
-#[derive(Clone, Copy, Debug, PartialEq, Eq)]
-pub enum WaitMode {
-    /// The changes of the object are done (`GrB_COMPLETE`).
-    Complete,
-    /// The changes of all objects are done (`GrB_MATERIALIZE`).
-    Materialize,
 }
