@@ -9,8 +9,8 @@ ghost use Rattle.grb_state.specs.Objects.{store_of, places_of, HasPlaces, IsAsse
 use crate::operations::operate;
 use grb_call::{Call, Class, Diagonal, Object, VectorId};
 use grb_jobs::Board;
+use grb_maps::diagonal_matrix;
 use grb_objects::{Places, SharedObject, assemble, dup, edit, has_many_changes, lent};
-use grb_ops::diagonal_matrix;
 use grb_sparse::{SparseMatrix, SparseVector};
 use std::alloc::AllocError;
 use std::sync::Arc;

@@ -10,13 +10,12 @@ ghost use Rattle.grb_state.specs.Objects.{store_of, AreOperandsIn};
 use crate::objects::Objects;
 use grb_call::{Call, Class, Descriptor, MatrixId, MatrixTerm, Object, VectorId, VectorTerm};
 use grb_core::BinaryOp;
+use grb_ewise::{ewise_add_matrix, ewise_add_vector, ewise_mult_matrix, ewise_mult_vector};
 use grb_jobs::{Board, multiply};
+use grb_kronecker::kronecker_matrix;
+use grb_maps::{apply_matrix, apply_vector, select_matrix, select_vector, transpose_matrix};
 use grb_objects::{lent, lent_mask};
-use grb_ops::{
-    apply_matrix, apply_vector, ewise_add_matrix, ewise_add_vector, ewise_mult_matrix,
-    ewise_mult_vector, kronecker_matrix, mxv, reduce_rows, select_matrix, select_vector,
-    transpose_matrix, vxm,
-};
+use grb_pull::{mxv, reduce_rows, vxm};
 use grb_sparse::{SparseMatrix, SparseVector};
 use std::alloc::AllocError;
 

@@ -13,8 +13,8 @@ ghost use Rattle.grb_objects.specs.SharedContent.{IsAt, MayRead};
 
 use grb_call::{Call, Reply};
 use grb_core::{Monoid, Value};
+use grb_folds::{reduce_matrix, reduce_vector};
 use grb_objects::SharedContent;
-use grb_ops::{reduce_matrix, reduce_vector};
 
 /// The reply to a get, by what is stored there.
 pub(crate) fn get_reply(value: Option<Value>) -> Reply

@@ -15,8 +15,8 @@ use crate::objects::Objects;
 use crate::reading::get_reply;
 use grb_call::{Call, Class, Extent, Kind, MatrixId, Object, Reply, Shapes, VectorId, check};
 use grb_core::{Monoid, Refusal, Value};
+use grb_folds::{reduce_matrix, reduce_vector};
 use grb_objects::{assemble_all, lent, object_of};
-use grb_ops::{reduce_matrix, reduce_vector};
 use std::alloc::{AllocError, Global};
 use std::marker::Model;
 
