@@ -11,7 +11,7 @@ use grb_core::{BinaryOp, Descriptor, Function, Monoid, Semiring, Test, turns_inp
 /// What an operation computes of its inputs, before mask, accumulator and descriptor say how that is written.
 ///
 /// Source: GraphBLAS C API 2.0, "Operations".
-#[derive(Clone, Copy, Debug, PartialEq, Eq)]
+#[derive(Clone, Copy, PartialEq, Eq)]
 pub enum OperationKind {
     /// The operator of both values over the union of what two inputs of one sort store, else the one value (`GrB_eWiseAdd`).
     EwiseAdd(BinaryOp),
@@ -46,7 +46,7 @@ pub enum Input {
 /// say.
 ///
 /// Source: GraphBLAS C API 2.0, "Operations"; the one shape for all is own.
-#[derive(Clone, Copy, Debug, PartialEq, Eq)]
+#[derive(Clone, Copy, PartialEq, Eq)]
 pub struct Operation {
     /// The object that the result is written into.
     pub output: Object,

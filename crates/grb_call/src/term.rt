@@ -9,7 +9,7 @@ use grb_core::{BinaryOp, Function, Test};
 /// What `WriteMatrix` computes of its inputs, before mask, accumulator and descriptor say how that is written.
 ///
 /// Source: GraphBLAS C API 2.0, "transpose", "apply", "select" and "kronecker".
-#[derive(Clone, Copy, Debug, PartialEq, Eq)]
+#[derive(Clone, Copy, PartialEq, Eq)]
 pub enum MatrixTerm {
     /// The matrix with its rows and columns exchanged; with the descriptor's `tran`, which turns it once more, as it is
     /// (`GrB_transpose`).
@@ -39,7 +39,7 @@ pub enum MatrixTerm {
 /// What `WriteVector` computes of its input, before mask, accumulator and descriptor say how that is written.
 ///
 /// Source: GraphBLAS C API 2.0, "apply" and "select".
-#[derive(Clone, Copy, Debug, PartialEq, Eq)]
+#[derive(Clone, Copy, PartialEq, Eq)]
 pub enum VectorTerm {
     /// What the function makes of each value (`GrB_Vector_apply`).
     Applied { f: Function, u: VectorId },

@@ -39,7 +39,7 @@ impl UnaryOp {
 /// A function of one value, as apply takes it.
 ///
 /// Source: GraphBLAS C API 2.0, "apply": a unary operator, or a binary operator with a bound scalar.
-#[derive(Clone, Copy, Debug, PartialEq, Eq)]
+#[derive(Clone, Copy, PartialEq, Eq)]
 pub enum Function {
     /// The unary operator.
     Unary(UnaryOp),

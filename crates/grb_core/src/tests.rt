@@ -54,7 +54,7 @@ pub fn diagonal_size(d: Diagonal, size: u64) -> u64
 /// A test of an entry, as select takes it. An index of a vector is the row of a cell of column 0.
 ///
 /// Source: GraphBLAS C API 2.0, "select" and "Index unary operators". That the numbers of row and column tests are not negative is own.
-#[derive(Clone, Copy, Debug, PartialEq, Eq)]
+#[derive(Clone, Copy, PartialEq, Eq)]
 pub enum Test {
     /// On the diagonal or below it (`GrB_TRIL`).
     Tril(Diagonal),

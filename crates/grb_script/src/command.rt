@@ -42,7 +42,7 @@ impl FilePath {
 }
 
 /// What a line of a script asks for. The name that it makes, if it makes one, is the next.
-#[derive(Debug, Drop)]
+#[derive(Drop)]
 pub enum Command {
     /// A statement of one call.
     Statement(Statement),
@@ -51,7 +51,7 @@ pub enum Command {
 }
 
 /// A line of a script that asks for something.
-#[derive(Debug, Drop)]
+#[derive(Drop)]
 pub struct NumberedCommand {
     /// The number of the line, from 1.
     pub line: u64,

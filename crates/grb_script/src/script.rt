@@ -19,7 +19,7 @@ use std::mem;
 
 /// What a script asks for, by its sections. A name stands in a statement as its number among the names that stand in its section: those of
 /// main in the order of making, and then those of the section.
-#[derive(Debug, Drop)]
+#[derive(Drop)]
 pub struct Script {
     /// What stands before the first section.
     pub main: Vec<NumberedCommand>,

@@ -22,7 +22,7 @@ use std::alloc::Global;
 
 /// One statement of a script. Names stand as their numbers: the n-th name that stands in the section, for a matrix or a vector, has the
 /// number n, from 0, those of main before those of the section. Indices begin at 0.
-#[derive(Debug, PartialEq, Eq, Drop)]
+#[derive(PartialEq, Eq, Drop)]
 pub enum Statement {
     /// `matrix NAME DOMAIN R C` makes a matrix, and the next name for it.
     Matrix {

@@ -31,7 +31,7 @@ pub struct Transposition {
 
 /// What a statement says that applies a function to each value of an object. All its objects are of one sort, and stand by the numbers of
 /// their names.
-#[derive(Clone, Copy, Debug, PartialEq, Eq)]
+#[derive(Clone, Copy, PartialEq, Eq)]
 pub struct Application {
     /// The name of the output.
     pub output: usize,
@@ -51,7 +51,7 @@ pub struct Application {
 }
 
 /// What a statement says that selects entries of an object. All its objects are of one sort, and stand by the numbers of their names.
-#[derive(Clone, Copy, Debug, PartialEq, Eq)]
+#[derive(Clone, Copy, PartialEq, Eq)]
 pub struct Selection {
     /// The name of the output.
     pub output: usize,

@@ -22,7 +22,6 @@ use crate::sources::{
 use grb_core::{Domain, Monoid, Value};
 use grb_sparse::{ApartTuples, SparseMatrix, SparseVector};
 use std::alloc::AllocError;
-use std::fmt;
 use std::marker::Model;
 use std::sync::Arc;
 
@@ -72,16 +71,6 @@ impl Model for MatrixTuples {
     ghost view = { λ t. matrix_tuples_in t.source };
 
     ghost invariant = { λ t. IsMatrixSource t.source };
-}
-
-impl fmt::Debug for VectorTuples {
-    fn fmt<W: fmt::Write>(&self, f: &mut fmt::Formatter<W>) -> fmt::Result {
-        match &self.source {
-            VectorSource::Listed(list) => fmt::Debug::fmt(&list.tuples, f),
-            VectorSource::Apart(_) => f.write_str("tuples of a vector"),
-            VectorSource::Stored(_) => f.write_str("the entries of a vector"),
-        }
-    }
 }
 
 impl Clone for VectorTuples {
@@ -236,16 +225,6 @@ impl VectorTuples {
             VectorSource::Listed(list) => list.indices.is_below(size),
             VectorSource::Apart(list) => are_indices_below(list, size),
             VectorSource::Stored(vector) => is_vector_within(vector, size),
-        }
-    }
-}
-
-impl fmt::Debug for MatrixTuples {
-    fn fmt<W: fmt::Write>(&self, f: &mut fmt::Formatter<W>) -> fmt::Result {
-        match &self.source {
-            MatrixSource::Listed(list) => fmt::Debug::fmt(&list.tuples, f),
-            MatrixSource::Apart(_) => f.write_str("tuples of a matrix"),
-            MatrixSource::Stored(_) => f.write_str("the entries of a matrix"),
         }
     }
 }
