@@ -3,7 +3,7 @@
 #   bindings/install_test.sh
 # What a program writes is compared with its file in `expected`. What cannot run is skipped, and named with what there is none of. The last
 # line is 'N passed, M failed, K skipped', and the status is 1 where one failed. LIBRARY and HEAP are as of install.sh; CC, CXX, CARGO and
-# PYTHON are the programs to use.
+# PYTHON are the programs to use. TROWELHEATH_PROVED is `no` where the library is unproved.
 set -u
 here=$(cd "$(dirname "${BASH_SOURCE[0]}")" && pwd)
 CC=${CC:-cc} CXX=${CXX:-c++} CARGO=${CARGO:-cargo} PYTHON=${PYTHON:-python3}
@@ -25,6 +25,20 @@ has() {
 
 step 'install' "$here/install.sh" "$prefix"
 [ "$failed" -eq 0 ] || { echo "$passed passed, $failed failed, $skipped skipped"; exit 1; }
+
+# Whether the library is proved is told wherever its version is, and by the last line of install.sh.
+marks() {
+    local version told which
+    version=$(cat "$here/VERSION")
+    told=$version which='a proved library'
+    if [ "${TROWELHEATH_PROVED:-yes}" = no ]; then told=$version+unproved which='NOTHING OF THE LIBRARY IS PROVED'; fi
+    diff <(echo "trowelheath $told is installed: $which") <(tail -n 1 "$work/installed") || return 1
+    grep -xF "Version: $told" "$prefix/lib/pkgconfig/trowelheath.pc" || return 1
+    grep -xF "set(PACKAGE_VERSION \"$told\")" "$prefix/lib/cmake/trowelheath/trowelheath-config-version.cmake" || return 1
+    diff <(echo "$prefix/share/trowelheath/trowelheath-$told-py3-none-linux_x86_64.whl") <(echo "$prefix"/share/trowelheath/*.whl)
+}
+cp "$work/said" "$work/installed"
+step 'the version, marked where the library is unproved' marks
 
 # The library shows its own functions alone, all that the header declares, under the name of its version.
 exports() {

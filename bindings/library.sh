@@ -4,7 +4,12 @@
 #                                     `rt lib` before, and builds it
 #   bindings/library.sh --after-ci    over the libraries that `rt ci` has left in this checkout: only grb_c is proved again. Where one of
 #                                     them is missing, or older than a source of it or than a library below it, it is built by `rt lib`
-# A source is a file of crates.txt, src, specs or proofs, of the crate or of one below it.
+#   bindings/library.sh --unproved    where it is missing, or a source is newer: builds out/unproved/libgrb_c.a, in minutes. Nothing of it is
+#                                     proved
+#   bindings/library.sh --unproved --checked    the same of out/checked/libgrb_c.a, which traps at an overflow, a bad index or a broken
+#                                     `requires`, where that is tested while it runs. It is slower
+# A source is a file of crates.txt, src, specs or proofs, of the crate or of one below it. KIT is the folder of the toolchain, and PYTHON
+# builds the unproved library.
 set -eu
 shopt -s nullglob
 cd "$(dirname "${BASH_SOURCE[0]}")/../crates/grb_c"
@@ -70,10 +75,29 @@ build_over_them() {
         --antt-project "$kit/rattle/logic/antt-project.json" --logic-built "$kit/logic_built" --toolchain "$kit/toolchain" -o out/libgrb_c.a
 }
 
-if [ "${1:-}" = --after-ci ]; then
-    if are_left && build_over_them; then exit; fi
-elif is_newer_than_sources out/libgrb_c.a grb_c; then
-    exit
-fi
+# Builds the unproved library, unless it is newer than its sources and than what builds it.
+build_unproved() {
+    local made=$1 tool=../../bindings/unproved
+    shift
+    if is_newer_than_sources "$made" grb_c && [ -z "$(find "$tool" -name '*.py' -newer "$made" -print -quit)" ]; then return; fi
+    PYTHONDONTWRITEBYTECODE=1 "${PYTHON:-python3}" "$tool/build.py" "$made" "$@"
+}
+
+case "$*" in
+    '') if is_newer_than_sources out/libgrb_c.a grb_c; then exit; fi ;;
+    --after-ci) if are_left && build_over_them; then exit; fi ;;
+    --unproved)
+        build_unproved out/unproved/libgrb_c.a
+        exit
+        ;;
+    '--unproved --checked')
+        build_unproved out/checked/libgrb_c.a --checked
+        exit
+        ;;
+    *)
+        echo 'usage: library.sh [--after-ci | --unproved [--checked]]' >&2
+        exit 2
+        ;;
+esac
 echo 'the library is built by rt lib'
 exec rt lib --jobs 4

@@ -46,7 +46,7 @@ def exports(folder):
 def prototypes(header):
     """The lines of the header that declare an export."""
     lines = (" ".join(line.split()) for line in pathlib.Path(header).read_text().splitlines())
-    return {line for line in lines if re.match(r"(u?int32_t|void) trb_\w+\(.*\);$", line)}
+    return {line for line in lines if re.match(r"(bool|u?int32_t|void) trb_\w+\(.*\);$", line)}
 
 
 def main(words):

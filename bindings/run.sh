@@ -1,8 +1,8 @@
 #!/usr/bin/env bash
 # Builds the library, and builds, links and runs each program of the bindings on it.
-#   bindings/run.sh [--after-ci]
+#   bindings/run.sh [--after-ci | --unproved]
 # The library is built anew where a source of it is newer. With --after-ci it is built over what `rt ci` has left in this checkout, as
-# bindings/library.sh tells.
+# bindings/library.sh tells, and with --unproved it is the one that is built before any proof and traps where a check fails.
 #
 # What a program writes is compared with its file in `expected`. A step that cannot run is skipped, and named with what there is none of.
 # Under --after-ci it fails, unless MAY_SKIP has that word, as in MAY_SKIP='numpy scipy networkx'. The last line is
@@ -14,11 +14,13 @@ set -u
 shopt -s nullglob
 cd "$(dirname "${BASH_SOURCE[0]}")" || exit 2
 after_ci=false
+unproved=false
 case "$*" in
     '') ;;
     --after-ci) after_ci=true ;;
+    --unproved) unproved=true ;;
     *)
-        echo 'usage: bindings/run.sh [--after-ci]' >&2
+        echo 'usage: bindings/run.sh [--after-ci | --unproved]' >&2
         exit 2
         ;;
 esac
@@ -225,11 +227,15 @@ run_installed() {
     step "$name" env LIBRARY="$library" HEAP="$heap" CC="$CC" CXX="$CXX" PYTHON="$PYTHON" ./install_test.sh
 }
 
-if ! ./library.sh "$@"; then
+# The library: its archive, and what the tests hold its word on whether it is proved to.
+words=("$@") archive=$crate/out/libgrb_c.a
+export TROWELHEATH_PROVED=yes
+if $unproved; then words=(--unproved --checked) archive=$crate/out/checked/libgrb_c.a TROWELHEATH_PROVED=no; fi
+if ! PYTHON=$PYTHON ./library.sh "${words[@]}"; then
     echo '0 passed, 1 failed, 0 skipped'
     exit 1
 fi
-library=$(realpath "$crate/out/libgrb_c.a")
+library=$(realpath "$archive")
 link=("$library" "$heap" -lpthread)
 
 check_header

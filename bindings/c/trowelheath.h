@@ -314,6 +314,7 @@ _Static_assert(sizeof(TrB_Pass) == 16 && sizeof(bool) == 1, "the library is for 
  * trb_branch take the number of the store that they open, which no other open store of the process may
  * have. */
 uint32_t trb_version(void);
+bool trb_is_proved(void);
 int32_t trb_open(uint64_t store, uint32_t room, TrB_Pass *passes, size_t npasses);
 int32_t trb_succeed(uint64_t store, uint32_t room, TrB_Pass *pass, uint64_t *needed, TrB_Pass *passes, size_t npasses);
 int32_t trb_branch(uint64_t store, uint32_t room, TrB_Pass *pass, const uint32_t *matrices, size_t nmatrices, const uint32_t *vectors, size_t nvectors, uint64_t *needed, TrB_Pass *passes, size_t npasses);
@@ -411,6 +412,13 @@ int32_t trb_vector_wait(TrB_Pass *pass, uint32_t v, uint32_t mode);
 static inline uint32_t TrB_version(void)
 {
     return trb_version();
+}
+
+/* Whether the library that was linked or loaded is proved. What was built before any proof, as by
+ * `bindings/library.sh --unproved`, answers false: nothing is claimed of that one. */
+static inline bool TrB_is_proved(void)
+{
+    return trb_is_proved();
 }
 
 /* For TrB_open and the like: a number that no other store has, or 0 where memory is refused. It is an address in a block

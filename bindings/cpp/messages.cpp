@@ -4,8 +4,10 @@
 #include "graph.hpp"
 #include "trowelheath.hpp"
 
+#include <cstdlib>
 #include <exception>
 #include <iostream>
+#include <string_view>
 #include <utility>
 #include <vector>
 
@@ -140,11 +142,19 @@ void others(grb::Pass &pass)
     refused(grb::Status::order_full, [&] { moved.clear(grb::Vector<bool>(1)); });
 }
 
+/// The library says whether it is proved. The environment says when it is not.
+void proof()
+{
+    const char *const wanted = std::getenv("TROWELHEATH_PROVED");
+    require(grb::is_proved() == (wanted == nullptr || std::string_view(wanted) != "no"), "the library says whether it is proved");
+}
+
 } // namespace
 
 int main()
 {
     try {
+        proof();
         grb::Store store(100, 1);
         grb::Pass pass = store.take();
         shapes(pass);

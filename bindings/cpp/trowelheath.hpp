@@ -48,6 +48,12 @@ using Index = std::uint64_t;
 /// What a pass tells of itself. trowelheath.h explains each member.
 using Facts = TrB_Facts;
 
+/// Whether the library that was linked or loaded is proved. Of one that is not, nothing is claimed.
+[[nodiscard]] inline bool is_proved() noexcept
+{
+    return TrB_is_proved();
+}
+
 /// The most changes that a store has room for.
 inline constexpr std::uint32_t most_room = 65536;
 

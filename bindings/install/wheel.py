@@ -1,8 +1,8 @@
 """Makes a wheel of the Python package with the shared library in it, and prints its path.
 
-    wheel.py PACKAGE LIBRARY FOLDER
+    wheel.py PACKAGE LIBRARY FOLDER VERSION
 
-PACKAGE is the folder of pyproject.toml. Nothing but Python is needed. Two wheels of the same files are the same bytes.
+PACKAGE is the folder of pyproject.toml. VERSION is what the wheel tells of the library in it, as 1.0.0+unproved. Nothing but Python is needed. Two wheels of the same files are the same bytes.
 """
 
 from __future__ import annotations
@@ -20,12 +20,12 @@ except ImportError:  # before Python 3.11
     from pip._vendor import tomli as tomllib
 
 
-def metadata(project: dict, readme: str) -> str:
+def metadata(project: dict, version: str, readme: str) -> str:
     """The file METADATA of a wheel, from what pyproject.toml tells of the project."""
     lines = [
         "Metadata-Version: 2.1",
         f"Name: {project['name']}",
-        f"Version: {project['version']}",
+        f"Version: {version}",
         f"Summary: {project['description']}",
         f"Requires-Python: {project['requires-python']}",
     ]
@@ -37,10 +37,10 @@ def metadata(project: dict, readme: str) -> str:
     return "\n".join([*lines, "Description-Content-Type: text/markdown", "", readme])
 
 
-def main(package: Path, library: Path, folder: Path) -> Path:
+def main(package: Path, library: Path, folder: Path, version: str) -> Path:
     """Writes the wheel into the folder, and answers its path."""
     project = tomllib.loads((package / "pyproject.toml").read_text())["project"]
-    name, version = project["name"], project["version"]
+    name = project["name"]
     tag = f"py3-none-linux_{platform.machine()}"
     info = f"{name}-{version}.dist-info"
     source = package / "src" / name
@@ -50,7 +50,7 @@ def main(package: Path, library: Path, folder: Path) -> Path:
         if path.is_file() and "__pycache__" not in path.parts and path.suffix != ".so"
     }
     files[f"{name}/{library.name}"] = library.read_bytes()
-    files[f"{info}/METADATA"] = metadata(project, (package / project["readme"]).read_text()).encode()
+    files[f"{info}/METADATA"] = metadata(project, version, (package / project["readme"]).read_text()).encode()
     files[f"{info}/WHEEL"] = f"Wheel-Version: 1.0\nGenerator: trowelheath\nRoot-Is-Purelib: false\nTag: {tag}\n".encode()
     record = f"{info}/RECORD"
     lines = []
@@ -69,6 +69,6 @@ def main(package: Path, library: Path, folder: Path) -> Path:
 
 
 if __name__ == "__main__":
-    if len(sys.argv) != 4:
+    if len(sys.argv) != 5:
         sys.exit(__doc__)
-    print(main(*map(Path, sys.argv[1:])))
+    print(main(*map(Path, sys.argv[1:4]), sys.argv[4]))

@@ -10,7 +10,7 @@ import unittest
 from pathlib import Path
 from unittest import mock
 
-from trowelheath import LibraryNotFound, _library
+from trowelheath import LibraryNotFound, _library, is_proved
 
 SOURCE = Path(_library.__file__).resolve().parent.parent
 
@@ -54,6 +54,10 @@ class Finding(unittest.TestCase):
             _library._require_version(library)
         library.trb_version.return_value = 10_000
         _library._require_version(library)
+
+    def test_the_library_says_whether_it_is_proved(self) -> None:
+        wanted = os.environ.get("TROWELHEATH_PROVED") != "no"
+        self.assertIs(is_proved(), wanted, "TROWELHEATH_PROVED is no where the library is not proved")
 
     def test_the_package_can_be_imported_without_it(self) -> None:
         program = (

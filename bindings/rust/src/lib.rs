@@ -4,7 +4,7 @@
 //! at once. Its work waits until somebody reads a result that needs it. Each call takes effect at one moment between its start and its
 //! return: the store is linearizable, and no call waits for another thread.
 //!
-//! The store is a static library, which is proved. This crate calls it, and its types see to what the library asks of its
+//! The store is a static library, which is proved, unless [`is_proved`] denies it. This crate calls it, and its types see to what the library asks of its
 //! callers. That they do is not proved; the source says why, next to each call. No program that uses the crate needs `unsafe`.
 //!
 //! # First steps
@@ -123,6 +123,6 @@ pub use object::{Mask, Object};
 pub use operator::{Monoid, Op, Semiring};
 pub use pass::Pass;
 pub use refusal::Refusal;
-pub use store::Store;
+pub use store::{is_proved, Store};
 pub use test::Test;
 pub use vector::Vector;

@@ -32,6 +32,13 @@ pub struct Store {
 /// The number of the next store that is opened. No number is given twice.
 static NEXT: AtomicU64 = AtomicU64::new(0);
 
+/// Whether the library that was linked is proved. Of one that was built before any proof, as by `bindings/library.sh --unproved`, nothing
+/// is claimed.
+pub fn is_proved() -> bool {
+    // SAFETY: the function takes nothing and answers a truth value.
+    unsafe { sys::trb_is_proved() }
+}
+
 impl Store {
     /// The largest room of a store; the smallest is 1.
     pub const MOST_ROOM: u32 = 65_536;

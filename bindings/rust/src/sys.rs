@@ -64,6 +64,7 @@ pub const NO_ACCUM: u32 = 0;
 )]
 extern "C" {
     pub fn trb_version() -> u32;
+    pub fn trb_is_proved() -> bool;
     pub fn trb_open(store: u64, room: u32, passes: *mut TrbPass, npasses: usize) -> i32;
     pub fn trb_succeed(
         store: u64,

@@ -18,6 +18,7 @@ itself.
 
 from __future__ import annotations
 
+from ._library import is_proved
 from .errors import (
     DimensionMismatch,
     DomainMismatch,
@@ -72,4 +73,5 @@ __all__ = [
     "Transposed",
     "UninitializedObject",
     "Vector",
+    "is_proved",
 ]

@@ -52,7 +52,7 @@ _U64_OUT = ctypes.POINTER(ctypes.c_uint64)
 # An array is the address of its first item and its number of items.
 _ARRAY = (ctypes.c_void_p, ctypes.c_size_t)
 
-# The parameters of each function. All but `trb_free` answer a status.
+# The parameters of each function. All but `trb_free` and the last two answer a status.
 _PARAMETERS: Dict[str, Tuple[Any, ...]] = {
     # Stores and passes.
     "trb_open": (_U64, _U32, _PASS, ctypes.c_size_t),
@@ -149,6 +149,8 @@ _PARAMETERS: Dict[str, Tuple[Any, ...]] = {
     "trb_vector_wait": (_PASS, _U32, _U32),
     # The version of the library, as a number.
     "trb_version": (),
+    # Whether it is proved.
+    "trb_is_proved": (),
 }
 
 
@@ -196,8 +198,18 @@ def load() -> ctypes.CDLL:
             raise LibraryNotFound(f"{library._name} has no function {name}: it is no library of this version") from None
         function.argtypes = parameters
         function.restype = None if name == "trb_free" else ctypes.c_int32
+    library.trb_is_proved.restype = ctypes.c_bool
     _require_version(library)
     return library
+
+
+def is_proved() -> bool:
+    """Whether the library is proved. Of one that was built before any proof, nothing is claimed.
+
+    Raises:
+        LibraryNotFound: no library was loaded.
+    """
+    return load().trb_is_proved()
 
 
 def _require_version(library: ctypes.CDLL) -> None:

@@ -32,6 +32,16 @@ fn a_store_is_opened_within_its_limits() {
 }
 
 #[test]
+fn the_library_says_whether_it_is_proved() {
+    let wanted = std::env::var("TROWELHEATH_PROVED").map_or(true, |word| word != "no");
+    assert_eq!(
+        trowelheath::is_proved(),
+        wanted,
+        "TROWELHEATH_PROVED is no where the library is not proved"
+    );
+}
+
+#[test]
 fn passes_are_numbered_from_0() {
     let mut passes = Store::open(10, 5).unwrap();
     for (number, pass) in (0..).zip(&mut passes) {
