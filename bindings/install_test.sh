@@ -1,9 +1,10 @@
 #!/usr/bin/env bash
 # Installs the library to a folder that is removed after, and builds and runs a program in each language against that folder alone.
 #   bindings/install_test.sh
-# What a program writes is compared with its file in `expected`. What cannot run is skipped, and named with what there is none of. The last
-# line is 'N passed, M failed, K skipped', and the status is 1 where one failed. LIBRARY and HEAP are as of install.sh; CC, CXX, CARGO and
-# PYTHON are the programs to use. TROWELHEATH_PROVED is `no` where the library is unproved.
+# What a program writes is compared with its file in `expected`. What cannot run has failed, and is named with what there is none of, unless
+# MAY_SKIP has that word: then it is skipped. The last line is 'N passed, M failed, K skipped', and the status is 1 where one failed.
+# LIBRARY and HEAP are as of install.sh; CC, CXX, CARGO and PYTHON are the programs to use. TROWELHEATH_PROVED is `no` where the library is
+# unproved.
 set -u
 here=$(cd "$(dirname "${BASH_SOURCE[0]}")" && pwd)
 CC=${CC:-cc} CXX=${CXX:-c++} CARGO=${CARGO:-cargo} PYTHON=${PYTHON:-python3}
@@ -15,11 +16,21 @@ prefix=$work/prefix
 unset TROWELHEATH_LIB TROWELHEATH_HEAP TROWELHEATH_LIBRARY TROWELHEATH_PREFIX PYTHONPATH
 export PKG_CONFIG_PATH=$prefix/lib/pkgconfig PYTHONDONTWRITEBYTECODE=1
 
-# Whether there is this command. The step is skipped where there is none.
+# Says that a step cannot run, and what there is none of.
+skip() {
+    if [[ " ${MAY_SKIP-} " != *" $1 "* ]]; then
+        failed=$((failed + 1))
+        echo "$2: failed, since there is no $1, which MAY_SKIP does not name"
+    else
+        skipped=$((skipped + 1))
+        echo "$2: skipped, since there is no $1"
+    fi
+}
+
+# Whether there is this command. The step cannot run where there is none.
 has() {
     command -v "$1" >/dev/null && return
-    skipped=$((skipped + 1))
-    echo "$2: skipped, since there is no ${1##*/}"
+    skip "${1##*/}" "$2"
     return 1
 }
 
@@ -113,6 +124,7 @@ if has "$PYTHON" 'a program in Python'; then
     if "$PYTHON" -m pip --version >/dev/null 2>&1; then
         step 'the wheel, installed' "$PYTHON" -m pip install --no-index --no-deps --quiet --disable-pip-version-check --target "$work/python" "$wheel"
     else
+        skip pip 'the wheel, installed'
         step 'the wheel, unpacked' "$PYTHON" -m zipfile -e "$wheel" "$work/python"
     fi
     compare 'Python' "$here/python/expected/first.txt" env PYTHONPATH="$work/python" "$PYTHON" "$here/python/examples/first.py"

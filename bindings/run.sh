@@ -1,26 +1,24 @@
 #!/usr/bin/env bash
-# Builds the library, and builds, links and runs each program of the bindings on it.
-#   bindings/run.sh [--after-ci | --unproved]
-# The library is built anew where a source of it is newer. With --after-ci it is built over what `rt ci` has left in this checkout, as
-# bindings/library.sh tells, and with --unproved it is the one that is built before any proof and traps where a check fails.
+# Builds the library, and builds, links and runs each program of the bindings on it, several side by side.
+#   bindings/run.sh               on the proved library, which is built first where it is missing, or a source of it is newer
+#   bindings/run.sh --unproved    on the library that is compiled before any proof, with its checks
 #
-# What a program writes is compared with its file in `expected`. A step that cannot run is skipped, and named with what there is none of.
-# Under --after-ci it fails, unless MAY_SKIP has that word, as in MAY_SKIP='numpy scipy networkx'. The last line is
-# 'N passed, M failed, K skipped', and the status is 1 where one failed or none passed.
+# What a program writes is compared with its file in `expected`. A step that cannot run has failed, and is named with what there is none
+# of. Where MAY_SKIP has that word, as in MAY_SKIP='numpy scipy networkx', it is skipped. The last line is 'N passed, M failed, K skipped',
+# and the status is 1 where one failed or none passed.
 #
-# KIT is the folder of the toolchain, CC, CXX, RUSTC, CARGO and PYTHON are the programs to use. Where they are not given, those of the path
-# are taken, and of several python3 the first that has most of numpy, scipy and networkx.
-set -u
+# JOBS is how many steps run at a time, as many as there are processors where it is not given. KIT is the folder of the toolchain, CC, CXX,
+# RUSTC, CARGO and PYTHON are the programs to use. Where they are not given, those of the path are taken, and of several python3 the first
+# that has most of numpy, scipy and networkx.
+set -u -m # each unit has a process group, so that all of it can be ended
 shopt -s nullglob
 cd "$(dirname "${BASH_SOURCE[0]}")" || exit 2
-after_ci=false
-unproved=false
+proved=yes how=("$@")
 case "$*" in
     '') ;;
-    --after-ci) after_ci=true ;;
-    --unproved) unproved=true ;;
+    --unproved) proved=no how=(--unproved --checked) ;;
     *)
-        echo 'usage: bindings/run.sh [--after-ci | --unproved]' >&2
+        echo 'usage: bindings/run.sh [--unproved]' >&2
         exit 2
         ;;
 esac
@@ -43,9 +41,58 @@ CC=${CC:-cc} CXX=${CXX:-c++} RUSTC=${RUSTC:-rustc} CARGO=${CARGO:-cargo} PYTHON=
 crate=../crates/grb_c
 heap=$KIT/c/liblibc_c.a
 work=$(mktemp -d)
-trap 'rm -rf "$work"' EXIT
+trap 'end_units; rm -rf "$work"' EXIT
+trap 'exit 130' INT
+trap 'exit 143' TERM
+built=$work
 skipped=0
 . ./steps.sh
+
+# The units of work that run side by side, each a function and its words, and how many have begun. A unit has a folder of its own.
+units=() begun=0
+
+# Adds a unit. Those that take longest come first.
+add() {
+    units+=("$*")
+}
+
+# Runs a unit, and says how its steps went once all have ended.
+run_unit() {
+    local number=$1
+    shift
+    work=$built/unit-$number
+    mkdir "$work"
+    passed=0 failed=0 skipped=0
+    export TASK="bindings: $*"
+    "$@" >"$built/told-$number" 2>&1
+    cat "$built/told-$number"
+    echo "$passed $failed $skipped" >"$built/counts-$number"
+}
+
+# Runs all units, so many at a time, and adds up what they counted. One that was cut off counts as a failed step.
+run_units() {
+    local number words unit more fewer others jobs=${JOBS:-$(nproc)}
+    for unit in "${units[@]}"; do
+        if [ "$(jobs -rp | wc -l)" -ge "$jobs" ]; then wait -n; fi
+        read -ra words <<<"$unit"
+        run_unit "$begun" "${words[@]}" &
+        begun=$((begun + 1))
+    done
+    wait
+    for ((number = 0; number < begun; number++)); do
+        if ! read -r more fewer others <"$built/counts-$number"; then
+            echo "${units[number]}: failed, since it was cut off"
+            more=0 fewer=1 others=0
+        fi
+        passed=$((passed + more)) failed=$((failed + fewer)) skipped=$((skipped + others))
+    done
+}
+
+# Ends what is still running.
+end_units() {
+    local job
+    for job in $(jobs -rp); do kill -- "-$job" 2>/dev/null; done
+}
 
 # Runs a command that another step rests on. It counts as a step only where it fails.
 build() {
@@ -59,16 +106,16 @@ build() {
 # Says that a step cannot run, and what there is none of.
 skip() {
     local name=$1 lacking=$2
-    if $after_ci && [[ " ${MAY_SKIP-} " != *" $lacking "* ]]; then
+    if [[ " ${MAY_SKIP-} " != *" $lacking "* ]]; then
         failed=$((failed + 1))
-        echo "$name: failed, since there is no $lacking, which MAY_SKIP does not allow"
+        echo "$name: failed, since there is no $lacking, which MAY_SKIP does not name"
     else
         skipped=$((skipped + 1))
         echo "$name: skipped, since there is no $lacking"
     fi
 }
 
-# Whether the path lacks one of these commands. The step is skipped then.
+# Whether the path lacks one of these commands. The step cannot run then.
 lacks() {
     local name=$1 word
     shift
@@ -81,7 +128,7 @@ lacks() {
     return 1
 }
 
-# Whether Python lacks one of these modules. The step is skipped then.
+# Whether Python lacks one of these modules. The step cannot run then.
 lacks_module() {
     local name=$1 module
     shift
@@ -165,34 +212,41 @@ refuse_cpp() {
 # The crate of rust/, which its programs are built over.
 build_rust() {
     lacks rust "$RUSTC" && return
-    step rust "$RUSTC" --edition 2021 -O --crate-type rlib --crate-name trowelheath rust/src/lib.rs --out-dir "$work"
+    step rust "$RUSTC" --edition 2021 -O --crate-type rlib --crate-name trowelheath rust/src/lib.rs --out-dir "$built"
 }
 
 # A program of rust/.
 run_rust() {
     local name=$1
     lacks "rust/$name" "$RUSTC" && return
-    build "rust/$name" "$RUSTC" --edition 2021 -O "rust/examples/$name.rs" --extern "trowelheath=$work/libtrowelheath.rlib" -L native="$(dirname "$library")" -L native="$KIT/c" -o "$work/rust_$name" || return
+    build "rust/$name" "$RUSTC" --edition 2021 -O "rust/examples/$name.rs" --extern "trowelheath=$built/libtrowelheath.rlib" -L native="$(dirname "$library")" -L native="$KIT/c" -o "$work/rust_$name" || return
     compare "rust/$name" "rust/expected/$name.txt" "$work/rust_$name"
 }
 
-# The tests of rust/.
+# The tests of rust/: as many as its sources have.
 test_rust() {
-    local name='rust, its tests by cargo'
+    local name='rust, its tests by cargo' ran has
     lacks "$name" "$CARGO" && return
-    step "$name" env TROWELHEATH_LIB="$(dirname "$library")" TROWELHEATH_HEAP="$KIT/c" "$CARGO" test --offline --quiet --manifest-path rust/Cargo.toml --target-dir "$work/cargo"
+    if ! env TROWELHEATH_LIB="$(dirname "$library")" TROWELHEATH_HEAP="$KIT/c" "$CARGO" test --offline --manifest-path rust/Cargo.toml --target-dir "$work/cargo" >"$work/said" 2>&1; then
+        tell "$name" 1
+        return
+    fi
+    ran=$(($(sed -n '/Doc-tests/q; s/^test result: ok\. \([0-9]*\) passed.*/\1 +/p' "$work/said") 0))
+    has=$(grep -rh '^ *#\[test\]' rust/src rust/tests | wc -l)
+    [ "$ran" -eq "$has" ]
+    tell "$name, $ran of $has" $?
 }
 
 # The shared library that the package of python/ loads.
 build_shared() {
     local name='python, the shared library'
     lacks "$name" "$PYTHON" "$CC" && return
-    step "$name" "$CC" -shared -o "$work/libtrowelheath.so" -Wl,--whole-archive "$library" -Wl,--no-whole-archive "$heap" -lpthread
+    step "$name" "$CC" -shared -o "$built/libtrowelheath.so" -Wl,--whole-archive "$library" -Wl,--no-whole-archive "$heap" -lpthread
 }
 
 # Runs a command in which Python finds the package and its library.
 in_python() {
-    env TROWELHEATH_LIBRARY="$work/libtrowelheath.so" PYTHONPATH=python/src PYTHONDONTWRITEBYTECODE=1 "$PYTHON" "$@"
+    env TROWELHEATH_LIBRARY="$built/libtrowelheath.so" PYTHONPATH=python/src PYTHONDONTWRITEBYTECODE=1 "$PYTHON" "$@"
 }
 
 # A program of python/, and the modules that it needs.
@@ -224,37 +278,60 @@ test_python() {
 run_installed() {
     local name='install_test.sh'
     lacks "$name" "$CC" "$CXX" "$CARGO" "$PYTHON" ld objcopy pkg-config cmake && return
+    lacks_module "$name" pip && return
     step "$name" env LIBRARY="$library" HEAP="$heap" CC="$CC" CXX="$CXX" PYTHON="$PYTHON" ./install_test.sh
 }
 
-# The library: its archive, and what the tests hold its word on whether it is proved to.
-words=("$@") archive=$crate/out/libgrb_c.a
-export TROWELHEATH_PROVED=yes
-if $unproved; then words=(--unproved --checked) archive=$crate/out/checked/libgrb_c.a TROWELHEATH_PROVED=no; fi
-if ! PYTHON=$PYTHON ./library.sh "${words[@]}"; then
+# The names of the files of a folder that end so.
+names_in() {
+    local file
+    for file in "$1"/*"$2"; do basename "$file" "$2"; done
+}
+
+# Each program has its file in `expected`, and each such file its program. What has no `main` is a part of programs.
+check_expected() {
+    diff <(names_in c/expected .txt) <(grep -l '^int main(' c/*.c | sed 's/.*\///; s/\.c$//') &&
+        diff <(names_in cpp/expected .txt) <(grep -l '^int main(' cpp/*.cpp | sed 's/.*\///; s/\.cpp$//') &&
+        diff <(names_in rust/expected .txt) <(names_in rust/examples .rs) &&
+        diff <(names_in python/expected .txt) <(grep -l '^if __name__ == "__main__":' python/examples/*.py | sed 's/.*\///; s/\.py$//')
+}
+
+if ! PYTHON=$PYTHON ./library.sh "${how[@]}"; then
     echo '0 passed, 1 failed, 0 skipped'
     exit 1
 fi
-library=$(realpath "$archive")
+library=$(realpath "$crate/out/libgrb_c.a")
+if [ "$proved" = no ]; then library=$(realpath "$crate/out/checked/libgrb_c.a"); fi
 link=("$library" "$heap" -lpthread)
+export TROWELHEATH_PROVED=$proved
 
 check_header
 step 'the version, wherever it stands' ./versions.sh
-for name in first triangles club bfs paths threads chain succeed help branch refusals terms builds sharing beside; do run_c "$name"; done
-run_fail
-run_ports
-run_bench
-run_bench_chain
-for name in triangles club bfs paths threads chain succeed help branch terms messages algorithms; do run_cpp "$name"; done
-refuse_cpp
+step 'each program has its expected output' check_expected
 build_rust
-for name in first triangles bfs paths threads chain succeed club help; do run_rust "$name"; done
-test_rust
 build_shared
-for name in first triangles bfs paths threads chain succeed club help; do run_python "$name"; done
-run_python networkx_scipy networkx numpy scipy
-for file in python/tests/test_*.py; do test_python "$(basename "$file" .py)"; done
-run_installed
+add test_rust
+add run_fail
+add run_installed
+for file in python/tests/test_*.py; do add test_python "$(basename "$file" .py)"; done
+for name in $(names_in c/expected .txt); do
+    case $name in
+        bench | bench_chain) add "run_$name" ;;
+        fail) ;;
+        *) add run_c "$name" ;;
+    esac
+done
+add run_ports
+for name in $(names_in cpp/expected .txt); do add run_cpp "$name"; done
+add refuse_cpp
+for name in $(names_in rust/expected .txt); do add run_rust "$name"; done
+for name in $(names_in python/expected .txt); do
+    case $name in
+        networkx_scipy) add run_python "$name" networkx numpy scipy ;;
+        *) add run_python "$name" ;;
+    esac
+done
+run_units
 
 echo "$passed passed, $failed failed, $skipped skipped"
 [ "$failed" -eq 0 ] && [ "$passed" -gt 0 ]
