@@ -26,8 +26,6 @@ mod texts_changed;
 #[cfg(test)]
 mod texts_hostile;
 #[cfg(test)]
-mod texts_read;
-#[cfg(test)]
 mod texts_written;
 #[cfg(test)]
 mod tuples;
