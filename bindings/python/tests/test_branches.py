@@ -156,9 +156,10 @@ class Branches(RowCase):
         # No history has more than 65,536 calls, nor more than 1,048,576 times its passes.
         self.refuse(own.branch([], [V.number], 65_535), 2)
         self.refuse(own.branch([], [V.number], 4_095, 256), 2)
-        self.have(own.branch([], [V.number], 65_534), 2)
         self.make(self.have(own.branch([], [V.number], 3), 2).main, ROOM_OF_THREE)
         self.make(own, [("made", (), 0)])
+        for largest in (65_534, 1), (4_094, 256):
+            self.have(own.branch([], [V.number], *largest), 2).close()
 
     def test_a_result_of_a_branch_comes_back_by_one_call(self) -> None:
         old = self.begin(ROOM)

@@ -169,13 +169,15 @@ class Room(RowCase):
                 go_on = getattr(old.main, way)
                 self.refuse(go_on(65_532), NEEDED)
                 self.refuse(go_on(4_092, 256), NEEDED)
-                self.have(go_on(65_531), NEEDED)
+                for largest in (65_531, 1), (4_091, 256):
+                    self.have(go_on(*largest), NEEDED).close()
                 self.make(self.have(go_on(1), NEEDED).main, JUST)
         with self.subTest(way="a branch of what is there"):
             there = [A.number], [EMPTY.number]
             self.refuse(old.main.branch(*there, 65_534), NEEDED_LIVE)
             self.refuse(old.main.branch(*there, 4_094, 256), NEEDED_LIVE)
-            self.have(old.main.branch(*there, 65_533), NEEDED_LIVE)
+            for largest in (65_533, 1), (4_093, 256):
+                self.have(old.main.branch(*there, *largest), NEEDED_LIVE).close()
             self.make(self.have(old.main.branch(*there, 1), NEEDED_LIVE).main, JUST_LIVE)
         self.make(old.main, LOADED_STILL)
 
