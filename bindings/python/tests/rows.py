@@ -459,7 +459,7 @@ class RowCase(unittest.TestCase):
             # A truth value is no number, and a status is none either.
             self.assertEqual((type(answer), answer), (type(wanted), wanted), f"row {at}, {row}")
             for each, pass_ in passes.items():
-                self.assertEqual(self._seen(pass_), self._right(pass_), f"what {each} tells after row {at}, {row}")
+                self.assertEqual(self._seen(pass_), self._right(pass_), f"what {each!r} tells after row {at}, {row}")
 
     def make(self, pass_: BarePass, steps: Sequence[Step]) -> None:
         """Makes the steps of a table by this pass."""
@@ -497,9 +497,10 @@ class RowCase(unittest.TestCase):
 
         So many calls make the objects anew there, and so many in the branch.
         """
-        bounded = self.begin(ROOM)
-        self.make(bounded.main, made)
-        chain = self.begin(bounded.entered, opening="chain_open")
+        counted = self.begin(ROOM)
+        self.make(counted.main, made)
+        # The room of its first generation is just used up.
+        chain = self.begin(counted.entered, opening="chain_open")
         self.make(chain.main, [*made, ("go_on", (), True), ("known", (), known), ("settled", (), 0)])
         there = self.have(chain.main.branch_of_all(ROOM), branched)
         self.make(there.main, [*seen, *changed])
