@@ -7,10 +7,10 @@ import pickle
 import threading
 import unittest
 from concurrent.futures import ThreadPoolExecutor
-from typing import Any, Callable, Dict
+from typing import Any, Callable, Dict, List
 
 from support import MOST_DIMENSION, StoreCase
-from trowelheath import Info, Matrix, OrderFull, Store, UninitializedObject, Vector
+from trowelheath import Info, Matrix, OrderFull, Store, StoreClosed, UninitializedObject, Vector
 
 try:
     import numpy
@@ -440,11 +440,12 @@ class Said(StoreCase):
     def test_it_waits_for_nobody(self) -> None:
         a = self.p.matrix(3, 4)
         held, over = threading.Event(), threading.Event()
+        was_in_time: List[bool] = []
 
         def hold() -> None:
             with self.p._lock:
                 held.set()
-                over.wait(10)
+                was_in_time.append(over.wait(10))
 
         thread = threading.Thread(target=hold)
         thread.start()
@@ -452,6 +453,7 @@ class Said(StoreCase):
         self.assertEqual(repr(a), "<Matrix 3x4 int>")
         over.set()
         thread.join()
+        self.assertEqual(was_in_time, [True])
 
     def test_it_leaves_the_last_status(self) -> None:
         a = self.p.matrix(3, 4)
@@ -643,8 +645,10 @@ class Ends(StoreCase):
             self.assertEqual(v.to_dict(), {0: 1})
         with Store(room=2) as store:
             with store.main.temporary():
-                store.main.vector(3)
+                v = store.main.vector(3)
                 store.close()
+            with self.assertRaises(StoreClosed):
+                v.nvals
 
     def test_a_block_keeps_objects_alone(self) -> None:
         with self.p.temporary() as block, self.assertRaisesRegex(TypeError, "keeps a Matrix or a Vector"):

@@ -214,12 +214,14 @@ class Life(StoreCase):
                 self.assertEqual((b.dtype, b.shape, b.to_dict(), b.store), (dtype, (3, 4), {(1, 2): x}, other))
 
     def test_a_wait_changes_no_value(self) -> None:
-        a = self.p.matrix(3, 4)
+        a, b = self.p.matrix(3, 4), self.p.matrix(2, 2)
         a[1, 2] = 5
-        a.wait()
-        a.wait("complete")
-        a.wait("materialize")
-        self.assertEqual(a.to_dict(), {(1, 2): 5})
+        # The first makes the matrix and its set, the last what is left of all objects: another new one.
+        for mode, made, settled in ([], 2, 0), (["complete"], 0, 0), (["materialize"], 1, 3):
+            a.wait(*mode)
+            facts = self.p.facts()
+            self.assertEqual((facts.known, facts.made, facts.settled), (3, made, settled), mode)
+        self.assertEqual((a.to_dict(), b.to_dict()), ({(1, 2): 5}, {}))
         with self.assertRaises(ValueError):
             a.wait("later")
 

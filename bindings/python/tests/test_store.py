@@ -184,10 +184,13 @@ class Passes(StoreCase):
         self.assertEqual(v.using(self.q).to_dict(), {i: i for i in range(5)})
 
     def test_a_pass_that_meets_itself_learns_nothing(self) -> None:
-        before = self.p.facts()
-        self.p.meet(self.p)
-        self.p.adopt(self.p)
-        self.assertEqual(self.p.facts().known, before.known)
+        v = self.q.vector(5)
+        v[0] = 1
+        for meet in self.p.meet, self.p.adopt:
+            meet(self.p)
+            self.assertEqual((self.p.facts().known, self.q.facts().known), (0, 2))
+        self.p.meet(self.q)
+        self.assertEqual(self.p.facts().known, 2)
 
     def test_passes_of_two_stores_do_not_meet(self) -> None:
         with Store(room=10) as other:
@@ -200,11 +203,33 @@ class Passes(StoreCase):
             with self.subTest(other=other), self.assertRaises(TypeError):
                 self.p.meet(other)
 
+    def prepares(self, told: int, made: int) -> None:
+        """The first pass tells that so many of its calls are made for good, and makes so many for that."""
+        self.assertEqual((self.p.prepare(), self.p.facts().made), (told, made))
+
     def test_prepare_tells_how_many_calls_are_evaluated(self) -> None:
-        v = self.p.vector(5)
-        v[0] = 1
-        self.assertLessEqual(self.p.prepare(), 2)
-        self.assertEqual(v[0], 1)
+        self.prepares(0, 0)
+        many = 140_000
+        v = self.p.vector(many)
+        v[0] = 5
+        # Neither call is dear, so both are left to a read.
+        self.prepares(0, 0)
+        self.assertEqual((v[0], self.p.facts().made), (5, 2))
+
+        # The sum is dear by its entries. It overwrites what was made new for it, and the build had the vector cleared.
+        v.clear()
+        v.build(range(many), 1)
+        w = v + v
+        self.prepares(6, 2)
+        self.assertEqual((w[7], self.p.facts().made), (2, 0))
+
+        # A set more is not dear: it is left, until a wait makes it.
+        w[7] = 9
+        self.prepares(6, 0)
+        w.wait("materialize")
+        self.assertEqual(self.p.facts().made, 1)
+        self.prepares(7, 0)
+        self.assertEqual((w[7], self.p.facts().made), (9, 0))
 
     def test_a_pass_that_is_released_knows_what_it_knew(self) -> None:
         v = self.p.vector(5)

@@ -95,16 +95,26 @@ class Threads(StoreCase):
         self.assertEqual(len(v), 4 * self.EACH)
 
     def test_passes_that_meet_each_other_do_not_wait_for_ever(self) -> None:
+        p, q, r, s = self.store.passes
+        v = q.vector(3)
+        v[0] = 5
+        have_met = threading.Barrier(4)
+
         def meet(pass_: Pass, other: Pass) -> Callable[[], None]:
             def work() -> None:
                 for _ in range(self.EACH):
                     pass_.meet(other)
                     pass_.adopt(other)
+                # The first has met the second now, so the third learns both calls of the first.
+                have_met.wait()
+                pass_.meet(other)
 
             return work
 
-        p, q, r, s = self.store.passes
         all_at_once([meet(p, q), meet(q, p), meet(r, p), meet(q, s)])
+        # The fourth has met nobody.
+        self.assertEqual([pass_.facts().known for pass_ in self.store.passes], [2, 2, 2, 0])
+        self.assertEqual([v.using(pass_).to_dict() for pass_ in self.store.passes], [{0: 5}] * 4)
 
     def test_a_store_may_be_closed_while_threads_use_it(self) -> None:
         v = Vector.from_lists(self.p, 10, range(10), 5)

@@ -140,11 +140,14 @@ class Life(StoreCase):
             self.assertEqual((w.dtype, w.size, w.to_dict(), w.store), (bool, 5, {3: True}, other))
 
     def test_a_wait_changes_no_value(self) -> None:
-        v = self.p.vector(5)
+        v, w = self.p.vector(5), self.p.vector(3)
         v[1] = 5
-        v.wait()
-        v.wait("materialize")
-        self.assertEqual(v.to_dict(), {1: 5})
+        # The first makes the vector and its set, the last what is left of all objects: another new one.
+        for mode, made, settled in ("complete", 2, 0), ("complete", 0, 0), ("materialize", 1, 3):
+            v.wait(mode)
+            facts = self.p.facts()
+            self.assertEqual((facts.known, facts.made, facts.settled), (3, made, settled), mode)
+        self.assertEqual((v.to_dict(), w.to_dict()), ({1: 5}, {}))
 
     def test_totals_join_all_values(self) -> None:
         v = Vector.from_lists(self.p, 5, [0, 1, 2], [3, 5, MOST_NUMBER])
