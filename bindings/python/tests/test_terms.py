@@ -2,16 +2,19 @@
 
 from __future__ import annotations
 
+import itertools
 import unittest
-from typing import Any, Callable, Dict, List, Sequence, Tuple
+from typing import Any, Callable, Dict, List, NamedTuple, Optional, Sequence, Tuple
 
 import plain
+from choices import Choices
 from support import MOST_DIMENSION, MOST_NUMBER, Draws, StoreCase
 from trowelheath import (
     DimensionMismatch,
     DomainMismatch,
     InvalidValue,
     Matrix,
+    Pass,
     Store,
     UninitializedObject,
     Vector,
@@ -587,6 +590,155 @@ class Drawn(StoreCase):
             self.compare(lambda **how: u.vxm(a, semiring, **turned, **how), computed, (ncols,), dtype)
 
         self.draw(20, one)
+
+
+def key(place: Tuple[int, ...]) -> Any:
+    """A place as the key of an entry."""
+    return place if len(place) == 2 else place[0]
+
+
+class Term(NamedTuple):
+    """An operation on one or two inputs, and how it is called. A vector is read as a column."""
+
+    name: str
+    arguments: Tuple[Any, ...]
+    bound: Dict[str, Any]
+    is_vector: bool
+    dtype: type
+    mask_dtype: type
+    accum: Optional[str]
+    options: Dict[str, bool]
+    first: Tuple[int, ...]
+    second: Tuple[int, ...]
+
+    def is_turned(self) -> bool:
+        """Whether the first input is read transposed. That is the second option where a value stands first."""
+        option = "transpose_second" if "left" in self.bound else "transpose"
+        return self.options[option] and not self.is_vector
+
+    def is_second_turned(self) -> bool:
+        return self.options["transpose_second"]
+
+    def output(self) -> Tuple[int, ...]:
+        """The dimensions of what it computes."""
+        first = self.first[::-1] if self.is_turned() else self.first
+        second = self.second[::-1] if self.is_second_turned() else self.second
+        if self.name == "transpose":
+            return first[::-1]
+        if self.name == "kronecker":
+            return first[0] * second[0], first[1] * second[1]
+        if self.name == "diag":
+            return (first[0] + abs(self.arguments[0]),) * 2
+        return first
+
+    def computed(self, first: Entries, second: Entries) -> Entries:
+        """What it computes of inputs that store these entries."""
+        first = plain.transposed(first) if self.is_turned() else first
+        if self.name == "transpose":
+            return plain.transposed(first)
+        if self.name == "apply":
+            return plain.applied(first, *self.arguments, **self.bound)
+        if self.name == "select":
+            return plain.selected(first, *self.arguments)
+        if self.name == "diag":
+            return plain.on_diagonal(first, *self.arguments)
+        if self.is_second_turned():
+            return plain.kronecker(first, plain.transposed(second), self.second[::-1], *self.arguments)
+        return plain.kronecker(first, second, self.second, *self.arguments)
+
+
+class SmallDrawn(unittest.TestCase):
+    """Operations on small drawn objects, which are often empty or full, with every choice of how they write."""
+
+    CASES = 2_500
+    # Four objects of at most 144 entries by sets, and the operation.
+    ROOM = 4 * (1 + 144) + 1
+
+    def setUp(self) -> None:
+        self.draws = Choices(7)
+
+    def term(self) -> Term:
+        draws = self.draws
+        dtype = draws.dtype()
+        name = ("transpose", "apply", "select", "kronecker", "diag")[draws.below(5)]
+        arguments: Tuple[Any, ...] = ()
+        bound: Dict[str, Any] = {}
+        if name == "apply":
+            operator, bound = draws.function(dtype)
+            arguments = (operator,)
+        elif name == "select":
+            arguments = draws.test(dtype)
+        elif name == "kronecker":
+            arguments = (draws.operator(dtype),)
+        elif name == "diag":
+            arguments = (draws.diagonal(),)
+        is_vector = name == "diag" or name in ("apply", "select") and draws.truth()
+        columns = () if is_vector else (draws.below(4) + 1,)
+        mask_dtype, accum, options = draws.dtype(), draws.accum(dtype), draws.options()
+        first = (draws.below(4) + 1, *columns)
+        second = (draws.below(3) + 1, draws.below(3) + 1)
+        return Term(name, arguments, bound, is_vector, dtype, mask_dtype, accum, options, first, second)
+
+    def entries(self, dtype: type, shape: Tuple[int, ...]) -> Entries:
+        """Entries at none of the places, at some, at most or at all."""
+        share = self.draws.below(5)
+        entries: Entries = {}
+        for place in itertools.product(*map(range, shape)):
+            value = self.draws.value(dtype)
+            if self.draws.below(4) < share:
+                entries[key(place)] = value
+        return entries
+
+    def made(self, pass_: Pass, dtype: type, shape: Tuple[int, ...], entries: Entries, is_built: bool) -> Any:
+        """An object of these entries, by one build or by sets."""
+        item: Any = pass_.matrix(*shape, dtype) if len(shape) == 2 else pass_.vector(*shape, dtype)
+        if is_built and entries:
+            lists = zip(*entries) if len(shape) == 2 else [entries]
+            item.build(*map(list, lists), list(entries.values()))
+        elif not is_built:
+            for place, value in entries.items():
+                item[place] = value
+        return item
+
+    def compare(self, term: Term, is_built: bool) -> None:
+        """Makes the operation in a new store: then the output is as computed, and the inputs are as before."""
+        shape = term.output()
+        masking = self.entries(term.mask_dtype, shape) if self.draws.truth() else None
+        before = self.entries(term.dtype, shape)
+        first_entries = self.entries(term.dtype, term.first)
+        second_entries = self.entries(term.dtype, term.second)
+        computed = term.computed(first_entries, second_entries)
+        with Store(self.ROOM) as store:
+            p = store.main
+            first = self.made(p, term.dtype, term.first, first_entries, is_built)
+            second = self.made(p, term.dtype, term.second, second_entries, is_built)
+            if term.name == "diag":
+                output, wanted = first.diag(*term.arguments), computed
+            else:
+                output = self.made(p, term.dtype, shape, before, is_built)
+                mask = None if masking is None else self.made(p, term.mask_dtype, shape, masking, is_built)
+                how = {name: term.options[name] for name in ("structure", "complement", "replace")}
+                wanted = plain.written(before, computed, term.accum, masking, **how)
+                arguments = (second, *term.arguments) if term.name == "kronecker" else term.arguments
+                turned = {} if term.is_vector else {"transpose": term.is_turned()}
+                if term.name == "kronecker":
+                    turned["transpose_second"] = term.is_second_turned()
+                options = {"mask": mask, "accum": term.accum, "out": output, **how, **turned, **term.bound}
+                getattr(first, term.name)(*arguments, **options)
+            self.assertEqual((output.shape, output.nvals, output.to_dict()), (shape, len(wanted), wanted), term)
+            for place in itertools.product(*map(range, shape)):
+                self.assertEqual(output.get(*place), wanted.get(key(place)), (term, place))
+            self.assertEqual((first.to_dict(), second.to_dict()), (first_entries, second_entries), term)
+
+    def test_drawn_operations_give_what_plain_loops_do(self) -> None:
+        reached = set()
+        for turn in range(self.CASES):
+            term = self.term()
+            words = (each for each in term.arguments if isinstance(each, str))
+            reached.add((term.name, *words, *term.bound))
+            self.compare(term, turn % 2 == 0)
+        # Transpose and diag, 5 unary operators and 13 binary ones on either side, 14 tests, 13 operators of kronecker.
+        self.assertEqual(len(reached), 2 + 5 + 2 * 13 + 14 + 13)
 
 
 if __name__ == "__main__":
