@@ -34,7 +34,7 @@ class CountedCase(unittest.TestCase):
         self.assertEqual((facts.made, facts.settled), (made, settled), why)
 
     def prepares(self, pass_: Pass, told: int, made: int, why: str) -> None:
-        """The pass tells that no answer makes one of so many calls any more, and makes so many for that."""
+        """The pass prepares: `made` calls are made, and no answer makes one of its first `told` calls any more."""
         self.assertEqual((pass_.prepare(), pass_.facts().made), (told, made), why)
 
     def has_made(self, pass_: Pass, made: int, why: Any) -> None:

@@ -282,7 +282,8 @@ class Full(StoreCase):
         self.assertEqual((v.to_dict(), w.to_dict()), ({0: 0, 1: 1, 2: 2}, {0: 0, 1: 1, 2: 2}))
         self.assertEqual(v.using(self.q).reduce("plus"), 3)
         v.wait("materialize")
-        self.assertEqual(self.p.facts().room_left, 0)
+        facts = self.p.facts()
+        self.assertEqual((facts.room_left, facts.settled), (0, 5))
 
     def test_a_refusal_for_another_reason_comes_first(self) -> None:
         v = self.p.vector(3)

@@ -204,7 +204,7 @@ class Passes(StoreCase):
                 self.p.meet(other)
 
     def prepares(self, told: int, made: int) -> None:
-        """The first pass tells that so many of its calls are made for good, and makes so many for that."""
+        """The first pass prepares: `made` calls are made, and no answer makes one of its first `told` any more."""
         self.assertEqual((self.p.prepare(), self.p.facts().made), (told, made))
 
     def test_prepare_tells_how_many_calls_are_evaluated(self) -> None:
