@@ -37,6 +37,18 @@ class CountedCase(unittest.TestCase):
         """The pass prepares: `made` calls are made, and no answer makes one of its first `told` calls any more."""
         self.assertEqual((pass_.prepare(), pass_.facts().made), (told, made), why)
 
+    def meets(self, pass_: Pass, other: Pass, calls: int) -> None:
+        """The pass meets another one: it makes nothing for that, and knows so many calls then."""
+        pass_.meet(other)
+        self.has_made(pass_, 0, "a meeting makes nothing")
+        self.knows(pass_, calls)
+
+    def adopts(self, pass_: Pass, other: Pass, calls: int) -> None:
+        """The same, and it keeps also what the other has evaluated."""
+        pass_.adopt(other)
+        self.has_made(pass_, 0, "an adoption makes nothing")
+        self.knows(pass_, calls)
+
     def has_made(self, pass_: Pass, made: int, why: Any) -> None:
         """The last call of the pass, whatever it was, made so many calls."""
         self.assertEqual(pass_.facts().made, made, why)

@@ -109,12 +109,10 @@ class OfSomePasses(DearCase):
         a.mxm(a, out=c)
         self.counts(b, COUNT, 2, "the build and the square")
         self.prepares(p, 6, 1, "the other square is dear by what it reads, and then none of the six is left to make")
-        q.adopt(p)
-        self.knows(q, 6)
-        self.has_made(q, 0, "an adoption makes nothing")
+        self.adopts(q, p, 6)
         self.counts(c.using(q), COUNT, 0, "it was prepared and adopted")
         self.counts(b.using(q), COUNT, 0, "it was read and adopted")
-        r.adopt(p)
+        self.adopts(r, p, 6)
         self.prepares(r, 6, 0, "all six were adopted")
         self.counts(c.using(r), COUNT, 0, "it was prepared and adopted")
         self.has_made(p, 1, "its last call was to prepare")
@@ -144,7 +142,7 @@ class Released(DearCase):
         u[1] = 6
         u_q, u_r = u.using(q), u.using(r)
         self.reads(u_q, 0, 5, 3, "the new vector and two sets")
-        p.adopt(q)
+        self.adopts(p, q, 3)
         q.release()
         self.has_made(q, 0, "a release makes nothing")
         self.knows(q, 3)
@@ -162,7 +160,7 @@ class Released(DearCase):
         self.reads(u_q, 1, 6, 0, "the other pass keeps what it made anew")
 
         # Who never had anything to let go of makes them like any other.
-        r.meet(p)
+        self.meets(r, p, 3)
         r.release()
         self.knows(r, 3)
         self.reads(u_r, 1, 6, 3, "all three")

@@ -38,7 +38,7 @@ class LongForOthers(CountedCase):
         p, q, _ = self.opened(1024)
         u, w = self.two_vectors(p)
         self.has_made(p, 0, "a change makes nothing")
-        q.meet(p)
+        self.meets(q, p, 404)
         u_q, w_q = u.using(q), w.using(q)
         u_q[1] = 5
         self.reads(u_q, 0, 1, 3, "the new vector, the set of the one pass and that of the other")
@@ -61,15 +61,13 @@ class LongForOthers(CountedCase):
     def test_a_read_goes_on_from_what_another_pass_settled(self) -> None:
         p, q, r = self.opened(512)
         u, w = self.two_vectors(p)
-        q.meet(p)
-        self.has_made(q, 0, "a meeting makes nothing")
+        self.meets(q, p, 404)
         u_q, w_q, u_r, w_r = u.using(q), w.using(q), u.using(r), w.using(r)
         u_q[1] = 5
         self.has_made(q, 0, "a change makes nothing")
         self.reads(u_q, 0, 1, 3, "the new vector and two sets")
         self.waits(w, "materialize", 405, 405, "all calls, with the set of the other pass")
-        r.meet(p)
-        self.has_made(r, 0, "a meeting makes nothing")
+        self.meets(r, p, 405)
         self.reads(w_r, 0, 401, 0, "the whole store was left")
         self.knows(r, 405)
         self.reads(w_q, 0, 401, 0, "the whole store was left")
@@ -94,7 +92,7 @@ class Waits(CountedCase):
         u[0] = 5
         self.waits(u, "materialize", 2, 2, "the new vector and its set")
         self.waits(u, "materialize", 0, 2, "all is settled")
-        q.meet(p)
+        self.meets(q, p, 2)
         u_q, u_r = u.using(q), u.using(r)
         self.reads(u_q, 0, 5, 0, "the store of the wait was left")
         self.waits(u_q, "materialize", 0, 2, "the same by a pass that had it left")
@@ -103,7 +101,7 @@ class Waits(CountedCase):
         # There is one place for stores of so few calls, and it is full: the next wait leaves nothing.
         u[1] = 6
         self.waits(u, "materialize", 1, 3, "the set since the first wait")
-        r.meet(p)
+        self.meets(r, p, 3)
         self.reads(u_r, 1, 6, 1, "the set since the wait whose store was left")
         self.reads(u_r, 0, 5, 0, "the same vector")
         self.knows(r, 3)
@@ -112,7 +110,7 @@ class Waits(CountedCase):
         p, q, _ = self.opened(512)
         u = p.vector(2)
         u[0] = 5
-        q.meet(p)
+        self.meets(q, p, 2)
         u_q = u.using(q)
         self.reads(u_q, 0, 5, 2, "the new vector and its set")
         u[1] = 6
@@ -136,12 +134,10 @@ class Shared(CountedCase):
         for _ in range(40):
             u[0] = 1
         self.reads(u, 0, 1, 41, "the new vector and its sets")
-        q.adopt(p)
-        self.knows(q, 41)
-        self.has_made(q, 0, "an adoption makes nothing")
+        self.adopts(q, p, 41)
         u_q, u_r = u.using(q), u.using(r)
         self.reads(u_q, 0, 1, 0, "it was adopted")
-        r.meet(p)
+        self.meets(r, p, 41)
         self.reads(u_r, 0, 1, 41, "a meeting shares no results")
         u_q[0] = 5
         self.reads(u_q, 0, 5, 1, "its own set")
@@ -185,7 +181,7 @@ class Shared(CountedCase):
         add(u, w)
         self.prepares(p, 6, 3, "the sum is dear, so it is made, with the other new vector and the build")
         self.reads(w, 7, 1, 0, "it was prepared")
-        q.adopt(p)
+        self.adopts(q, p, 6)
         w_q = w.using(q)
         self.reads(w_q, 7, 1, 0, "it was adopted")
         self.prepares(q, 6, 0, "all six were adopted")
