@@ -4,11 +4,12 @@ from __future__ import annotations
 
 import itertools
 import unittest
-from typing import Any, Callable, Dict, List, Optional, Tuple
+from typing import Any, Callable, Dict, Iterator, List, NamedTuple, Optional, Tuple
 
 import plain
-from support import Draws, StoreCase
-from trowelheath import Matrix, Store, Vector
+from choices import Choices, monoid_of, operator_of
+from support import MOST_DIMENSION, Draws, StoreCase
+from trowelheath import Matrix, Pass, Store, Vector
 
 Entries = Dict[Any, Any]
 
@@ -322,6 +323,267 @@ class Drawn(StoreCase):
                 with self.subTest(monoid=monoid):
                     self.assertEqual(a.reduce(monoid), plain.total(a_entries, monoid))
                     self.assertEqual(u.reduce(monoid), plain.total(u_entries, monoid))
+
+
+class Side(NamedTuple):
+    """A dimension by its places, how far apart they stand, and its size."""
+
+    places: int
+    stride: int
+    size: int
+
+
+# The one column of a vector.
+ONE = Side(1, 1, 1)
+
+
+class Shape(NamedTuple):
+    """The rows and the columns of a matrix, or of a vector, which has one column."""
+
+    is_matrix: bool
+    rows: Side
+    columns: Side
+
+    def places(self) -> Iterator[Any]:
+        """The places at which it may store something, row by row."""
+        rows = range(0, self.rows.places * self.rows.stride, self.rows.stride)
+        columns = range(0, self.columns.places * self.columns.stride, self.columns.stride)
+        return itertools.product(rows, columns) if self.is_matrix else iter(rows)
+
+    def turned(self) -> Shape:
+        return Shape(self.is_matrix, self.columns, self.rows)
+
+
+class Sorts(NamedTuple):
+    """Whether the output, the first and the second input of an operation are matrices."""
+
+    output: bool
+    first: bool
+    second: bool
+
+
+SORTS = {
+    "add_vectors": Sorts(False, False, False),
+    "mult_vectors": Sorts(False, False, False),
+    "add_matrices": Sorts(True, True, True),
+    "mult_matrices": Sorts(True, True, True),
+    "mxv": Sorts(False, True, False),
+    "vxm": Sorts(False, False, True),
+    "mxm": Sorts(True, True, True),
+    "reduce_rows": Sorts(False, True, False),
+}
+
+
+class Case(NamedTuple):
+    """An operation, the sides of its objects, and the domains of all and of the mask."""
+
+    name: str
+    monoid: str
+    operator: str
+    accum: Optional[str]
+    options: Dict[str, bool]
+    rows: Side
+    inner: Side
+    columns: Side
+    dtype: type
+    mask_dtype: type
+    # One object is the output and each other part of its sort.
+    is_aliased: bool
+
+    def is_turned(self) -> bool:
+        """Whether the first input is read transposed, which is so of matrices alone."""
+        return self.options["transpose"] and SORTS[self.name].first
+
+    def is_second_turned(self) -> bool:
+        """Whether the second input is."""
+        return self.options["transpose_second"] and SORTS[self.name].second
+
+    def shapes(self) -> Tuple[Shape, Shape, Shape]:
+        """The shapes of the output, of the first and of the second input. A fold of rows has no second input."""
+        sorts = SORTS[self.name]
+        output = Shape(sorts.output, self.rows, self.columns)
+        if self.name == "vxm":
+            first, second = Shape(False, self.inner, ONE), Shape(True, self.inner, self.rows)
+        elif self.name in ("mxv", "mxm", "reduce_rows"):
+            first = Shape(True, self.rows, self.inner)
+            second = Shape(sorts.second, self.inner, self.columns)
+        else:
+            first = second = output
+        return (
+            output,
+            first.turned() if self.is_turned() else first,
+            second.turned() if self.is_second_turned() else second,
+        )
+
+
+class DrawnSizes(unittest.TestCase):
+    """Operations on drawn objects of many sizes, by the definitions on dicts.
+
+    The draw reaches each way to compute them: work arrays and ranks of columns, tables and searches of rows, few and
+    many words of marks. It also reaches changes that still wait in an input, inputs that are read transposed, and one
+    object in several parts.
+    """
+
+    # How many operations of each sort are drawn.
+    CASES = 1_000
+    # Of 3,000 places of a row, how many store something: none, hardly any, some, most or all.
+    SHARES = (0, 2, 1_000, 2_000, 3_000)
+    # An object of more entries is built; one of fewer may be made by sets, which wait.
+    MOST_SETS = 500
+    # Four objects by sets, and the operation.
+    ROOM = 4 * (1 + MOST_SETS) + 1
+
+    draws: Choices
+
+    def side(self, most: int) -> Side:
+        """Up to so many places, side by side, at each 1,000th index, or up to the last index of the largest dimension.
+
+        Where they stand far apart the entries are too few for a work array as long as the dimension.
+        """
+        places = self.draws.below(most) + 1
+        number = self.draws.below(3)
+        if number == 0:
+            return Side(places, 1, places)
+        if number == 1:
+            return Side(places, 1_000, places * 1_000)
+        return Side(places, (MOST_DIMENSION - 1) // max(places - 1, 1), MOST_DIMENSION)
+
+    def sides(self, is_aliased: bool) -> Tuple[Side, Side, Side]:
+        """The rows, the inner side and the columns: one for all where one object is to be in several parts."""
+        if is_aliased:
+            return (self.side(5),) * 3
+        # One of them is wide at times.
+        wide = self.draws.below(24)
+        most = 200 if wide == 2 else 5, 200 if wide == 3 else 5, 2_000 if wide < 2 else 5
+        return self.side(most[0]), self.side(most[1]), self.side(most[2])
+
+    def case(self, name: str, turn: int) -> Case:
+        """Each semiring comes in its turn, and all else by chance."""
+        dtype = (bool, int)[turn % 2]
+        is_aliased = self.draws.below(8) == 0
+        rows, inner, columns = self.sides(is_aliased)
+        monoid, operator = monoid_of(dtype, turn // 2), operator_of(dtype, turn // 8)
+        accum, options = self.draws.accum(dtype), self.draws.options()
+        mask_dtype = dtype if is_aliased else self.draws.dtype()
+        columns = columns if SORTS[name].output else ONE
+        return Case(name, monoid, operator, accum, options, rows, inner, columns, dtype, mask_dtype, is_aliased)
+
+    def entries(self, dtype: type, shape: Shape) -> Entries:
+        """Entries of which each row has none, hardly any, some, most or all of its places."""
+        entries: Entries = {}
+        share, length = 0, max(shape.columns.places, 5)
+        for at, place in enumerate(shape.places()):
+            if at % length == 0:
+                share = self.SHARES[self.draws.below(5)]
+            value = self.draws.value(dtype)
+            if self.draws.below(3_000) < share:
+                entries[place] = value
+        return entries
+
+    def made(self, pass_: Pass, dtype: type, shape: Shape, entries: Entries, is_built: bool) -> Any:
+        """An object of these entries, by one build, or by sets, whose changes wait."""
+        nrows, ncols = shape.rows.size, shape.columns.size
+        item: Any = pass_.matrix(nrows, ncols, dtype) if shape.is_matrix else pass_.vector(nrows, dtype)
+        if is_built or len(entries) > self.MOST_SETS:
+            places = zip(*entries) if shape.is_matrix else [entries]
+            lists = [list(indices) for indices in places] or [[], []]
+            item.build(*lists, list(entries.values()))
+        else:
+            for place, value in entries.items():
+                item[place] = value
+        return item
+
+    def computed(self, case: Case, first: Entries, second: Entries) -> Entries:
+        """What the operation computes of its inputs."""
+        first = plain.transposed(first) if case.is_turned() else first
+        second = plain.transposed(second) if case.is_second_turned() else second
+        if case.name.startswith("add"):
+            return plain.union(first, second, case.operator)
+        if case.name.startswith("mult"):
+            return plain.intersection(first, second, case.operator)
+        if case.name == "reduce_rows":
+            return plain.reduce_rows(first, case.monoid)
+        return {"mxv": plain.mxv, "vxm": plain.vxm, "mxm": plain.mxm}[case.name](
+            first, second, f"{case.monoid}.{case.operator}"
+        )
+
+    def call(self, case: Case, output: Any, mask: Any, first: Any, second: Any) -> None:
+        """Makes the operation. A vector is never read transposed."""
+        how = {"out": output, "mask": mask, "accum": case.accum, **case.options}
+        if not SORTS[case.name].first:
+            del how["transpose"]
+        if not SORTS[case.name].second:
+            del how["transpose_second"]
+        if case.name == "reduce_rows":
+            first.reduce_rows(case.monoid, **how)
+        elif case.name.startswith("add"):
+            first.ewise_add(second, case.operator, **how)
+        elif case.name.startswith("mult"):
+            first.ewise_mult(second, case.operator, **how)
+        else:
+            getattr(first, case.name)(second, f"{case.monoid}.{case.operator}", **how)
+
+    def compare(self, case: Case) -> None:
+        """Makes the operation in a new store: then the output and its total are as computed, the inputs as before."""
+        output_shape, first_shape, second_shape = case.shapes()
+        before = self.entries(case.dtype, output_shape)
+        masking = None if self.draws.truth() else self.entries(case.mask_dtype, output_shape)
+        first_entries = self.entries(case.dtype, first_shape)
+        second_entries = self.entries(case.dtype, second_shape)
+        with Store(self.ROOM) as store:
+            output = self.made(store.main, case.dtype, output_shape, before, self.draws.truth())
+
+            def part(shape: Shape, entries: Entries) -> Tuple[Any, Entries]:
+                """An input of these entries, or the output where one object is in several parts."""
+                if case.is_aliased and shape.is_matrix == output_shape.is_matrix:
+                    return output, before
+                return self.made(store.main, case.dtype, shape, entries, self.draws.truth()), entries
+
+            mask = None
+            if masking is not None:
+                is_built = self.draws.truth()
+                if case.is_aliased:
+                    mask, masking = output, before
+                else:
+                    mask = self.made(store.main, case.mask_dtype, output_shape, masking, is_built)
+            first, first_entries = part(first_shape, first_entries)
+            second, second_entries = part(second_shape, second_entries)
+            self.call(case, output, mask, first, second)
+
+            computed = self.computed(case, first_entries, second_entries)
+            how = {name: case.options[name] for name in ("structure", "complement", "replace")}
+            wanted = plain.written(before, computed, case.accum, masking, **how)
+            self.assertEqual((output.nvals, output.to_dict()), (len(wanted), wanted), case)
+            for place in output_shape.places():
+                found = output.get(*place) if output_shape.is_matrix else output.get(place)
+                if found != wanted.get(place):
+                    self.fail(f"{found} at {place}, not {wanted.get(place)}: {case}")
+            self.assertEqual(output.reduce(case.monoid), plain.total(wanted, case.monoid), case)
+            for item, entries in (first, first_entries), (second, second_entries):
+                if item is not output:
+                    self.assertEqual(item.to_dict(), entries, case)
+
+    def draw(self, name: str, seed: int) -> None:
+        self.draws = Choices(seed)
+        semirings = set()
+        with self.subTest(name=name):
+            for turn in range(self.CASES):
+                case = self.case(name, turn)
+                semirings.add((case.monoid, case.operator))
+                self.compare(case)
+            self.assertEqual(len(semirings), 52)
+
+    def test_element_wise_operations_answer_as_plain_loops_do(self) -> None:
+        self.draw("add_vectors", 20_261_123)
+        self.draw("mult_vectors", 5_151)
+        self.draw("add_matrices", 40_200)
+        self.draw("mult_matrices", 1_337)
+
+    def test_products_and_reductions_answer_as_plain_loops_do(self) -> None:
+        self.draw("mxv", 7_919)
+        self.draw("vxm", 65_537)
+        self.draw("mxm", 104_729)
+        self.draw("reduce_rows", 31_337)
 
 
 if __name__ == "__main__":
