@@ -1,5 +1,5 @@
 /* Passes make a dear product together: some only help, and two that read it at the same time make different
- * blocks of it. What each reads is what one pass makes alone.
+ * blocks of it. What each reads is what one pass makes alone, also where the two read different products.
  *
  *     cc -std=c11 -O2 -pthread -o help help.c libgrb_c.a liblibc_c.a
  */
@@ -20,6 +20,9 @@ enum { VERTICES = 256, EDGES = VERTICES * (VERTICES - 1) / 2 };
 
 /* In a graph with all edges each three vertices are a triangle: 256 * 255 * 254 / 6. */
 enum { TRIANGLES = 2763520 };
+
+/* Two full matrices have 104 * 104 * 104 = 1,124,864 products of entries, which is more than 2^20. */
+enum { PAIR_SIDE = 104, PAIR_SQUARE = PAIR_SIDE * PAIR_SIDE, PAIR_ROUNDS = 20 };
 
 static TrB_Index rows[EDGES], columns[EDGES];
 static uint64_t values[EDGES];
@@ -195,11 +198,144 @@ static void count_together(void)
     printf("%d passes, %d that help: %d triangles in each of %d rounds\n", READERS, HELPERS, TRIANGLES, ROUNDS);
 }
 
+/* A product that is read while another pass reads the square of the ones. All its entries are one number. */
+typedef struct {
+    TrB_Semiring semiring;
+    bool is_by_twos;  /* the ones by the twos, and not by themselves */
+    bool is_below;    /* below the diagonal alone */
+    uint64_t value;
+} Product;
+
+static const Product square_of_ones = {{TrB_PLUS, TrB_TIMES}, false, false, PAIR_SIDE};
+
+static const Product others[] = {
+    {{TrB_MIN, TrB_PLUS}, false, false, 2},              /* the least sum of a one and a one */
+    {{TrB_PLUS, TrB_PLUS}, false, false, 2 * PAIR_SIDE}, /* another operator of the same monoid: a sum of 104 twos */
+    {{TrB_PLUS, TrB_TIMES}, true, false, 2 * PAIR_SIDE}, /* another second matrix: the same */
+    {{TrB_PLUS, TrB_TIMES}, false, true, PAIR_SIDE},     /* another mask */
+};
+
+enum { OTHERS = sizeof others / sizeof others[0] };
+
+/* The inputs and the outputs of the two readers, and the start of each step. */
+typedef struct {
+    TrB_Matrix ones, twos, below, outputs[READERS];
+    pthread_barrier_t start;
+} Pair;
+
+/* What one thread has. The first reader calls for both products, and reads the square. */
+typedef struct {
+    TrB_Pass *pass;
+    Pair *pair;
+    size_t number;
+} Partner;
+
+/* Calls for both products. */
+static void begin(TrB_Pass *pass, const Pair *pair, const Product *other)
+{
+    TrB_Matrix mask = other->is_below ? pair->below : TrB_NO_MATRIX;
+    TrB_Matrix second = other->is_by_twos ? pair->twos : pair->ones;
+    OK(TrB_Matrix_clear(pass, pair->outputs[1]));
+    OK(TrB_mxm(pass, pair->outputs[0], TrB_NO_MATRIX, TrB_NO_ACCUM, TrB_PLUS_TIMES, pair->ones, pair->ones,
+               TrB_DEFAULT));
+    OK(TrB_mxm(pass, pair->outputs[1], mask, TrB_NO_ACCUM, other->semiring, pair->ones, second, TrB_STRUCTURE));
+}
+
+/* Reads the product, each entry of it. */
+static void read_product(TrB_Pass *pass, TrB_Matrix c, const Product *product)
+{
+    static _Thread_local TrB_Index is[PAIR_SQUARE], js[PAIR_SQUARE];
+    static _Thread_local uint64_t found[PAIR_SQUARE];
+    TrB_Index count, nvals = PAIR_SQUARE, wanted = product->is_below ? PAIR_SIDE * (PAIR_SIDE - 1) / 2 : PAIR_SQUARE;
+    uint64_t least, largest;
+    OK(TrB_Matrix_nvals(pass, &count, c));
+    OK(TrB_Matrix_reduce_UINT64(pass, &least, TrB_MIN, c));
+    OK(TrB_Matrix_reduce_UINT64(pass, &largest, TrB_MAX, c));
+    HOLDS(count == wanted && least == product->value && largest == product->value);
+    OK(TrB_Matrix_extractTuples_UINT64(pass, is, js, found, &nvals, c));
+    HOLDS(nvals == wanted);
+    TrB_Index k = 0;
+    for (TrB_Index i = 0; i < PAIR_SIDE; i++) {
+        for (TrB_Index j = 0; j < (product->is_below ? i : PAIR_SIDE); j++, k++) {
+            HOLDS(is[k] == i && js[k] == j && found[k] == product->value);
+        }
+    }
+}
+
+/* A reader of one of the two products, in one round after another. */
+static void *read_apart(void *argument)
+{
+    const Partner *partner = (const Partner *)argument;
+    Pair *pair = partner->pair;
+    for (size_t round = 0; round < PAIR_ROUNDS * OTHERS; round++) {
+        const Product *other = &others[round % OTHERS];
+        if (partner->number == 0) {
+            begin(partner->pass, pair, other);
+        }
+        pthread_barrier_wait(&pair->start);
+        read_product(partner->pass, pair->outputs[partner->number], partner->number == 0 ? &square_of_ones : other);
+        pthread_barrier_wait(&pair->start);
+    }
+    return NULL;
+}
+
+/* A matrix with this number at all places, or below the diagonal alone. */
+static TrB_Matrix filled(TrB_Pass *pass, uint64_t number, bool is_below)
+{
+    TrB_Matrix a;
+    TrB_Index nvals = 0;
+    for (TrB_Index i = 0; i < PAIR_SIDE; i++) {
+        for (TrB_Index j = 0; j < (is_below ? i : PAIR_SIDE); j++, nvals++) {
+            rows[nvals] = i;
+            columns[nvals] = j;
+            values[nvals] = number;
+        }
+    }
+    OK(TrB_Matrix_new(pass, &a, TrB_UINT64, PAIR_SIDE, PAIR_SIDE));
+    OK(TrB_Matrix_build_UINT64(pass, a, rows, columns, values, nvals, TrB_PLUS));
+    return a;
+}
+
+/* Two passes read different products at the same time, and a third helps: each has its own. */
+static void multiply_apart(void)
+{
+    enum { MEMBERS = READERS + 1 };
+    TrB_Pass passes[MEMBERS + 1] = {TRB_PASS_INIT}, *first = &passes[MEMBERS];
+    Partner partners[READERS];
+    pthread_t threads[MEMBERS];
+    OK(TrB_open(ROOM, passes, MEMBERS + 1));
+    Pair pair = {.ones = filled(first, 1, false), .twos = filled(first, 2, false), .below = filled(first, 1, true)};
+    for (size_t k = 0; k < READERS; k++) {
+        OK(TrB_Matrix_new(first, &pair.outputs[k], TrB_UINT64, PAIR_SIDE, PAIR_SIDE));
+    }
+    HOLDS(pthread_barrier_init(&pair.start, NULL, READERS) == 0);
+    atomic_store(&is_over, false);
+    Worker helper = {.pass = &passes[READERS]};
+    HOLDS(pthread_create(&threads[READERS], NULL, help, &helper) == 0);
+    for (size_t k = 0; k < READERS; k++) {
+        partners[k] = (Partner){.pass = &passes[k], .pair = &pair, .number = k};
+        HOLDS(pthread_create(&threads[k], NULL, read_apart, &partners[k]) == 0);
+    }
+    for (size_t k = 0; k < MEMBERS; k++) {
+        if (k == READERS) {
+            atomic_store(&is_over, true);
+        }
+        HOLDS(pthread_join(threads[k], NULL) == 0);
+    }
+    HOLDS(blocks_of(first) > 0);
+    for (size_t k = 0; k <= MEMBERS; k++) {
+        TrB_free(&passes[k]);
+    }
+    pthread_barrier_destroy(&pair.start);
+    printf("%d passes read two products: each its own in each of %d rounds\n", READERS, PAIR_ROUNDS * OTHERS);
+}
+
 int main(void)
 {
     help_nobody();
     multiply_alone();
     multiply_by_blocks();
     count_together();
+    multiply_apart();
     return 0;
 }
