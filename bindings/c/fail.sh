@@ -1,10 +1,11 @@
 #!/bin/sh
-# Refuses each allocation of the library in turn: builds fail.c, and runs it for K = 1, 2, .. until the
-# program asks for fewer allocations than K.
+# Refuses memory to the library: builds the programs that do so, and runs them side by side. fail.c is run for K = 1, 2,
+# .. until it asks for fewer allocations than K; the others refuse by themselves, as memory.h tells, and what each writes
+# is compared with its file in expected/.
 #
 #     fail.sh libgrb_c.a liblibc_c.a
 #
-# CC and CFLAGS are those of the environment. Ends with status 0 where all was as fail.c says.
+# CC and CFLAGS are those of the environment. Ends with status 0 where all was as the programs say.
 set -eu
 if [ $# -eq 0 ]; then
     echo "usage: fail.sh LIBRARY..." >&2
@@ -13,30 +14,67 @@ fi
 here=$(dirname "$0")
 work=$(mktemp -d)
 trap 'rm -rf "$work"' EXIT
+others='scarce scarce_calls held'
+lanes=2 # of each mode of fail.c
 
-# CFLAGS is split into words on purpose.
-# shellcheck disable=SC2086
-"${CC:-cc}" -std=c11 ${CFLAGS:--O2} -I"$here" \
-    -Wl,--wrap=malloc,--wrap=calloc,--wrap=realloc,--wrap=free \
-    -o "$work/fail" "$here/fail.c" "$@" -lpthread
+for name in fail $others; do
+    # CFLAGS is split into words on purpose.
+    # shellcheck disable=SC2086
+    "${CC:-cc}" -std=c11 ${CFLAGS:--O2} -Wall -Wextra -Werror -I"$here" \
+        -Wl,--wrap=malloc,--wrap=calloc,--wrap=realloc,--wrap=free \
+        -o "$work/$name" "$here/$name.c" "$@" -lpthread
+done
 
-for mode in once on; do
-    k=1
+# Refuses each allocation of fail.c in this mode, from this one on, that falls to a lane.
+refuse_each() {
+    mode=$1 k=$2
     while :; do
         status=0
         "$work/fail" "$k" "$mode" || status=$?
         case $status in
         0) break ;;
-        2) k=$((k + 1)) ;;
+        2) k=$((k + lanes)) ;;
         *)
             echo "fail $k $mode: ended with status $status" >&2
-            exit 1
+            return 1
             ;;
         esac
     done
-    if [ "$k" -eq 1 ]; then
-        echo "fail 1 $mode: no allocation was counted" >&2
-        exit 1
+    if [ "$k" -le "$lanes" ]; then
+        echo "fail $k $mode: no allocation was counted" >&2
+        return 1
     fi
+}
+
+# Runs a program that refuses by itself. What it tells on standard error is told where something is wrong.
+run() {
+    "$work/$1" >"$work/$1.out" 2>"$work/$1.err" && diff "$here/expected/$1.txt" "$work/$1.out" >>"$work/$1.err" && return
+    echo "$1:" >&2
+    tail -n 5 "$work/$1.err" >&2
+    return 1
+}
+
+jobs=
+for mode in once on; do
+    k=1
+    while [ "$k" -le "$lanes" ]; do
+        refuse_each "$mode" "$k" &
+        jobs="$jobs $!"
+        k=$((k + 1))
+    done
+done
+for name in $others; do
+    run "$name" &
+    jobs="$jobs $!"
+done
+failed=0
+for job in $jobs; do
+    wait "$job" || failed=1
+done
+[ "$failed" -eq 0 ] || exit 1
+for mode in once on; do
     echo "allocations refused, $mode: no crash, no leak, no other status"
+done
+for name in $others; do
+    echo "$name: as expected"
 done
