@@ -1,7 +1,7 @@
 #!/bin/sh
-# Refuses memory to the library: builds the programs that do so, and runs them side by side. fail.c is run for K = 1, 2,
-# .. until it asks for fewer allocations than K; the others refuse by themselves, as memory.h tells, and what each writes
-# is compared with its file in expected/.
+# Refuses memory to the library: builds the programs that do so, and runs them side by side. fail.c is run for K = 1,
+# 2, .. until it asks for fewer allocations than K; the others refuse by themselves, as memory.h tells, and what each
+# writes is compared with its file in expected/.
 #
 #     fail.sh libgrb_c.a liblibc_c.a
 #
@@ -48,7 +48,8 @@ refuse_each() {
 
 # Runs a program that refuses by itself. What it tells on standard error is told where something is wrong.
 run() {
-    "$work/$1" >"$work/$1.out" 2>"$work/$1.err" && diff "$here/expected/$1.txt" "$work/$1.out" >>"$work/$1.err" && return
+    "$work/$1" >"$work/$1.out" 2>"$work/$1.err" &&
+        diff "$here/expected/$1.txt" "$work/$1.out" >>"$work/$1.err" && return
     echo "$1:" >&2
     tail -n 5 "$work/$1.err" >&2
     return 1

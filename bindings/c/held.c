@@ -244,8 +244,8 @@ static void release_all(void)
     HOLDS(again >= released + PRODUCT_BYTES);
     expect_kept(&own);
     TrB_free(&own);
-    fprintf(stderr, "released: from %zu to %zu bytes, made anew: %zu, without the branch: %zu\n", before, released, again,
-            memory.held);
+    fprintf(stderr, "released: from %zu to %zu bytes, made anew: %zu, ", before, released, again);
+    fprintf(stderr, "without the branch: %zu\n", memory.held);
     HOLDS(again >= memory.held + PRODUCT_BYTES && memory.held < first + COLUMN_BYTES);
     count_product(&pass, &p, 0);
 

@@ -2,8 +2,9 @@
  * they make fewer than four times the blocks of one that is alone, and where each has a processor hardly more than
  * once.
  *
- * How many blocks a race has depends on when threads get their turns. So all races are counted together, and of each
- * 250 one is to have few. Standard error tells the counts.
+ * How many blocks a race has depends on when threads get their turns: four times those of one at the most, as four make
+ * that share nothing. So all races are counted together, which are to have fewer, and of each 250 one is to have few.
+ * Standard error tells the counts.
  *
  *     cc -std=c11 -O2 -pthread -o races races.c libgrb_c.a liblibc_c.a
  */
@@ -110,6 +111,7 @@ static void *run(void *argument)
         pthread_barrier_wait(&track->start);
         if (reader->number == 0) {
             uint64_t made = blocks_of(reader->pass) - before;
+            HOLDS(made >= reader->alone && made <= reader->alone * READERS);
             reader->all += made;
             reader->few[race / GROUP] += made <= reader->alone + FEW;
         }

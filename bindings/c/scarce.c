@@ -327,8 +327,8 @@ static void wait_again(void)
 /* How often a vector is added to itself. */
 enum { SUMS = 20 };
 
-/* One pass prepares calls that are dear to a pass that has made none of them, and the other adopts it and reads. Whether
- * it had to make anything. */
+/* One pass prepares calls that are dear to a pass that has made none of them, and the other adopts it and reads.
+ * Whether it had to make anything. */
 static bool unfinished_adoption(Supply supply)
 {
     static const char *const made[] = {"vector v uint64 8", "build v plus 0 1 1 1 2 1 3 1 4 1 5 1 6 1 7 1"};
@@ -393,8 +393,8 @@ static bool unshared_large_products(Supply supply)
 /* Entries of the large vector, more than LITTLE holds, and how often the small one is added to it. */
 enum { MANY = 6000, ADDED = 400 };
 
-/* What the second pass reads: the small vector, after a set of its own; the large one; or the large one, after the first
- * pass has waited for all objects. */
+/* What the second pass reads: the small vector, after a set of its own; the large one; or the large one, after the
+ * first pass has waited for all objects. */
 typedef enum { SMALL, LARGE, SETTLED } Scene;
 
 /* With little memory the second pass is answered so, and with ample memory it reads the value. */
@@ -451,8 +451,8 @@ static bool is_refused_read(TrB_Pass *pass, TrB_Matrix a)
     return info == TrB_OUT_OF_MEMORY;
 }
 
-/* One pass reads a result, prepares the other, reads it, is adopted and lets go, and both read again. Whether a read was
- * refused. Where nothing is, all calls were evaluated when it had prepared. */
+/* One pass reads a result, prepares the other, reads it, is adopted and lets go, and both read again. Whether a read
+ * was refused. Where nothing is, all calls were evaluated when it had prepared. */
 static bool are_refused(TrB_Pass *p, TrB_Pass *q, TrB_Matrix c, TrB_Matrix d)
 {
     uint32_t evaluated;
@@ -618,7 +618,7 @@ static void multiply_too_much(void)
 /* ---- Blocks of a dear product ------------------------------------------------------------------- */
 
 /* Rows of the first matrix and columns of the second, and the columns of the first and rows of the second. They have
- * 36 * 1024 * 36 = 1,327,104 products of entries, which is more than 2^20, and 18 for each of the 2 * 36,864 entries. */
+ * 36 * 1024 * 36 = 1,327,104 products of entries: more than 2^20, and 18 for each of the 2 * 36,864 entries. */
 enum { NARROW = 36, INNER = 1024, BLOCKS_ROOM = 8192 };
 
 /* A matrix in which all is true, of which the entries are counted. */
@@ -669,12 +669,12 @@ static void expect_product(TrB_Pass *pass, const Dear *dear)
     HOLDS(nvals == NARROW * NARROW && least);
 }
 
-/* How a read of the product went: it was refused; it was answered, and fewer blocks were made than with ample memory; or
- * it was answered by blocks. */
+/* How a read of the product went: it was refused; it was answered, and fewer blocks were made than with ample memory;
+ * or it was answered by blocks. */
 typedef enum { WAS_REFUSED, ALONE, BY_BLOCKS } Went;
 
-/* Calls for the product, and reads it with this much memory; where it is refused, all is as before, and the next read is
- * answered. */
+/* Calls for the product, and reads it with this much memory; where it is refused, all is as before, and the next read
+ * is answered. */
 static Went try_product(TrB_Pass *pass, const Dear *dear, uint64_t all, Supply supply)
 {
     TrB_Index nvals;
@@ -824,8 +824,8 @@ static bool is_refused_next(TrB_Pass *pass, const Names *names, bool is_branch, 
     return false;
 }
 
-/* The same of a store that then answers the reads, and goes on with ample memory. Two passes hold more than 100 bytes for
- * each call that there is room for. */
+/* The same of a store that then answers the reads, and goes on with ample memory. Two passes hold more than 100 bytes
+ * for each call that there is room for. */
 static bool refused_next(bool is_branch, Supply supply)
 {
     TrB_Pass passes[2] = {TRB_PASS_INIT}, *p = &passes[0];

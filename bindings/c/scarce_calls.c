@@ -265,7 +265,8 @@ static void expect_same(const Trial *trial, const Trial *ample)
     HOLDS(memcmp(trial->held, ample->held, sizeof trial->held) == 0);
 }
 
-static const char *const manners[] = {"by itself", "late", "by the other pass"}, *const ways[] = {"once", "on", "bytes"};
+static const char *const manners[] = {"by itself", "late", "by the other pass"};
+static const char *const ways[] = {"once", "on", "bytes"};
 
 /* Tries the call in each way. All calls take memory but those for dimensions. */
 static void try_all(const char *call, Manner manner)
