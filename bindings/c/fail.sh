@@ -5,7 +5,8 @@
 #
 #     fail.sh libgrb_c.a liblibc_c.a
 #
-# CC and CFLAGS are those of the environment. Ends with status 0 where all was as the programs say.
+# CC and CFLAGS are those of the environment; where there are no CFLAGS, warnings are errors. Ends with status 0 where
+# all was as the programs say.
 set -eu
 if [ $# -eq 0 ]; then
     echo "usage: fail.sh LIBRARY..." >&2
@@ -20,7 +21,7 @@ lanes=2 # of each mode of fail.c
 for name in fail $others; do
     # CFLAGS is split into words on purpose.
     # shellcheck disable=SC2086
-    "${CC:-cc}" -std=c11 ${CFLAGS:--O2} -Wall -Wextra -Werror -I"$here" \
+    "${CC:-cc}" -std=c11 ${CFLAGS:--O2 -Wall -Wextra -Werror} -I"$here" \
         -Wl,--wrap=malloc,--wrap=calloc,--wrap=realloc,--wrap=free \
         -o "$work/$name" "$here/$name.c" "$@" -lpthread
 done

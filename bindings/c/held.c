@@ -171,6 +171,15 @@ static Product make_product(TrB_Pass *pass)
     return p;
 }
 
+/* Lets go of all that the pass has evaluated. Takes no memory. */
+static void release(TrB_Pass *pass)
+{
+    hold_back(NOTHING);
+    OK(TrB_release(pass));
+    let_go();
+    HOLDS(memory.asked == 0);
+}
+
 /* A branch that has the column and the product as they are. */
 static void keep(TrB_Pass *pass, const Product *p, TrB_Pass *own)
 {
@@ -235,7 +244,7 @@ static void release_all(void)
     keep(&pass, &p, &own);
     expect_kept(&own);
     size_t before = memory.held;
-    OK(TrB_release(&pass));
+    release(&pass);
     size_t released = memory.held;
     HOLDS(released < before && before - released < PRODUCT_BYTES);
     expect_kept(&own);
@@ -251,7 +260,7 @@ static void release_all(void)
 
     /* Where nothing else has it, it is given back at once, and so is the column. */
     before = memory.held;
-    OK(TrB_release(&pass));
+    release(&pass);
     HOLDS(before >= memory.held + PRODUCT_BYTES + COLUMN_BYTES);
     TrB_free(&pass);
     printf("what a branch has outlives what a pass lets go of\n");

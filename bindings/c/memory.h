@@ -7,7 +7,7 @@
  * A step is what stands between hold_back and let_go. It is made again and again, each time with a supply that
  * refuses something else, until nothing is refused:
  *
- *     for (size_t way = 0; way < WAYS; way++) {
+ *     for (Way way = ONCE; way < WAYS; way++) {
  *         Supply supply = first_supply(way);
  *         do {
  *             ..                       // what comes before the step

@@ -237,7 +237,7 @@ static void meet_without_memory(void)
     TrB_Pass passes[2] = {TRB_PASS_INIT}, *q = &passes[1];
     Names names = {0};
     TrB_Index size, nrows, ncols;
-    TrB_Info last;
+    TrB_Info last = TrB_PANIC;
     OK(TrB_open(8, passes, 2));
     make_calls(&passes[0], &names, lines, 2);
     hold_back(NOTHING);
@@ -697,13 +697,14 @@ static Went try_product(TrB_Pass *pass, const Dear *dear, uint64_t all, Supply s
     return made < all ? ALONE : BY_BLOCKS;
 }
 
-/* Another pass has nothing to help with, and takes no memory for that. */
-static void help_without_memory(TrB_Pass *pass)
+/* Another pass has nothing to help with, and takes no memory for that, nor to tell how many blocks were made. */
+static void help_without_memory(TrB_Pass *pass, uint64_t all)
 {
     uint32_t made = 77;
     Shown before = shown(pass);
     hold_back(NOTHING);
     OK(TrB_help(pass, &made));
+    HOLDS(blocks_of(pass) == all);
     let_go();
     Shown after = shown(pass);
     HOLDS(made == 0 && memory.asked == 0 && is_same_shown(&after, &before));
@@ -724,10 +725,10 @@ static void multiply_by_blocks(void)
     expect_product(p, &dear);
     uint64_t all = blocks_of(p);
     HOLDS(all > 0);
-    help_without_memory(&passes[1]);
+    help_without_memory(&passes[1], all);
     fprintf(stderr, "dear products, refused and made alone:");
     checked_row = row;
-    for (size_t way = 0; way < WAYS; way++) {
+    for (Way way = ONCE; way < WAYS; way++) {
         Supply supply = first_supply(way);
         unsigned went[3] = {0};
         Went last;

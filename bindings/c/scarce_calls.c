@@ -279,7 +279,7 @@ static void try_all(const char *call, Manner manner)
     HOLDS(!ample.is_refused && ample.answer.info == TrB_SUCCESS);
     HOLDS(memory.refused == 0 && (memory.asked > 0) == takes_memory);
     fprintf(stderr, "%s, %s: refused", call, manners[manner]);
-    for (size_t way = 0; way < WAYS; way++) {
+    for (Way way = ONCE; way < WAYS; way++) {
         Supply supply = first_supply(way);
         unsigned refusals = 0;
         do {
