@@ -120,7 +120,14 @@ static const char *const tried[] = {
     "wait B materialize",
 };
 
-enum { BEFORE = sizeof history / sizeof history[0], TRIED = sizeof tried / sizeof tried[0] };
+/* Reads of the first vector, which many sets change before: what a wait has left of it is worth looking for. */
+static const char *const tried_by_other[] = {"get u 0", "nvals u", "total u plus", "wait u complete"};
+
+enum {
+    BEFORE = sizeof history / sizeof history[0],
+    TRIED = sizeof tried / sizeof tried[0],
+    BY_OTHER_ALONE = sizeof tried_by_other / sizeof tried_by_other[0]
+};
 
 /* How a call is tried. */
 typedef enum {
@@ -141,6 +148,7 @@ typedef struct {
     bool is_refused;
     bool is_status_left; /* a refusal that left its status on the object */
     Answer answer;
+    uint32_t made; /* how many calls of the history it evaluated */
     Held held[LOOKED_AT];
 } Trial;
 
@@ -214,6 +222,9 @@ static void try_call(Trial *trial, TrB_Pass *pass, Names *names, const char *cal
         trial->is_status_left = expect_refused(&before, pass, names, call);
         trial->answer = make_call(pass, names, call);
     }
+    TrB_Facts facts;
+    OK(TrB_facts(pass, &facts));
+    trial->made = facts.made;
     Shown after = shown(pass);
     uint32_t entered = is_read(call) ? 0 : 1;
     HOLDS(after.facts.words == before.facts.words + entered && after.facts.known == before.facts.known + entered);
@@ -268,7 +279,16 @@ static void expect_same(const Trial *trial, const Trial *ample)
 static const char *const manners[] = {"by itself", "late", "by the other pass"};
 static const char *const ways[] = {"once", "on", "bytes"};
 
-/* Tries the call in each way. All calls take memory but those for dimensions. */
+/* How many calls the other pass makes for this one: none for dimensions, none of what it finds, and for each other
+ * object the one that makes it and two sets. */
+static uint32_t made_by_other(const char *call)
+{
+    bool is_found = name_in(call)[0] == 'u' || strstr(call, "materialize") != NULL;
+    return is_found || strncmp(call, "size", 4) == 0 ? 0 : 3;
+}
+
+/* Tries the call in each way. All calls take memory but those for dimensions. Where memory is refused to what the other
+ * pass would find, it makes the calls itself. */
 static void try_all(const char *call, Manner manner)
 {
     char row[256];
@@ -278,18 +298,21 @@ static void try_all(const char *call, Manner manner)
     bool takes_memory = strncmp(call, "size", 4) != 0, leaves_status = false;
     HOLDS(!ample.is_refused && ample.answer.info == TrB_SUCCESS);
     HOLDS(memory.refused == 0 && (memory.asked > 0) == takes_memory);
+    HOLDS(manner != BY_OTHER || ample.made == made_by_other(call));
     fprintf(stderr, "%s, %s: refused", call, manners[manner]);
     for (Way way = ONCE; way < WAYS; way++) {
         Supply supply = first_supply(way);
-        unsigned refusals = 0;
+        unsigned refusals = 0, alone = 0;
         do {
             snprintf(row, sizeof row, "%s, %s, %s %zu", call, manners[manner], ways[way], supply.number);
             Trial trial = try_once(call, manner, supply);
             expect_same(&trial, &ample);
             refusals += trial.is_refused;
+            alone += !trial.is_refused && trial.made > 0;
             leaves_status = leaves_status || trial.is_status_left;
         } while (go_on(&supply));
         HOLDS((refusals > 0) == takes_memory);
+        HOLDS(manner != BY_OTHER || name_in(call)[0] != 'u' || way != ONCE || alone > 0);
         fprintf(stderr, " %u", refusals);
     }
     HOLDS(leaves_status == (takes_memory && (manner == LATE || !makes_object(call))));
@@ -307,6 +330,9 @@ static void sweep(Manner manner)
             try_all(tried[k], manner);
             calls++;
         }
+    }
+    for (size_t k = 0; manner == BY_OTHER && k < BY_OTHER_ALONE; k++, calls++) {
+        try_all(tried_by_other[k], manner);
     }
     printf("%u calls, %s: each is refused in turn, and leaves all as it was\n", calls, manners[manner]);
 }
