@@ -139,8 +139,10 @@ typedef enum {
 
 /* What the store holds: for each number of a vector and a matrix, of the objects that are there and of the next, its
  * dimensions, its count, and what is at each place. */
+enum { LOOKS = 4 + SIZE + SIZE * SIZE };
+
 typedef struct {
-    Answer sizes[2], counts[2], indices[SIZE], places[SIZE][SIZE];
+    Answer answers[LOOKS];
 } Held;
 
 /* What a trial came to. */
@@ -175,21 +177,30 @@ static Answer matrix_at(TrB_Pass *pass, TrB_Matrix a, TrB_Index i, TrB_Index j)
     return answer;
 }
 
+/* What the matrix and the vector of this number hold. */
 static Held held_by(TrB_Pass *pass, uint32_t number)
 {
-    Held held = {0};
+    Held held;
     TrB_Matrix a = {number};
     TrB_Vector v = {number};
-    held.sizes[0].info = TrB_Matrix_size(pass, &held.sizes[0].first, &held.sizes[0].second, a);
-    held.sizes[1].info = TrB_Vector_size(pass, &held.sizes[1].first, v);
-    held.counts[0].info = TrB_Matrix_nvals(pass, &held.counts[0].first, a);
-    held.counts[1].info = TrB_Vector_nvals(pass, &held.counts[1].first, v);
+    Answer size = {0}, count = {0};
+    size_t k = 0;
+    size.info = TrB_Matrix_size(pass, &size.first, &size.second, a);
+    count.info = TrB_Matrix_nvals(pass, &count.first, a);
+    held.answers[k++] = size;
+    held.answers[k++] = count;
+    size = count = (Answer){0};
+    size.info = TrB_Vector_size(pass, &size.first, v);
+    count.info = TrB_Vector_nvals(pass, &count.first, v);
+    held.answers[k++] = size;
+    held.answers[k++] = count;
     for (TrB_Index i = 0; i < SIZE; i++) {
-        held.indices[i] = vector_at(pass, v, i);
+        held.answers[k++] = vector_at(pass, v, i);
         for (TrB_Index j = 0; j < SIZE; j++) {
-            held.places[i][j] = matrix_at(pass, a, i, j);
+            held.answers[k++] = matrix_at(pass, a, i, j);
         }
     }
+    HOLDS(k == LOOKS);
     return held;
 }
 
@@ -273,7 +284,11 @@ static Trial try_once(const char *call, Manner manner, Supply supply)
 static void expect_same(const Trial *trial, const Trial *ample)
 {
     HOLDS(is_same(trial->answer, ample->answer));
-    HOLDS(memcmp(trial->held, ample->held, sizeof trial->held) == 0);
+    for (uint32_t n = 0; n < LOOKED_AT; n++) {
+        for (size_t k = 0; k < LOOKS; k++) {
+            HOLDS(is_same(trial->held[n].answers[k], ample->held[n].answers[k]));
+        }
+    }
 }
 
 static const char *const manners[] = {"by itself", "late", "by the other pass"};
