@@ -156,9 +156,9 @@ run_c() {
     compare "c/$name" "c/expected/$name.txt" "$work/c_$name"
 }
 
-# All allocations that are refused to the library, each in a run of its own.
+# The programs that refuse memory to the library.
 run_fail() {
-    local name='c/fail, each allocation refused in turn'
+    local name='c/fail.sh, memory refused in turn'
     lacks "$name" "$CC" && return
     compare "$name" c/expected/fail.txt env CC="$CC" c/fail.sh "$library" "$heap"
 }
@@ -318,7 +318,9 @@ for name in $(names_in c/expected .txt); do
     case $name in
         bench | bench_chain) add "run_$name" ;;
         fail) ;;
-        *) add run_c "$name" ;;
+        *) # what refuses memory is run by fail.sh
+            if ! grep -q '^#include "memory.h"' "c/$name.c"; then add run_c "$name"; fi
+            ;;
     esac
 done
 add run_ports

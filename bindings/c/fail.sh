@@ -15,7 +15,7 @@ fi
 here=$(dirname "$0")
 work=$(mktemp -d)
 trap 'rm -rf "$work"' EXIT
-others='scarce scarce_calls held'
+others=$(grep -l '^#include "memory.h"' "$here"/*.c | sed 's/.*\///; s/\.c$//')
 lanes=2 # of each mode of fail.c
 
 for name in fail $others; do
