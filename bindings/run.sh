@@ -194,6 +194,14 @@ run_bench_chain() {
     compare "$name" c/expected/bench_chain.txt "$work/bench_chain"
 }
 
+# The times of threads that enter, read and share, of one run.
+run_bench_store() {
+    local name='c/bench_store, one run'
+    lacks "$name" "$CC" && return
+    build "$name" "$CC" -std=c11 -O2 -Wall -Wextra -Werror -Ic c/bench_store.c "${link[@]}" -o "$work/bench_store" || return
+    compare "$name" c/expected/bench_store.txt "$work/bench_store" 1
+}
+
 # A program of cpp/.
 run_cpp() {
     local name=$1
@@ -316,7 +324,7 @@ add run_installed
 for file in python/tests/test_*.py; do add test_python "$(basename "$file" .py)"; done
 for name in $(names_in c/expected .txt); do
     case $name in
-        bench | bench_chain) add "run_$name" ;;
+        bench | bench_chain | bench_store) add "run_$name" ;;
         fail) ;;
         *) # what refuses memory is run by fail.sh
             if ! grep -q '^#include "memory.h"' "c/$name.c"; then add run_c "$name"; fi
