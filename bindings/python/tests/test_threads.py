@@ -106,7 +106,7 @@ class Threads(StoreCase):
                     pass_.meet(other)
                     pass_.adopt(other)
                 # The first has met the second now, so the third learns both calls of the first.
-                have_met.wait()
+                have_met.wait(60)
                 pass_.meet(other)
 
             return work
