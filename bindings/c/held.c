@@ -6,12 +6,13 @@
  */
 #include "check.h"
 #include "memory.h"
+#include "trials.h"
 #include "trowelheath.h"
 
 #include <stdio.h>
 
-/* So many entries take five times the memory that is left, and more. */
-enum { MANY = 20000, FEW = 2, LITTLE = 65528, ROOM = 16 };
+/* So many entries take more than twice the memory that is left. */
+enum { MANY = 20000, FEW = 2, ROOM = 16 };
 
 /* A column and a row, and their product, which stores all its entries. An entry is a number of 8 bytes and more. */
 enum { SIDE = 128, COUNT = SIDE * SIDE, COLUMN_BYTES = 8 * SIDE, PRODUCT_BYTES = 8 * COUNT };
@@ -78,7 +79,7 @@ static size_t bytes_of_next(TrB_Index count, bool is_branch)
     uint64_t needed;
     OK(TrB_open(ROOM, &pass, 1));
     Pair pair = make_pair(&pass, count);
-    hold_back((Supply){BYTES, LITTLE});
+    hold_back(SOME);
     if (is_branch) {
         OK(TrB_branch(&pass, &needed, &pair.a, 1, &pair.v, 1, ROOM, next, 2));
     } else {
@@ -102,7 +103,7 @@ static size_t bytes_of_result(TrB_Index count)
     OK(TrB_open(ROOM, &pass, 1));
     OK(TrB_branch(&pass, &needed, NULL, 0, NULL, 0, ROOM, &own, 1));
     Pair made = make_pair(&own, count), pair = new_pair(&pass);
-    hold_back((Supply){BYTES, LITTLE});
+    hold_back(SOME);
     OK(TrB_Vector_build_from(&pass, pair.v, &own, made.v));
     OK(TrB_Matrix_build_from(&pass, pair.a, &own, made.a));
     counts(&pass, pair, count);
@@ -268,9 +269,7 @@ static void release_all(void)
 
 int main(void)
 {
-    TrB_Pass pass = TRB_PASS_INIT;
-    OK(TrB_open(1, &pass, 1)); /* the block of numbers, which stays */
-    TrB_free(&pass);
+    take_numbers();
     size_t before = memory.held;
     copy_nothing();
     replace_all();

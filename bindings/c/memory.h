@@ -37,6 +37,11 @@ typedef enum {
     WAYS
 } Way;
 
+static inline const char *name_of_way(Way way)
+{
+    return way == ONCE ? "once" : way == ON ? "on" : "bytes";
+}
+
 /* How much memory a step has: the request that is refused, from 1, or the bytes that are given out. */
 typedef struct {
     Way way;

@@ -8,6 +8,7 @@
 #include "memory.h"
 #include "script.h"
 #include "shown.h"
+#include "trials.h"
 #include "trowelheath.h"
 
 #include <stdio.h>
@@ -152,7 +153,7 @@ typedef struct {
     Answer answer;
     uint32_t made; /* how many calls of the history it evaluated */
     Held held[LOOKED_AT];
-} Trial;
+} Outcome;
 
 /* A number, or a truth value and 1 as the second one. */
 static Answer vector_at(TrB_Pass *pass, TrB_Vector v, TrB_Index i)
@@ -221,7 +222,7 @@ static bool expect_refused(const Shown *before, TrB_Pass *pass, const Names *nam
 }
 
 /* Makes the call with this much memory, and if it is refused then once more with ample memory. */
-static void try_call(Trial *trial, TrB_Pass *pass, Names *names, const char *call, Supply supply)
+static void try_call(Outcome *trial, TrB_Pass *pass, Names *names, const char *call, Supply supply)
 {
     Shown before = shown(pass);
     hold_back(supply);
@@ -253,11 +254,11 @@ static void set_often(TrB_Pass *pass)
 }
 
 /* A trial in a store of its own, which gives back all that it took. */
-static Trial try_once(const char *call, Manner manner, Supply supply)
+static Outcome try_once(const char *call, Manner manner, Supply supply)
 {
     TrB_Pass passes[2] = {TRB_PASS_INIT};
     Names names = {0};
-    Trial trial = {0};
+    Outcome trial = {0};
     char total[] = "total x plus";
     size_t before = memory.held;
     OK(TrB_open(ROOM, passes, 2));
@@ -281,7 +282,7 @@ static Trial try_once(const char *call, Manner manner, Supply supply)
 }
 
 /* A trial comes to what one with ample memory comes to. */
-static void expect_same(const Trial *trial, const Trial *ample)
+static void expect_same(const Outcome *trial, const Outcome *ample)
 {
     HOLDS(is_same(trial->answer, ample->answer));
     for (uint32_t n = 0; n < LOOKED_AT; n++) {
@@ -292,7 +293,6 @@ static void expect_same(const Trial *trial, const Trial *ample)
 }
 
 static const char *const manners[] = {"by itself", "late", "by the other pass"};
-static const char *const ways[] = {"once", "on", "bytes"};
 
 /* How many calls the other pass makes for this one: none for dimensions, none of what it finds, and for each other
  * object the one that makes it and two sets. */
@@ -309,7 +309,7 @@ static void try_all(const char *call, Manner manner)
     char row[256];
     checked_row = row;
     snprintf(row, sizeof row, "%s, %s, ample memory", call, manners[manner]);
-    Trial ample = try_once(call, manner, AMPLE);
+    Outcome ample = try_once(call, manner, AMPLE);
     bool takes_memory = strncmp(call, "size", 4) != 0, leaves_status = false;
     HOLDS(!ample.is_refused && ample.answer.info == TrB_SUCCESS);
     HOLDS(memory.refused == 0 && (memory.asked > 0) == takes_memory);
@@ -319,8 +319,8 @@ static void try_all(const char *call, Manner manner)
         Supply supply = first_supply(way);
         unsigned refusals = 0, alone = 0;
         do {
-            snprintf(row, sizeof row, "%s, %s, %s %zu", call, manners[manner], ways[way], supply.number);
-            Trial trial = try_once(call, manner, supply);
+            snprintf(row, sizeof row, "%s, %s, %s %zu", call, manners[manner], name_of_way(way), supply.number);
+            Outcome trial = try_once(call, manner, supply);
             expect_same(&trial, &ample);
             refusals += trial.is_refused;
             alone += !trial.is_refused && trial.made > 0;
@@ -336,7 +336,7 @@ static void try_all(const char *call, Manner manner)
 }
 
 /* Tries the calls that can be tried in this manner. */
-static void sweep(Manner manner)
+static void try_list(Manner manner)
 {
     unsigned calls = 0;
     for (size_t k = 0; k < TRIED; k++) {
@@ -354,11 +354,9 @@ static void sweep(Manner manner)
 
 int main(void)
 {
-    TrB_Pass pass = TRB_PASS_INIT;
-    OK(TrB_open(1, &pass, 1)); /* the block of numbers, which stays */
-    TrB_free(&pass);
-    sweep(BY_ITSELF);
-    sweep(LATE);
-    sweep(BY_OTHER);
+    take_numbers();
+    try_list(BY_ITSELF);
+    try_list(LATE);
+    try_list(BY_OTHER);
     return 0;
 }
