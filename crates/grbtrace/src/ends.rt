@@ -1,7 +1,6 @@
 //! What is told of a run once it has ended, next to what every program tells.
-use crate::faults::told_of_fault;
 use crate::files::{heads_of, path_at, script_text, told_of_file, told_of_market};
-use crate::refusals::{is_any_refused, told_of_refusals};
+use grb_explanations::{is_any_refused, told_of_fault, told_of_refusals};
 use grb_run::RunFault;
 use grb_script::ScriptFault;
 use std::alloc::AllocError;

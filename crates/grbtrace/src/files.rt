@@ -1,9 +1,7 @@
 //! The files of a run, read again once it has ended, for what is told of them.
 ghost use Rattle.std.specs.Prelude.{◌-◌, ◌<◌, ◌^◌};
 
-use crate::faults::line_at;
-use crate::names::{Dims, Object};
-use crate::told::push_line;
+use grb_explanations::{Dims, Object, line_at, push_line};
 use grb_market::{MarketFault, read};
 use grb_run::{MAX_FILE, MAX_SCRIPT, read_all};
 use grb_words::{is_load, load_of, words};

@@ -3,23 +3,15 @@
 //!
 //! It shows what a `Gate` is for: `run_helped_script` calls it before and after each statement, and leaves the rest of the run to itself. It
 //! also tells on standard error what `grbrun` does not: of a fault the line as it stands, its form and its names, of a refused statement the
-//! hint and the objects, and of a file its path and the cause.
+//! hint and the objects, as `grb_explanations` has them, and of a file its path and the cause.
 #![tactic(auto)]
 
 ghost use Rattle.std.specs.Prelude.{◌<◌, ◌≤◌};
 ghost use Rattle.grb_order.specs.declared.limits.TheConstants.{MOST_ROOM};
 
 mod ends;
-mod faults;
 mod files;
-mod forms;
 mod gate;
-mod names;
-mod near;
-mod refusals;
-#[cfg(test)]
-mod tests;
-mod told;
 
 use crate::ends::{tell_end, tell_refusals};
 use crate::gate::TraceGate;

@@ -8,6 +8,8 @@
 #[cfg(test)]
 mod drawn_maps;
 #[cfg(test)]
+mod explanations;
+#[cfg(test)]
 mod listed;
 #[cfg(test)]
 mod maps;

@@ -1,10 +1,8 @@
 //! What is told of faults and of refusals, which no contract says and which no script prints.
-use crate::faults::told_of_fault;
-use crate::near::is_near;
-use crate::refusals::told_of_refusals;
+use crate::same::same;
+use grb_explanations::{is_near, told_of_fault, told_of_refusals};
 use grb_script::{ReadFault, ScriptFault, read_script};
 use std::alloc::{AllocError, Global};
-use std::process::Abort;
 
 /// A script, and what is told of its first fault.
 static FAULTS: [(&str, &str); 12] = [
@@ -108,21 +106,15 @@ fn fault_of(alloc: Global, script: &str) -> Option<ScriptFault> {
     }
 }
 
-/// These texts are the same.
-fn same(rt: &impl Abort, told: &str, wanted: &str) {
-    assert!(rt; told == wanted, "told: {told}, and wanted: {wanted}");
-}
-
 #[test]
 fn a_fault_is_told_with_its_line_its_form_and_its_names(rt: HostRuntime) -> Result<(), AllocError> {
     let alloc = rt.alloc();
     for (script, wanted) in &FAULTS {
         let Some(fault) = fault_of(alloc, *script) else {
-            same(&rt, "no fault", *script);
-            continue;
+            panic!(&rt; "no fault: {script}")
         };
         let told = told_of_fault(alloc, script.as_bytes(), fault)?;
-        same(&rt, told.as_str(), *wanted);
+        same(&rt, told.as_str(), *wanted, *script);
     }
     Ok(())
 }
@@ -131,7 +123,7 @@ fn a_fault_is_told_with_its_line_its_form_and_its_names(rt: HostRuntime) -> Resu
 fn a_refusal_is_told_with_its_hint_and_its_objects(rt: HostRuntime) -> Result<(), AllocError> {
     for (script, output, wanted) in &REFUSALS {
         let told = told_of_refusals(rt.alloc(), script.as_bytes(), output.as_bytes(), &[])?;
-        same(&rt, told.as_str(), *wanted);
+        same(&rt, told.as_str(), *wanted, *script);
     }
     Ok(())
 }
@@ -149,9 +141,7 @@ fn words_are_near_that_are_one_slip_apart(rt: HostRuntime) {
         ("abcd", "badc", false),
     ];
     for (one, other, wanted) in rows {
-        assert!(rt;
-            is_near(one.as_bytes(), other.as_bytes()) == wanted,
-            "{one} and {other}"
-        );
+        let found = is_near(one.as_bytes(), other.as_bytes());
+        same(&rt, found, wanted, (one, other));
     }
 }

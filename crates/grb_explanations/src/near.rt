@@ -11,7 +11,7 @@ fn without_common_start<'a>(one: &'a [u8], other: &'a [u8]) -> (&'a [u8], &'a [u
 
 /// Whether one slip turns a word into another: a byte changed, left out or added, or two neighbours exchanged. Nothing is near a word of
 /// one byte.
-pub(crate) fn is_near(one: &[u8], other: &[u8]) -> bool {
+pub fn is_near(one: &[u8], other: &[u8]) -> bool {
     if one.len() < 2 || other.len() < 2 {
         return false;
     }

@@ -8,7 +8,7 @@ use grb_words::words;
 use std::alloc::{AllocError, Global};
 
 /// The line of this number, counted from 1, or no bytes where there is none.
-pub(crate) fn line_at(text: &[u8], number: u64) -> &[u8] {
+pub fn line_at(text: &[u8], number: u64) -> &[u8] {
     let at = number.saturating_sub(1);
     for (place, line) in text.split(|b| *b == b'\n').enumerate() {
         if place as u64 == at {
@@ -97,11 +97,7 @@ fn push_names(
 
 /// What is told of the first fault of this script: the line as it stands, the form of such lines, and what the names stand for that the
 /// fault is about.
-pub(crate) fn told_of_fault(
-    alloc: Global,
-    text: &[u8],
-    fault: ScriptFault,
-) -> Result<String, AllocError> {
+pub fn told_of_fault(alloc: Global, text: &[u8], fault: ScriptFault) -> Result<String, AllocError> {
     let mut told = String::new(alloc);
     let line = line_at(text, fault.line);
     let words = words(alloc, line)?;

@@ -22,7 +22,7 @@ fn push_bytes(text: &mut String, bytes: &[u8]) -> Result<(), AllocError> {
 }
 
 /// Appends the line of this number as it stands.
-pub(crate) fn push_line(text: &mut String, number: u64, line: &[u8]) -> Result<(), AllocError> {
+pub fn push_line(text: &mut String, number: u64, line: &[u8]) -> Result<(), AllocError> {
     write!(text, "  line {number}: ")?;
     push_bytes(text, line)?;
     text.push_str("\n")

@@ -9,7 +9,7 @@ use std::alloc::{AllocError, Global};
 
 /// The dimensions of an object, and so its sort.
 #[derive(Clone, Copy)]
-pub(crate) enum Dims {
+pub enum Dims {
     /// A matrix of so many rows and columns.
     Matrix(u64, u64),
     /// A vector of this size.
@@ -18,7 +18,7 @@ pub(crate) enum Dims {
 
 /// What is known of an object.
 #[derive(Clone, Copy)]
-pub(crate) enum Object {
+pub enum Object {
     /// Its domain and its dimensions.
     Known(Domain, Dims),
     /// It is a matrix whose file was not read.

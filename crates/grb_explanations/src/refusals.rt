@@ -30,7 +30,7 @@ fn refusal_printed(line: &[u8]) -> Option<Refusal> {
 }
 
 /// Whether a line of the output prints a refusal.
-pub(crate) fn is_any_refused(output: &[u8]) -> bool {
+pub fn is_any_refused(output: &[u8]) -> bool {
     output
         .split(|b| *b == b'\n')
         .any(|line| refusal_printed(line).is_some())
@@ -57,7 +57,7 @@ fn push_refusal(
 /// What is told of the refused statements of a script whose run wrote these lines, in the order of the text: the line as it stands, the
 /// refusal with its hint, and the objects as they were before it, by the lines of main and of its section. The heads are those of the files
 /// that it loads, in their order.
-pub(crate) fn told_of_refusals(
+pub fn told_of_refusals(
     alloc: Global,
     text: &[u8],
     output: &[u8],
