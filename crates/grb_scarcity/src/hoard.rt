@@ -38,9 +38,9 @@ fn last_of(bytes: &[u8]) -> Option<u8> {
     bytes.last().copied()
 }
 
-/// Makes the stack grow by `times` + 1 times `DEPTH`, and answers the byte.
+/// Makes the stack grow by `times` + 1 times 65,536 bytes, and answers the byte.
 #[inline(never)]
-pub(crate) fn deepen(byte: u8, times: u32) -> Option<u8> {
+pub fn deepen(byte: u8, times: u32) -> Option<u8> {
     let bytes = [byte; DEPTH];
     if times > 0 {
         let deeper = deepen(byte, times - 1);

@@ -13,8 +13,5 @@
 mod hoard;
 mod machine;
 
-pub use hoard::{Hoard, SPARE};
+pub use hoard::{Hoard, SPARE, deepen};
 pub use machine::never_overcommits;
-
-#[cfg(test)]
-mod tests;

@@ -2,14 +2,18 @@
 //! there; no script makes a list of calls.
 ghost use Rattle.grb_context.specs.Known.{IsPassOf};
 
-use crate::tests::asked::{BAD_INDEX, DONE, FIRST, MADE, NO_VALUE, SECOND};
-use crate::tests::rows::next_pass;
 use crate::tests::same::same;
-use grb_call::{Call, Object, Reply};
+use crate::tests::stores::{Answer, BAD_INDEX, DONE, NO_VALUE, open};
+use grb_call::{Call, Object, Reply, VectorId};
 use grb_context::{Context, Pass};
 use grb_core::{Domain, Info, Refusal, Value};
-use std::alloc::AllocError;
 use std::process::Abort;
+
+const FIRST: VectorId = VectorId(0);
+
+const SECOND: VectorId = VectorId(1);
+
+const MADE: Answer = Ok(Reply::MadeVector(FIRST));
 
 const V: Object = Object::Vector(FIRST);
 
@@ -60,11 +64,8 @@ fn expect_met(rt: &impl Abort, context: &Context, p: &mut Pass, q: &mut Pass)
 }
 
 #[test]
-fn a_list_leaves_the_status_of_its_last_call(rt: HostRuntime) -> Result<(), AllocError> {
-    let (context, mut passes) = Context::open(rt.alloc(), 8, 2)?;
-    let mut q = next_pass(&rt, &context, &mut passes);
-    let mut p = next_pass(&rt, &context, &mut passes);
-    expect_list(&rt, &context, &mut p);
-    expect_met(&rt, &context, &mut p, &mut q);
-    Ok(())
+fn a_list_leaves_the_status_of_its_last_call(rt: HostRuntime) {
+    let mut store = open(&rt, rt.alloc(), 8);
+    expect_list(&rt, &store.context, &mut store.p);
+    expect_met(&rt, &store.context, &mut store.p, &mut store.q);
 }

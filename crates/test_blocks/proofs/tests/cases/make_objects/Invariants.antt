@@ -1,5 +1,0 @@
-use Rattle.grb_context.specs.Known.{IsPassOf}
-use Rattle.test_blocks.proofs.tests.cases.make_objects.Given as goal
-
-abbrev pub invariant-objects : goal.invariant-objects
-invariant-objects g l = record { pass : IsPassOf l.context l.pass }

@@ -1,5 +1,0 @@
-use Rattle.grb_context.specs.Known.{IsPassOf}
-use Rattle.test_store.proofs.tests.dear.count_in_turn.Given as goal
-
-abbrev pub invariant-counts : goal.invariant-counts
-invariant-counts g l = record { pass : IsPassOf l.context l.pass }

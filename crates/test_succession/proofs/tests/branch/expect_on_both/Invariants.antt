@@ -1,8 +1,0 @@
-use Rattle.grb_context.specs.Known.{IsPassOf}
-use Rattle.test_succession.proofs.tests.branch.expect_on_both.Given as goal
-
-abbrev pub invariant-rows : goal.invariant-rows
-invariant-rows g l = record {
-  old : IsPassOf l.context l.pass;
-  new : IsPassOf l.next l.own;
-}
