@@ -1,9 +1,7 @@
 //! What tests draw by chance, the same in each run.
 ghost use Rattle.std.specs.Prelude.{◌<◌};
 
-use crate::calls::value_of;
-use grb_call::Descriptor;
-use grb_core::{BinaryOp, Diagonal, Domain, Function, Monoid, Test, UnaryOp};
+use grb_core::{BinaryOp, Descriptor, Diagonal, Domain, Function, Monoid, Test, UnaryOp, Value};
 
 /// Numbers that look drawn by chance (Knuth's linear congruential generator).
 #[derive(Drop)]
@@ -12,8 +10,16 @@ pub struct Draw {
     pub state: u64,
 }
 
+/// A number as a value of the domain. Of truth values 0 is false.
+pub fn value_of(domain: Domain, n: u64) -> Value {
+    match domain {
+        Domain::Bool => Value::Bool(n != 0),
+        Domain::Uint64 => Value::Uint64(n),
+    }
+}
+
 /// One of the four monoids of the domain.
-pub fn monoid_of(domain: Domain, n: u64) -> Monoid {
+fn monoid_of(domain: Domain, n: u64) -> Monoid {
     match (domain, n % 4) {
         (Domain::Bool, 0) => Monoid::Lor,
         (Domain::Bool, 1) => Monoid::Land,
@@ -27,7 +33,7 @@ pub fn monoid_of(domain: Domain, n: u64) -> Monoid {
 }
 
 /// One of the operators of the domain, which are 6 of truth values and 7 of numbers.
-pub fn op_of(domain: Domain, n: u64) -> BinaryOp {
+fn op_of(domain: Domain, n: u64) -> BinaryOp {
     match (domain, n % 6, n % 7) {
         (Domain::Bool, 4, _) => BinaryOp::FirstBool,
         (Domain::Bool, 5, _) => BinaryOp::SecondBool,

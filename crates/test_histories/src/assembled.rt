@@ -8,11 +8,13 @@ ghost use Rattle.grb_state.specs.Settled.{AreAllAssembled};
 ghost use Rattle.grb_state.specs.State.{is_assembled};
 
 use crate::editions::results_of;
+use crate::operations::{PLAIN, lent};
 use crate::same::same;
+use crate::stores::replayed;
+use crate::texts::text_of;
 use crate::values::held_after;
 use grb_call::{Call, MatrixId, Object, VectorId};
 use grb_core::{BinaryOp, Domain, Monoid, Semiring, Value};
-use grb_drawn::{PLAIN, lent, replayed, text_of};
 use grb_folds::{reduce_matrix, reduce_vector};
 use grb_pull::mxv;
 use grb_replay::Versions;

@@ -1,7 +1,8 @@
 //! The calls of a drawn history: of all sorts that enter, on few small objects, so that they depend on one another and some are refused.
+use crate::operations::{Choice, Operands, Operation, operation_call};
 use grb_call::{Call, MatrixId, MatrixTerm, MatrixTuples, VectorId, VectorTerm, VectorTuples};
 use grb_core::{Domain, Value};
-use grb_drawn::{Choice, Draw, Operands, Operation, operation_call, value_of};
+use grb_drawn::{Draw, value_of};
 use std::alloc::{AllocError, Global};
 use std::process::Abort;
 

@@ -6,11 +6,11 @@
 ghost use Rattle.std.specs.Prelude.{◌≤◌, length, map, IfOk};
 ghost use Rattle.grb_results.specs.Kept.{AreKept};
 
+use crate::operations::lent;
 use crate::results::{learnt, settle};
 use crate::same::same;
 use grb_call::{Call, VectorId};
 use grb_core::{Domain, Value};
-use grb_drawn::lent;
 use grb_objects::SharedContent;
 use grb_replay::Versions;
 use grb_results::{Kept, Table};

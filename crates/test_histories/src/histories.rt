@@ -9,12 +9,15 @@ ghost use Rattle.grb_state.specs.Settled.{AreAllAssembled};
 ghost use Rattle.grb_state.specs.State.{is_assembled};
 
 use crate::drawn_calls::drawn_history;
+use crate::operations::lent;
 use crate::results::{begun, learnt, result_of, settle, taken};
 use crate::same::same;
+use crate::stores::{Answer, answer, applied, replayed};
+use crate::texts::text_of;
 use crate::values::held_after;
 use grb_call::{Call, MatrixId, Object, Reply, VectorId};
 use grb_core::{Domain, Refusal, Value};
-use grb_drawn::{Answer, Draw, answer, applied, lent, replayed, text_of};
+use grb_drawn::Draw;
 use grb_market::WriteFault;
 use grb_results::Table;
 use grb_sparse::{SparseMatrix, SparseVector};
@@ -75,16 +78,15 @@ fn same_matrix(
     let mut entries = Vec::new(alloc);
     for place in 0..64 {
         let (i, j) = (place / 8, place % 8);
-        let call = Call::GetMatrix { a, i, j };
-        let wanted = answer(store, &call)?;
-        same(rt, answer_in_matrix(matrix, i, j), wanted, &call);
+        let wanted = answer(store, &Call::GetMatrix { a, i, j })?;
+        same(rt, answer_in_matrix(matrix, i, j), wanted, (a, i, j));
         if let Ok(Reply::Value(value)) = wanted {
             entries.push(((i, j), value))?;
         }
     }
-    let call = Call::NvalsMatrix { a };
     let nvals = answer_of_count(matrix.map(|matrix| matrix.nvals()));
-    same(rt, nvals, answer(store, &call)?, &call);
+    let wanted = answer(store, &Call::NvalsMatrix { a })?;
+    same(rt, nvals, wanted, ("the entries of", a));
     Ok(entries)
 }
 
@@ -98,16 +100,15 @@ fn same_vector(
 ) -> Result<Vec<(u64, Value)>, AllocError> {
     let mut entries = Vec::new(alloc);
     for i in 0..5 {
-        let call = Call::GetVector { v, i };
-        let wanted = answer(store, &call)?;
-        same(rt, answer_in_vector(vector, i), wanted, &call);
+        let wanted = answer(store, &Call::GetVector { v, i })?;
+        same(rt, answer_in_vector(vector, i), wanted, (v, i));
         if let Ok(Reply::Value(value)) = wanted {
             entries.push((i, value))?;
         }
     }
-    let call = Call::NvalsVector { v };
     let nvals = answer_of_count(vector.map(|vector| vector.nvals()));
-    same(rt, nvals, answer(store, &call)?, &call);
+    let wanted = answer(store, &Call::NvalsVector { v })?;
+    same(rt, nvals, wanted, ("the entries of", v));
     Ok(entries)
 }
 
@@ -391,9 +392,9 @@ fn release(table: &mut Table, calls: &[&Call])
 }
 
 fn same_copies(rt: &impl Abort, calls: &[Call]) -> Result<(), AllocError> {
-    for call in calls {
+    for (at, call) in calls.iter().enumerate() {
         let copy = call.try_clone()?;
-        same(rt, &copy, call, "the copy");
+        assert!(rt; copy == *call, "the copy of call {at}");
     }
     Ok(())
 }

@@ -2,11 +2,12 @@
 //! surely refused it.
 //!
 //! No contract can say that memory is there: a body that only answers that it is not would be proved.
+use crate::operations::lent;
 use crate::same::same;
+use crate::stores::{answer, applied};
 use crate::values::{Step, calls_of};
 use grb_call::{Call, MatrixId, Reply, Shapes, VectorId, WaitMode};
 use grb_core::{Domain, Monoid, Value};
-use grb_drawn::{answer, applied, lent};
 use grb_sparse::{SparseMatrix, SparseVector};
 use grb_state::State;
 use std::alloc::{AllocError, Global};

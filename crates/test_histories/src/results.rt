@@ -5,10 +5,10 @@ ghost use Rattle.grb_call.specs.History.{after_all};
 ghost use Rattle.grb_call.specs.Store.{empty_store};
 ghost use Rattle.grb_results.specs.Kept.{AreReady, IsTableOf};
 
+use crate::operations::{PLAIN, lent};
 use crate::same::same;
 use grb_call::{Call, MatrixId, Object, VectorId, VectorTuples};
 use grb_core::{BinaryOp, Domain, Monoid, Value};
-use grb_drawn::{PLAIN, lent};
 use grb_objects::SharedContent;
 use grb_replay::{LentCalls, Targets};
 use grb_results::Table;

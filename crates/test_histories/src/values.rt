@@ -4,10 +4,10 @@
 //! these are. That a read costs no other call is said nowhere.
 ghost use Rattle.std.specs.Prelude.{◌≡◌, true};
 
+use crate::operations::{PLAIN, lent};
 use crate::same::same;
 use grb_call::{Call, Descriptor, Object, VectorId};
 use grb_core::{BinaryOp, Domain, Value};
-use grb_drawn::{PLAIN, lent};
 use grb_replay::{Held, value_of};
 use grb_sparse::SparseVector;
 use grb_state::State;

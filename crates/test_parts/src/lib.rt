@@ -1,26 +1,20 @@
-//! Tests of the crates from the values to the store that calls leave, and of the readers of texts, of what no contract and no script says.
-//! Each module begins with why none does. What a contract says is proved and not tried here, and what a script says stands in
-//! `test_cases`.
+//! Tests of the crates from the values to the readers of texts, and of the order and the records of a history, of what no contract and no
+//! script says. Each module begins with why none does. What a contract says is proved and not tried here, what a script says stands in
+//! `test_cases`, and what a caller of the C library sees in the tests of `bindings`.
 //!
 //! Nothing stands on this crate, and it has nothing but tests, so that the crates that it tries are not proved a second time for them.
 #![tactic(auto)]
 
 #[cfg(test)]
-mod drawn_maps;
-#[cfg(test)]
 mod explanations;
 #[cfg(test)]
 mod listed;
 #[cfg(test)]
-mod maps;
-#[cfg(test)]
 mod objects;
 #[cfg(test)]
-mod operations;
+mod order;
 #[cfg(test)]
-mod plain;
-#[cfg(test)]
-mod plain_maps;
+mod records;
 #[cfg(test)]
 mod same;
 #[cfg(test)]
@@ -29,5 +23,3 @@ mod texts_changed;
 mod texts_hostile;
 #[cfg(test)]
 mod texts_written;
-#[cfg(test)]
-mod tuples;

@@ -1,6 +1,6 @@
 //! Records that two threads put, and tokens of them. A contract lets a record not be taken, or not be shown; that each is, with threads at
 //! work, is seen here. No script names a record.
-use crate::tests::same::same;
+use crate::same::same;
 use grb_call::{Call, VectorId};
 use grb_core::{Refusal, Value};
 use grb_records::Records;

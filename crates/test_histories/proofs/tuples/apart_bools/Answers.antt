@@ -3,8 +3,8 @@ use Rattle.std.specs.Prelude.{map, All, IfSome}
 use Rattle.grb_core.specs.declared.value.Value.TheVariants as value
 use Rattle.grb_core.specs.Entries.{VectorEntries}
 use Rattle.grb_sparse.specs.Arrays.{paired}
-use Rattle.test_parts.proofs.Below.{paired-below}
-use Rattle.test_parts.proofs.tuples.apart_bools.Goals as goal
+use Rattle.test_histories.proofs.Below.{paired-below}
+use Rattle.test_histories.proofs.tuples.apart_bools.Goals as goal
 
 pub from_apart-requires : goal.from_apart-requires
 from_apart-requires c =

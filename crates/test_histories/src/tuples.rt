@@ -4,10 +4,12 @@
 //! and what each monoid makes of the values of one place.
 ghost use Rattle.std.specs.Prelude.{◌≡◌, length};
 
+use crate::operations::lent;
 use crate::same::same;
+use crate::stores::replayed;
 use grb_call::{Call, MatrixId, MatrixTuples, VectorId, VectorTuples};
 use grb_core::{Domain, Monoid, Value};
-use grb_drawn::{lent, replayed, value_of};
+use grb_drawn::value_of;
 use grb_sparse::{ApartTuples, SparseMatrix, SparseVector};
 use std::alloc::{AllocError, Global};
 use std::process::Abort;

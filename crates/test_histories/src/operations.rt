@@ -1,11 +1,11 @@
 //! Calls as tests make them: an operation by how it is called and by the numbers of its objects.
 use grb_call::{Call, Descriptor, MatrixId, VectorId};
-use grb_core::{BinaryOp, Domain, Monoid, Refusal, Semiring, Value};
+use grb_core::{BinaryOp, Monoid, Refusal, Semiring};
 use std::alloc::{AllocError, Global};
 
 /// An operation that writes an output.
-#[derive(Clone, Copy, Debug, PartialEq)]
-pub enum Operation {
+#[derive(Clone, Copy)]
+pub(crate) enum Operation {
     AddVector,
     MultVector,
     AddMatrix,
@@ -17,46 +17,26 @@ pub enum Operation {
 }
 
 /// How an operation is called. Where it is a product the monoid and the operator are of one domain.
-#[derive(Clone, Copy, Debug)]
-pub struct Choice {
-    pub operation: Operation,
-    pub monoid: Monoid,
-    pub op: BinaryOp,
-    pub accum: Option<BinaryOp>,
-    pub descriptor: Descriptor,
-}
-
-impl Choice {
-    /// Whether the first input is read transposed, which is so of matrices alone.
-    pub fn is_turned(self) -> bool {
-        let is_of_matrix = !matches!(
-            self.operation,
-            Operation::AddVector | Operation::MultVector | Operation::Vxm
-        );
-        self.descriptor.tran && is_of_matrix
-    }
-
-    /// Whether the second input is.
-    pub fn is_second_turned(self) -> bool {
-        let is_of_matrix = matches!(
-            self.operation,
-            Operation::AddMatrix | Operation::MultMatrix | Operation::Mxm | Operation::Vxm
-        );
-        self.descriptor.tran1 && is_of_matrix
-    }
+#[derive(Clone, Copy)]
+pub(crate) struct Choice {
+    pub(crate) operation: Operation,
+    pub(crate) monoid: Monoid,
+    pub(crate) op: BinaryOp,
+    pub(crate) accum: Option<BinaryOp>,
+    pub(crate) descriptor: Descriptor,
 }
 
 /// The numbers of the objects of an operation. A reduction of rows has no second input.
-#[derive(Clone, Copy, Debug)]
-pub struct Operands {
-    pub output: u32,
-    pub mask: Option<u32>,
-    pub first: u32,
-    pub second: u32,
+#[derive(Clone, Copy)]
+pub(crate) struct Operands {
+    pub(crate) output: u32,
+    pub(crate) mask: Option<u32>,
+    pub(crate) first: u32,
+    pub(crate) second: u32,
 }
 
 /// No mask is turned round or read by its structure alone, nothing is replaced, and no input is transposed.
-pub const PLAIN: Descriptor = Descriptor {
+pub(crate) const PLAIN: Descriptor = Descriptor {
     structure: false,
     comp: false,
     replace: false,
@@ -169,7 +149,7 @@ fn of_both(choice: Choice, operands: Operands, semiring: Semiring) -> Call {
 }
 
 /// The call of this operation on these objects. A refusal where its monoid and its operator are of two domains.
-pub fn operation_call(choice: Choice, operands: Operands) -> Result<Call, Refusal> {
+pub(crate) fn operation_call(choice: Choice, operands: Operands) -> Result<Call, Refusal> {
     let semiring = Semiring::new(choice.monoid, choice.op)?;
     Ok(match choice.operation {
         Operation::AddVector | Operation::MultVector => of_vectors(choice, operands),
@@ -180,15 +160,7 @@ pub fn operation_call(choice: Choice, operands: Operands) -> Result<Call, Refusa
     })
 }
 
-/// A number as a value of the domain. Of truth values 0 is false.
-pub fn value_of(domain: Domain, n: u64) -> Value {
-    match domain {
-        Domain::Bool => Value::Bool(n != 0),
-        Domain::Uint64 => Value::Uint64(n),
-    }
-}
-
 /// These calls, each lent.
-pub fn lent(alloc: Global, calls: &[Call]) -> Result<Vec<&Call>, AllocError> {
+pub(crate) fn lent(alloc: Global, calls: &[Call]) -> Result<Vec<&Call>, AllocError> {
     calls.iter().collect(alloc)
 }

@@ -1,5 +1,5 @@
 use Rattle.std.proofs.Common.{◌+◌, ◌≤◌, length}
-use Rattle.grb_drawn.proofs.stores.applied.Given as goal
+use Rattle.test_histories.proofs.stores.applied.Given as goal
 
 abbrev pub invariant-calls : goal.invariant-calls
 invariant-calls l = length l.calls ≤ l.state.room + l.at

@@ -10,11 +10,11 @@ use grb_state::{State, replay};
 use std::alloc::{AllocError, Global};
 
 /// What a store answers to a call.
-pub type Answer = Result<Reply, Refusal>;
+pub(crate) type Answer = Result<Reply, Refusal>;
 
 /// The store that these calls leave, which are few. No change waits in it. `AllocError` where they are more than 10,000, or memory is
 /// refused.
-pub fn replayed(alloc: Global, calls: &[&Call]) -> Result<State, AllocError>
+pub(crate) fn replayed(alloc: Global, calls: &[&Call]) -> Result<State, AllocError>
     ensures { IfOk result (λ state. AreAllAssembled (is_assembled state.matrices state.vectors)) }
 {
     if calls.len() > 10_000 {
@@ -26,7 +26,7 @@ pub fn replayed(alloc: Global, calls: &[&Call]) -> Result<State, AllocError>
 
 /// The store that these calls leave, which are few, each made as it comes: changes wait in it. `AllocError` where they are more than
 /// 10,000, or memory is refused.
-pub fn applied(alloc: Global, calls: &[&Call]) -> Result<State, AllocError> {
+pub(crate) fn applied(alloc: Global, calls: &[&Call]) -> Result<State, AllocError> {
     if calls.len() > 10_000 {
         return Err(AllocError);
     }
@@ -38,7 +38,7 @@ pub fn applied(alloc: Global, calls: &[&Call]) -> Result<State, AllocError> {
 }
 
 /// What the store answers to a reading call.
-pub fn answer(state: &mut State, call: &Call) -> Result<Answer, AllocError>
+pub(crate) fn answer(state: &mut State, call: &Call) -> Result<Answer, AllocError>
     requires reads { enters call.now ≡ false }
     requires no_size { is_size call.now ≡ false }
 {

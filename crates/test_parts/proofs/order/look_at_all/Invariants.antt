@@ -1,6 +1,6 @@
 use Rattle.std.proofs.Common.{◌≡◌, ◌-◌, length}
 use Rattle.grb_order.specs.Order.{room_of}
-use Rattle.test_store.proofs.tests.order.look_at_all.Given as goal
+use Rattle.test_parts.proofs.order.look_at_all.Given as goal
 
 abbrev pub invariant-loop : goal.invariant-loop
 invariant-loop l = l.seat.table_id ≡ l.order

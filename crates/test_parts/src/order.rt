@@ -4,7 +4,7 @@ ghost use Rattle.std.specs.Prelude.{◌≡◌, ◌<◌, ◌≤◌, ◌^◌, ◌+
 ghost use Rattle.grb_order.specs.declared.limits.TheConstants.{MOST_ROOM};
 ghost use Rattle.grb_order.specs.Order.{room_of};
 
-use crate::tests::same::same;
+use crate::same::same;
 use grb_order::{Entered, Look, MOST_PASSES, MOST_ROOM, Order, Seat};
 use std::alloc::{AllocError, Global};
 use std::process::Abort;

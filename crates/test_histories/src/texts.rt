@@ -38,7 +38,7 @@ impl Sink for Kept {
 }
 
 /// The text that is written of a matrix, or why it is not.
-pub fn text_of(alloc: Global, a: &SparseMatrix) -> Result<Vec<u8>, WriteFault>
+pub(crate) fn text_of(alloc: Global, a: &SparseMatrix) -> Result<Vec<u8>, WriteFault>
     requires { a.now.assembled ≡ true }
 {
     let mut kept = Kept::new(alloc);
