@@ -1,29 +1,35 @@
-/* A fixed list of calls with one allocation refused, or all from one on.
+/* A fixed list of calls with one allocation refused, or all from one on, for each allocation in turn.
  *
- *     fail K once     the K-th allocation is refused. A call that is refused memory is made again, and
- *                     then answers as it does where memory is there.
- *     fail K on       the K-th allocation and all after it are refused. The first call that is refused
- *                     memory ends the list.
+ *     fail once       one allocation is refused. A call that is refused memory is made again, and then
+ *                     answers as it does where memory is there.
+ *     fail on         one allocation and all after it are refused. The first call that is refused memory
+ *                     ends the list.
+ *
+ * The list is made once with nothing refused. At each allocation a child goes on in which it is refused. With a
+ * number K at the end there is one child, in which the K-th is.
  *
  * Whatever is refused: no call answers anything but TrB_OUT_OF_MEMORY or what it answers where memory is
  * there, but that a change of a chain may be answered TrB_ORDER_FULL; and when the passes are freed, all that
  * was allocated has been given back, but for the block of numbers that TrB_open tells of.
  *
- * Ends with status 0 where the list was made with no allocation refused, 2 where one was refused and all
- * was as it should be, and 1 where something was not. fail.sh goes through all K.
+ * Ends with status 0 where all was as it should be, and with 1 where something was not, or nothing was allocated.
  *
  * The linker's --wrap has malloc, calloc, realloc and free of this program and of the library lead here:
  *
  *     cc -std=c11 -O2 -Wl,--wrap=malloc,--wrap=calloc,--wrap=realloc,--wrap=free \
  *         -o fail fail.c libgrb_c.a liblibc_c.a -lpthread
  */
+#define _POSIX_C_SOURCE 200809L
+
 #include "trowelheath.h"
 
 #include <stdio.h>
 #include <stdlib.h>
 #include <string.h>
+#include <sys/wait.h>
+#include <unistd.h>
 
-enum { PASSED = 0, FAILED = 1, REFUSED = 2 };
+enum { PASSED = 0, FAILED = 1 };
 enum { ROOM = 400, PASSES = 2, SIZE = 64 };
 
 /* Rows of a full matrix, of which the square is dear: more than 2^20 multiplications. */
@@ -41,9 +47,10 @@ void *__wrap_realloc(void *block, size_t size);
 void __wrap_free(void *block);
 
 static unsigned long allocations; /* how many were asked for */
-static unsigned long refused_at;  /* which of them is refused, from 1 */
+static unsigned long refused_at;  /* which of them is refused, from 1; none where it is 0 */
 static bool refuses_on;           /* and so are all after it */
 static long blocks;               /* how many are not given back */
+static bool is_counted;           /* the list has begun, and allocations are counted */
 
 #define HOLDS(statement)                                                                         \
     do {                                                                                         \
@@ -69,11 +76,64 @@ static void lend_hand(void)
     }
 }
 
+/* How many children run side by side. */
+enum { LANES = 2 };
+
+static struct {
+    pid_t process; /* or 0 */
+    unsigned long refused_at;
+} children[LANES];
+
+static unsigned long chosen; /* the one allocation that is refused, from 1, or 0: each is */
+
+/* Waits for a child, which is to end as it should. */
+static void wait_for_child(void)
+{
+    int status = 0;
+    pid_t process = wait(&status);
+    for (size_t k = 0; k < LANES; k++) {
+        if (children[k].process == process) {
+            if (!WIFEXITED(status) || WEXITSTATUS(status) != PASSED) {
+                fprintf(stderr, "allocation %lu refused: ended with %d\n", children[k].refused_at, status);
+                exit(FAILED);
+            }
+            children[k].process = 0;
+        }
+    }
+}
+
+/* Goes on in a child in which this allocation is refused, and here where it is not. */
+static void refuse_in_child(void)
+{
+    size_t lane = 0;
+    while (children[lane].process != 0) {
+        lane++;
+        if (lane == LANES) {
+            wait_for_child();
+            lane = 0;
+        }
+    }
+    pid_t process = fork();
+    HOLDS(process >= 0);
+    if (process == 0) {
+        refused_at = allocations;
+    } else {
+        children[lane].process = process;
+        children[lane].refused_at = allocations;
+    }
+}
+
 static bool is_refused(void)
 {
     lend_hand();
+    if (!is_counted) {
+        return false;
+    }
     allocations++;
-    return allocations == refused_at || (refuses_on && allocations > refused_at);
+    if (refused_at == 0 && (chosen == 0 || chosen == allocations)) {
+        refuse_in_child();
+    }
+    return refused_at > 0 && (allocations == refused_at || (refuses_on && allocations > refused_at));
 }
 
 void *__wrap_malloc(size_t size)
@@ -121,7 +181,7 @@ static unsigned long refusals; /* how many calls were refused memory */
     do {                                                                   \
         TrB_Info info = (call);                                            \
         if (tells_refused) {                                               \
-            HOLDS(allocations >= refused_at);                              \
+            HOLDS(refused_at > 0);                                         \
             refusals++;                                                    \
             if (refuses_on) {                                              \
                 return false;                                              \
@@ -395,7 +455,7 @@ static bool multiply(TrB_Pass *passes)
         return false;
     }
     OK(TrB_blocks(&passes[1], &count));
-    HOLDS(count >= helped && (helped > 0 || allocations >= refused_at));
+    HOLDS(count >= helped && (helped > 0 || refused_at > 0));
     OK(TrB_Matrix_nvals(&passes[1], &nvals, c));
     HOLDS(nvals == FULL);
     OK(TrB_Matrix_free(&passes[0], full));
@@ -460,17 +520,17 @@ static bool make_all(TrB_Pass *passes, TrB_Pass *next, TrB_Pass *links)
 
 int main(int argc, char **argv)
 {
-    if (argc != 3 || (strcmp(argv[2], "once") != 0 && strcmp(argv[2], "on") != 0)) {
-        fprintf(stderr, "usage: fail K once, or fail K on\n");
+    if (argc < 2 || argc > 3 || (strcmp(argv[1], "once") != 0 && strcmp(argv[1], "on") != 0)) {
+        fprintf(stderr, "usage: fail once [K], or fail on [K]\n");
         return FAILED;
     }
     draw_chain();
     draw_full();
     TrB_Pass passes[PASSES] = {TRB_PASS_INIT}, next[PASSES] = {TRB_PASS_INIT}, links[PASSES] = {TRB_PASS_INIT};
     long before = blocks;
-    allocations = 0;
-    refused_at = strtoul(argv[1], NULL, 10);
-    refuses_on = strcmp(argv[2], "on") == 0;
+    refuses_on = strcmp(argv[1], "on") == 0;
+    chosen = argc == 3 ? strtoul(argv[2], NULL, 10) : 0;
+    is_counted = true;
 
     bool is_whole = make_all(passes, next, links);
     for (size_t t = 0; t < PASSES; t++) {
@@ -481,7 +541,16 @@ int main(int argc, char **argv)
 
     /* The block of numbers is what is left. It is asked for first. */
     HOLDS(blocks == before + (refuses_on && refused_at == 1 ? 0 : 1));
-    HOLDS(refusals <= 1);
+    HOLDS(refusals <= (refused_at > 0));
     HOLDS(is_whole || refusals == 1);
-    return allocations < refused_at ? PASSED : REFUSED;
+    HOLDS(allocations >= refused_at && allocations >= chosen && allocations > 0);
+    if (refused_at == 0) {
+        for (size_t k = 0; k < LANES; k++) {
+            while (children[k].process != 0) {
+                wait_for_child();
+            }
+        }
+        fprintf(stderr, "%lu allocations, refused %s\n", allocations, argv[1]);
+    }
+    return PASSED;
 }

@@ -1,7 +1,7 @@
 #!/bin/sh
-# Refuses memory to the library: builds the programs that do so, and runs them side by side. fail.c is run for K = 1,
-# 2, .. until it asks for fewer allocations than K; the others refuse by themselves, as memory.h tells, and what each
-# writes is compared with its file in expected/.
+# Refuses memory to the library: builds the programs that do so, and runs them side by side. fail.c refuses each
+# allocation of a list of calls in turn; the others refuse as memory.h tells, and what each writes is compared with its
+# file in expected/.
 #
 #     fail.sh libgrb_c.a liblibc_c.a
 #
@@ -16,7 +16,6 @@ here=$(dirname "$0")
 work=$(mktemp -d)
 trap 'rm -rf "$work"' EXIT
 others=$(grep -l '^#include "memory.h"' "$here"/*.c | sed 's/.*\///; s/\.c$//')
-lanes=2 # of each mode of fail.c
 
 for name in fail $others; do
     # CFLAGS is split into words on purpose.
@@ -25,27 +24,6 @@ for name in fail $others; do
         -Wl,--wrap=malloc,--wrap=calloc,--wrap=realloc,--wrap=free \
         -o "$work/$name" "$here/$name.c" "$@" -lpthread
 done
-
-# Refuses each allocation of fail.c in this mode, from this one on, that falls to a lane.
-refuse_each() {
-    mode=$1 k=$2
-    while :; do
-        status=0
-        "$work/fail" "$k" "$mode" || status=$?
-        case $status in
-        0) break ;;
-        2) k=$((k + lanes)) ;;
-        *)
-            echo "fail $k $mode: ended with status $status" >&2
-            return 1
-            ;;
-        esac
-    done
-    if [ "$k" -le "$lanes" ]; then
-        echo "fail $k $mode: no allocation was counted" >&2
-        return 1
-    fi
-}
 
 # Runs a program that refuses by itself. What it tells on standard error is told where something is wrong.
 run() {
@@ -58,12 +36,8 @@ run() {
 
 jobs=
 for mode in once on; do
-    k=1
-    while [ "$k" -le "$lanes" ]; do
-        refuse_each "$mode" "$k" &
-        jobs="$jobs $!"
-        k=$((k + 1))
-    done
+    "$work/fail" "$mode" &
+    jobs="$jobs $!"
 done
 for name in $others; do
     run "$name" &
