@@ -20,6 +20,12 @@ fn open() -> (Pass, Pass, Vector<u64>) {
     (own, other, v)
 }
 
+/// A chain whose generations have so little room, with two passes.
+fn open_small(room: u32) -> [Pass; 2] {
+    let passes = Chain::open_with(room, 2).unwrap();
+    passes.try_into().expect("it has two passes")
+}
+
 #[test]
 fn more_changes_than_a_generation_takes_are_all_there() {
     let (mut own, mut other, v) = open();
@@ -28,6 +34,54 @@ fn more_changes_than_a_generation_takes_are_all_there() {
     assert_eq!(other.generation(), Ok(0));
     assert_eq!(other.get(v, 0), Ok(Some(639)));
     assert_eq!(other.generation(), Ok(10));
+}
+
+#[test]
+fn a_pass_that_was_idle_reads_the_latest_generation() {
+    let [mut busy, mut idle] = open_small(4);
+    let v = busy.new_vector(10).unwrap();
+    // It knows a part of the first generation, and not that it is full.
+    assert_eq!(idle.get(v, 0), Ok(None));
+    fill(&mut busy, v, 700);
+    // The first generation takes three of the sets, and each later one four.
+    assert_eq!(busy.generation(), Ok(175));
+    assert_eq!(idle.go_on(), Ok(false));
+    assert_eq!(idle.generation(), Ok(0));
+    assert_eq!(idle.get(v, 0), Ok(Some(699)));
+    assert_eq!(idle.generation(), Ok(175));
+    assert_eq!(idle.facts().unwrap().number, 1);
+}
+
+#[test]
+fn a_change_of_what_a_later_generation_made_is_done() {
+    let [mut busy, mut idle] = open_small(8);
+    let first = busy.new_vector(10).unwrap();
+    fill(&mut busy, first, 100);
+    let second = busy.new_vector(10).unwrap();
+    assert_eq!(idle.generation(), Ok(0));
+    idle.set(second, 3, 5).unwrap();
+    assert_eq!(stored(&mut busy, second), [(3, 5)]);
+    assert_eq!(stored(&mut busy, first), [(0, 99)]);
+    assert_eq!(idle.generation(), busy.generation());
+}
+
+#[test]
+fn a_pass_stays_while_its_generation_takes_calls() {
+    let [mut busy, _idle] = open_small(4);
+    let v = busy.new_vector(10).unwrap();
+    fill(&mut busy, v, 2);
+    // One call is left.
+    assert_eq!(busy.go_on(), Ok(false));
+    fill(&mut busy, v, 1);
+    // The generation is full, and no other stands.
+    assert_eq!(busy.get(v, 0), Ok(Some(0)));
+    assert_eq!(busy.generation(), Ok(0));
+    assert_eq!(busy.go_on(), Ok(true));
+    assert_eq!(busy.generation(), Ok(1));
+    // Two calls make the vector and its entry.
+    let facts = busy.facts().unwrap();
+    assert_eq!((facts.known, facts.room_left), (2, 4));
+    assert_eq!(stored(&mut busy, v), [(0, 0)]);
 }
 
 #[test]
@@ -117,6 +171,25 @@ fn the_pass_of_a_thread_that_has_ended_is_had_anew() {
 }
 
 #[test]
+fn the_seat_of_a_dropped_pass_is_taken_anew() {
+    let [mut own, other] = open_small(6);
+    assert!(own.seat(1).unwrap().is_none(), "it is not dropped yet");
+    drop(other);
+    let v = own.new_vector(1).unwrap();
+    // So many sets end in this generation: the first one takes five of them, and each later one six.
+    for (times, generation) in [(3, 0), (40, 7), (0, 7), (40, 13), (1, 14)] {
+        fill(&mut own, v, times);
+        let entry = own.get(v, 0).unwrap();
+        let mut again = own.seat(1).unwrap().expect("a seat is free");
+        assert!(own.seat(1).unwrap().is_none(), "it is taken");
+        assert_eq!(again.facts().unwrap().number, 1);
+        assert_eq!(again.get(v, 0), Ok(entry), "after {times} sets");
+        assert_eq!(again.generation(), Ok(generation), "after {times} sets");
+    }
+    assert!(own.seat(2).unwrap().is_none(), "there is no such number");
+}
+
+#[test]
 fn a_branch_has_what_is_there_and_brings_a_result_back() {
     let (mut own, _other, v) = open();
     let squares = own.new_vector::<u64>(3).unwrap();
@@ -137,9 +210,16 @@ fn a_generation_that_no_other_follows_says_why() {
     let [mut own] = open_largest();
     let v = own.new_vector::<u64>(3).unwrap();
     fill(&mut own, v, 65_535);
-    assert_eq!(own.clear(v), Err(Error::OrderFull));
-    assert_eq!(own.is_full(), Ok(true));
-    assert_eq!(own.go_on(), Err(Error::RoomTooSmall { needed: 2 }));
+    // The room is used up, and no try to go on was made.
+    assert_eq!(own.facts().unwrap().room_left, 0);
+    assert_eq!(own.is_full(), Ok(false));
+    for _ in 0..2 {
+        assert_eq!(own.set(v, 0, 1), Err(Error::OrderFull));
+        assert_eq!(own.clear(v), Err(Error::OrderFull));
+        assert_eq!(own.is_full(), Ok(true));
+        assert_eq!(own.go_on(), Err(Error::RoomTooSmall { needed: 2 }));
+        assert_eq!(own.generation(), Ok(0));
+    }
     assert_eq!(own.get(v, 0), Ok(Some(65_534)));
 
     // A branch goes on from there.

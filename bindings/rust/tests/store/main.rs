@@ -1,6 +1,7 @@
 //! Tests of each method and of each refusal, on the library that is linked.
 
 mod chain;
+mod chain_threads;
 mod lists;
 mod masks;
 mod objects;
@@ -10,6 +11,8 @@ mod refusals;
 mod terms;
 mod threads;
 
+use std::sync::Barrier;
+use std::thread;
 use trowelheath::{Element, Matrix, Object, Pass, Store, Vector};
 
 /// The one pass of a store with room enough for a test.
@@ -43,4 +46,22 @@ fn vector<T: Element>(pass: &mut Pass, size: u64, entries: &[(u64, T)]) -> Vecto
 /// What an object stores, in order.
 fn stored<O: Object>(pass: &mut Pass, object: O) -> Vec<O::Entry> {
     pass.entries(object).unwrap().into_iter().collect()
+}
+
+/// What a thread for each of these items gives, in their order. All threads begin at one moment.
+fn at_once<T: Send, R: Send>(items: Vec<T>, work: impl Fn(T) -> R + Sync) -> Vec<R> {
+    let (ready, work) = (&Barrier::new(items.len()), &work);
+    thread::scope(|scope| {
+        let begin = |item| {
+            scope.spawn(move || {
+                ready.wait();
+                work(item)
+            })
+        };
+        let threads: Vec<_> = items.into_iter().map(begin).collect();
+        threads
+            .into_iter()
+            .map(|thread| thread.join().unwrap())
+            .collect()
+    })
 }
