@@ -2,11 +2,13 @@
 
 mod chain;
 mod chain_threads;
+mod dear_races;
 mod lists;
 mod masks;
 mod objects;
 mod operations;
 mod passes;
+mod races;
 mod refusals;
 mod terms;
 mod threads;

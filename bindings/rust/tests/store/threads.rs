@@ -1,5 +1,6 @@
 //! Passes that are used at the same time.
 
+use crate::{at_once, stored};
 use std::thread;
 use trowelheath::{Matrix, Monoid, Pass, Store};
 
@@ -84,4 +85,42 @@ fn one_room_is_shared_by_all_threads() {
     for pass in &mut passes {
         assert_eq!(pass.nvals(v), Ok(taken));
     }
+}
+
+/// So many threads begin at one moment, and each sets so many entries of its own, for which there is just room. All are there.
+fn expect_all_sets(threads: u64, each: u64) {
+    let all = threads * each;
+    let mut passes = Store::open(all as u32 + 1, threads as usize + 1).unwrap();
+    let mut last = passes.pop().unwrap();
+    let v = last.new_vector(all).unwrap();
+    let numbered = (0..).zip(&mut passes).collect();
+    let refused = at_once(numbered, |(thread, pass): (u64, &mut Pass)| {
+        let own = thread * each..(thread + 1) * each;
+        own.map(|i| pass.set(v, i, i)).find(Result::is_err)
+    });
+    assert_eq!(refused, vec![None; threads as usize]);
+    let wanted: Vec<_> = (0..all).map(|i| (i, i)).collect();
+    assert_eq!(stored(&mut last, v), wanted);
+    for pass in passes.iter_mut().chain([&mut last]) {
+        assert_eq!(pass.nvals(v), Ok(all));
+        let facts = pass.facts().unwrap();
+        assert_eq!((u64::from(facts.known), facts.room_left), (all + 1, 0));
+    }
+}
+
+#[test]
+fn two_threads_set_all_their_entries() {
+    for _ in 0..200 {
+        expect_all_sets(2, 100);
+    }
+}
+
+#[test]
+fn sixty_three_threads_set_all_their_entries() {
+    expect_all_sets(63, 64);
+}
+
+#[test]
+fn two_hundred_and_fifty_five_threads_set_all_their_entries() {
+    expect_all_sets(255, 16);
 }
