@@ -13,8 +13,11 @@ mod refusals;
 mod terms;
 mod threads;
 
+use std::collections::BTreeMap;
+use std::path::Path;
+use std::process::Command;
 use std::sync::Barrier;
-use std::thread;
+use std::{env, fs, thread};
 use trowelheath::{Element, Matrix, Object, Pass, Store, Vector};
 
 /// The one pass of a store with room enough for a test.
@@ -66,4 +69,35 @@ fn at_once<T: Send, R: Send>(items: Vec<T>, work: impl Fn(T) -> R + Sync) -> Vec
             .map(|thread| thread.join().unwrap())
             .collect()
     })
+}
+
+/// How many tests of each module this program runs, by what it lists.
+fn tests_by_module() -> BTreeMap<String, usize> {
+    let program = env::current_exe().unwrap();
+    let listing = Command::new(program).arg("--list").output().unwrap();
+    let text = String::from_utf8(listing.stdout).unwrap();
+    let mut counts = BTreeMap::new();
+    for name in text.lines().filter_map(|line| line.strip_suffix(": test")) {
+        let module = name.split_once("::").map_or("main", |(module, _)| module);
+        *counts.entry(module.to_string()).or_default() += 1;
+    }
+    counts
+}
+
+/// A file without its `mod` above is compiled by nobody.
+#[test]
+fn each_test_of_each_file_in_this_folder_is_run() {
+    let folder = Path::new(env!("CARGO_MANIFEST_DIR")).join("tests/store");
+    let mut written = BTreeMap::new();
+    for file in fs::read_dir(folder).unwrap() {
+        let path = file.unwrap().path();
+        if path.extension() != Some("rs".as_ref()) {
+            continue;
+        }
+        let module = path.file_stem().unwrap().to_string_lossy().into_owned();
+        let text = fs::read_to_string(&path).unwrap();
+        let count = text.lines().filter(|line| line.trim() == "#[test]").count();
+        written.insert(module, count);
+    }
+    assert_eq!(tests_by_module(), written);
 }
