@@ -2,10 +2,28 @@
 
 from __future__ import annotations
 
+import ctypes
 import threading
+import time
 import unittest
+from concurrent.futures import ThreadPoolExecutor
+from typing import Any, Callable, List
+from unittest import mock
 
-from trowelheath import MOST_PASSES, InvalidValue, Matrix, OrderFull, RoomTooSmall, Store, StoreClosed, Vector
+from trowelheath import (
+    MOST_PASSES,
+    Info,
+    InvalidValue,
+    Matrix,
+    OrderFull,
+    Pass,
+    RoomTooSmall,
+    Store,
+    StoreClosed,
+    UninitializedObject,
+    Vector,
+)
+from trowelheath import store as store_module
 
 ROOM = 4096
 """How many changes a generation takes where there are few passes."""
@@ -15,6 +33,27 @@ def fill(v: Vector, times: int) -> None:
     """So many changes, of which the last one stays."""
     for k in range(times):
         v[0] = k
+
+
+def open_small(room: int, passes: int = 1) -> Store:
+    """A store without an end whose generations take so few changes."""
+    with mock.patch.object(store_module, "_default_room", return_value=room):
+        return Store(passes=passes)
+
+
+def status_of(p: Pass, number: int) -> Info:
+    """The status of a read of the vector of numbers of this number, whether it is there or not."""
+    return Info(p._core.library.trb_vector_get_uint64(p._handle, ctypes.c_uint64(), number, 3))
+
+
+def answer_of(call: Callable[[], Any]) -> Any:
+    """What the call answers. One that found no next generation to be had was made nowhere, and is made again."""
+    for _ in range(1000):
+        try:
+            return call()
+        except OrderFull:
+            time.sleep(0)
+    return call()
 
 
 class GoingOn(unittest.TestCase):
@@ -108,6 +147,82 @@ class GoingOn(unittest.TestCase):
                 with self.assertRaisesRegex(InvalidValue, "A store with a room has no generations"):
                     apart.main.generation()
             self.assertEqual(squares.to_dict(), {0: (ROOM + 9) ** 2})
+
+
+class Numbers(unittest.TestCase):
+    """What users see of numbers over generations of six changes, each of which numbers its objects anew."""
+
+    def setUp(self) -> None:
+        """Three vectors, of which the second is freed and the others store an entry, in the fifth generation."""
+        store = open_small(6)
+        self.addCleanup(store.close)
+        self.p = store.main
+        self.first, self.second, self.third = (self.p.vector(10) for _ in range(3))
+        self.assertEqual([v.number for v in (self.first, self.second, self.third)], [0, 1, 2])
+        self.third[3] = 7
+        self.second.free()
+        for k in range(20):
+            self.first[3] = k
+        # The first generation takes one of the sets, and each later one six.
+        self.assertEqual(self.p.generation(), 4)
+
+    def test_objects_keep_their_numbers_and_freed_ones_are_gone(self) -> None:
+        self.assertEqual([v.number for v in (self.first, self.second, self.third)], [0, 1, 2])
+        self.assertEqual((self.first.to_dict(), self.third.to_dict()), ({3: 19}, {3: 7}))
+        for call in self.second.to_dict, self.second.dup, self.second.free, lambda: self.second[3]:
+            with self.assertRaises(UninitializedObject):
+                call()
+        none = Info.UNINITIALIZED_OBJECT
+        statuses = [status_of(self.p, number) for number in range(5)]
+        self.assertEqual(statuses, [Info.SUCCESS, none, Info.SUCCESS, none, none])
+        fourth = self.p.vector(10)
+        self.assertEqual((fourth.number, fourth.get(3)), (3, None))
+        statuses = [status_of(self.p, number) for number in range(5)]
+        self.assertEqual(statuses, [Info.SUCCESS, none, Info.SUCCESS, Info.NO_VALUE, none])
+
+    def test_snapshots_and_branches_go_by_the_numbers_that_users_have(self) -> None:
+        with Store(room=10) as other:
+            # What is built from an object is a snapshot of it.
+            copy = other.main.vector(10)
+            copy.build_from(self.third)
+            self.assertEqual(copy.to_dict(), {3: 7})
+            copy = other.main.vector(10)
+            with self.assertRaises(UninitializedObject):
+                copy.build_from(self.second)
+            self.assertEqual(copy.to_dict(), {})
+        with self.p.branch(self.third, self.second, self.first, room=4) as branch:
+            third, second, first = (v.using(branch.main) for v in (self.third, self.second, self.first))
+            self.assertEqual((third.to_dict(), first.to_dict()), ({3: 7}, {3: 19}))
+            with self.assertRaises(UninitializedObject):
+                second.to_dict()
+        self.assertEqual(self.p.generation(), 4)
+
+    def test_numbers_that_threads_are_given_are_each_given_once(self) -> None:
+        workers, each = 8, 40
+        with open_small(24, workers + 1) as store:
+            idle = store.passes[-1]
+
+            def make(own: int) -> List[Vector]:
+                p = store.passes[own]
+                made: List[Vector] = []
+                begin.wait()
+                for k in range(each):
+                    made.append(answer_of(lambda: p.vector(each)))
+                    answer_of(lambda: made[k].__setitem__(k, own))
+                return made
+
+            begin = threading.Barrier(workers)
+            with ThreadPoolExecutor(workers) as threads:
+                vectors = list(threads.map(make, range(workers)))
+            numbers = sorted(v.number for made in vectors for v in made)
+            self.assertEqual(numbers, list(range(workers * each)))
+            self.assertEqual(idle.generation(), 0)
+            for own, made in enumerate(vectors):
+                found = [v.using(idle).to_dict() for v in made]
+                self.assertEqual(found, [{k: own} for k in range(each)])
+            # Two changes for each vector, of which a generation takes 24.
+            self.assertEqual(idle.generation(), (2 * workers * each - 1) // 24)
+            self.assertEqual(idle.vector(1).number, workers * each)
 
 
 class Ending(unittest.TestCase):

@@ -174,7 +174,9 @@ PRODUCTS = [
         "the first is read transposed", lambda n, i, j: n - 1 - i or None, ("below", "all"), how={"transpose": True}
     ),
     # Row j of the second has j ones.
-    Product("the second is read transposed", lambda n, i, j: j or None, ("all", "below"), how={"transpose_second": True}),
+    Product(
+        "the second is read transposed", lambda n, i, j: j or None, ("all", "below"), how={"transpose_second": True}
+    ),
     # So many vertices are between two.
     Product(
         "both are read transposed",
