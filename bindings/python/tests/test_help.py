@@ -271,6 +271,7 @@ class Products(unittest.TestCase):
     def test_dear_products_are_the_same_while_another_pass_helps(self) -> None:
         with Store(room=256, passes=2) as store:
             blocks = self.blocks_of_all(store.main)
+            self.assertEqual(store.passes[1].help(), 0)
         made = [after - before for before, after in zip([0, *blocks], blocks)]
         for product, count in zip(PRODUCTS, made):
             self.assertGreater(count, 0, product.name)

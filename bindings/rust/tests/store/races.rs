@@ -326,24 +326,30 @@ fn threads_that_set_at_one_moment_are_shown_all_records() {
     }
 }
 
-/// What a thread of a race for the last word saw: the number that it sets, the answer, and the room that was left then.
-type Tried = (u64, Result<(), Error>, u32);
+/// A thread of a race for the last word: the number that it set, the answer, the room that was left then, and its pass.
+struct Tried {
+    number: u64,
+    answer: Result<(), Error>,
+    room_left: u32,
+    pass: Pass,
+}
 
 impl Opened {
     /// One of the threads entered its set, and no pass has room left.
-    fn expect_one_entered(mut self, tried: &mut [(Tried, Pass)]) {
-        let is_entered = |tried: &&(Tried, Pass)| tried.0 .1.is_ok();
-        let entered: Vec<u64> = tried.iter().filter(is_entered).map(|it| it.0 .0).collect();
+    fn expect_one_entered(mut self, tried: &mut [Tried]) {
+        let entered = tried.iter().filter(|it| it.answer.is_ok());
+        let entered: Vec<u64> = entered.map(|it| it.number).collect();
         assert_eq!(entered.len(), 1, "{entered:?} were entered");
         let value = Ok(Some(entered[0]));
         assert_eq!(self.last.get(self.vector, 0), value);
         assert_eq!(self.last.facts().unwrap().room_left, 0);
-        for ((number, answer, room_left), pass) in tried {
-            if *number != entered[0] {
-                assert_eq!(*answer, Err(Error::OrderFull), "thread {number}");
+        for it in tried {
+            let number = it.number;
+            if number != entered[0] {
+                assert_eq!(it.answer, Err(Error::OrderFull), "thread {number}");
             }
-            assert_eq!(*room_left, 0, "thread {number}");
-            assert_eq!(pass.get(self.vector, 0), value, "thread {number}");
+            assert_eq!(it.room_left, 0, "thread {number}");
+            assert_eq!(it.pass.get(self.vector, 0), value, "thread {number}");
         }
     }
 }
@@ -354,10 +360,11 @@ fn one_of_the_threads_enters_the_last_word() {
         for _ in 0..TIMES / SIDE_BY_SIDE {
             let mut stores = open_side_by_side(2, threads);
             let all = stores.iter_mut().flat_map(Opened::threads).collect();
-            let mut tried = at_once(all, |(mut pass, number, v)| {
-                let answer = pass.set(v, 0, number);
-                let room_left = pass.facts().unwrap().room_left;
-                ((number, answer, room_left), pass)
+            let mut tried = at_once(all, |(mut pass, number, v)| Tried {
+                number,
+                answer: pass.set(v, 0, number),
+                room_left: pass.facts().unwrap().room_left,
+                pass,
             });
             for (store, tried) in stores.into_iter().zip(tried.chunks_mut(threads)) {
                 store.expect_one_entered(tried);
