@@ -99,7 +99,7 @@ has_proved() {
 build_unproved() {
     local made=$1 tool=../../bindings/unproved
     shift
-    if is_newer_than_sources "$made" grb_c && [ -z "$(find "$tool" -name '*.py' -newer "$made" -print -quit)" ]; then return; fi
+    if is_newer_than_sources "$made" grb_c && [ -z "$(find "$tool" -name '*.py' ! -name 'test_*' -newer "$made" -print -quit)" ]; then return; fi
     PYTHONDONTWRITEBYTECODE=1 "${PYTHON:-python3}" "$tool/build.py" "$made" "$@"
 }
 
