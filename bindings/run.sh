@@ -4,8 +4,8 @@
 #   bindings/run.sh --unproved    on the library that is compiled before any proof, with its checks
 #
 # What a program writes is compared with its file in `expected`. A step that cannot run has failed, and is named with what there is none
-# of. Where MAY_SKIP has that word, as in MAY_SKIP='numpy scipy networkx', or is 'all', it is skipped. The last line is
-# 'N passed, M failed, K skipped', and the status is 1 where one failed or none passed.
+# of. Where MAY_SKIP has that word, as in MAY_SKIP='numpy scipy networkx', it is skipped. The last line is 'N passed, M failed, K skipped',
+# and the status is 1 where one failed or none passed.
 #
 # JOBS is how many steps run at a time, as many as there are processors where it is not given. KIT is the folder of the toolchain, CC, CXX,
 # RUSTC, CARGO and PYTHON are the programs to use. Where they are not given, those of the path are taken, and of several python3 the first
@@ -106,7 +106,7 @@ build() {
 # Says that a step cannot run, and what there is none of.
 skip() {
     local name=$1 lacking=$2
-    if [[ ${MAY_SKIP-} != all && " ${MAY_SKIP-} " != *" $lacking "* ]]; then
+    if [[ " ${MAY_SKIP-} " != *" $lacking "* ]]; then
         failed=$((failed + 1))
         echo "$name: failed, since there is no $lacking, which MAY_SKIP does not name"
     else
