@@ -550,7 +550,7 @@ int main(int argc, char **argv)
                 wait_for_child();
             }
         }
-        fprintf(stderr, "%lu allocations, refused %s\n", allocations, argv[1]);
+        fprintf(stderr, "%lu allocations\n", allocations);
     }
     return PASSED;
 }
