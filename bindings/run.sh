@@ -290,12 +290,6 @@ run_installed() {
     step "$name" env LIBRARY="$library" HEAP="$heap" CC="$CC" CXX="$CXX" PYTHON="$PYTHON" ./install_test.sh
 }
 
-# The names of the files of a folder that end so.
-names_in() {
-    local file
-    for file in "$1"/*"$2"; do basename "$file" "$2"; done
-}
-
 # Each program has its file in `expected`, and each such file its program. What has no `main` is a part of programs.
 check_expected() {
     diff <(names_in c/expected .txt) <(grep -l '^int main(' c/*.c | sed 's/.*\///; s/\.c$//') &&
@@ -322,15 +316,10 @@ add test_rust
 add run_fail
 add run_installed
 for file in python/tests/test_*.py; do add test_python "$(basename "$file" .py)"; done
-for name in $(names_in c/expected .txt); do
-    case $name in
-        bench | bench_chain | bench_store) add "run_$name" ;;
-        fail) ;;
-        *) # what refuses memory is run by fail.sh
-            if ! grep -q '^#include "memory.h"' "c/$name.c"; then add run_c "$name"; fi
-            ;;
-    esac
-done
+add run_bench
+add run_bench_chain
+add run_bench_store
+for name in $(plain_programs); do add run_c "$name"; done
 add run_ports
 for name in $(names_in cpp/expected .txt); do add run_cpp "$name"; done
 add refuse_cpp

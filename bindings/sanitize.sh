@@ -5,6 +5,7 @@
 # The library is built anew where a source of it is newer. A program that does not build has failed. The last line is 'N passed, M failed',
 # and the status is 1 where one failed or none passed. KIT, CC, CXX and RUSTC as in run.sh.
 set -u
+shopt -s nullglob
 cd "$(dirname "${BASH_SOURCE[0]}")" || exit 2
 KIT=${KIT:-$(dirname "$(rt doc)")}
 CC=${CC:-cc} CXX=${CXX:-c++} RUSTC=${RUSTC:-rustc}
@@ -52,10 +53,18 @@ under_valgrind() {
     compare "$name, valgrind" "$wanted" valgrind -q --leak-check=full --errors-for-leak-kinds="$kinds" --error-exitcode=1 "$work/program"
 }
 
+# Those of which the thread sanitizer would see too much or too little, as told below.
+is_apart() {
+    case $1 in
+        chain | help | races) return 0 ;;
+        *) return 1 ;;
+    esac
+}
+
 for kind in address,undefined thread; do
-    for name in first triangles club bfs paths threads succeed branch refusals terms builds sharing beside; do sanitize_c "$name" "$kind"; done
+    for name in $(plain_programs); do is_apart "$name" || sanitize_c "$name" "$kind"; done
     sanitize_fail "$kind"
-    for name in triangles club bfs paths threads succeed branch terms messages algorithms; do sanitize_cpp "$name" "$kind"; done
+    for name in $(names_in cpp/expected .txt); do is_apart "$name" || sanitize_cpp "$name" "$kind"; done
 done
 
 # The thread sanitizer would see the library copy what goes from thread to thread in a chain, and not the atomic steps that order it. The
@@ -72,20 +81,26 @@ sanitize_without_library() {
     "$sanitize" "$name" thread
 }
 sanitize_c help address,undefined
+sanitize_c races address,undefined
 sanitize_cpp help address,undefined
 echo 'called_from_lib:libtrowelheath.so' >"$work/suppressions"
 if build 'the shared library' "$CC" -shared -Wl,--whole-archive "$library" -Wl,--no-whole-archive "$heap" -lpthread; then
     mv "$work/program" "$work/libtrowelheath.so"
     sanitize_without_library sanitize_c help
+    sanitize_without_library sanitize_c races
     sanitize_without_library sanitize_cpp help
 fi
 
-for name in first triangles club bfs paths threads chain succeed help branch terms sharing; do
+for name in $(plain_programs); do
     build "c/$name, valgrind" "$CC" -std=c11 -g -O1 -Ic "c/$name.c" "${link[@]}" || continue
     under_valgrind "c/$name" "c/expected/$name.txt" definite,indirect,possible
 done
+for name in $(names_in cpp/expected .txt); do
+    build "cpp/$name, valgrind" "$CXX" -std=c++17 -g -O1 -Ic -Icpp "cpp/$name.cpp" "${link[@]}" || continue
+    under_valgrind "cpp/$name" "cpp/expected/$name.txt" definite,indirect,possible
+done
 "$RUSTC" --edition 2021 -O -g --crate-type rlib --crate-name trowelheath rust/src/lib.rs --out-dir "$work" >"$work/said" 2>&1 || tell rust 1
-for name in first triangles bfs paths threads chain succeed club help; do
+for name in $(names_in rust/expected .txt); do
     build "rust/$name, valgrind" "$RUSTC" --edition 2021 -O -g "rust/examples/$name.rs" --extern "trowelheath=$work/libtrowelheath.rlib" -L native="$(dirname "$library")" -L native="$KIT/c" || continue
     under_valgrind "rust/$name" "rust/expected/$name.txt" definite,indirect
 done

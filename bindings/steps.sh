@@ -31,3 +31,20 @@ compare() {
     "$@" >"$work/out" 2>"$work/said" && diff "$wanted" "$work/out" >>"$work/said"
     tell "$name" $?
 }
+
+# The names of the files of a folder that end so.
+names_in() {
+    local file
+    for file in "$1"/*"$2"; do basename "$file" "$2"; done
+}
+
+# The programs of c/ that are built and run as they are: neither those that refuse memory, which fail.sh runs, nor those that time.
+plain_programs() {
+    local name
+    for name in $(names_in c/expected .txt); do
+        case $name in
+            bench* | fail) ;;
+            *) if ! grep -q '^#include "memory.h"' "c/$name.c"; then echo "$name"; fi ;;
+        esac
+    done
+}
