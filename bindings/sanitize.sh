@@ -92,6 +92,7 @@ if build 'the shared library' "$CC" -shared -Wl,--whole-archive "$library" -Wl,-
 fi
 
 for name in $(plain_programs); do
+    if [ "$name" = races ]; then continue; fi # under valgrind one thread runs at a time, and 1,000 races take an hour
     build "c/$name, valgrind" "$CC" -std=c11 -g -O1 -Ic "c/$name.c" "${link[@]}" || continue
     under_valgrind "c/$name" "c/expected/$name.txt" definite,indirect,possible
 done
