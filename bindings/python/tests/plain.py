@@ -2,9 +2,10 @@
 
 from __future__ import annotations
 
-from typing import Any, Callable, Dict, Optional, Tuple
+from typing import Any, Callable, Dict, List, Optional, Tuple
 
 Entries = Dict[Any, Any]
+Shape = Tuple[int, ...]
 Operator = Callable[[Any, Any], Any]
 
 OPERATORS: Dict[str, Operator] = {
@@ -61,6 +62,27 @@ IDENTITIES = {
 }
 
 
+def dtype_of(word: str) -> type:
+    """The dtype of an operator."""
+    of_bool = ("lor", "land", "lxor", "lxnor", "first_bool", "second_bool", "identity_bool", "lnot")
+    return bool if word in of_bool else int
+
+
+def computed_shape(name: str, first: Shape, second: Optional[Shape]) -> Optional[Shape]:
+    """The dimensions of what an operation computes of inputs that are read with these; none where they do not fit."""
+    if name == "transpose":
+        return first[::-1]
+    if name in ("apply", "select"):
+        return first
+    if name == "reduce_rows" or second is None:
+        return first[:1]
+    if name.startswith("ewise"):
+        return first if first == second else None
+    if name == "kronecker":
+        return first[0] * second[0], first[1] * second[1]
+    return first[:-1] + second[1:] if first[-1] == second[0] else None
+
+
 def transposed(a: Entries) -> Entries:
     """The rows as columns."""
     return {(j, i): x for (i, j), x in a.items()}
@@ -85,11 +107,27 @@ def joined(pairs: Any, monoid: str) -> Entries:
     return result
 
 
+def by_row(a: Entries) -> Dict[int, List[Tuple[int, Any]]]:
+    """The columns and the values of each row."""
+    rows: Dict[int, List[Tuple[int, Any]]] = {}
+    for (i, j), x in a.items():
+        rows.setdefault(i, []).append((j, x))
+    return rows
+
+
 def mxm(a: Entries, b: Entries, semiring: str) -> Entries:
     """The product of two matrices."""
-    monoid, operator = semiring.split(".")
-    pairs = (((i, j), OPERATORS[operator](x, y)) for (i, k), x in a.items() for (h, j), y in b.items() if k == h)
-    return joined(pairs, monoid)
+    add, multiply = map(OPERATORS.__getitem__, semiring.split("."))
+    rows = by_row(b)
+    result: Entries = {}
+    for i, row in by_row(a).items():
+        sums: Dict[int, Any] = {}
+        for k, x in row:
+            for j, y in rows.get(k, ()):
+                product = multiply(x, y)
+                sums[j] = add(sums[j], product) if j in sums else product
+        result.update(((i, j), x) for j, x in sums.items())
+    return result
 
 
 def mxv(a: Entries, u: Entries, semiring: str) -> Entries:
@@ -162,6 +200,8 @@ def written(
         return selected != complement
 
     new = computed if accum is None else union(old, computed, accum)
+    if mask is None and not complement:
+        return new
     inside = {place: x for place, x in new.items() if is_inside(place)}
     outside = {} if replace else {place: x for place, x in old.items() if not is_inside(place)}
     return {**inside, **outside}
