@@ -8,6 +8,7 @@ makes so many programs of each sort, and a fiftieth as many of those that take l
 
 from __future__ import annotations
 
+import os
 import sys
 import unittest
 from collections import Counter
@@ -319,10 +320,10 @@ class Drawn(unittest.TestCase):
         self.histories(HISTORIES, SMALL, 60, HISTORIES // 20)
 
     def test_histories_of_long_vectors_are_answered_as_by_a_plain_store(self) -> None:
-        self.histories(LONG_HISTORIES, LONG, 40, LONG_HISTORIES // 2)
+        self.histories(LONG_HISTORIES, LONG, 40, min(LONG_HISTORIES // 2, 4))
 
     def test_histories_of_wide_matrices_are_answered_as_by_a_plain_store(self) -> None:
-        self.histories(WIDE_HISTORIES, WIDE, 40, WIDE_HISTORIES // 2)
+        self.histories(WIDE_HISTORIES, WIDE, 40, min(WIDE_HISTORIES // 2, 3))
 
     def stores(self, count: int, steps: int, first: Callable[[Draws], Open], is_filled: bool = False) -> Counter[str]:
         """So many programs of several stores, of which the first is filled in between. What was seen in all of them."""
