@@ -22,10 +22,12 @@ from programs import Ask, Branch, Bring, Close, Do, Fill, Meet, Mismatch, Open, 
 from support import Draws
 from wrong_stores import WRONG
 
-# How many programs of each sort are made, and how many of those in which each wrong behaviour is to be found.
-HISTORIES = 500
-LONG_HISTORIES = 8
-WIDE_HISTORIES = 4
+# How many programs of each sort are made, and how many of those in which each wrong behaviour is to be found. There are
+# more histories on the proved library, which is faster than the one with checks.
+IS_PROVED = os.environ.get("TROWELHEATH_PROVED") == "yes"
+HISTORIES = 2000 if IS_PROVED else 500
+LONG_HISTORIES = 30 if IS_PROVED else 8
+WIDE_HISTORIES = 20 if IS_PROVED else 4
 PROGRAMS = 300
 FULL_CHAINS = 3
 WRONG_PROGRAMS = 60
